@@ -49,6 +49,15 @@ def small_disk(target: str, size: int) -> Iterator[None]:
         yield
 
 
+@contextlib.contextmanager
+def disk_in_memory(target: str) -> Iterator[None]:
+    """While this lasts, an empty disk in memory lies at a folder. Where nothing can be mounted the folder stays as it is."""
+    with contextlib.ExitStack() as stack:
+        if not _no_mounts:
+            stack.enter_context(_mounted('none', target, 'tmpfs', 0, 'mode=755'))
+        yield
+
+
 def fill(disk: Folder) -> None:
     """Makes a file `filler` that takes what room there is on a small disk."""
     with contextlib.suppress(OSError):

@@ -103,10 +103,10 @@ class Folder:
 
 
 class Room(Folder):
-    """A new folder that every user may enter. When it is left it is gone, with all that is in it."""
+    """A new folder that every user may enter, in another one or at the place of rooms. When it is left it is gone, with all that is in it."""
 
-    def __init__(self) -> None:
-        super().__init__(tempfile.mkdtemp(prefix='room.', dir=place_of_rooms()))
+    def __init__(self, above: str = '') -> None:
+        super().__init__(tempfile.mkdtemp(prefix='room.', dir=above or place_of_rooms()))
         os.fchmod(self.fd, 0o755)
 
     def __enter__(self) -> Room:

@@ -10,6 +10,7 @@ import pytest
 from tests.conftest import Programs
 from tests.harness import Ended, Folder, Room, run
 from tests.harness.builds import TOP
+from tests.harness.mounts import disk_in_memory
 from tests.harness.terminal import Terminal
 from tests.harness.users import plain_user
 
@@ -101,12 +102,20 @@ class Place:
 
 
 @pytest.fixture(scope='session')
-def first_place(programs: Programs) -> Iterator[Place]:
+def memory() -> Iterator[str]:
+    """A folder for places, in memory where that can be: so many files are copied sooner there."""
+    with Room() as room, disk_in_memory(room.path):
+        yield room.path
+
+
+@pytest.fixture(scope='session')
+def first_place(memory: str, programs: Programs) -> Iterator[Place]:
     """Nothing is done in it: others are copied from it."""
-    with Room() as room:
+    with Room(memory) as room:
         yield Place(room, *programs)
 
 
 @pytest.fixture
-def place(room: Room, first_place: Place) -> Place:
-    return Place(room, first_place.program, first_place.objects, first_place)
+def place(memory: str, first_place: Place) -> Iterator[Place]:
+    with Room(memory) as room:
+        yield Place(room, first_place.program, first_place.objects, first_place)

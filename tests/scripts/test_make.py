@@ -143,17 +143,21 @@ def test_make(place: Place, row: Make) -> None:
 
 
 @pytest.fixture(scope='module')
-def first_built(first_place: Place) -> Iterator[Place]:
+def first_built(memory: str, first_place: Place) -> Iterator[Place]:
     """Others are copied from it."""
-    with Room() as room:
+    with Room(memory) as room:
         built = Place(room, first_place.program, first_place.objects, first_place)
         built.run(['make']).expect('12 functions proved')
         yield built
 
 
 @pytest.mark.parametrize('row', OF_BUILT, ids=by_name)
-def test_built(room: Room, first_built: Place, row: Make) -> None:
-    place = Place(room, first_built.program, first_built.objects, first_built)
+def test_built(memory: str, first_built: Place, row: Make) -> None:
+    with Room(memory) as room:
+        expect_built(Place(room, first_built.program, first_built.objects, first_built), row)
+
+
+def expect_built(place: Place, row: Make) -> None:
     place.put('../a.sav', save_text(1), 0o644)
     place.put('../b.sav', UNEQUAL_SAVE, 0o644)
     ended = expect(place, row)
