@@ -43,6 +43,10 @@ pub record IsPlaceStruck (c : CandidatesValue) (cell value : ℕ) : Type 0 where
 abbrev pub IsLatinStruck : CandidatesValue → ℕ → ℕ → Type 0
 IsLatinStruck c cell value = IsPeerStruck c cell value ⊎ IsPlaceStruck c cell value
 
+-- what givens, rows and columns rule out
+abbrev pub IsGivensStruck : GridValue → CandidatesValue → ℕ → ℕ → Type 0
+IsGivensStruck givens c cell value = IsGivenStruck givens cell value ⊎ IsLatinStruck c cell value
+
 -- the line takes a candidate from each square from a place, none twice, and shows as many towers as the clue says
 pub record IsViewFilling (c : CandidatesValue) (place clue : ℕ) (line : List ℕ) : Type 0 where
   pub whole : length line ≡ c.size

@@ -1,5 +1,6 @@
 -- Which hint is told.
-use Rattle.std.proofs.Common.{◌≡◌, ℕ, true, List, [], ◌∷◌, refl}
+use Rattle.std.proofs.Common.{◌≡◌, ℕ, true, List, [], ◌∷◌, Option, Some, None, Result, Ok, Err, refl}
+use Rattle.std.specs.Prelude.{IfOk, MatchOption}
 use Rattle.latin_board.specs.Squares.{GridValue, number_at}
 use Rattle.latin_board.proofs.LatinLines.{line_cell_inside}
 use Rattle.trail_solver.specs.Pairs.{IsPair}
@@ -55,6 +56,13 @@ refutation_refutes Struck grade g steps cell r = (
   r.in_view,
   record { steps = steps; chain = r.leaves.chain; allowed = r.leaves.allowed; cell = cell; inside = r.leaves.inside; nothing = r.leaves.nothing },
 )
+
+-- where nothing is refuted, no number is no number
+pub number_or_none : {Number Fault : Type 0} (IsWrong NoneShown : Type 0) (Is : Number → Type 0) (result : Result (Option Number) Fault) → (IsWrong → ⊥)
+    → IfOk result (λ found. MatchOption found ((IsWrong → ⊥) → NoneShown) Is) → IfOk result (λ found. MatchOption found NoneShown Is)
+number_or_none IsWrong NoneShown Is (Ok (Some number)) right h = h
+number_or_none IsWrong NoneShown Is (Ok None) right h = h right
+number_or_none IsWrong NoneShown Is (Err fault) right h = tt
 
 -- ---- what is told
 

@@ -10,7 +10,7 @@ use board_checks::{Deduces, Hint, find_hint};
 use latin_board::{Grid, OutOfMemory};
 use named_steps::{Grade, Steps, laws};
 use std::alloc::Global;
-use step_chains::{Chain, Explained, Refutation, explain, is_refuted};
+use step_chains::{Chain, Explained, Refutation, explain, explain_number, is_refuted};
 use trail_solver::Rules;
 
 /// A hint as it is told.
@@ -147,9 +147,5 @@ fn chain_by<P: Steps>(
     ensures { IfOk result (λ found. MatchOption found (NothingIsShown (P.struck_by p.now) grade grid.now)
         (λ chain. IsExplained (P.struck_by p.now) grade grid.now (steps_of chain.steps.items) chain.goal)) }
 {
-    match explain(alloc, p, grid, grade)? {
-        Explained::Follows(chain) => Ok(Some(chain)),
-        Explained::Nothing => Ok(None),
-        Explained::Contradiction(_) => Ok(None),
-    }
+    explain_number(alloc, p, grid, grade)
 }

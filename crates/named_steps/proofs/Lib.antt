@@ -6,6 +6,7 @@ pub mod Parts
 pub mod Takes
 pub mod Supports
 pub mod StandingSets
+pub mod RowsNoted
 pub mod GroupSets
 pub mod AloneSets
 pub mod SignSets

@@ -1,6 +1,7 @@
 -- Words that the contracts of private functions alone use.
 pub mod Groups
 pub mod Rows
+pub mod KnownRows
 pub mod Takes
 pub mod LineStrikes
 pub mod OtherSets

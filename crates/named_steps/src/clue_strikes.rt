@@ -4,14 +4,14 @@ ghost use Rattle.number_sets.specs.Sets.{has_number};
 ghost use Rattle.trail_solver.specs.Pairs.{IsPair};
 ghost use Rattle.clue_rules.specs.Views.{view_cell};
 ghost use Rattle.named_steps.specs.Fillings.{IsUnfilled};
-ghost use Rattle.named_steps.specs.Inner.Rows.{May, IsMaySet, AreMaySets};
+ghost use Rattle.named_steps.specs.Inner.Rows.{May, IsMaySet, AreMaySets, AreMissing};
 ghost use Rattle.named_steps.specs.Reasons.{AreStruckFrom};
 ghost use Rattle.named_steps.specs.Inner.Takes.{Takes};
 
+use crate::known_rows::KnownRows;
 use crate::striking::strike;
 use clue_rules::view_cell;
 use number_sets::NumberSet;
-use tower_lines::supported;
 use trail_solver::Candidates;
 
 /// What is seen of a line, when its clue is looked at.
@@ -42,7 +42,7 @@ pub(crate) fn by_clue(
     let size = candidates.size();
     for k in 0..size.get() as usize {
         if view_cell(size, place, k) == cell {
-            let row = unfilled_row(candidates, look, place, clue);
+            let row = unfilled_row(candidates, look, place, clue, &mut KnownRows::none());
             return row[k];
         }
     }
@@ -50,13 +50,19 @@ pub(crate) fn by_clue(
 }
 
 /// Takes away what the clue at a place rules out in the squares from there.
-pub(crate) fn strike_view(candidates: &mut Candidates, look: Look, place: u8, clue: u8)
+pub(crate) fn strike_view(
+    candidates: &mut Candidates,
+    look: Look,
+    place: u8,
+    clue: u8,
+    known: &mut KnownRows,
+)
     requires place { place < 4 * candidates.old.size }
     requires clue { clue ≤ candidates.old.size }
     ensures { Takes (λ cell v. IsUnfilled candidates.old.size (May look candidates.old) place clue cell v)
         candidates.old candidates.new }
 {
-    let row = unfilled_row(candidates, look, place, clue);
+    let row = unfilled_row(candidates, look, place, clue, known);
     strike_row(candidates, place, &row);
 }
 
@@ -72,12 +78,14 @@ fn strike_row(candidates: &mut Candidates, place: u8, row: &[NumberSet; 9])
     }
 }
 
-/// The values of the size that the clue at a place rules out in each square from there.
+/// The values of the size that the clue at a place rules out in each square from there. What is known of rows of sets is used and added
+/// to.
 pub(crate) fn unfilled_row(
     candidates: &Candidates,
     look: Look,
     place: u8,
     clue: u8,
+    known: &mut KnownRows,
 ) -> [NumberSet; 9]
     requires place { place < 4 * candidates.now.size }
     requires clue { clue ≤ candidates.now.size }
@@ -85,9 +93,30 @@ pub(crate) fn unfilled_row(
         candidates.now.size result }
 {
     let width = candidates.size().get();
-    let all = NumberSet::up_to(width);
     let sets = may_sets(candidates, look, place);
-    let kept = supported(&sets[..width as usize], clue);
+    let kept = known.supported(slot_of(look, place, clue), &sets, width, clue);
+    missing_row(width, &kept)
+}
+
+// Where a row is known: that of a place, or where the clue alone is seen, that of the clue, since there all rows are alike.
+fn slot_of(look: Look, place: u8, clue: u8) -> u8
+    requires place { place < 36 }
+    requires clue { clue ≤ 9 }
+    ensures { result < 46 }
+{
+    match look {
+        Look::Alone => 36 + clue,
+        Look::Stands => place,
+        Look::Marks => place,
+    }
+}
+
+// The values of the size that each set lacks.
+fn missing_row(width: u8, kept: &[NumberSet; 9]) -> [NumberSet; 9]
+    requires { width ≤ 9 }
+    ensures { AreMissing width kept.now width result }
+{
+    let all = NumberSet::up_to(width);
     let mut row = [NumberSet::empty(); 9];
     for k in 0..width as usize {
         row[k] = all.difference(kept[k]);

@@ -8,6 +8,7 @@ ghost use Rattle.named_steps.specs.Grades.{is_past_easy};
 
 use crate::grade::Grade;
 use crate::group_passes::strike_groups;
+use crate::known_rows::KnownRows;
 use crate::line_passes::strike_lines;
 use crate::steps::Steps;
 use crate::striking::strike;
@@ -20,9 +21,10 @@ pub fn settle<P: Steps>(p: &P, grade: Grade, candidates: &mut Candidates)
     requires { candidates.old.size ≡ (P.puzzle p.now).size }
     ensures { IsClosure (P.struck_by p.now) grade candidates.old candidates.new }
 {
+    let mut known = KnownRows::none();
     loop {
         let before = candidates.trail_len();
-        pass(p, grade, candidates);
+        pass(p, grade, candidates, &mut known);
         if candidates.trail_len() == before {
             return;
         }
@@ -31,7 +33,7 @@ pub fn settle<P: Steps>(p: &P, grade: Grade, candidates: &mut Candidates)
 
 // Goes through the reasons of a grade once, or only through the first of them where these strike something: the cheap ones come
 // first.
-fn pass<P: Steps>(p: &P, grade: Grade, candidates: &mut Candidates)
+fn pass<P: Steps>(p: &P, grade: Grade, candidates: &mut Candidates, known: &mut KnownRows)
     requires { candidates.old.size ≡ (P.puzzle p.now).size }
     ensures { Passes (P.struck_by p.now) grade (IsSettled (P.struck_by p.now) grade) candidates.old candidates.new }
 {
@@ -42,7 +44,7 @@ fn pass<P: Steps>(p: &P, grade: Grade, candidates: &mut Candidates)
     if candidates.trail_len() != before {
         return;
     }
-    p.strike_by_clues(grade, candidates);
+    p.strike_by_clues(grade, candidates, known);
     if candidates.trail_len() != before {
         return;
     }

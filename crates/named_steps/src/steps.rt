@@ -13,6 +13,7 @@ ghost use Rattle.named_steps.specs.declared.reason.Reason.{Reason};
 ghost use Rattle.named_steps.specs.declared.reason.Reason.TheVariants.{Given};
 
 use crate::grade::Grade;
+use crate::known_rows::KnownRows;
 use crate::reason::Reason;
 use number_sets::NumberSet;
 use trail_solver::{Candidates, Rules};
@@ -30,20 +31,22 @@ pub trait Steps: Rules {
             ↔ (IsPair candidates.now.size cell v × struck_by self.now candidates.now reason cell v) };
 
     /// The values that a reason strikes in each of the squares from a place at the edge, where the game finds them all at once; the
-    /// sizes are equal, and the place is one of the grid's.
+    /// sizes are equal, and the place is one of the grid's. What is known of rows of sets may be used and added to.
     fn strikes_from(
         &self,
         candidates: &Candidates,
         reason: Reason,
         place: usize,
+        known: &mut KnownRows,
     ) -> Option<[NumberSet; 9]>
         requires size { candidates.now.size ≡ (Self.Rules.puzzle self.now).size }
         requires place { place < 4 * candidates.now.size }
         ensures { IfSome result (AreStruckFrom candidates.now.size (struck_by self.now candidates.now reason) place
             candidates.now.size) };
 
-    /// Goes through the clues or signs once, and takes away what they strike by a grade's reasons; the sizes are equal.
-    fn strike_by_clues(&self, grade: Grade, candidates: &mut Candidates)
+    /// Goes through the clues or signs once, and takes away what they strike by a grade's reasons; the sizes are equal. What is known of
+    /// rows of sets may be used and added to.
+    fn strike_by_clues(&self, grade: Grade, candidates: &mut Candidates, known: &mut KnownRows)
         requires { candidates.old.size ≡ (Self.Rules.puzzle self.now).size }
         ensures { Passes (struck_by self.now) grade (AreCluesSettled (struck_by self.now) grade) candidates.old candidates.new };
 

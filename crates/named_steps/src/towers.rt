@@ -9,6 +9,7 @@ ghost use Rattle.named_steps.specs.Inner.Rows.{May, IsViewQuiet, look_grade};
 
 use crate::clue_strikes::{Look, by_clue, strike_view, unfilled_row};
 use crate::grade::Grade;
+use crate::known_rows::KnownRows;
 use crate::reason::Reason;
 use crate::steps::Steps;
 use crate::strikes::{by_any_peer, by_any_place, by_any_set, by_given};
@@ -50,20 +51,27 @@ impl Steps for Towers {
         candidates: &Candidates,
         reason: Reason,
         place: usize,
+        known: &mut KnownRows,
     ) -> Option<[NumberSet; 9]> {
         match reason {
-            Reason::Bound { place: at } => row_of_clue(self, candidates, Look::Alone, at, place),
-            Reason::Stand { place: at } => row_of_clue(self, candidates, Look::Stands, at, place),
-            Reason::Clue { place: at } => row_of_clue(self, candidates, Look::Marks, at, place),
+            Reason::Bound { place: at } => {
+                row_of_clue(self, candidates, Look::Alone, at, place, known)
+            }
+            Reason::Stand { place: at } => {
+                row_of_clue(self, candidates, Look::Stands, at, place, known)
+            }
+            Reason::Clue { place: at } => {
+                row_of_clue(self, candidates, Look::Marks, at, place, known)
+            }
             _ => None,
         }
     }
 
-    fn strike_by_clues(&self, grade: Grade, candidates: &mut Candidates) {
+    fn strike_by_clues(&self, grade: Grade, candidates: &mut Candidates, known: &mut KnownRows) {
         match grade {
             Grade::Latin => {}
-            Grade::Easy => strike_views(self, Look::Stands, candidates),
-            Grade::Hard => strike_views(self, Look::Marks, candidates),
+            Grade::Easy => strike_views(self, Look::Stands, candidates, known),
+            Grade::Hard => strike_views(self, Look::Marks, candidates, known),
         }
     }
 
@@ -81,7 +89,7 @@ impl Steps for Towers {
 }
 
 // Goes through the clues once, and takes away what they strike as they are looked at.
-fn strike_views(p: &Towers, look: Look, candidates: &mut Candidates)
+fn strike_views(p: &Towers, look: Look, candidates: &mut Candidates, known: &mut KnownRows)
     requires { candidates.old.size ≡ p.now.size }
     ensures { Passes (IsTowersStruckBy p.now) (look_grade look)
         (λ c. (place : ℕ) → place < 4 * candidates.old.size → IsViewQuiet p.now look place c) candidates.old candidates.new }
@@ -90,7 +98,7 @@ fn strike_views(p: &Towers, look: Look, candidates: &mut Candidates)
     for place in 0..4 * size.get() {
         let clue = p.clue(place);
         if clue != 0 {
-            strike_view(candidates, look, place, clue);
+            strike_view(candidates, look, place, clue, known);
         }
     }
 }
@@ -127,6 +135,7 @@ fn row_of_clue(
     look: Look,
     at: usize,
     place: usize,
+    known: &mut KnownRows,
 ) -> Option<[NumberSet; 9]>
     requires size { candidates.now.size ≡ p.now.size }
     requires place { place < 4 * candidates.now.size }
@@ -136,11 +145,17 @@ fn row_of_clue(
     if at != place {
         return None;
     }
-    Some(clue_row(p, candidates, look, place))
+    Some(clue_row(p, candidates, look, place, known))
 }
 
 // What a clue strikes in each of the squares from its place.
-fn clue_row(p: &Towers, candidates: &Candidates, look: Look, place: usize) -> [NumberSet; 9]
+fn clue_row(
+    p: &Towers,
+    candidates: &Candidates,
+    look: Look,
+    place: usize,
+    known: &mut KnownRows,
+) -> [NumberSet; 9]
     requires size { candidates.now.size ≡ p.now.size }
     requires place { place < 4 * candidates.now.size }
     ensures { AreStruckFrom candidates.now.size (IsByClue p.now (May look candidates.now) place) place
@@ -151,5 +166,5 @@ fn clue_row(p: &Towers, candidates: &Candidates, look: Look, place: usize) -> [N
     if clue == 0 {
         return [NumberSet::empty(); 9];
     }
-    unfilled_row(candidates, look, place as u8, clue)
+    unfilled_row(candidates, look, place as u8, clue, known)
 }

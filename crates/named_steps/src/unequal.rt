@@ -9,6 +9,7 @@ ghost use Rattle.named_steps.specs.Inner.SignStrikes.{IsSignQuiet, AreSignsQuiet
 ghost use Rattle.named_steps.specs.declared.grade.Grade.TheVariants.{Easy};
 
 use crate::grade::Grade;
+use crate::known_rows::KnownRows;
 use crate::reason::Reason;
 use crate::sign_strikes::{by_greater, by_lesser};
 use crate::steps::Steps;
@@ -53,6 +54,7 @@ impl Steps for Unequal {
         candidates: &Candidates,
         reason: Reason,
         place: usize,
+        _known: &mut KnownRows,
     ) -> Option<[NumberSet; 9]> {
         let _size = candidates.size();
         let _reason = reason;
@@ -60,7 +62,7 @@ impl Steps for Unequal {
         None
     }
 
-    fn strike_by_clues(&self, grade: Grade, candidates: &mut Candidates) {
+    fn strike_by_clues(&self, grade: Grade, candidates: &mut Candidates, _known: &mut KnownRows) {
         let _valid = self.size();
         match grade {
             Grade::Latin => {}

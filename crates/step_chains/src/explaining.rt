@@ -1,5 +1,5 @@
 //! Hints that explain: a chain of steps to the next number, or to a square that is left nothing.
-ghost use Rattle.std.specs.Prelude.{◌≡◌, ◌↔◌, ◌*◌, ◌<◌, IsTrue, IfOk, MatchOption};
+ghost use Rattle.std.specs.Prelude.{◌≡◌, ◌↔◌, ◌*◌, ◌<◌, IsTrue, IfOk, IfSome, MatchOption};
 ghost use Rattle.named_steps.specs.Chains.{IsExplained, IsTight};
 ghost use Rattle.named_steps.specs.declared.goal.Goal.TheVariants.{OnlyValue};
 ghost use Rattle.step_chains.specs.ChainValues.{steps_of};
@@ -77,6 +77,34 @@ fn first_aim<P: Steps>(p: &P, grid: &Grid, grade: Grade) -> Option<Aim>
     }
 }
 
+/// The next number of a grid by the steps of a grade, with the steps that show it, if they show any. It doesn't ask whether steps refute
+/// the grid's numbers, and is quicker than `explain` for those who know that none do; where some do, it may tell a number or none.
+/// `OutOfMemory` where a growth was refused. The grid has the puzzle's size.
+#[inline(never)]
+pub fn explain_number<P: Steps>(
+    alloc: Global,
+    p: &P,
+    grid: &Grid,
+    grade: Grade,
+) -> Result<Option<Chain>, OutOfMemory>
+    requires { grid.now.size ≡ (P.puzzle p.now).size }
+    ensures { IfOk result (λ found. MatchOption found
+        ((IsRefutedGrid (P.struck_by p.now) grade grid.now → ⊥) → NothingIsShown (P.struck_by p.now) grade grid.now)
+        (λ chain. IsExplained (P.struck_by p.now) grade grid.now (steps_of chain.steps.items) chain.goal)) }
+{
+    if let Some(chain) = short_number(alloc, p, grid, grade)? {
+        return Ok(Some(chain));
+    }
+    match first_aim(p, grid, grade) {
+        Some(Aim::Number(goal)) => {
+            let chain = plain_number(alloc, p, grid, grade, goal)?;
+            Ok(Some(chain))
+        }
+        Some(Aim::Nothing { cell: _ }) => Ok(None),
+        None => Ok(None),
+    }
+}
+
 // A chain that shows a number of an empty square, and rather a short one. All steps together show this one.
 #[inline(never)]
 fn chain_to<P: Steps>(
@@ -91,16 +119,51 @@ fn chain_to<P: Steps>(
     requires shown { IsShownByAll (P.struck_by p.now) grade grid.now goal }
     ensures { IfOk result (λ chain. IsExplained (P.struck_by p.now) grade grid.now (steps_of chain.steps.items) chain.goal) }
 {
+    if let Some(chain) = short_number(alloc, p, grid, grade)? {
+        return Ok(chain);
+    }
+    plain_number(alloc, p, grid, grade, goal)
+}
+
+// The same, where one is found.
+#[inline(never)]
+fn short_number<P: Steps>(
+    alloc: Global,
+    p: &P,
+    grid: &Grid,
+    grade: Grade,
+) -> Result<Option<Chain>, OutOfMemory>
+    requires { grid.now.size ≡ (P.puzzle p.now).size }
+    ensures { IfOk result (λ found. IfSome found
+        (λ chain. IsExplained (P.struck_by p.now) grade grid.now (steps_of chain.steps.items) chain.goal)) }
+{
     if let Some(found) = short_chain(alloc, p, grid, grade, Sought::Number)? {
-        if let Aim::Number(shown) = found.aim {
-            if is_open(grid, shown) {
-                return Ok(Chain {
+        if let Aim::Number(goal) = found.aim {
+            if is_open(grid, goal) {
+                return Ok(Some(Chain {
                     steps: found.steps,
-                    goal: shown,
-                });
+                    goal,
+                }));
             }
         }
     }
+    Ok(None)
+}
+
+// All steps of the grade's, without those that the number can be shown without. All of them together show it.
+#[inline(never)]
+fn plain_number<P: Steps>(
+    alloc: Global,
+    p: &P,
+    grid: &Grid,
+    grade: Grade,
+    goal: Goal,
+) -> Result<Chain, OutOfMemory>
+    requires size { grid.now.size ≡ (P.puzzle p.now).size }
+    requires open { IsOpen grid.now goal }
+    requires shown { IsShownByAll (P.struck_by p.now) grade grid.now goal }
+    ensures { IfOk result (λ chain. IsExplained (P.struck_by p.now) grade grid.now (steps_of chain.steps.items) chain.goal) }
+{
     let steps = plain_chain(alloc, p, grid, grade, Aim::Number(goal))?;
     Ok(Chain { steps, goal })
 }

@@ -9,7 +9,7 @@ use crate::replays::{struck, take};
 use crate::seen::{Seen, row_of, sharing, standing, union_of};
 use arrayvec::ArrayVec;
 use latin_board::{CELLS, Grid, OutOfMemory, line_cell};
-use named_steps::{Grade, Reason, Steps};
+use named_steps::{Grade, KnownRows, Reason, Steps};
 use number_sets::NumberSet;
 use std::alloc::Global;
 use trail_solver::{Candidates, Mark, Rules};
@@ -58,9 +58,12 @@ pub(crate) struct Rounds {
     gone: Values,
     pub(crate) steps: Vec<Step>,
     sought: Sought,
+    // With how many steps it wasn't found yet.
+    open: Option<usize>,
     stands: Seen,
     clues: Seen,
     groups: Seen,
+    known: KnownRows,
 }
 
 impl Rounds {
@@ -72,9 +75,11 @@ impl Rounds {
             gone: Values::none(),
             steps: Vec::new(alloc),
             sought,
+            open: None,
             stands: Seen::nothing(),
             clues: Seen::nothing(),
             groups: Seen::nothing(),
+            known: KnownRows::none(),
         }
     }
 
@@ -95,7 +100,9 @@ impl Rounds {
         grade: Grade,
     ) -> Result<(), OutOfMemory> {
         for last in 0..KINDS.len() {
-            self.go_on(p, grid, grade, last)?;
+            if is_of_use(KINDS[last], self.sought, grade) {
+                self.go_on(p, grid, grade, last)?;
+            }
         }
         Ok(())
     }
@@ -109,7 +116,7 @@ impl Rounds {
         last: usize,
     ) -> Result<(), OutOfMemory> {
         for _round in 0..ROUNDS {
-            if self.now.size() != grid.size() || is_found(self.sought, &self.now, grid) {
+            if self.now.size() != grid.size() || self.has_found(grid) {
                 return Ok(());
             }
             let before = self.steps.len();
@@ -121,12 +128,27 @@ impl Rounds {
         Ok(())
     }
 
+    // Whether what is sought is found. Where it isn't, it is looked for again only after more steps.
+    fn has_found(&mut self, grid: &Grid) -> bool
+        requires { self.old.now.size ≡ grid.now.size }
+    {
+        let steps = Some(self.steps.len());
+        if self.open == steps {
+            return false;
+        }
+        let found = is_found(self.sought, &self.now, grid);
+        if !found {
+            self.open = steps;
+        }
+        found
+    }
+
     // One round with the kinds up to one; its steps all look at the same candidates.
     fn round<P: Steps>(&mut self, p: &P, grade: Grade, last: usize) -> Result<(), OutOfMemory> {
         let before = self.steps.len();
         for kind in 0..KINDS.len() {
             if kind <= last
-                && is_of_use(KINDS[kind], self.sought)
+                && is_of_use(KINDS[kind], self.sought, grade)
                 && (kind == last || !is_done(KINDS[kind]))
             {
                 self.look(p, grade, KINDS[kind])?;
@@ -241,6 +263,7 @@ impl Rounds {
         greater: usize,
         at_lesser: bool,
     ) -> Result<(), OutOfMemory> {
+        let greatest = single(self.now.size().get());
         for cell in neighbours(self.now.size(), greater) {
             let lesser = cell as usize;
             let (from, to) = if at_lesser {
@@ -249,9 +272,9 @@ impl Rounds {
                 (lesser, greater)
             };
             let reason = Reason::Sign { from, to };
-            let greatest = single(self.now.size().get());
-            if greatest.is_subset(struck(p, &self.now, &reason, to)) == at_lesser {
-                self.look_in(p, grade, &reason, to)?;
+            let values = struck(p, &self.now, &reason, to);
+            if greatest.is_subset(values) == at_lesser {
+                self.list(grade, &reason, to, values)?;
             }
         }
         Ok(())
@@ -299,7 +322,7 @@ impl Rounds {
             Kind::Stand => Reason::Stand { place },
             _ => Reason::Clue { place },
         };
-        let Some(row) = p.strikes_from(&self.now, reason, place) else {
+        let Some(row) = p.strikes_from(&self.now, reason, place, &mut self.known) else {
             return Ok(());
         };
         let cells = squares_from(size, place);
@@ -427,11 +450,14 @@ fn is_found(sought: Sought, candidates: &Candidates, grid: &Grid) -> bool
     }
 }
 
-// Whether steps of a kind may lead on. What rows and columns alone strike shows a number at once, so on the way to one they strike
-// nothing.
-fn is_of_use(kind: Kind, sought: Sought) -> bool {
-    match (kind, sought) {
-        (Kind::Peer | Kind::Place, Sought::Number) => false,
+// Whether steps of a kind may lead on, and are of the grade. What rows and columns alone strike shows a number at once, so on the way to
+// one they strike nothing.
+fn is_of_use(kind: Kind, sought: Sought, grade: Grade) -> bool {
+    match (kind, sought, grade) {
+        (Kind::Peer | Kind::Place, Sought::Number, _) => false,
+        (Kind::Peer | Kind::Place | Kind::Given, _, _) => true,
+        (Kind::Bound | Kind::Sign | Kind::Stand, _, Grade::Latin) => false,
+        (Kind::Clue | Kind::Set, _, Grade::Latin | Grade::Easy) => false,
         _ => true,
     }
 }

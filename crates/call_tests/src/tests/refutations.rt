@@ -7,33 +7,38 @@ use latin_board::Grid;
 use named_steps::{Grade, Reason, Steps};
 use number_sets::NumberSet;
 use std::alloc::{AllocError, Global};
-use step_chains::{Explained, Refutation, Step, explain, explains, is_refuted, refutes};
+use step_chains::{
+    Explained, Refutation, Step, explain, explain_number, explains, is_refuted, refutes,
+};
 use step_texts::{StepNames, refutation_lines};
+use trail_solver::Rules;
 
 // A puzzle of width 3 without items and a board, the square of which one number is left, the square that is left nothing by that, and
 // what is said of it.
-struct Refuted(
-    Described,
-    &'static str,
-    usize,
-    usize,
-    &'static [&'static str],
-);
+struct Refuted(Described, &'static str, u8, u8, &'static [&'static str]);
 
 fn refutation_of(alloc: Global, row: &Refuted, with_step: bool) -> Result<Refutation, AllocError> {
     let mut steps = Vec::new(alloc);
     if with_step {
         steps.push(Step {
-            reason: Reason::Peer { cell: row.2 },
-            cell: row.3 as u8,
+            reason: Reason::Peer {
+                cell: row.2 as usize,
+            },
+            cell: row.3,
             values: NumberSet::one(1),
         })?;
     }
-    Ok(Refutation { steps, cell: row.3 })
+    Ok(Refutation {
+        steps,
+        cell: row.3 as usize,
+    })
 }
 
 // Whether the chain that is told is one.
 fn is_told<P: Steps>(alloc: Global, p: &P, grid: &Grid) -> bool {
+    if p.size() != grid.size() {
+        return false;
+    }
     match explain(alloc, p, grid, Grade::Latin) {
         Ok(Explained::Contradiction(found)) => refutes(p, grid, Grade::Latin, &found),
         Ok(Explained::Follows(found)) => explains(p, grid, Grade::Latin, &found),
@@ -41,15 +46,29 @@ fn is_told<P: Steps>(alloc: Global, p: &P, grid: &Grid) -> bool {
     }
 }
 
+// The same of a number, where none of the grid's is asked for.
+fn is_shown<P: Steps>(alloc: Global, p: &P, grid: &Grid) -> bool {
+    if p.size() != grid.size() {
+        return false;
+    }
+    match explain_number(alloc, p, grid, Grade::Latin) {
+        Ok(Some(found)) => explains(p, grid, Grade::Latin, &found),
+        _ => false,
+    }
+}
+
 fn follows<P: Game + Steps>(alloc: Global, text: &str, grid: &Grid) -> bool {
     match puzzle::<P>(3, text) {
-        Ok(p) => is_told(alloc, &p, grid),
+        Ok(p) => is_told(alloc, &p, grid) && is_shown(alloc, &p, grid),
         Err(_) => false,
     }
 }
 
 // Whether the numbers are refuted by the step, and not without it.
 fn is_judged<P: Steps>(alloc: Global, p: &P, grid: &Grid, row: &Refuted) -> bool {
+    if p.size() != grid.size() {
+        return false;
+    }
     match (
         refutation_of(alloc, row, true),
         refutation_of(alloc, row, false),
@@ -78,7 +97,7 @@ fn is_said<P: StepNames>(alloc: Global, p: &P, grid: &Grid, row: &Refuted) -> bo
 
 fn is_refuted_so<P: Game + StepNames>(alloc: Global, text: &str, row: &Refuted) -> bool {
     match (puzzle::<P>(3, text), grid_of(3, row.1), grid_of(3, "")) {
-        (Ok(p), Some(grid), Some(blank)) => {
+        (Ok(p), Some(grid), Some(blank)) if p.size() == blank.size() => {
             is_judged(alloc, &p, &grid, row)
                 && is_told(alloc, &p, &grid)
                 && is_said(alloc, &p, &grid, row)

@@ -1,10 +1,11 @@
 //! What givens, rows and columns rule out, for the `narrow` of a game of another crate.
 
 ghost use Rattle.std.specs.Prelude.{◌≡◌};
-ghost use Rattle.std.specs.Bool.{OnFalse};
+ghost use Rattle.std.specs.Bool.{OnFalse, OnTrue};
 ghost use Rattle.trail_solver.specs.Candidates.{IsEarlier};
 ghost use Rattle.trail_solver.specs.Solutions.{HasNoSolutionWithin, KeepsSolutions};
 ghost use Rattle.clue_rules.specs.Givens.{given_puzzle};
+ghost use Rattle.clue_rules.specs.Struck.{IsGivensStruck, NoneLeft};
 
 use crate::lines::changed::ChangedLines;
 use crate::lines::given_squares::keep_givens;
@@ -46,13 +47,19 @@ impl LineRules for NoRule {
 /// solution was among the candidates; the sizes are equal.
 ///
 /// It loses no Latin square with these givens that was within the candidates, so no solution of a puzzle that has them.
-#[tactic(auto, using(crate::proofs::GivensNarrowed::givens_keep, crate::proofs::GivensNarrowed::givens_refute))]
+/// Where it answers true, no pair is left that a given rules out, or a row or column by the candidates at first or by those
+/// that are left.
+#[tactic(auto, using(crate::proofs::GivensNarrowed::givens_keep, crate::proofs::GivensNarrowed::givens_refute, crate::proofs::GivensNarrowed::givens_struck, crate::proofs::GivensNarrowed::givens_settled))]
 pub fn narrow_by_givens(candidates: &mut Candidates, givens: &Grid) -> bool
     requires { givens.now.size ≡ candidates.old.size }
     ensures less { IsEarlier candidates.old candidates.new }
     ensures keeps { KeepsSolutions (given_puzzle givens.now) candidates.old candidates.new }
     ensures refutes { OnFalse result
         (HasNoSolutionWithin (given_puzzle givens.now) candidates.old) }
+    ensures struck { OnTrue result
+        (NoneLeft (IsGivensStruck givens.now) candidates.old candidates.new) }
+    ensures settled { OnTrue result
+        (NoneLeft (IsGivensStruck givens.now) candidates.new candidates.new) }
 {
     keep_givens(candidates, givens);
     let size = candidates.size();

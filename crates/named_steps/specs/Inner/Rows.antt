@@ -1,5 +1,5 @@
 -- What may stand in the squares from a place, as a row of sets.
-use Rattle.std.specs.Prelude.{◌≡◌, ◌↔◌, ℕ, ◌<◌, true, false, List, length, slice_index}
+use Rattle.std.specs.Prelude.{◌≡◌, ◌↔◌, ℕ, ◌<◌, true, false, ◌&&◌, nat_le, not, List, length, slice_index}
 use Rattle.number_sets.specs.Sets.{has_number}
 use Rattle.trail_solver.specs.Pairs.{IsPair}
 use Rattle.trail_solver.specs.Candidates.{CandidatesValue, may_be}
@@ -29,6 +29,11 @@ IsMaySet w May cell set = (v : ℕ) → (has_number set v ≡ true) ↔ (IsPair 
 pub record AreMaySets (w : ℕ) (May : ℕ → ℕ → Type 0) (place n : ℕ) (sets : List ℕ) : Type 0 where
   pub count : length sets ≡ 9
   pub each : (k : ℕ) → k < n → IsMaySet w May (view_cell w place k) (slice_index sets k)
+
+-- the first n sets of the row are of the values of the size that those kept lack
+pub record AreMissing (w : ℕ) (kept : List ℕ) (n : ℕ) (row : List ℕ) : Type 0 where
+  pub count : length row ≡ 9
+  pub each : (k v : ℕ) → k < n → has_number (slice_index row k) v ≡ ((nat_le 1 v && nat_le v w) && not (has_number (slice_index kept k) v))
 
 -- the reason by which a clue is looked at so
 abbrev pub look_reason : Look → ℕ → Reason

@@ -33,7 +33,8 @@ pub record IsReached (Struck : CandidatesValue → Reason → ℕ → ℕ → Ty
 -- all steps of the grade's come to the aim: a square is left nothing; or no square is, and a number of an empty one is shown
 abbrev pub IsFirstAim : (CandidatesValue → Reason → ℕ → ℕ → Type 0) → Grade → GridValue → Aim → Type 0
 IsFirstAim Struck grade g (Number goal) = IsOpen g goal × IsShownByAll Struck grade g goal × (IsRefutedGrid Struck grade g → ⊥)
-IsFirstAim Struck grade g (Nothing cell) = (cell < g.size * g.size) × IsShownByAll Struck grade g (OnlyValue cell 0)
+IsFirstAim Struck grade g (Nothing cell) =
+    (cell < g.size * g.size) × IsShownByAll Struck grade g (OnlyValue cell 0) × IsRefutedGrid Struck grade g
 
 -- something is left of each square
 abbrev pub HasSome : CandidatesValue → Type 0

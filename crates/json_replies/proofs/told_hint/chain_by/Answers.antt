@@ -1,13 +1,14 @@
-use Rattle.std.proofs.Common.{subst}
+use Rattle.named_steps.specs.Chains.{IsExplained}
 use Rattle.step_chains.specs.ChainValues.{steps_of}
-use Rattle.step_chains.specs.Explanations.{Explains}
-use Rattle.json_replies.proofs.ToldHints.{refutation_refutes, refuted_hard}
+use Rattle.step_chains.specs.Explanations.{IsRefutedGrid, NothingIsShown}
+use Rattle.step_chains.specs.declared.chain.Chain.{Chain}
+use Rattle.json_replies.proofs.ToldHints.{number_or_none, refuted_hard}
 use Rattle.json_replies.proofs.told_hint.chain_by.Goals as goal
 
 pub returns : goal.returns
 returns g c =
     let Struck = g.P.Steps.struck_by c.args.p.now in
     let b = c.args.grid.now in
-    let r = c.in-Contradiction.field-0 in
-    let told = subst (Explains Struck c.args.grade b) c.in-Contradiction.is c.in_ok-chain.ensures in
-    absurd (c.requires.holds (refuted_hard Struck c.args.grade b (refutation_refutes Struck c.args.grade b (steps_of r.steps.items) r.cell told)))
+    let grade = c.args.grade in
+    number_or_none (IsRefutedGrid Struck grade b) (NothingIsShown Struck grade b) (λ (chain : Chain). IsExplained Struck grade b (steps_of chain.steps.items) chain.goal)
+    c.explain_number.result (λ refuted. c.requires.holds (refuted_hard Struck grade b refuted)) c.explain_number.ensures

@@ -1,6 +1,6 @@
 use Rattle.std.proofs.Common.{ℕ, ◌*◌, ◌<◌, ◌∙◌, subst}
 use Rattle.named_steps.specs.declared.goal.Goal.TheVariants.{OnlyValue}
-use Rattle.step_chains.proofs.Explanations.{empty_shown, nothing_shown, none_refuted, shown_by_all}
+use Rattle.step_chains.proofs.Explanations.{empty_shown, nothing_shown, none_refuted, refuted_by, shown_by_all}
 use Rattle.step_chains.proofs.explaining.first_aim.Goals as goal
 
 pub returns-in-Some : goal.returns-in-Some
@@ -11,6 +11,7 @@ returns-in-Some g c =
       subst (λ (w : ℕ). cell < w * w) (c.settle.ensures.size ∙ view.size) c.in-Some.ensures.0,
       shown_by_all (g.P.Steps.struck_by c.args.p.now) (g.met.P.Steps.struck_less c.args.p.now) c.args.grade c.args.grid.now c.view_of-settled.result d
           (OnlyValue cell 0) view c.settle.ensures ((empty_shown d cell).0 c.in-Some.ensures.1),
+      refuted_by (g.P.Steps.struck_by c.args.p.now) c.args.grade c.args.grid.now c.view_of-settled.result d cell view c.settle.ensures c.in-Some.ensures,
     )
 
 pub returns-in-Some-shown_goal : goal.returns-in-Some-shown_goal

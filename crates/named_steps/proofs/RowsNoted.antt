@@ -1,0 +1,110 @@
+-- What is known of no rows, and of one more.
+use Rattle.std.proofs.Common.{◌≡◌, ℕ, ◌<◌, ◌≤◌, true, false, inl, inr, [], List, length, replicate, set, take, slice_index, slice_index_or, refl, sym, ap, ◌∙◌, subst, arith}
+use Rattle.std.proofs.lemmas.Bool.{both_ways, cases_eq, cases_lt}
+use Rattle.std.proofs.lemmas.List.{get_or_past, get_or-replicate, get_or-set_same, get_or-set_other, get_or-take, length-replicate, length-take-le}
+use Rattle.number_sets.specs.Sets.{has_number}
+use Rattle.number_sets.proofs.Members.{has_number-none}
+use Rattle.named_steps.specs.Inner.KnownRows.{AreKept, IsKnown, AreKnown}
+
+nothing_has : (k value : ℕ) → has_number (slice_index (replicate 9 0) k) value ≡ false
+nothing_has k value = elim (cases_lt k 9) [
+  | inl low ↦ ap (λ (set : ℕ). has_number set value) (get_or-replicate 9 k 0 0 low) ∙ has_number-none value
+  | inr past ↦
+      let out : slice_index (replicate 9 0) k ≡ 0 = get_or_past (replicate 9 0) k 0 (omega (arith, past, length-replicate {A = ℕ} 9 0)) in
+      ap (λ (set : ℕ). has_number set value) out ∙ has_number-none value
+]
+
+-- a row of no squares has no fillings' values
+pub none_known : AreKnown (replicate 46 0) (replicate 46 0) (replicate 46 (replicate 9 0)) (replicate 46 (replicate 9 0))
+none_known = record {
+  each = λ place low.
+      let empty : List ℕ = replicate 9 0 in
+      let widths : List ℕ = replicate 46 0 in
+      let rows : List (List ℕ) = replicate 46 empty in
+      let width : slice_index widths place ≡ 0 = get_or-replicate 46 place 0 0 low in
+      let kept : slice_index_or rows place [] ≡ empty = get_or-replicate 46 place empty [] low in
+      let none : IsKnown 0 (slice_index widths place) (slice_index_or rows place []) empty = record {
+        room = omega arith;
+        stays = λ k value. (
+          λ has. absurd (both_ways (has_number (slice_index empty k) value) (nothing_has k value) has),
+          λ s. absurd (omega (arith, s.inside)),
+        );
+      } in
+      subst (λ (n : ℕ). IsKnown n (slice_index widths place) (slice_index_or rows place []) (slice_index_or rows place [])) (sym width)
+      (subst (λ (found : List ℕ). IsKnown 0 (slice_index widths place) (slice_index_or rows place []) found) (sym kept) none);
+}
+
+-- the row of one slot is another one, of which this is kept
+pub one_known : (widths clues : List ℕ) (sets kept : List (List ℕ)) (place width clue : ℕ) (row found : List ℕ) → length widths ≡ 46 → length clues ≡ 46
+    → length sets ≡ 46 → length kept ≡ 46 → place < 46 → AreKnown widths clues sets kept → IsKnown width clue row found
+    → AreKnown (set widths place width) (set clues place clue) (set sets place row) (set kept place found)
+one_known widths clues sets kept place width clue row found ws cs ss ks low known new = record {
+  each = λ k inside. elim (cases_eq k place) [
+    | inl same ↦
+        let w : slice_index (set widths place width) k ≡ width = ap (slice_index (set widths place width)) same ∙ get_or-set_same widths place width 0 (omega (arith, low, ws)) in
+        let c : slice_index (set clues place clue) k ≡ clue = ap (slice_index (set clues place clue)) same ∙ get_or-set_same clues place clue 0 (omega (arith, low, cs)) in
+        let s : slice_index_or (set sets place row) k [] ≡ row =
+        ap (λ i. slice_index_or (set sets place row) i []) same ∙ get_or-set_same sets place row [] (omega (arith, low, ss)) in
+        let f : slice_index_or (set kept place found) k [] ≡ found =
+        ap (λ i. slice_index_or (set kept place found) i []) same ∙ get_or-set_same kept place found [] (omega (arith, low, ks)) in
+        rw (w, c, s, f) new
+    | inr other ↦
+        let w : slice_index (set widths place width) k ≡ slice_index widths k = get_or-set_other widths place k width 0 other in
+        let c : slice_index (set clues place clue) k ≡ slice_index clues k = get_or-set_other clues place k clue 0 other in
+        let s : slice_index_or (set sets place row) k [] ≡ slice_index_or sets k [] = get_or-set_other sets place k row [] other in
+        let f : slice_index_or (set kept place found) k [] ≡ slice_index_or kept k [] = get_or-set_other kept place k found [] other in
+        rw (w, c, s, f) (known.each k inside)
+  ];
+}
+
+-- what a row keeps keeps itself
+pub kept_kept : (width clue : ℕ) (sets kept : List ℕ) → IsKnown width clue sets kept → width ≤ length kept → AreKept (take width kept) clue kept
+kept_kept width clue sets kept known room place value =
+    let row : List ℕ = take width sets in
+    let long : length row ≡ width = length-take-le width sets known.room in
+    let same : length (take width kept) ≡ width = length-take-le width kept room in
+    let front : (k : ℕ) → k < width → slice_index (take width kept) k ≡ slice_index kept k = λ k low. get_or-take width kept k 0 low in (
+      λ has.
+          let s = (known.stays place value).0 has in
+          let f = s.filling in
+          record {
+            line = s.line;
+            filling = record {
+              start = record {
+                room = omega (arith, f.whole, long, same);
+                values = λ j low. let v = f.start.values j low in (v.0, omega (arith, v.1, long, same));
+                candidates = λ j low.
+                    let below : j < length row = omega (arith, low, f.whole) in
+                    let stays = (known.stays j (slice_index s.line j)).1 (record { line = s.line; filling = f; inside = below; here = refl }) in
+                    subst (λ (set : ℕ). has_number set (slice_index s.line j) ≡ true) (sym (front j (omega (arith, below, long)))) stays;
+                apart = f.start.apart;
+              };
+              whole = f.whole ∙ long ∙ sym same;
+              shown = f.shown;
+            };
+            inside = omega (arith, s.inside, long, same);
+            here = s.here;
+          },
+      λ s.
+          let f = s.filling in
+          (known.stays place value).1 (record {
+            line = s.line;
+            filling = record {
+              start = record {
+                room = omega (arith, f.whole, long, same);
+                values = λ j low. let v = f.start.values j low in (v.0, omega (arith, v.1, long, same));
+                candidates = λ j low.
+                    let below : j < width = omega (arith, low, f.whole, same) in
+                    let stays = subst (λ (set : ℕ). has_number set (slice_index s.line j) ≡ true) (front j below) (f.start.candidates j low) in
+                    let t = (known.stays j (slice_index s.line j)).0 stays in
+                    subst (λ (v : ℕ). has_number (slice_index row j) v ≡ true) t.here
+                    (t.filling.start.candidates j (omega (arith, t.inside, t.filling.whole)));
+                apart = f.start.apart;
+              };
+              whole = f.whole ∙ same ∙ sym long;
+              shown = f.shown;
+            };
+            inside = omega (arith, s.inside, long, same);
+            here = s.here;
+          }),
+    )

@@ -1,0 +1,88 @@
+//! What was found of rows of sets, so that no row is looked through twice.
+ghost use Rattle.std.specs.Prelude.{◌<◌, ◌≤◌, take};
+ghost use Rattle.named_steps.specs.Inner.KnownRows.{AreKept, IsKnown};
+
+use number_sets::NumberSet;
+use std::marker::Model;
+use tower_lines::supported;
+
+// One for each place at the edge of the widest grid, and one for each clue and none.
+const SLOTS: usize = 46;
+
+/// Rows of sets that were looked at, each with its clue and what was found of it. They speak of sets and clues alone, so they stay right
+/// whatever is taken away, and in any puzzle.
+#[derive(Debug, Drop)]
+pub struct KnownRows {
+    widths: [u8; SLOTS],
+    clues: [u8; SLOTS],
+    sets: [[NumberSet; 9]; SLOTS],
+    kept: [[NumberSet; 9]; SLOTS],
+}
+
+impl Model for KnownRows {
+    ghost use Rattle.named_steps.specs.Inner.KnownRows.{AreKnown};
+
+    // Nobody is told what it holds.
+    ghost Value = { Unit {0} };
+
+    ghost view = { λ k. tt };
+
+    ghost invariant = { λ k. AreKnown k.widths k.clues k.sets k.kept };
+}
+
+impl KnownRows {
+    /// Nothing yet: rows of no squares.
+    pub fn none() -> KnownRows {
+        let nothing = [NumberSet::empty(); 9];
+        KnownRows {
+            widths: [0; SLOTS],
+            clues: [0; SLOTS],
+            sets: [nothing; SLOTS],
+            kept: [nothing; SLOTS],
+        }
+    }
+
+    /// As `tower_lines::supported` of the first sets of a row, so many as the width. The row is known in a slot from then on.
+    pub(crate) fn supported(
+        &mut self,
+        slot: u8,
+        sets: &[NumberSet; 9],
+        width: u8,
+        clue: u8,
+    ) -> [NumberSet; 9]
+        requires slot { slot < 46 }
+        requires width { width ≤ 9 }
+        requires clue { clue ≤ 9 }
+        ensures { AreKept (take width sets.now) clue result }
+    {
+        let slot = slot as usize;
+        if self.widths[slot] == width && self.clues[slot] == clue {
+            // What was kept keeps itself.
+            if self.sets[slot] == *sets || self.kept[slot] == *sets {
+                return self.kept[slot];
+            }
+        }
+        let kept = supported(&sets[..width as usize], clue);
+        self.note(slot, sets, width, clue, &kept);
+        kept
+    }
+
+    // The row is the one that is known in the slot.
+    #[tactic(auto, using(crate::proofs::RowsNoted::one_known))]
+    fn note(
+        &mut self,
+        slot: usize,
+        sets: &[NumberSet; 9],
+        width: u8,
+        clue: u8,
+        kept: &[NumberSet; 9],
+    )
+        requires slot { slot < 46 }
+        requires known { IsKnown width clue sets.now kept.now }
+    {
+        self.widths[slot] = width;
+        self.clues[slot] = clue;
+        self.sets[slot] = *sets;
+        self.kept[slot] = *kept;
+    }
+}
