@@ -4,7 +4,7 @@ use Rattle.std.proofs.lemmas.Bool.{both_ways, cases_eq, cases_lt}
 use Rattle.std.proofs.lemmas.List.{get_or_past, get_or-replicate, get_or-set_same, get_or-set_other, get_or-take, length-replicate, length-take-le}
 use Rattle.number_sets.specs.Sets.{has_number}
 use Rattle.number_sets.proofs.Members.{has_number-none}
-use Rattle.named_steps.specs.Inner.KnownRows.{AreKept, IsKnown, AreKnown}
+use Rattle.named_steps.specs.Inner.KnownRows.{AreKept, IsBetween, IsKnown, AreKnown}
 
 nothing_has : (k value : ℕ) → has_number (slice_index (replicate 9 0) k) value ≡ false
 nothing_has k value = elim (cases_lt k 9) [
@@ -15,14 +15,14 @@ nothing_has k value = elim (cases_lt k 9) [
 ]
 
 -- a row of no squares has no fillings' values
-pub none_known : AreKnown (replicate 46 0) (replicate 46 0) (replicate 46 (replicate 9 0)) (replicate 46 (replicate 9 0))
+pub none_known : AreKnown (replicate 82 0) (replicate 82 0) (replicate 82 (replicate 9 0)) (replicate 82 (replicate 9 0))
 none_known = record {
   each = λ place low.
       let empty : List ℕ = replicate 9 0 in
-      let widths : List ℕ = replicate 46 0 in
-      let rows : List (List ℕ) = replicate 46 empty in
-      let width : slice_index widths place ≡ 0 = get_or-replicate 46 place 0 0 low in
-      let kept : slice_index_or rows place [] ≡ empty = get_or-replicate 46 place empty [] low in
+      let widths : List ℕ = replicate 82 0 in
+      let rows : List (List ℕ) = replicate 82 empty in
+      let width : slice_index widths place ≡ 0 = get_or-replicate 82 place 0 0 low in
+      let kept : slice_index_or rows place [] ≡ empty = get_or-replicate 82 place empty [] low in
       let none : IsKnown 0 (slice_index widths place) (slice_index_or rows place []) empty = record {
         room = omega arith;
         stays = λ k value. (
@@ -35,8 +35,8 @@ none_known = record {
 }
 
 -- the row of one slot is another one, of which this is kept
-pub one_known : (widths clues : List ℕ) (sets kept : List (List ℕ)) (place width clue : ℕ) (row found : List ℕ) → length widths ≡ 46 → length clues ≡ 46
-    → length sets ≡ 46 → length kept ≡ 46 → place < 46 → AreKnown widths clues sets kept → IsKnown width clue row found
+pub one_known : (widths clues : List ℕ) (sets kept : List (List ℕ)) (place width clue : ℕ) (row found : List ℕ) → length widths ≡ 82 → length clues ≡ 82
+    → length sets ≡ 82 → length kept ≡ 82 → place < 82 → AreKnown widths clues sets kept → IsKnown width clue row found
     → AreKnown (set widths place width) (set clues place clue) (set sets place row) (set kept place found)
 one_known widths clues sets kept place width clue row found ws cs ss ks low known new = record {
   each = λ k inside. elim (cases_eq k place) [
@@ -57,13 +57,17 @@ one_known widths clues sets kept place width clue row found ws cs ss ks low know
   ];
 }
 
--- what a row keeps keeps itself
-pub kept_kept : (width clue : ℕ) (sets kept : List ℕ) → IsKnown width clue sets kept → width ≤ length kept → AreKept (take width kept) clue kept
-kept_kept width clue sets kept known room place value =
-    let row : List ℕ = take width sets in
-    let long : length row ≡ width = length-take-le width sets known.room in
-    let same : length (take width kept) ≡ width = length-take-le width kept room in
-    let front : (k : ℕ) → k < width → slice_index (take width kept) k ≡ slice_index kept k = λ k low. get_or-take width kept k 0 low in (
+-- of a row between what is known and what is kept of it the same is kept
+pub kept_between : (width clue : ℕ) (sets kept row : List ℕ) → IsKnown width clue sets kept → width ≤ 9 → length row ≡ 9
+    → ((k : ℕ) → k < 9 → IsBetween (slice_index kept k) (slice_index row k) (slice_index sets k))
+    → AreKept (take width row) clue kept
+kept_between width clue sets kept row known small count between place value =
+    let first : List ℕ = take width sets in
+    let other : List ℕ = take width row in
+    let long : length first ≡ width = length-take-le width sets known.room in
+    let same : length other ≡ width = length-take-le width row (omega (arith, small, count)) in
+    let of_first : (k : ℕ) → k < width → slice_index first k ≡ slice_index sets k = λ k low. get_or-take width sets k 0 low in
+    let of_other : (k : ℕ) → k < width → slice_index other k ≡ slice_index row k = λ k low. get_or-take width row k 0 low in (
       λ has.
           let s = (known.stays place value).0 has in
           let f = s.filling in
@@ -74,9 +78,11 @@ kept_kept width clue sets kept known room place value =
                 room = omega (arith, f.whole, long, same);
                 values = λ j low. let v = f.start.values j low in (v.0, omega (arith, v.1, long, same));
                 candidates = λ j low.
-                    let below : j < length row = omega (arith, low, f.whole) in
-                    let stays = (known.stays j (slice_index s.line j)).1 (record { line = s.line; filling = f; inside = below; here = refl }) in
-                    subst (λ (set : ℕ). has_number set (slice_index s.line j) ≡ true) (sym (front j (omega (arith, below, long)))) stays;
+                    let below : j < width = omega (arith, low, f.whole, long) in
+                    let stays = (known.stays j (slice_index s.line j)).1
+                    (record { line = s.line; filling = f; inside = omega (arith, below, long); here = refl }) in
+                    subst (λ (set : ℕ). has_number set (slice_index s.line j) ≡ true) (sym (of_other j below))
+                    ((between j (omega (arith, below, small))).low (slice_index s.line j) stays);
                 apart = f.start.apart;
               };
               whole = f.whole ∙ long ∙ sym same;
@@ -95,10 +101,9 @@ kept_kept width clue sets kept known room place value =
                 values = λ j low. let v = f.start.values j low in (v.0, omega (arith, v.1, long, same));
                 candidates = λ j low.
                     let below : j < width = omega (arith, low, f.whole, same) in
-                    let stays = subst (λ (set : ℕ). has_number set (slice_index s.line j) ≡ true) (front j below) (f.start.candidates j low) in
-                    let t = (known.stays j (slice_index s.line j)).0 stays in
-                    subst (λ (v : ℕ). has_number (slice_index row j) v ≡ true) t.here
-                    (t.filling.start.candidates j (omega (arith, t.inside, t.filling.whole)));
+                    let there = subst (λ (set : ℕ). has_number set (slice_index s.line j) ≡ true) (of_other j below) (f.start.candidates j low) in
+                    subst (λ (set : ℕ). has_number set (slice_index s.line j) ≡ true) (sym (of_first j below))
+                    ((between j (omega (arith, below, small))).high (slice_index s.line j) there);
                 apart = f.start.apart;
               };
               whole = f.whole ∙ same ∙ sym long;

@@ -25,13 +25,14 @@ pub(crate) enum Look {
     Marks,
 }
 
-/// The values of the size that the clue at a place rules out in a square.
+/// The values of the size that the clue at a place rules out in a square. What is known of rows of sets is used and added to.
 pub(crate) fn by_clue(
     candidates: &Candidates,
     look: Look,
     place: u8,
     clue: u8,
     cell: usize,
+    known: &mut KnownRows,
 ) -> NumberSet
     requires place { place < 4 * candidates.now.size }
     requires clue { clue ≤ candidates.now.size }
@@ -42,7 +43,7 @@ pub(crate) fn by_clue(
     let size = candidates.size();
     for k in 0..size.get() as usize {
         if view_cell(size, place, k) == cell {
-            let row = unfilled_row(candidates, look, place, clue, &mut KnownRows::none());
+            let row = unfilled_row(candidates, look, place, clue, known);
             return row[k];
         }
     }
@@ -98,16 +99,17 @@ pub(crate) fn unfilled_row(
     missing_row(width, &kept)
 }
 
-// Where a row is known: that of a place, or where the clue alone is seen, that of the clue, since there all rows are alike.
+// Where a row is known: that of a place, by what is seen of it, or where the clue alone is seen, that of the clue, since there all rows
+// are alike.
 fn slot_of(look: Look, place: u8, clue: u8) -> u8
     requires place { place < 36 }
     requires clue { clue ≤ 9 }
-    ensures { result < 46 }
+    ensures { result < 82 }
 {
     match look {
-        Look::Alone => 36 + clue,
         Look::Stands => place,
-        Look::Marks => place,
+        Look::Marks => 36 + place,
+        Look::Alone => 72 + clue,
     }
 }
 

@@ -1,13 +1,14 @@
 //! What was found of rows of sets, so that no row is looked through twice.
-ghost use Rattle.std.specs.Prelude.{◌<◌, ◌≤◌, take};
-ghost use Rattle.named_steps.specs.Inner.KnownRows.{AreKept, IsKnown};
+ghost use Rattle.std.specs.Prelude.{ℕ, ◌<◌, ◌≤◌, slice_index, take};
+ghost use Rattle.std.specs.Bool.{OnTrue};
+ghost use Rattle.named_steps.specs.Inner.KnownRows.{AreKept, IsBetween, IsKnown};
 
 use number_sets::NumberSet;
 use std::marker::Model;
 use tower_lines::supported;
 
-// One for each place at the edge of the widest grid, and one for each clue and none.
-const SLOTS: usize = 46;
+// Two for each place at the edge of the widest grid, and one for each clue and none.
+const SLOTS: usize = 82;
 
 /// Rows of sets that were looked at, each with its clue and what was found of it. They speak of sets and clues alone, so they stay right
 /// whatever is taken away, and in any puzzle.
@@ -50,16 +51,16 @@ impl KnownRows {
         width: u8,
         clue: u8,
     ) -> [NumberSet; 9]
-        requires slot { slot < 46 }
+        requires slot { slot < 82 }
         requires width { width ≤ 9 }
         requires clue { clue ≤ 9 }
         ensures { AreKept (take width sets.now) clue result }
     {
         let slot = slot as usize;
         if self.widths[slot] == width && self.clues[slot] == clue {
-            // What was kept keeps itself.
-            if self.sets[slot] == *sets || self.kept[slot] == *sets {
-                return self.kept[slot];
+            let (least, most) = (self.kept[slot], self.sets[slot]);
+            if are_between(&least, sets, &most) {
+                return least;
             }
         }
         let kept = supported(&sets[..width as usize], clue);
@@ -77,7 +78,7 @@ impl KnownRows {
         clue: u8,
         kept: &[NumberSet; 9],
     )
-        requires slot { slot < 46 }
+        requires slot { slot < 82 }
         requires known { IsKnown width clue sets.now kept.now }
     {
         self.widths[slot] = width;
@@ -85,4 +86,24 @@ impl KnownRows {
         self.sets[slot] = *sets;
         self.kept[slot] = *kept;
     }
+}
+
+// Whether each set is between those of two rows: then the same is kept of it as of the greater.
+fn are_between(least: &[NumberSet; 9], sets: &[NumberSet; 9], most: &[NumberSet; 9]) -> bool
+    ensures { OnTrue result ((k : ℕ) → k < 9
+        → IsBetween (slice_index least.now k) (slice_index sets.now k) (slice_index most.now k)) }
+{
+    for k in 0..9 {
+        if !is_between(least[k], sets[k], most[k]) {
+            return false;
+        }
+    }
+    true
+}
+
+// Whether a set has all that another has, and no more than a third.
+fn is_between(least: NumberSet, set: NumberSet, most: NumberSet) -> bool
+    ensures { OnTrue result (IsBetween least set most) }
+{
+    least.is_subset(set) && set.is_subset(most)
 }

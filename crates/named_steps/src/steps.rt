@@ -23,8 +23,15 @@ pub trait Steps: Rules {
     // What a reason strikes from candidates: pairs of a square and a value.
     ghost struck_by: { Self → CandidatesValue → Reason → ℕ → ℕ → Type 0 };
 
-    /// The values that a reason strikes in a square; the sizes are equal, and the square is one of the grid's.
-    fn strikes(&self, candidates: &Candidates, reason: Reason, cell: usize) -> NumberSet
+    /// The values that a reason strikes in a square; the sizes are equal, and the square is one of the grid's. What is known of rows of
+    /// sets may be used and added to.
+    fn strikes(
+        &self,
+        candidates: &Candidates,
+        reason: Reason,
+        cell: usize,
+        known: &mut KnownRows,
+    ) -> NumberSet
         requires size { candidates.now.size ≡ (Self.Rules.puzzle self.now).size }
         requires inside { cell < candidates.now.size * candidates.now.size }
         ensures { (v : ℕ) → (has_number result v ≡ true)

@@ -27,16 +27,28 @@ impl Steps for Towers {
 
     ghost struck_by = { IsTowersStruckBy };
 
-    fn strikes(&self, candidates: &Candidates, reason: Reason, cell: usize) -> NumberSet {
+    fn strikes(
+        &self,
+        candidates: &Candidates,
+        reason: Reason,
+        cell: usize,
+        known: &mut KnownRows,
+    ) -> NumberSet {
         match reason {
             Reason::Given { cell: at } => by_given(self, candidates, at, cell),
             Reason::Peer { cell: by } => by_any_peer(candidates, by, cell),
             Reason::Place { line, index, value } => {
                 by_any_place(candidates, line, index, value, cell)
             }
-            Reason::Bound { place } => by_any_clue(self, candidates, Look::Alone, place, cell),
-            Reason::Stand { place } => by_any_clue(self, candidates, Look::Stands, place, cell),
-            Reason::Clue { place } => by_any_clue(self, candidates, Look::Marks, place, cell),
+            Reason::Bound { place } => {
+                by_any_clue(self, candidates, Look::Alone, place, cell, known)
+            }
+            Reason::Stand { place } => {
+                by_any_clue(self, candidates, Look::Stands, place, cell, known)
+            }
+            Reason::Clue { place } => {
+                by_any_clue(self, candidates, Look::Marks, place, cell, known)
+            }
             Reason::Sign { from: _, to: _ } => NumberSet::empty(),
             Reason::Set {
                 line,
@@ -111,6 +123,7 @@ fn by_any_clue(
     look: Look,
     place: usize,
     cell: usize,
+    known: &mut KnownRows,
 ) -> NumberSet
     requires size { candidates.now.size ≡ p.now.size }
     requires inside { cell < candidates.now.size * candidates.now.size }
@@ -125,7 +138,7 @@ fn by_any_clue(
     if clue == 0 {
         return NumberSet::empty();
     }
-    by_clue(candidates, look, place as u8, clue, cell)
+    by_clue(candidates, look, place as u8, clue, cell, known)
 }
 
 // What a clue strikes in each of the squares from a place, where it is the clue's own.

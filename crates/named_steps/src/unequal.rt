@@ -30,7 +30,13 @@ impl Steps for Unequal {
 
     ghost struck_by = { IsUnequalStruckBy };
 
-    fn strikes(&self, candidates: &Candidates, reason: Reason, cell: usize) -> NumberSet {
+    fn strikes(
+        &self,
+        candidates: &Candidates,
+        reason: Reason,
+        cell: usize,
+        _known: &mut KnownRows,
+    ) -> NumberSet {
         match reason {
             Reason::Given { cell: at } => by_given(self, candidates, at, cell),
             Reason::Peer { cell: by } => by_any_peer(candidates, by, cell),

@@ -17,7 +17,7 @@ use crate::shortest::short_chain;
 use crate::tightening::tighten;
 use crate::view::view_of;
 use latin_board::{Grid, OutOfMemory};
-use named_steps::{Goal, Grade, Steps, settle};
+use named_steps::{Goal, Grade, KnownRows, Steps, settle};
 use std::alloc::Global;
 use trail_solver::{Candidates, Rules};
 
@@ -270,7 +270,8 @@ fn reaches<P: Steps>(p: &P, grid: &Grid, grade: Grade, steps: &[Step], aim: Aim)
     ensures { IsTrue result ↔ IsReached (P.struck_by p.now) grade grid.now (steps_of steps.now) (aim_goal aim) }
 {
     let mut view = view_of(grid);
-    if !shows_without(p, grade, &mut view, steps, steps.len(), aim) {
+    let mut known = KnownRows::none();
+    if !shows_without(p, grade, &mut view, steps, steps.len(), aim, &mut known) {
         return false;
     }
     is_tight(p, grade, &mut view, steps, aim)
@@ -288,8 +289,9 @@ fn is_tight<P: Steps>(
     requires aim { IsAimOf candidates.old.size aim }
     ensures { IsTrue result ↔ IsTight (P.struck_by p.now) grade candidates.old (steps_of steps.now) (aim_goal aim) }
 {
+    let mut known = KnownRows::none();
     for place in 0..steps.len() {
-        if shows_without(p, grade, candidates, steps, place, aim) {
+        if shows_without(p, grade, candidates, steps, place, aim, &mut known) {
             return false;
         }
     }

@@ -272,7 +272,7 @@ impl Rounds {
                 (lesser, greater)
             };
             let reason = Reason::Sign { from, to };
-            let values = struck(p, &self.now, &reason, to);
+            let values = struck(p, &self.now, &reason, to, &mut self.known);
             if greatest.is_subset(values) == at_lesser {
                 self.list(grade, &reason, to, values)?;
             }
@@ -411,7 +411,7 @@ impl Rounds {
         if cell >= CELLS || !grade.has(*reason) {
             return Ok(());
         }
-        let values = struck(p, &self.now, reason, cell);
+        let values = struck(p, &self.now, reason, cell, &mut self.known);
         self.list(grade, reason, cell, values)
     }
 

@@ -11,7 +11,7 @@ ghost use Rattle.step_chains.specs.Inner.Quiet.{IsNew, IsIdleIn, IsIdle, IsSquar
 
 use crate::chain::Step;
 use latin_board::{OutOfMemory, line_cell};
-use named_steps::{Grade, Reason, Steps};
+use named_steps::{Grade, KnownRows, Reason, Steps};
 use number_sets::NumberSet;
 use std::alloc::Global;
 use trail_solver::{Candidates, Rules};
@@ -212,8 +212,10 @@ fn step_by_signs_to<P: Steps>(
         (IsNew (P.struck_by p.now) grade candidates.now) }
 {
     let width = candidates.size().get() as usize;
+    let mut known = KnownRows::none();
     for from in 0..width * width {
-        if let Some(step) = step_in(p, grade, candidates, &Reason::Sign { from, to }, to) {
+        let reason = Reason::Sign { from, to };
+        if let Some(step) = step_in(p, grade, candidates, &reason, to, &mut known) {
             return Some(step);
         }
     }
@@ -312,8 +314,9 @@ fn step_by<P: Steps>(p: &P, grade: Grade, candidates: &Candidates, reason: &Reas
         (IsNew (P.struck_by p.now) grade candidates.now) }
 {
     let width = candidates.size().get() as usize;
+    let mut known = KnownRows::none();
     for cell in 0..width * width {
-        if let Some(step) = step_in(p, grade, candidates, reason, cell) {
+        if let Some(step) = step_in(p, grade, candidates, reason, cell, &mut known) {
             return Some(step);
         }
     }
@@ -327,6 +330,7 @@ fn step_in<P: Steps>(
     candidates: &Candidates,
     reason: &Reason,
     cell: usize,
+    known: &mut KnownRows,
 ) -> Option<Step>
     requires size { candidates.now.size ≡ (P.puzzle p.now).size }
     requires inside { cell < candidates.now.size * candidates.now.size }
@@ -337,7 +341,7 @@ fn step_in<P: Steps>(
     if !grade.has(*reason) {
         return None;
     }
-    let struck = p.strikes(candidates, *reason, cell);
+    let struck = p.strikes(candidates, *reason, cell, known);
     let values = struck.intersection(candidates.values(cell));
     if values.is_empty() {
         return None;

@@ -13,12 +13,13 @@ ghost use Rattle.step_chains.specs.Inner.Replays.{IsGradeStep, IsGradeChain, Lea
 
 use crate::aims::Aim;
 use crate::chain::Step;
-use named_steps::{Grade, Reason, Steps, strike};
+use named_steps::{Grade, KnownRows, Reason, Steps, strike};
 use number_sets::NumberSet;
 use trail_solver::{Candidates, Rules};
 
 /// Whether the steps, without the one at a place if they have it, are a chain of the grade's from the candidates and come to the aim.
-/// The candidates are afterwards what they were. The sizes are equal, and the aim is one of the size.
+/// The candidates are afterwards what they were. The sizes are equal, and the aim is one of the size. What is known of rows of sets is used
+/// and added to, here and in what follows.
 pub(crate) fn shows_without<P: Steps>(
     p: &P,
     grade: Grade,
@@ -26,6 +27,7 @@ pub(crate) fn shows_without<P: Steps>(
     steps: &[Step],
     place: usize,
     aim: Aim,
+    known: &mut KnownRows,
 ) -> bool
     requires size { candidates.old.size ≡ (P.puzzle p.now).size }
     requires aim { IsAimOf candidates.old.size aim }
@@ -34,7 +36,7 @@ pub(crate) fn shows_without<P: Steps>(
         ↔ Shows (P.struck_by p.now) grade candidates.old (remove (steps_of steps.now) place) (aim_goal aim) }
 {
     let mark = candidates.mark();
-    let shows = leads_to(p, grade, candidates, steps, place, aim);
+    let shows = leads_to(p, grade, candidates, steps, place, aim, known);
     candidates.give_back(mark);
     shows
 }
@@ -47,6 +49,7 @@ fn leads_to<P: Steps>(
     steps: &[Step],
     place: usize,
     aim: Aim,
+    known: &mut KnownRows,
 ) -> bool
     requires size { candidates.old.size ≡ (P.puzzle p.now).size }
     requires aim { IsAimOf candidates.old.size aim }
@@ -54,7 +57,7 @@ fn leads_to<P: Steps>(
     ensures shows { IsTrue result
         ↔ Shows (P.struck_by p.now) grade candidates.old (remove (steps_of steps.now) place) (aim_goal aim) }
 {
-    if !follow_without(p, grade, candidates, steps, place) {
+    if !follow_without(p, grade, candidates, steps, place, known) {
         return false;
     }
     aim.is_met(candidates)
@@ -67,6 +70,7 @@ fn follow_without<P: Steps>(
     candidates: &mut Candidates,
     steps: &[Step],
     place: usize,
+    known: &mut KnownRows,
 ) -> bool
     requires { candidates.old.size ≡ (P.puzzle p.now).size }
     ensures earlier { IsEarlier candidates.old candidates.new }
@@ -76,16 +80,22 @@ fn follow_without<P: Steps>(
         (IsGradeChain (P.struck_by p.now) grade candidates.old (remove (steps_of steps.now) place) → ⊥) }
 {
     if place >= steps.len() {
-        return follow(p, grade, candidates, steps);
+        return follow(p, grade, candidates, steps, known);
     }
-    if !follow(p, grade, candidates, &steps[..place]) {
+    if !follow(p, grade, candidates, &steps[..place], known) {
         return false;
     }
-    follow(p, grade, candidates, &steps[place + 1..])
+    follow(p, grade, candidates, &steps[place + 1..], known)
 }
 
 // Follows the steps, and tells whether they are a chain of the grade's.
-fn follow<P: Steps>(p: &P, grade: Grade, candidates: &mut Candidates, steps: &[Step]) -> bool
+fn follow<P: Steps>(
+    p: &P,
+    grade: Grade,
+    candidates: &mut Candidates,
+    steps: &[Step],
+    known: &mut KnownRows,
+) -> bool
     requires { candidates.old.size ≡ (P.puzzle p.now).size }
     ensures earlier { IsEarlier candidates.old candidates.new }
     ensures leads { OnTrue result
@@ -94,7 +104,7 @@ fn follow<P: Steps>(p: &P, grade: Grade, candidates: &mut Candidates, steps: &[S
         (IsGradeChain (P.struck_by p.now) grade candidates.old (steps_of steps.now) → ⊥) }
 {
     for step in steps {
-        if !follow_one(p, grade, candidates, step) {
+        if !follow_one(p, grade, candidates, step, known) {
             return false;
         }
     }
@@ -102,14 +112,20 @@ fn follow<P: Steps>(p: &P, grade: Grade, candidates: &mut Candidates, steps: &[S
 }
 
 // Takes away what a step strikes, where it is one of the grade's.
-fn follow_one<P: Steps>(p: &P, grade: Grade, candidates: &mut Candidates, step: &Step) -> bool
+fn follow_one<P: Steps>(
+    p: &P,
+    grade: Grade,
+    candidates: &mut Candidates,
+    step: &Step,
+    known: &mut KnownRows,
+) -> bool
     requires { candidates.old.size ≡ (P.puzzle p.now).size }
     ensures earlier { IsEarlier candidates.old candidates.new }
     ensures is { IsTrue result ↔ IsGradeStep (P.struck_by p.now) grade candidates.old (step_value step.now) }
     ensures takes { OnTrue result
         (Takes (λ cell v. has_pair (step_value step.now).strikes cell v ≡ true) candidates.old candidates.new) }
 {
-    if !is_step(p, grade, candidates, step) {
+    if !is_step(p, grade, candidates, step, known) {
         return false;
     }
     take(candidates, step);
@@ -117,7 +133,13 @@ fn follow_one<P: Steps>(p: &P, grade: Grade, candidates: &mut Candidates, step: 
 }
 
 // Whether a step is one of the grade's by the candidates.
-fn is_step<P: Steps>(p: &P, grade: Grade, candidates: &Candidates, step: &Step) -> bool
+fn is_step<P: Steps>(
+    p: &P,
+    grade: Grade,
+    candidates: &Candidates,
+    step: &Step,
+    known: &mut KnownRows,
+) -> bool
     requires { candidates.now.size ≡ (P.puzzle p.now).size }
     ensures { IsTrue result ↔ IsGradeStep (P.struck_by p.now) grade candidates.now (step_value step.now) }
 {
@@ -125,7 +147,7 @@ fn is_step<P: Steps>(p: &P, grade: Grade, candidates: &Candidates, step: &Step) 
         return false;
     }
     let _bits = step.values.bits();
-    let set = struck(p, candidates, &step.reason, step.cell as usize);
+    let set = struck(p, candidates, &step.reason, step.cell as usize, known);
     step.values.is_subset(set)
 }
 
@@ -135,6 +157,7 @@ pub(crate) fn struck<P: Steps>(
     candidates: &Candidates,
     reason: &Reason,
     cell: usize,
+    known: &mut KnownRows,
 ) -> NumberSet
     ensures { (v : ℕ) → (has_number result v ≡ true) ↔ ((candidates.now.size ≡ (P.puzzle p.now).size)
         × (IsPair candidates.now.size cell v × P.struck_by p.now candidates.now reason.now cell v)) }
@@ -144,7 +167,7 @@ pub(crate) fn struck<P: Steps>(
     if p.size() != size || cell >= width * width {
         return NumberSet::empty();
     }
-    p.strikes(candidates, *reason, cell)
+    p.strikes(candidates, *reason, cell, known)
 }
 
 /// Takes away what a step lists.

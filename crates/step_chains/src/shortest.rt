@@ -15,7 +15,7 @@ use crate::slices::{gathered, slice, struck_once};
 use crate::tightening::tighten;
 use crate::view::view_of;
 use latin_board::{Grid, OutOfMemory};
-use named_steps::{Grade, Reason, Steps};
+use named_steps::{Grade, KnownRows, Reason, Steps};
 use std::alloc::Global;
 use trail_solver::{Candidates, Rules};
 
@@ -76,7 +76,8 @@ fn shorten<P: Steps>(
     if p.size() != size || !aim.is_of(size) {
         return false;
     }
-    if !shows_without(p, grade, candidates, steps.as_slice(), all, aim) {
+    let mut known = KnownRows::none();
+    if !shows_without(p, grade, candidates, steps.as_slice(), all, aim, &mut known) {
         return false;
     }
     tighten(p, grade, candidates, steps, aim);

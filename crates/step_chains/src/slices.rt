@@ -6,7 +6,7 @@ use crate::needs::{Values, left, looked_at, needs_of};
 use crate::replays::{struck, take};
 use arrayvec::ArrayVec;
 use latin_board::OutOfMemory;
-use named_steps::{Reason, Steps, strike};
+use named_steps::{KnownRows, Reason, Steps};
 use number_sets::NumberSet;
 use std::alloc::Global;
 use trail_solver::{Candidates, Rules};
@@ -142,9 +142,13 @@ fn strikes_by<P: Steps>(
             },
         );
     }
-    let strikes = step
-        .values
-        .is_subset(struck(p, candidates, &step.reason, step.cell as usize));
+    let strikes = step.values.is_subset(struck(
+        p,
+        candidates,
+        &step.reason,
+        step.cell as usize,
+        &mut KnownRows::none(),
+    ));
     if mark.len() <= candidates.trail_len() {
         candidates.give_back(mark);
     }
@@ -182,6 +186,7 @@ fn gather<P: Steps>(
     found: &mut Vec<Step>,
 ) -> Result<(), OutOfMemory> {
     let mut wanted = Values::none();
+    let mut known = KnownRows::none();
     for step in steps {
         if step.reason == *reason {
             wanted.add(step.cell as usize, step.values);
@@ -191,7 +196,7 @@ fn gather<P: Steps>(
         let cell = step.cell as usize;
         let values = wanted
             .of(cell)
-            .intersection(struck(p, candidates, reason, cell));
+            .intersection(struck(p, candidates, reason, cell, &mut known));
         if step.reason == *reason && !values.is_empty() {
             wanted.remove(cell, values);
             let step = Step {

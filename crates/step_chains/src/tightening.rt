@@ -7,7 +7,7 @@ ghost use Rattle.step_chains.specs.Inner.Aims.{IsAimOf, aim_goal};
 use crate::aims::Aim;
 use crate::chain::Step;
 use crate::replays::shows_without;
-use named_steps::{Grade, Steps};
+use named_steps::{Grade, KnownRows, Steps};
 use trail_solver::{Candidates, Rules};
 
 /// Leaves out, from the last step to the first, each without which the others still come to the aim. No step of what remains can
@@ -26,10 +26,19 @@ pub(crate) fn tighten<P: Steps>(
     ensures shows { Shows (P.struck_by p.now) grade candidates.old (steps_of steps.new.items) (aim_goal aim) }
     ensures tight { IsTight (P.struck_by p.now) grade candidates.old (steps_of steps.new.items) (aim_goal aim) }
 {
+    let mut known = KnownRows::none();
     let mut place = steps.len();
     while place > 0 {
         place -= 1;
-        if shows_without(p, grade, candidates, steps.as_slice(), place, aim) {
+        if shows_without(
+            p,
+            grade,
+            candidates,
+            steps.as_slice(),
+            place,
+            aim,
+            &mut known,
+        ) {
             steps.remove(place);
         }
     }
