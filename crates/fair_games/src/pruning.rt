@@ -11,7 +11,7 @@ ghost use Rattle.fair_games.specs.Inner.PrunedTo.{outside, IsPrunedTo};
 ghost use Rattle.fair_games.specs.Inner.Bases.{IsBase};
 
 use latin_board::Grid;
-use named_steps::{Grade, Steps, settle};
+use named_steps::{Grade, KnownRows, Steps, settle_on};
 use number_sets::NumberSet;
 use trail_solver::{Candidates, Rules};
 
@@ -22,11 +22,22 @@ pub(crate) fn pruned<P: Steps>(grid: &Grid, order: &[u8], grade: Grade) -> P
     ensures { IsPrunedBy ⟦<P as Rules>⟧ (FailsBy P.struck_by grade grid.now) grid.now order.now result }
 {
     let all = Candidates::all(grid.size());
-    prune(P::full(grid), grid, order, 0, order.len(), grade, &all)
+    let mut known = KnownRows::none();
+    prune(
+        P::full(grid),
+        grid,
+        order,
+        0,
+        order.len(),
+        grade,
+        &all,
+        &mut known,
+    )
 }
 
 // Tries the items from one place of the order up to another: all of them together, and where the rest doesn't follow without
-// them, one half after the other. From the candidates the steps of the rest lead on as from all.
+// them, one half after the other. From the candidates the steps of the rest lead on as from all. What is known of rows of sets serves
+// all tries.
 fn prune<P: Steps>(
     puzzle: P,
     grid: &Grid,
@@ -35,6 +46,7 @@ fn prune<P: Steps>(
     last: usize,
     grade: Grade,
     base: &Candidates,
+    known: &mut KnownRows,
 ) -> P
     requires latin { IsLatin grid.now }
     requires trial { IsTrial (P.items_of grid.now.size) order.now }
@@ -48,7 +60,7 @@ fn prune<P: Steps>(
     let _size = grid.size();
     let fewer = without(puzzle, order, first, last);
     let mut left = copy_of(base);
-    settle(&fewer, grade, &mut left);
+    settle_on(&fewer, grade, &mut left, known);
     if are_numbers(&left, grid) {
         return fewer;
     }
@@ -56,8 +68,8 @@ fn prune<P: Steps>(
         return puzzle;
     }
     let middle = middle_of(first, last);
-    let half = prune(puzzle, grid, order, first, middle, grade, &left);
-    prune(half, grid, order, middle, last, grade, &left)
+    let half = prune(puzzle, grid, order, first, middle, grade, &left, known);
+    prune(half, grid, order, middle, last, grade, &left, known)
 }
 
 // A place between two others.

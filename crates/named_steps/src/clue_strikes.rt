@@ -95,22 +95,8 @@ pub(crate) fn unfilled_row(
 {
     let width = candidates.size().get();
     let sets = may_sets(candidates, look, place);
-    let kept = known.supported(slot_of(look, place, clue), &sets, width, clue);
+    let kept = known.supported(&sets, width, clue);
     missing_row(width, &kept)
-}
-
-// Where a row is known: that of a place, by what is seen of it, or where the clue alone is seen, that of the clue, since there all rows
-// are alike.
-fn slot_of(look: Look, place: u8, clue: u8) -> u8
-    requires place { place < 36 }
-    requires clue { clue ≤ 9 }
-    ensures { result < 82 }
-{
-    match look {
-        Look::Stands => place,
-        Look::Marks => 36 + place,
-        Look::Alone => 72 + clue,
-    }
 }
 
 // The values of the size that each set lacks.

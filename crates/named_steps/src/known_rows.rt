@@ -7,11 +7,11 @@ use number_sets::NumberSet;
 use std::marker::Model;
 use tower_lines::supported;
 
-// Two for each place at the edge of the widest grid, and one for each clue and none.
-const SLOTS: usize = 82;
+// So many that of the rows of one game few come to the same slot, and few enough for a small stack: a slot has 38 bytes.
+const SLOTS: usize = 256;
 
-/// Rows of sets that were looked at, each with its clue and what was found of it. They speak of sets and clues alone, so they stay right
-/// whatever is taken away, and in any puzzle.
+/// Rows of sets that were looked at, each with its clue and what was found of it, in the slot that its sets and its clue give. They speak
+/// of sets and clues alone, so they stay right whatever is taken away, and in any puzzle.
 #[derive(Debug, Drop)]
 pub struct KnownRows {
     widths: [u8; SLOTS],
@@ -43,20 +43,13 @@ impl KnownRows {
         }
     }
 
-    /// As `tower_lines::supported` of the first sets of a row, so many as the width. The row is known in a slot from then on.
-    pub(crate) fn supported(
-        &mut self,
-        slot: u8,
-        sets: &[NumberSet; 9],
-        width: u8,
-        clue: u8,
-    ) -> [NumberSet; 9]
-        requires slot { slot < 82 }
+    /// As `tower_lines::supported` of the first sets of a row, so many as the width. The row is known from then on.
+    pub(crate) fn supported(&mut self, sets: &[NumberSet; 9], width: u8, clue: u8) -> [NumberSet; 9]
         requires width { width ≤ 9 }
         requires clue { clue ≤ 9 }
         ensures { AreKept (take width sets.now) clue result }
     {
-        let slot = slot as usize;
+        let slot = slot_of(sets, clue);
         if self.widths[slot] == width && self.clues[slot] == clue {
             let (least, most) = (self.kept[slot], self.sets[slot]);
             if are_between(&least, sets, &most) {
@@ -78,7 +71,7 @@ impl KnownRows {
         clue: u8,
         kept: &[NumberSet; 9],
     )
-        requires slot { slot < 82 }
+        requires slot { slot < 256 }
         requires known { IsKnown width clue sets.now kept.now }
     {
         self.widths[slot] = width;
@@ -86,6 +79,17 @@ impl KnownRows {
         self.sets[slot] = *sets;
         self.kept[slot] = *kept;
     }
+}
+
+// Where a row is known: a number that is another one for most other rows.
+fn slot_of(sets: &[NumberSet; 9], clue: u8) -> usize
+    ensures { result < 256 }
+{
+    let mut mixed = clue as u32;
+    for k in 0..9 {
+        mixed = (mixed * 31 + sets[k].bits() as u32) % 8191;
+    }
+    mixed as usize % SLOTS
 }
 
 // Whether each set is between those of two rows: then the same is kept of it as of the greater.

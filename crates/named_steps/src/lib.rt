@@ -40,7 +40,7 @@ pub use goal::Goal;
 pub use grade::Grade;
 pub use known_rows::KnownRows;
 pub use reason::Reason;
-pub use settling::settle;
+pub use settling::{settle, settle_on};
 pub use step_laws::laws;
 pub use steps::Steps;
 pub use striking::strike;

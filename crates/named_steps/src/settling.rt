@@ -22,9 +22,17 @@ pub fn settle<P: Steps>(p: &P, grade: Grade, candidates: &mut Candidates)
     ensures { IsClosure (P.struck_by p.now) grade candidates.old candidates.new }
 {
     let mut known = KnownRows::none();
+    settle_on(p, grade, candidates, &mut known);
+}
+
+/// As `settle`, for who settles many candidates: what is known of rows of sets is used and added to.
+pub fn settle_on<P: Steps>(p: &P, grade: Grade, candidates: &mut Candidates, known: &mut KnownRows)
+    requires { candidates.old.size ≡ (P.puzzle p.now).size }
+    ensures { IsClosure (P.struck_by p.now) grade candidates.old candidates.new }
+{
     loop {
         let before = candidates.trail_len();
-        pass(p, grade, candidates, &mut known);
+        pass(p, grade, candidates, known);
         if candidates.trail_len() == before {
             return;
         }

@@ -31,10 +31,10 @@ returns-then-are_numbers-clause-pruned g t c =
     let cut = cut_of f square c.without-fewer.result _ steps.items grid c.requires.latin kept.is_cut in
     let is : IsBase (Struck c.without-fewer.result) c.args.grade square c.args.base.now =
     subst (λ p. IsBase (Struck p) c.args.grade square c.args.base.now) (sym c.without-fewer.ensures) c.requires.base in
-    prune_goes f Struck steps c.args.grade square c.args.order.now c.args.first c.args.last c.args.puzzle c.without-fewer.result c.settle.new.candidates
+    prune_goes f Struck steps c.args.grade square c.args.order.now c.args.first c.args.last c.args.puzzle c.without-fewer.result c.settle_on.new.candidates
     grid c.requires.latin c.requires.ordered c.requires.pruned c.without-fewer.ensures
-    (settled_base f Struck steps c.args.grade square c.without-fewer.result c.args.base.now c.copy_of-left.result c.settle.new.candidates cut is
-    c.copy_of-left.ensures.size c.copy_of-left.ensures.alike c.settle.ensures)
+    (settled_base f Struck steps c.args.grade square c.without-fewer.result c.args.base.now c.copy_of-left.result c.settle_on.new.candidates cut is
+    c.copy_of-left.ensures.size c.copy_of-left.ensures.alike c.settle_on.ensures)
     (c.are_numbers.ensures.0 c.if-are_numbers.true)
 
 pub returns-then-last-first-lt2-clause-pruned : goal.returns-then-last-first-lt2-clause-pruned
@@ -51,9 +51,9 @@ returns-then-last-first-lt2-clause-pruned g t c =
     let is : IsBase (Struck c.without-fewer.result) c.args.grade square c.args.base.now =
     subst (λ p. IsBase (Struck p) c.args.grade square c.args.base.now) (sym c.without-fewer.ensures) c.requires.base in
     prune_stays f Struck steps c.args.grade square c.args.order.now c.args.first c.args.last c.args.puzzle c.without-fewer.result c.args.base.now
-    c.copy_of-left.result c.settle.new.candidates grid c.requires.latin c.requires.ordered
+    c.copy_of-left.result c.settle_on.new.candidates grid c.requires.latin c.requires.ordered
     (omega (arith, c.if-last-first-lt2.true, c.requires.ordered)) c.requires.pruned c.without-fewer.ensures cut is
-    c.copy_of-left.ensures.size c.copy_of-left.ensures.alike c.settle.ensures
+    c.copy_of-left.ensures.size c.copy_of-left.ensures.alike c.settle_on.ensures
     (λ all. both_ways c.are_numbers.result c.if-are_numbers.false (c.are_numbers.ensures.1 all))
 
 pub prune-half-requires : goal.prune-half-requires
@@ -69,11 +69,11 @@ prune-half-requires g t c κs within =
     let cut = cut_of f square c.without-fewer.result _ steps.items grid c.requires.latin kept.is_cut in
     let is : IsBase (Struck c.without-fewer.result) c.args.grade square c.args.base.now =
     subst (λ p. IsBase (Struck p) c.args.grade square c.args.base.now) (sym c.without-fewer.ensures) c.requires.base in
-    let left = settled_base f Struck steps c.args.grade square c.without-fewer.result c.args.base.now c.copy_of-left.result c.settle.new.candidates cut is
-    c.copy_of-left.ensures.size c.copy_of-left.ensures.alike c.settle.ensures in
-    let base : IsBase (Struck (f.cut c.args.puzzle (outside c.args.order.now c.args.first c.middle_of-middle.result))) c.args.grade square c.settle.new.candidates =
+    let left = settled_base f Struck steps c.args.grade square c.without-fewer.result c.args.base.now c.copy_of-left.result c.settle_on.new.candidates cut is
+    c.copy_of-left.ensures.size c.copy_of-left.ensures.alike c.settle_on.ensures in
+    let base : IsBase (Struck (f.cut c.args.puzzle (outside c.args.order.now c.args.first c.middle_of-middle.result))) c.args.grade square c.settle_on.new.candidates =
     first_base f Struck steps c.args.grade square c.args.order.now c.args.first c.middle_of-middle.result c.args.last c.args.puzzle c.without-fewer.result
-    c.settle.new.candidates grid c.requires.latin (omega (arith, c.middle_of-middle.ensures.after)) (omega (arith, c.middle_of-middle.ensures.before))
+    c.settle_on.new.candidates grid c.requires.latin (omega (arith, c.middle_of-middle.ensures.after)) (omega (arith, c.middle_of-middle.ensures.before))
     c.requires.pruned c.without-fewer.ensures left in
     search rules
 
@@ -90,10 +90,10 @@ prune-requires g t c κs within =
     let cut = cut_of f square c.without-fewer.result _ steps.items grid c.requires.latin kept.is_cut in
     let is : IsBase (Struck c.without-fewer.result) c.args.grade square c.args.base.now =
     subst (λ p. IsBase (Struck p) c.args.grade square c.args.base.now) (sym c.without-fewer.ensures) c.requires.base in
-    let left = settled_base f Struck steps c.args.grade square c.without-fewer.result c.args.base.now c.copy_of-left.result c.settle.new.candidates cut is
-    c.copy_of-left.ensures.size c.copy_of-left.ensures.alike c.settle.ensures in
-    let base : IsBase (Struck (f.cut c.prune-half.result (outside c.args.order.now c.middle_of-middle.result c.args.last))) c.args.grade square c.settle.new.candidates =
+    let left = settled_base f Struck steps c.args.grade square c.without-fewer.result c.args.base.now c.copy_of-left.result c.settle_on.new.candidates cut is
+    c.copy_of-left.ensures.size c.copy_of-left.ensures.alike c.settle_on.ensures in
+    let base : IsBase (Struck (f.cut c.prune-half.result (outside c.args.order.now c.middle_of-middle.result c.args.last))) c.args.grade square c.settle_on.new.candidates =
     second_base f Struck steps c.args.grade square c.args.order.now c.args.first c.middle_of-middle.result c.args.last c.args.puzzle c.without-fewer.result
-    c.prune-half.result c.settle.new.candidates grid c.requires.latin (omega (arith, c.middle_of-middle.ensures.after))
+    c.prune-half.result c.settle_on.new.candidates grid c.requires.latin (omega (arith, c.middle_of-middle.ensures.after))
     (omega (arith, c.middle_of-middle.ensures.before)) c.requires.pruned c.without-fewer.ensures c.prune-half.ensures.pruned c.prune-half.ensures.earlier left in
     search rules

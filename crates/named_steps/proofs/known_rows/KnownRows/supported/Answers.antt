@@ -7,11 +7,11 @@ use Rattle.named_steps.proofs.known_rows.KnownRows.supported.Goals as goal
 pub returns-then-are_between : goal.returns-then-are_between
 returns-then-are_between c =
     let k = c.self.inside in
-    let slot = c.args.slot in
+    let slot = c.slot_of-slot.result in
     let sets = slice_index_or k.sets slot [] in
     let kept = slice_index_or k.kept slot [] in
     let row = c.args.sets.now in
-    let noted : IsKnown (slice_index k.widths slot) (slice_index k.clues slot) sets kept = c.self.invariant.each slot c.requires.slot in
+    let noted : IsKnown (slice_index k.widths slot) (slice_index k.clues slot) sets kept = c.self.invariant.each slot c.slot_of-slot.ensures in
     let known : IsKnown c.args.width c.args.clue sets kept = rw (c.if-self-slot.true, c.if-self-slot-2.true) at noted in
     kept_between c.args.width c.args.clue sets kept row known c.requires.width c.told-sets
     (OnTrue_at

@@ -2,7 +2,7 @@ use Rattle.std.proofs.Common.{◌≡◌, ℕ, ◌-◌, ◌*◌, ◌<◌, ◌≤�
 use Rattle.named_steps.specs.Following.{IsSettled}
 use Rattle.named_steps.proofs.Rounds.{closure_reached, round_longer}
 use Rattle.named_steps.proofs.Takes.{leads_on, leads_size}
-use Rattle.named_steps.proofs.settling.settle.Goals as goal
+use Rattle.named_steps.proofs.settling.settle_on.Goals as goal
 
 pub pass-requires : goal.pass-requires
 pass-requires g c =
