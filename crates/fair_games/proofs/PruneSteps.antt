@@ -9,9 +9,12 @@ use Rattle.puzzle_gen.specs.Orders.{place_in}
 use Rattle.puzzle_gen.proofs.ItemLaws.{AreCuts, ItemLaws, cuts_of_full}
 use Rattle.named_steps.specs.Left.{AreAlike}
 use Rattle.named_steps.specs.Following.{IsClosure}
+use Rattle.named_steps.specs.Passes.{AreLinesSettled}
 use Rattle.named_steps.proofs.Antitone.{IsAntitone}
 use Rattle.named_steps.proofs.Kept.{IsSoundFor}
 use Rattle.named_steps.proofs.Followed.{follows_more}
+use Rattle.named_steps.proofs.Rounds.{IsShared}
+use Rattle.named_steps.proofs.SettledLines.{lines_of_settled}
 use Rattle.named_steps.specs.declared.reason.Reason.{Reason}
 use Rattle.named_steps.specs.declared.grade.Grade.{Grade}
 use Rattle.fair_games.specs.Fair.{FailsBy}
@@ -58,6 +61,13 @@ pub settled_base : {P : Type 0} (f : Ghosts P) (Struck : P → CandidatesValue �
 settled_base f Struck steps grade g q base copy left cut is size alike closure =
     base_settled (f.puzzle q) (Struck q) (steps.sound q cut.valid) (steps.less q) grade g copy left cut.solves
     (base_alike (f.puzzle q) (Struck q) grade g base copy cut.solves is size alike) closure
+
+-- and rows and columns strike nothing of them
+pub settled_lines : {P : Type 0} (f : Ghosts P) (Struck : P → CandidatesValue → Reason → ℕ → ℕ → Type 0) (grade : Grade) (g : GridValue) (q : P)
+    (base copy left : CandidatesValue) → IsShared (f.puzzle q) (Struck q) → IsCutOf f g q → IsBase (Struck q) grade g base → copy.size ≡ base.size
+    → IsClosure (Struck q) grade copy left → AreLinesSettled left
+settled_lines f Struck grade g q base copy left shared cut is size closure =
+    lines_of_settled (f.puzzle q) (Struck q) shared grade left (closure.size ∙ size ∙ is.size ∙ sym cut.size) closure.settled
 
 -- where the square's numbers alone are left, all those items go
 pub prune_goes : {P : Type 0} (f : Ghosts P) (Struck : P → CandidatesValue → Reason → ℕ → ℕ → Type 0) → HasSteps f Struck → (grade : Grade)

@@ -5,6 +5,7 @@ ghost use Rattle.latin_board.specs.Squares.{IsLatin, number_at};
 ghost use Rattle.trail_solver.specs.Candidates.{IsOnly};
 ghost use Rattle.puzzle_gen.specs.Orders.{place_in};
 ghost use Rattle.named_steps.specs.Left.{AreAlike};
+ghost use Rattle.named_steps.specs.Passes.{AreLinesSettled};
 ghost use Rattle.fair_games.specs.Pruned.{IsTrial, IsPrunedBy};
 ghost use Rattle.fair_games.specs.Fair.{FailsBy};
 ghost use Rattle.fair_games.specs.Inner.PrunedTo.{outside, IsPrunedTo};
@@ -36,7 +37,8 @@ pub(crate) fn pruned<P: Steps>(grid: &Grid, order: &[u8], grade: Grade) -> P
 }
 
 // Tries the items from one place of the order up to another: all of them together, and where the rest doesn't follow without
-// them, one half after the other. From the candidates the steps of the rest lead on as from all. What is known of rows of sets serves
+// them, one half after the other. From the candidates the steps of the rest lead on as from all, and rows and columns strike nothing of
+// them. What is known of rows of sets serves
 // all tries.
 fn prune<P: Steps>(
     puzzle: P,
@@ -54,6 +56,7 @@ fn prune<P: Steps>(
     requires inside { last ≤ length order.now }
     requires pruned { IsPrunedTo ⟦<P as Rules>⟧ (FailsBy P.struck_by grade grid.now) grid.now order.now first puzzle }
     requires base { IsBase (P.struck_by (P.cut puzzle (outside order.now first last))) grade grid.now base.now }
+    requires settled { AreLinesSettled base.now }
     ensures pruned { IsPrunedTo ⟦<P as Rules>⟧ (FailsBy P.struck_by grade grid.now) grid.now order.now last result }
     ensures earlier { (i : ℕ) → i < P.items_of grid.now.size → place_in i order.now < first → P.has result i ≡ P.has puzzle i }
 {

@@ -1,15 +1,18 @@
 -- What givens strike, square by square.
 use Rattle.std.proofs.Common.{◌≡◌, ◌≢◌, ◌↔◌, ℕ, ◌*◌, ◌<◌, true, false, nat_le, ◌&&◌, ◌==◌, not, refl, sym, subst, arith}
+use Rattle.std.proofs.lemmas.Bool.{both_ways}
 use Rattle.number_sets.specs.Sets.{has_number}
 use Rattle.trail_solver.specs.Pairs.{IsPair}
 use Rattle.trail_solver.specs.Candidates.{CandidatesValue, may_be}
 use Rattle.trail_solver.specs.Puzzles.{Puzzle}
 use Rattle.named_steps.specs.Reasons.{IsByGiven}
-use Rattle.named_steps.specs.Passes.{Passes}
+use Rattle.named_steps.specs.Left.{IsFewer}
+use Rattle.named_steps.specs.Passes.{LeadsTo, AreGivensSettled}
 use Rattle.named_steps.specs.Inner.Takes.{Strikes}
 use Rattle.named_steps.proofs.Antitone.{IsAntitone}
 use Rattle.named_steps.proofs.GameSets.{given_struck}
-use Rattle.named_steps.proofs.Takes.{takes_struck, passes_taken}
+use Rattle.named_steps.proofs.QuietLines.{gone_from}
+use Rattle.named_steps.proofs.Takes.{takes_struck, leads_taken}
 use Rattle.named_steps.specs.declared.reason.Reason.{Reason}
 use Rattle.named_steps.specs.declared.reason.Reason.TheVariants.{Given}
 use Rattle.named_steps.specs.declared.grade.Grade.TheVariants.{Latin}
@@ -22,17 +25,30 @@ IsGivenQuiet p at c = (cell value : ℕ) → IsPair c.size cell value → IsByGi
 pub no_given : (p : Puzzle) (at given : ℕ) (c : CandidatesValue) → given ≡ p.given at → given ≡ 0 → IsGivenQuiet p at c
 no_given p at given c is none = λ cell value pair h. absurd (omega (arith, is, none, h.given))
 
-pub given_pass : (p : Puzzle) (Struck : CandidatesValue → Reason → ℕ → ℕ → Type 0) → IsAntitone Struck
+-- what a given doesn't strike of candidates it doesn't strike of fewer
+pub given_stays : (p : Puzzle) (at : ℕ) (a b : CandidatesValue) → b.size ≡ a.size → IsFewer a b → IsGivenQuiet p at a → IsGivenQuiet p at b
+given_stays p at a b size fewer quiet = λ cell value pair h.
+    let there : IsPair a.size cell value = subst (λ (n : ℕ). IsPair n cell value) size pair in
+    gone_from b cell value pair (λ left. both_ways (may_be a cell value) (quiet cell value there h) (fewer cell value left).may)
+
+pub givens_stay : (p : Puzzle) (a b : CandidatesValue) → b.size ≡ a.size → IsFewer a b → AreGivensSettled p a → AreGivensSettled p b
+givens_stay p a b size fewer quiet at = given_stays p at a b size fewer (quiet at)
+
+-- what a given strikes is gone
+pub given_taken : (p : Puzzle) (Struck : CandidatesValue → Reason → ℕ → ℕ → Type 0) → IsAntitone Struck
     → ((c : CandidatesValue) (at cell value : ℕ) → IsByGiven p at cell value ↔ Struck c (Given at) cell value) → (at all one rest given : ℕ) (a b : CandidatesValue)
     → at < a.size * a.size → given ≡ p.given at → given ≢ 0 → ((k : ℕ) → has_number all k ≡ (nat_le 1 k && nat_le k a.size))
     → ((k : ℕ) → has_number one k ≡ (k == given)) → ((n : ℕ) → has_number rest n ≡ (has_number all n && not (has_number one n)))
-    → Strikes a b at rest → Passes Struck Latin (IsGivenQuiet p at) a b
-given_pass p Struck less law at all one rest given a b inside is some members single rest_is s =
+    → Strikes a b at rest → LeadsTo Struck Latin a b × IsGivenQuiet p at b
+given_taken p Struck less law at all one rest given a b inside is some members single rest_is s =
     let tested : (v : ℕ) → (has_number rest v ≡ true) ↔ (IsPair a.size at v × IsByGiven p at at v) =
     λ v. given_struck p a.size at at all one rest given v refl inside is some members single rest_is in
-    passes_taken Struck less Latin (IsGivenQuiet p at) (λ c v. (c ≡ at) × (has_number rest v ≡ true)) a b (takes_struck a b at rest s)
-    (λ cell v pair h. (Given at, refl, (law a at cell v).0 (subst (λ (n : ℕ). IsByGiven p at n v) (sym h.0) ((tested v).0 h.1).1)))
-    (λ gone cell v pair h.
-    let there : IsPair a.size at v = subst (λ (n : ℕ). IsPair a.size n v) h.here pair in
-    let again : IsByGiven p at at v = subst (λ (n : ℕ). IsByGiven p at n v) h.here h in
-    gone cell v pair (h.here, (tested v).1 (there, again)))
+    let taken = takes_struck a b at rest s in (
+      leads_taken Struck less Latin (λ c v. (c ≡ at) × (has_number rest v ≡ true)) a b taken
+          (λ cell v pair h. (Given at, refl, (law a at cell v).0 (subst (λ (n : ℕ). IsByGiven p at n v) (sym h.0) ((tested v).0 h.1).1))),
+      λ cell v pair h.
+          let here : IsPair a.size cell v = subst (λ (n : ℕ). IsPair n cell v) s.size pair in
+          let there : IsPair a.size at v = subst (λ (n : ℕ). IsPair a.size n v) h.here here in
+          let again : IsByGiven p at at v = subst (λ (n : ℕ). IsByGiven p at n v) h.here h in
+          taken.gone cell v here (h.here, (tested v).1 (there, again)),
+    )

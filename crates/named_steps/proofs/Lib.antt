@@ -16,10 +16,13 @@ pub mod GameSets
 pub mod RestSets
 pub mod QuietLines
 pub mod GivenPasses
+pub mod ChangedLines
+pub mod WaitingLines
 pub mod LinePasses
 pub mod GroupPasses
 pub mod ViewPasses
 pub mod SignPasses
 pub mod Rounds
+pub mod SettledLines
 pub mod Solutions
 pub mod FoundSets

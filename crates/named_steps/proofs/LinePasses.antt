@@ -7,9 +7,10 @@ use Rattle.trail_solver.specs.Candidates.{CandidatesValue}
 use Rattle.named_steps.specs.Reasons.{IsByLine}
 use Rattle.named_steps.specs.Grades.{is_of_lines}
 use Rattle.named_steps.specs.Laws.Less.{peer_less, place_less, set_less}
-use Rattle.named_steps.specs.Passes.{Passes}
+use Rattle.named_steps.specs.Passes.{Passes, AreLinesSettled}
 use Rattle.named_steps.specs.Inner.Takes.{Takes}
 use Rattle.named_steps.specs.Inner.LineStrikes.{IsByRest, AreRestRow, IsRestQuiet}
+use Rattle.named_steps.specs.Inner.WaitingLines.{AreLinesQuiet}
 use Rattle.named_steps.proofs.Antitone.{IsAntitone}
 use Rattle.named_steps.proofs.Takes.{HasStruck, passes_taken}
 use Rattle.named_steps.specs.declared.reason.Reason.{Reason}
@@ -75,3 +76,9 @@ rest_pass line row a b line_is r t =
     let by = ((r.each h.0 v h.1).0 h.3).2 in
     subst (λ (n : ℕ). HasStruck (IsByLine a.size) Latin a n v) (sym h.2) (rest_reason a line h.0 v line_is h.1 by))
     (λ gone k v low pair h. gone (line_cell a.size line k) v pair (k, low, refl, (r.each k v low).1 (pair.low, pair.high, h)))
+
+-- where lone values and last places strike nothing, the lines are quiet
+pub settled_quiet : (c : CandidatesValue) → AreLinesSettled c → AreLinesQuiet c
+settled_quiet c settled line line_is k v low pair h =
+    let by = rest_reason c line k v line_is low h in
+    settled by.0 (line_cell c.size line k) v by.1 pair by.2

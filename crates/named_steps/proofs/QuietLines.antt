@@ -16,7 +16,7 @@ use Rattle.named_steps.proofs.Counts.{within_counts, some_counted, one_less, was
 use Rattle.named_steps.proofs.Unions.{no_more}
 
 -- what isn't left is gone
-gone_from : (c : CandidatesValue) (cell v : ℕ) → IsPair c.size cell v → (IsLeft c cell v → ⊥) → may_be c cell v ≡ false
+pub gone_from : (c : CandidatesValue) (cell v : ℕ) → IsPair c.size cell v → (IsLeft c cell v → ⊥) → may_be c cell v ≡ false
 gone_from c cell v pair none = false_from_ne_true (may_be c cell v) (λ may. none (record { pair = pair; may = may }))
 
 pub peer_quiet : (c : CandidatesValue) (by cell v : ℕ) → ((line : ℕ) → line < 2 * c.size → IsRestQuiet line c) → IsPair c.size cell v

@@ -1,16 +1,20 @@
 -- From passes to what a grade leaves.
-use Rattle.std.proofs.Common.{◌≡◌, ◌↔◌, ℕ, ◌*◌, ◌<◌, ◌≤◌, true, false, length, refl, sym, ◌∙◌, subst, arith}
+use Rattle.std.proofs.Common.{◌≡◌, ◌↔◌, ℕ, ◌*◌, ◌<◌, ◌≤◌, true, length, ◌++◌, refl, sym, ap, ◌∙◌, subst, arith}
 use Rattle.trail_solver.specs.Candidates.{CandidatesValue}
 use Rattle.trail_solver.specs.Puzzles.{Puzzle}
-use Rattle.named_steps.specs.Left.{IsLeft}
+use Rattle.named_steps.specs.Left.{IsLeft, AreAlike}
 use Rattle.named_steps.specs.Reasons.{IsByGiven, IsByPeer, IsByPlace, IsBySet, IsByLine}
 use Rattle.named_steps.specs.Grades.{has_reason, is_of_lines, is_past_easy}
+use Rattle.named_steps.specs.Chains.{IsChain, left_by}
 use Rattle.named_steps.specs.Following.{IsSettled, IsClosure}
 use Rattle.named_steps.specs.Passes.{LeadsTo, Passes, AreCluesSettled, AreGivensSettled}
 use Rattle.named_steps.specs.Inner.LineStrikes.{IsRestQuiet, IsGroupQuiet}
+use Rattle.named_steps.specs.Inner.WaitingLines.{AreLinesQuiet}
+use Rattle.named_steps.specs.Inner.RestSteps.{AreRestSettled}
 use Rattle.named_steps.proofs.LinePasses.{line_reason}
 use Rattle.named_steps.proofs.QuietLines.{peer_quiet, place_quiet, set_quiet}
-use Rattle.named_steps.proofs.Takes.{leads_on, leads_same, leads_size, leads_length, passes_both, passes_map, passes_wider}
+use Rattle.named_steps.proofs.Parts.{chain_joined, left_append}
+use Rattle.named_steps.proofs.Takes.{allowed_joined, leads_on, leads_same, leads_size, leads_length, leads_wider, passes_both, passes_map, passes_wider}
 use Rattle.named_steps.specs.declared.reason.Reason.{Reason}
 use Rattle.named_steps.specs.declared.reason.Reason.TheVariants.{Given, Peer, Place, Bound, Stand, Clue, Sign, Set}
 use Rattle.named_steps.specs.declared.grade.Grade.{Grade}
@@ -22,7 +26,8 @@ pub record IsShared (p : Puzzle) (Struck : CandidatesValue → Reason → ℕ �
   pub line : (c : CandidatesValue) (reason : Reason) (cell value : ℕ) → is_of_lines reason ≡ true
       → IsByLine p.size c reason cell value ↔ Struck c reason cell value
 
-latin_has : (grade : Grade) (reason : Reason) → has_reason Latin reason ≡ true → has_reason grade reason ≡ true
+-- a reason of the lowest grade is one of each grade
+pub latin_has : (grade : Grade) (reason : Reason) → has_reason Latin reason ≡ true → has_reason grade reason ≡ true
 latin_has grade (Given at) h = refl
 latin_has grade (Peer by) h = refl
 latin_has grade (Place line index other) h = refl
@@ -58,60 +63,42 @@ settled_all p Struck s grade c small size givens rest clues groups (Set line squ
 
 -- ---- the passes of one round
 
--- givens, then rows and columns
-pub first_passes : (p : Puzzle) (Struck : CandidatesValue → Reason → ℕ → ℕ → Type 0) → IsShared p Struck → (grade : Grade) (a b c : CandidatesValue)
-    → a.size ≡ p.size → Passes Struck Latin (AreGivensSettled p) a b
-    → Passes (IsByLine b.size) Latin (λ d. (line : ℕ) → line < 2 * b.size → IsRestQuiet line d) b c
-    → Passes Struck grade (λ d. AreGivensSettled p d × ((line : ℕ) → line < 2 * a.size → IsRestQuiet line d)) a c
-first_passes p Struck s grade a b c size first second =
-    let same : b.size ≡ a.size = leads_size Struck Latin a b first.leads in
-    let High : (CandidatesValue → Type 0) → CandidatesValue → CandidatesValue → Type 0 = λ Q d e. Passes Struck grade Q d e in
-    let one = passes_wider Struck Struck Latin grade (λ d reason cell v h. h) (latin_has grade) (AreGivensSettled p) a b first in
-    let two = passes_wider (IsByLine b.size) Struck Latin grade
-    (λ d reason cell v h.
-    let of = line_reason b.size d reason cell v h in
-    (s.line d reason cell v of).0 (subst (λ (w : ℕ). IsByLine w d reason cell v) (same ∙ size) h))
-    (latin_has grade) (λ d. (line : ℕ) → line < 2 * b.size → IsRestQuiet line d) b c second in
-    let there = passes_map Struck grade (λ d. (line : ℕ) → line < 2 * b.size → IsRestQuiet line d) (λ d. (line : ℕ) → line < 2 * a.size → IsRestQuiet line d) b c
-    (λ q line low. q line (omega (arith, low, same))) two in
-    passes_both Struck grade (AreGivensSettled p) (λ d. (line : ℕ) → line < 2 * a.size → IsRestQuiet line d) a b c one there
+-- what rows and columns strike is struck by the game's reasons
+pub lines_lift : (p : Puzzle) (Struck : CandidatesValue → Reason → ℕ → ℕ → Type 0) → IsShared p Struck → (w : ℕ) → w ≡ p.size
+    → (c : CandidatesValue) (reason : Reason) (cell v : ℕ) → IsByLine w c reason cell v → Struck c reason cell v
+lines_lift p Struck s w size c reason cell v h =
+    (s.line c reason cell v (line_reason w c reason cell v h)).0 (subst (λ (n : ℕ). IsByLine n c reason cell v) size h)
 
--- something went
-pub pass_moved : (Struck : CandidatesValue → Reason → ℕ → ℕ → Type 0) (grade : Grade) (IsQuiet IsStill : CandidatesValue → Type 0) (a b : CandidatesValue)
-    → Passes Struck grade IsQuiet a b → (length b.trail ≡ length a.trail → ⊥) → Passes Struck grade IsStill a b
-pass_moved Struck grade IsQuiet IsStill a b h moved = record { leads = h.leads; quiet = λ e. absurd (moved e) }
+-- a chain along rows and columns is one of the game's
+pub lines_lead : (p : Puzzle) (Struck : CandidatesValue → Reason → ℕ → ℕ → Type 0) → IsShared p Struck → (grade : Grade) (a b : CandidatesValue) → a.size ≡ p.size
+    → LeadsTo (IsByLine a.size) Latin a b → LeadsTo Struck grade a b
+lines_lead p Struck s grade a b size h = leads_wider (IsByLine a.size) Struck Latin grade (lines_lift p Struck s a.size size) (latin_has grade) a b h
 
--- the two first and the clues or signs, where the grade has no groups
-pub pass_clues : (p : Puzzle) (Struck : CandidatesValue → Reason → ℕ → ℕ → Type 0) → IsShared p Struck → (grade : Grade) (a b c : CandidatesValue) → a.size ≤ 9
-    → a.size ≡ p.size → Passes Struck grade (λ d. AreGivensSettled p d × ((line : ℕ) → line < 2 * a.size → IsRestQuiet line d)) a b
-    → Passes Struck grade (AreCluesSettled Struck grade) b c → is_past_easy grade ≡ false → Passes Struck grade (IsSettled Struck grade) a c
-pass_clues p Struck s grade a b c small size first second none =
-    passes_map Struck grade (λ d. (AreGivensSettled p d × ((line : ℕ) → line < 2 * a.size → IsRestQuiet line d)) × AreCluesSettled Struck grade d)
-    (IsSettled Struck grade) a c
-    (λ q. settled_all p Struck s grade a small size q.0.0 q.0.1 q.1 (λ past. absurd (cc)))
-    (passes_both Struck grade (λ d. AreGivensSettled p d × ((line : ℕ) → line < 2 * a.size → IsRestQuiet line d)) (AreCluesSettled Struck grade) a b c first second)
+-- a chain of the lowest grade is one of each grade
+pub givens_lead : (Struck : CandidatesValue → Reason → ℕ → ℕ → Type 0) (grade : Grade) (a b : CandidatesValue) → LeadsTo Struck Latin a b
+    → LeadsTo Struck grade a b
+givens_lead Struck grade a b h = leads_wider Struck Struck Latin grade (λ d reason cell v h. h) (latin_has grade) a b h
 
--- and where it has
-pub pass_groups : (p : Puzzle) (Struck : CandidatesValue → Reason → ℕ → ℕ → Type 0) → IsShared p Struck → (grade : Grade) (a b c d : CandidatesValue) → a.size ≤ 9
-    → a.size ≡ p.size → Passes Struck grade (λ e. AreGivensSettled p e × ((line : ℕ) → line < 2 * a.size → IsRestQuiet line e)) a b
-    → Passes Struck grade (AreCluesSettled Struck grade) b c → is_past_easy grade ≡ true
-    → Passes (IsByLine c.size) Hard (λ e. (line : ℕ) → line < 2 * c.size → IsGroupQuiet line e) c d → Passes Struck grade (IsSettled Struck grade) a d
-pass_groups p Struck s grade a b c d small size first second past third =
-    let two = passes_both Struck grade (λ e. AreGivensSettled p e × ((line : ℕ) → line < 2 * a.size → IsRestQuiet line e)) (AreCluesSettled Struck grade) a b c first second in
-    let same : c.size ≡ a.size = leads_size Struck grade a c two.leads in
-    let lift = passes_wider (IsByLine c.size) Struck Hard grade
-    (λ e reason cell v h.
-    let of = line_reason c.size e reason cell v h in
-    (s.line e reason cell v of).0 (subst (λ (w : ℕ). IsByLine w e reason cell v) (same ∙ size) h))
-    (λ reason h. subst (λ (g : Grade). has_reason g reason ≡ true) (sym (past_easy_is grade past)) h)
-    (λ e. (line : ℕ) → line < 2 * c.size → IsGroupQuiet line e) c d third in
-    passes_map Struck grade
-    (λ e. ((AreGivensSettled p e × ((line : ℕ) → line < 2 * a.size → IsRestQuiet line e)) × AreCluesSettled Struck grade e)
-    × ((line : ℕ) → line < 2 * c.size → IsGroupQuiet line e))
-    (IsSettled Struck grade) a d
-    (λ q. settled_all p Struck s grade a small size q.0.0.0 q.0.0.1 q.0.1 (λ one line low. q.1 line (omega (arith, low, same))))
-    (passes_both Struck grade (λ e. (AreGivensSettled p e × ((line : ℕ) → line < 2 * a.size → IsRestQuiet line e)) × AreCluesSettled Struck grade e)
-    (λ e. (line : ℕ) → line < 2 * c.size → IsGroupQuiet line e) a c d two lift)
+-- clues or signs, and then groups
+pub rest_groups : (p : Puzzle) (Struck : CandidatesValue → Reason → ℕ → ℕ → Type 0) → IsShared p Struck → (grade : Grade) (a b c : CandidatesValue) → a.size ≡ p.size
+    → Passes Struck grade (AreCluesSettled Struck grade) a b → is_past_easy grade ≡ true
+    → Passes (IsByLine b.size) Hard (λ d. (line : ℕ) → line < 2 * b.size → IsGroupQuiet line d) b c → Passes Struck grade (AreRestSettled Struck grade) a c
+rest_groups p Struck s grade a b c size first past second =
+    let same : b.size ≡ a.size = leads_size Struck grade a b first.leads in
+    let Quiet : CandidatesValue → Type 0 = λ d. (line : ℕ) → line < 2 * b.size → IsGroupQuiet line d in
+    let lift = passes_wider (IsByLine b.size) Struck Hard grade (lines_lift p Struck s b.size (same ∙ size))
+    (λ reason h. subst (λ (g : Grade). has_reason g reason ≡ true) (sym (past_easy_is grade past)) h) Quiet b c second in
+    passes_map Struck grade (λ d. AreCluesSettled Struck grade d × Quiet d) (AreRestSettled Struck grade) a c
+    (λ q. record { clues = q.0; groups = λ one line low. q.1 line (omega (arith, low, same)) })
+    (passes_both Struck grade (AreCluesSettled Struck grade) Quiet a b c first lift)
+
+-- where givens, rows and columns strike nothing, the others settle all
+pub rest_settles : (p : Puzzle) (Struck : CandidatesValue → Reason → ℕ → ℕ → Type 0) → IsShared p Struck → (grade : Grade) (a b : CandidatesValue) → a.size ≤ 9
+    → a.size ≡ p.size → AreGivensSettled p a → AreLinesQuiet a → Passes Struck grade (AreRestSettled Struck grade) a b
+    → Passes Struck grade (IsSettled Struck grade) a b
+rest_settles p Struck s grade a b small size givens lines h =
+    passes_map Struck grade (AreRestSettled Struck grade) (IsSettled Struck grade) a b
+    (λ rest. settled_all p Struck s grade a small size givens lines rest.clues rest.groups) h
 
 -- ---- rounds until nothing goes
 
@@ -131,6 +118,18 @@ closure_reached Struck grade a b c lead h e =
       );
       settled = subst (λ d. IsSettled Struck grade d) (sym same) (h.quiet e);
     }
+
+-- what a grade leaves of what a chain leads to it leaves of the start
+pub closure_after : (Struck : CandidatesValue → Reason → ℕ → ℕ → Type 0) (grade : Grade) (a b c : CandidatesValue) → LeadsTo Struck grade a b
+    → IsClosure Struck grade b c → IsClosure Struck grade a c
+closure_after Struck grade a b c lead h = record {
+  steps = lead.steps ++ h.steps;
+  chain = chain_joined Struck a lead.steps h.steps lead.chain (subst (λ d. IsChain Struck d h.steps) lead.is h.chain);
+  allowed = allowed_joined grade lead.steps h.steps lead.allowed h.allowed;
+  size = h.size ∙ leads_size Struck grade a b lead;
+  left = subst (λ d. AreAlike d c) (ap (λ d. left_by d h.steps) lead.is ∙ sym (left_append a lead.steps h.steps)) h.left;
+  settled = h.settled;
+}
 
 -- each round takes something away
 pub round_longer : (Struck : CandidatesValue → Reason → ℕ → ℕ → Type 0) (grade : Grade) (IsQuiet : CandidatesValue → Type 0) (b c : CandidatesValue)

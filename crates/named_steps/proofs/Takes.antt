@@ -1,18 +1,18 @@
 -- Values that are taken away, square by square, and the steps that this is.
 use Rattle.std.proofs.Common.{◌≡◌, ◌↔◌, ◌⊎◌, ℕ, ◌+◌, ◌<◌, ◌≤◌, true, false, not, ◌&&◌, ◌||◌, ◌==◌, List, [], ◌∷◌, ◌++◌, length, inl, inr, refl, sym, ap, ◌∙◌, subst, arith, append_assoc, append-nil, length-append}
-use Rattle.std.proofs.lemmas.Bool.{both_ways, and_parts, and_from, or_left, or_right, eq-eqb, eqb-true, cases_eq, cases_Bool, not_from_false}
+use Rattle.std.proofs.lemmas.Bool.{both_ways, and_parts, and_from, or_left, or_right, eq-eqb, eqb-true, cases_eq, cases_Bool, not_from_false, false_from_ne_true}
 use Rattle.std.proofs.lemmas.List.Folds.{list_any-append}
 use Rattle.number_sets.specs.Sets.{has_number}
 use Rattle.trail_solver.specs.Pairs.{IsPair, has_pair, pairs_of}
 use Rattle.trail_solver.specs.Candidates.{CandidatesValue, may_be}
 use Rattle.trail_solver.proofs.Removals.{set_below}
 use Rattle.trail_solver.proofs.SetPairs.{has_pair-pairs_of}
-use Rattle.named_steps.specs.Left.{IsFewer, without}
+use Rattle.named_steps.specs.Left.{IsLeft, IsFewer, without}
 use Rattle.named_steps.specs.Grades.{has_reason}
 use Rattle.named_steps.specs.Chains.{StepValue, IsChain, AreOfGrade, left_by}
 use Rattle.named_steps.specs.Passes.{LeadsTo, Passes}
 use Rattle.named_steps.specs.Inner.Takes.{Strikes, Takes}
-use Rattle.named_steps.proofs.Antitone.{IsAntitone, left_size, without_fewer}
+use Rattle.named_steps.proofs.Antitone.{IsAntitone, left_size, left_fewer, still_left, without_fewer}
 use Rattle.named_steps.proofs.Parts.{chain_joined, left_append}
 use Rattle.named_steps.specs.declared.reason.Reason.{Reason}
 use Rattle.named_steps.specs.declared.grade.Grade.{Grade}
@@ -38,6 +38,7 @@ gone_pair : (c d : CandidatesValue) (ps : List (ℕ × ℕ)) (cell v : ℕ) → 
 gone_pair c d ps cell v is has =
     ap not (ap (λ (qs : List (ℕ × ℕ)). has_pair qs cell v) is ∙ has_append c.trail ps cell v ∙ or_right (has_pair c.trail cell v) (has_pair ps cell v) has)
 
+-- nothing is taken
 pub takes_none : (Which : ℕ → ℕ → Type 0) (c : CandidatesValue) → ((cell v : ℕ) → Which cell v → ⊥) → Takes Which c c
 takes_none Which c none = record {
   pairs = [];
@@ -151,10 +152,12 @@ takes_skip at Values k a b t none = record {
 
 -- ---- steps
 
+-- nothing is struck
 pub leads_none : (Struck : CandidatesValue → Reason → ℕ → ℕ → Type 0) (grade : Grade) (c : CandidatesValue) → LeadsTo Struck grade c c
 leads_none Struck grade c = record { steps = []; chain = tt; allowed = tt; is = refl }
 
-allowed_joined : (grade : Grade) (front back : List StepValue) → AreOfGrade grade front → AreOfGrade grade back → AreOfGrade grade (front ++ back)
+-- steps of a grade, and further ones
+pub allowed_joined : (grade : Grade) (front back : List StepValue) → AreOfGrade grade front → AreOfGrade grade back → AreOfGrade grade (front ++ back)
 allowed_joined grade [] back first second = second
 allowed_joined grade (step ∷ front) back first second = (first.0, allowed_joined grade front back first.1 second)
 
@@ -208,10 +211,29 @@ same_more a b m e =
     let trail : b.trail ≡ a.trail = m.trail ∙ ap (λ (ps : List (ℕ × ℕ)). a.trail ++ ps) none ∙ append-nil a.trail in
     λ i. record { size = m.size i; trail = trail i }
 
+-- what is left at the end of a chain was left before
+pub leads_fewer : (Struck : CandidatesValue → Reason → ℕ → ℕ → Type 0) (grade : Grade) (a b : CandidatesValue) → LeadsTo Struck grade a b → IsFewer a b
+leads_fewer Struck grade a b h = subst (λ d. IsFewer a d) (sym h.is) (left_fewer a h.steps)
+
 -- where the trail has not grown nothing went
 pub leads_same : (Struck : CandidatesValue → Reason → ℕ → ℕ → Type 0) (grade : Grade) (a b : CandidatesValue) → LeadsTo Struck grade a b
     → length b.trail ≡ length a.trail → b ≡ a
 leads_same Struck grade a b h e = same_more a b (leads_more Struck grade a b h) e
+
+-- what is taken makes the trail longer
+pub takes_length : (Which : ℕ → ℕ → Type 0) (a b : CandidatesValue) → Takes Which a b → length a.trail ≤ length b.trail
+takes_length Which a b t = omega (arith, ap length t.trail, length-append a.trail t.pairs)
+
+-- and where it is no longer nothing was taken
+pub takes_same : (Which : ℕ → ℕ → Type 0) (a b : CandidatesValue) → Takes Which a b → length b.trail ≡ length a.trail → b ≡ a
+takes_same Which a b t e = same_more a b (record { pairs = t.pairs; size = t.size; trail = t.trail }) e
+
+-- what isn't of the kind stays
+pub takes_stays : (Which : ℕ → ℕ → Type 0) (a b : CandidatesValue) (cell v : ℕ) → Takes Which a b → IsLeft a cell v → (Which cell v → ⊥) → IsLeft b cell v
+takes_stays Which a b cell v t left other =
+    let is : b ≡ without a t.pairs = λ i. record { size = t.size i; trail = t.trail i } in
+    subst (λ d. IsLeft d cell v) (sym is)
+    (still_left a t.pairs cell v left (false_from_ne_true (has_pair t.pairs cell v) (λ has. other (t.each cell v has).1)))
 
 -- a reason of the grade strikes the pair
 abbrev pub HasStruck : (CandidatesValue → Reason → ℕ → ℕ → Type 0) → Grade → CandidatesValue → ℕ → ℕ → Type 0
@@ -258,20 +280,25 @@ pairs_lead Struck less grade a b fewer (p ∷ ps) each =
       is = (λ i. record { size = b.size; trail = sym (append_assoc b.trail (p ∷ []) ps) i }) ∙ rest.is;
     }
 
--- where a reason strikes each pair of a kind, taking them away is a pass
+-- where a reason strikes each pair of a kind, a chain takes them away
+pub leads_taken : (Struck : CandidatesValue → Reason → ℕ → ℕ → Type 0) → IsAntitone Struck → (grade : Grade) (Which : ℕ → ℕ → Type 0) (a b : CandidatesValue)
+    → Takes Which a b → ((cell v : ℕ) → IsPair a.size cell v → Which cell v → HasStruck Struck grade a cell v) → LeadsTo Struck grade a b
+leads_taken Struck less grade Which a b t why =
+    let lead = pairs_lead Struck less grade a a (λ cell v left. left) t.pairs (λ cell v has. let h = t.each cell v has in (h.0, why cell v h.0 h.1)) in
+    let is : b ≡ without a t.pairs = λ i. record { size = t.size i; trail = t.trail i } in
+    subst (λ d. LeadsTo Struck grade a d) (sym is) lead
+
+-- and that is a pass
 pub passes_taken : (Struck : CandidatesValue → Reason → ℕ → ℕ → Type 0) → IsAntitone Struck → (grade : Grade) (IsQuiet : CandidatesValue → Type 0)
     (Which : ℕ → ℕ → Type 0) (a b : CandidatesValue) → Takes Which a b
     → ((cell v : ℕ) → IsPair a.size cell v → Which cell v → HasStruck Struck grade a cell v)
     → (((cell v : ℕ) → IsPair a.size cell v → Which cell v → may_be a cell v ≡ false) → IsQuiet a) → Passes Struck grade IsQuiet a b
-passes_taken Struck less grade IsQuiet Which a b t why quiet =
-    let lead = pairs_lead Struck less grade a a (λ cell v left. left) t.pairs (λ cell v has. let h = t.each cell v has in (h.0, why cell v h.0 h.1)) in
-    let is : b ≡ without a t.pairs = λ i. record { size = t.size i; trail = t.trail i } in
-    record {
-      leads = subst (λ d. LeadsTo Struck grade a d) (sym is) lead;
-      quiet = λ e.
-          let same : b ≡ a = same_more a b (record { pairs = t.pairs; size = t.size; trail = t.trail }) e in
-          quiet (λ cell v pair h. subst (λ (d : CandidatesValue). may_be d cell v ≡ false) same (t.gone cell v pair h));
-    }
+passes_taken Struck less grade IsQuiet Which a b t why quiet = record {
+  leads = leads_taken Struck less grade Which a b t why;
+  quiet = λ e.
+      let same : b ≡ a = takes_same Which a b t e in
+      quiet (λ cell v pair h. subst (λ (d : CandidatesValue). may_be d cell v ≡ false) same (t.gone cell v pair h));
+}
 
 -- ---- passes
 
@@ -320,11 +347,21 @@ wider_chain Less More lower higher wider has c (step ∷ steps) h of =
     let rest = wider_chain Less More lower higher wider has (without c step.strikes) steps h.1 of.1 in
     ((λ cell v is. let s = h.0 cell v is in (s.0, wider c step.reason cell v s.1), rest.0), (has step.reason of.0, rest.1))
 
--- by a wider relation and a higher grade it is a pass too
+-- a chain by a wider relation and a higher grade
+pub leads_wider : (Less More : CandidatesValue → Reason → ℕ → ℕ → Type 0) (lower higher : Grade)
+    → ((c : CandidatesValue) (reason : Reason) (cell v : ℕ) → Less c reason cell v → More c reason cell v)
+    → ((reason : Reason) → has_reason lower reason ≡ true → has_reason higher reason ≡ true) → (a b : CandidatesValue)
+    → LeadsTo Less lower a b → LeadsTo More higher a b
+leads_wider Less More lower higher wider has a b h =
+    let w = wider_chain Less More lower higher wider has a h.steps h.chain h.allowed in
+    record { steps = h.steps; chain = w.0; allowed = w.1; is = h.is }
+
+-- and a pass
 pub passes_wider : (Less More : CandidatesValue → Reason → ℕ → ℕ → Type 0) (lower higher : Grade)
     → ((c : CandidatesValue) (reason : Reason) (cell v : ℕ) → Less c reason cell v → More c reason cell v)
     → ((reason : Reason) → has_reason lower reason ≡ true → has_reason higher reason ≡ true) → (IsQuiet : CandidatesValue → Type 0) (a b : CandidatesValue)
     → Passes Less lower IsQuiet a b → Passes More higher IsQuiet a b
-passes_wider Less More lower higher wider has IsQuiet a b h =
-    let w = wider_chain Less More lower higher wider has a h.leads.steps h.leads.chain h.leads.allowed in
-    record { leads = record { steps = h.leads.steps; chain = w.0; allowed = w.1; is = h.leads.is }; quiet = h.quiet }
+passes_wider Less More lower higher wider has IsQuiet a b h = record {
+  leads = leads_wider Less More lower higher wider has a b h.leads;
+  quiet = h.quiet;
+}

@@ -4,6 +4,8 @@ pub mod Rows
 pub mod KnownRows
 pub mod Takes
 pub mod LineStrikes
+pub mod WaitingLines
+pub mod RestSteps
 pub mod OtherSets
 pub mod SignStrikes
 pub mod Fills

@@ -5,10 +5,11 @@ use Rattle.trail_solver.specs.Pairs.{IsPair}
 use Rattle.trail_solver.specs.Candidates.{CandidatesValue, may_be}
 use Rattle.trail_solver.specs.Puzzles.{Puzzle}
 use Rattle.named_steps.specs.Grades.{has_reason, is_of_clues}
-use Rattle.named_steps.specs.Reasons.{IsByGiven}
+use Rattle.named_steps.specs.Reasons.{IsByGiven, IsByLine}
 use Rattle.named_steps.specs.Chains.{StepValue, IsChain, AreOfGrade, left_by}
 use Rattle.named_steps.specs.declared.reason.Reason.{Reason}
 use Rattle.named_steps.specs.declared.grade.Grade.{Grade}
+use Rattle.named_steps.specs.declared.grade.Grade.TheVariants.{Latin}
 
 -- a chain of the grade's steps leads from the first candidates to the second
 pub record LeadsTo (Struck : CandidatesValue → Reason → ℕ → ℕ → Type 0) (grade : Grade) (c d : CandidatesValue) : Type 0 where
@@ -28,6 +29,12 @@ abbrev pub AreCluesSettled : (CandidatesValue → Reason → ℕ → ℕ → Typ
 AreCluesSettled Struck grade c =
     (reason : Reason) (cell value : ℕ) → is_of_clues reason ≡ true → has_reason grade reason ≡ true → IsPair c.size cell value
     → Struck c reason cell value → may_be c cell value ≡ false
+
+-- no lone value and no last place of a row or column strikes anything that is left
+abbrev pub AreLinesSettled : CandidatesValue → Type 0
+AreLinesSettled c =
+    (reason : Reason) (cell value : ℕ) → has_reason Latin reason ≡ true → IsPair c.size cell value → IsByLine c.size c reason cell value
+    → may_be c cell value ≡ false
 
 -- no given strikes anything that is left
 abbrev pub AreGivensSettled : Puzzle → CandidatesValue → Type 0

@@ -34,6 +34,7 @@ mod strikes;
 mod striking;
 mod towers;
 mod unequal;
+mod waiting;
 
 pub use following::{follows, grade_of, solution_by};
 pub use goal::Goal;

@@ -3,7 +3,9 @@ ghost use Rattle.std.specs.Prelude.{◌≡◌, ℕ, ◌*◌, ◌<◌};
 ghost use Rattle.trail_solver.specs.Pairs.{IsPair};
 ghost use Rattle.trail_solver.specs.Candidates.{may_be};
 ghost use Rattle.named_steps.specs.Following.{IsClosure, IsSettled};
-ghost use Rattle.named_steps.specs.Passes.{Passes, AreGivensSettled};
+ghost use Rattle.named_steps.specs.Passes.{LeadsTo, Passes, AreGivensSettled, AreLinesSettled};
+ghost use Rattle.named_steps.specs.Inner.WaitingLines.{AreOthersQuiet};
+ghost use Rattle.named_steps.specs.Inner.RestSteps.{AreRestSettled};
 ghost use Rattle.named_steps.specs.Grades.{is_past_easy};
 
 use crate::grade::Grade;
@@ -12,6 +14,7 @@ use crate::known_rows::KnownRows;
 use crate::line_passes::strike_lines;
 use crate::steps::Steps;
 use crate::striking::strike;
+use crate::waiting::{Waiting, changed_lines, sets_of};
 use number_sets::NumberSet;
 use trail_solver::{Candidates, Rules};
 
@@ -21,37 +24,58 @@ pub fn settle<P: Steps>(p: &P, grade: Grade, candidates: &mut Candidates)
     requires { candidates.old.size ≡ (P.puzzle p.now).size }
     ensures { IsClosure (P.struck_by p.now) grade candidates.old candidates.new }
 {
+    let _size = candidates.size();
     let mut known = KnownRows::none();
-    settle_on(p, grade, candidates, &mut known);
+    strike_givens(p, candidates);
+    settle_from(p, grade, candidates, Waiting::all(), &mut known);
 }
 
-/// As `settle`, for who settles many candidates: what is known of rows of sets is used and added to.
+/// As `settle`, for who settles many candidates: rows and columns strike nothing of these, and what is known of rows of sets is used
+/// and added to.
 pub fn settle_on<P: Steps>(p: &P, grade: Grade, candidates: &mut Candidates, known: &mut KnownRows)
-    requires { candidates.old.size ≡ (P.puzzle p.now).size }
+    requires size { candidates.old.size ≡ (P.puzzle p.now).size }
+    requires lines { AreLinesSettled candidates.old }
     ensures { IsClosure (P.struck_by p.now) grade candidates.old candidates.new }
 {
+    let before = sets_of(candidates);
+    strike_givens(p, candidates);
+    let waiting = changed_lines(&before, candidates);
+    settle_from(p, grade, candidates, waiting, known);
+}
+
+// The same from candidates of which the givens strike nothing, and no row and column but those that wait.
+fn settle_from<P: Steps>(
+    p: &P,
+    grade: Grade,
+    candidates: &mut Candidates,
+    first: Waiting,
+    known: &mut KnownRows,
+)
+    requires size { candidates.old.size ≡ (P.puzzle p.now).size }
+    requires givens { AreGivensSettled (P.puzzle p.now) candidates.old }
+    requires others { AreOthersQuiet first candidates.old }
+    ensures { IsClosure (P.struck_by p.now) grade candidates.old candidates.new }
+{
+    let _size = candidates.size();
+    let mut waiting = first;
     loop {
-        let before = candidates.trail_len();
-        pass(p, grade, candidates, known);
-        if candidates.trail_len() == before {
+        strike_lines(candidates, waiting);
+        let lines = sets_of(candidates);
+        let count = candidates.trail_len();
+        strike_rest(p, grade, candidates, known);
+        if candidates.trail_len() == count {
             return;
         }
+        waiting = changed_lines(&lines, candidates);
     }
 }
 
-// Goes through the reasons of a grade once, or only through the first of them where these strike something: the cheap ones come
-// first.
-fn pass<P: Steps>(p: &P, grade: Grade, candidates: &mut Candidates, known: &mut KnownRows)
+// Goes once through the clues or signs, and where these strike nothing through the groups of squares, where the grade looks at them.
+fn strike_rest<P: Steps>(p: &P, grade: Grade, candidates: &mut Candidates, known: &mut KnownRows)
     requires { candidates.old.size ≡ (P.puzzle p.now).size }
-    ensures { Passes (P.struck_by p.now) grade (IsSettled (P.struck_by p.now) grade) candidates.old candidates.new }
+    ensures { Passes (P.struck_by p.now) grade (AreRestSettled (P.struck_by p.now) grade) candidates.old candidates.new }
 {
-    let _size = candidates.size();
     let before = candidates.trail_len();
-    strike_givens(p, candidates);
-    strike_lines(candidates);
-    if candidates.trail_len() != before {
-        return;
-    }
     p.strike_by_clues(grade, candidates, known);
     if candidates.trail_len() != before {
         return;
@@ -71,7 +95,8 @@ fn has_groups(grade: Grade) -> bool
 // Goes through the givens once, and takes away what they strike.
 fn strike_givens<P: Steps>(p: &P, candidates: &mut Candidates)
     requires { candidates.old.size ≡ (P.puzzle p.now).size }
-    ensures { Passes (P.struck_by p.now) Grade.Latin (AreGivensSettled (P.puzzle p.now)) candidates.old candidates.new }
+    ensures leads { LeadsTo (P.struck_by p.now) Grade.Latin candidates.old candidates.new }
+    ensures settled { AreGivensSettled (P.puzzle p.now) candidates.new }
 {
     let size = candidates.size();
     let width = size.get() as usize;

@@ -1,11 +1,14 @@
 use Rattle.std.proofs.Common.{rules, sym, subst, arith}
 use Rattle.std.proofs.lemmas.Bool.{both_ways}
 use Rattle.puzzle_gen.proofs.ItemLaws.{laws_of, cuts_of_full}
+use Rattle.named_steps.specs.Passes.{AreLinesSettled}
+use Rattle.named_steps.proofs.Rounds.{IsShared}
+use Rattle.named_steps.proofs.SettledLines.{lines_of_alike}
 use Rattle.fair_games.specs.Inner.PrunedTo.{outside}
 use Rattle.fair_games.specs.Inner.Bases.{IsBase}
 use Rattle.fair_games.specs.Fair.{FailsBy}
 use Rattle.fair_games.proofs.PrunedItems.{kept_of_cut}
-use Rattle.fair_games.proofs.PruneSteps.{HasSteps, cut_of, settled_base, prune_goes, prune_stays, first_base, second_base}
+use Rattle.fair_games.proofs.PruneSteps.{HasSteps, cut_of, settled_base, settled_lines, prune_goes, prune_stays, first_base, second_base}
 use Rattle.fair_games.proofs.pruning.+prune.Goals as goal
 use Rattle.fair_games.proofs.pruning.+prune.Given.{Over}
 
@@ -17,6 +20,9 @@ steps_of g = record {
   sound = λ p valid d reason cell value h. g.met.P.Steps.struck_sound p d reason cell value h valid;
   cut = g.met.P.Steps.struck_cut;
 }
+
+pub settle_on-requires-clause-lines : goal.settle_on-requires-clause-lines
+settle_on-requires-clause-lines g t c = lines_of_alike c.args.base.now c.copy_of-left.result c.copy_of-left.ensures.size c.copy_of-left.ensures.alike c.requires.settled
 
 pub returns-then-are_numbers-clause-pruned : goal.returns-then-are_numbers-clause-pruned
 returns-then-are_numbers-clause-pruned g t c =
@@ -75,6 +81,10 @@ prune-half-requires g t c κs within =
     first_base f Struck steps c.args.grade square c.args.order.now c.args.first c.middle_of-middle.result c.args.last c.args.puzzle c.without-fewer.result
     c.settle_on.new.candidates grid c.requires.latin (omega (arith, c.middle_of-middle.ensures.after)) (omega (arith, c.middle_of-middle.ensures.before))
     c.requires.pruned c.without-fewer.ensures left in
+    let fewer = c.without-fewer.result in
+    let shared : IsShared (f.puzzle fewer) (Struck fewer) = record { given = g.met.P.Steps.given_struck fewer; line = g.met.P.Steps.line_struck fewer } in
+    let lines : AreLinesSettled c.settle_on.new.candidates = settled_lines f Struck c.args.grade square fewer c.args.base.now c.copy_of-left.result
+    c.settle_on.new.candidates shared cut is c.copy_of-left.ensures.size c.settle_on.ensures in
     search rules
 
 pub prune-requires : goal.prune-requires
@@ -96,4 +106,8 @@ prune-requires g t c κs within =
     second_base f Struck steps c.args.grade square c.args.order.now c.args.first c.middle_of-middle.result c.args.last c.args.puzzle c.without-fewer.result
     c.prune-half.result c.settle_on.new.candidates grid c.requires.latin (omega (arith, c.middle_of-middle.ensures.after))
     (omega (arith, c.middle_of-middle.ensures.before)) c.requires.pruned c.without-fewer.ensures c.prune-half.ensures.pruned c.prune-half.ensures.earlier left in
+    let fewer = c.without-fewer.result in
+    let shared : IsShared (f.puzzle fewer) (Struck fewer) = record { given = g.met.P.Steps.given_struck fewer; line = g.met.P.Steps.line_struck fewer } in
+    let lines : AreLinesSettled c.settle_on.new.candidates = settled_lines f Struck c.args.grade square fewer c.args.base.now c.copy_of-left.result
+    c.settle_on.new.candidates shared cut is c.copy_of-left.ensures.size c.settle_on.ensures in
     search rules

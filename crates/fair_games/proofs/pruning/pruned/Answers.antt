@@ -1,5 +1,6 @@
-use Rattle.std.proofs.Common.{sym, ◌∙◌, subst}
+use Rattle.std.proofs.Common.{◌≤◌, sym, ◌∙◌, subst, arith}
 use Rattle.puzzle_gen.proofs.ItemLaws.{laws_of, cuts_of_full}
+use Rattle.named_steps.proofs.SettledLines.{lines_of_all}
 use Rattle.fair_games.specs.Fair.{FailsBy}
 use Rattle.fair_games.specs.Inner.PrunedTo.{IsPrunedTo}
 use Rattle.fair_games.proofs.Bases.{base_all}
@@ -16,6 +17,11 @@ prune-requires-clause-pruned g c =
 pub prune-requires-clause-base : goal.prune-requires-clause-base
 prune-requires-clause-base g c =
     base_all _ c.args.grade c.args.grid.now c.all-all.result (c.all-all.ensures.size ∙ c.size.ensures.value) c.all-all.ensures.trail
+
+pub prune-requires-clause-settled : goal.prune-requires-clause-settled
+prune-requires-clause-settled g c =
+    let wide : 3 ≤ c.all-all.result.size = omega (arith, c.all-all.ensures.size, c.size.ensures.value, c.size.ensures.valid.smallest) in
+    lines_of_all c.all-all.result wide c.all-all.ensures.trail
 
 pub returns : goal.returns
 returns g c =

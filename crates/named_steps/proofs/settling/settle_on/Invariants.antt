@@ -1,9 +1,0 @@
-use Rattle.std.proofs.Common.{◌-◌, ◌*◌, length}
-use Rattle.named_steps.specs.Passes.{LeadsTo}
-use Rattle.named_steps.proofs.settling.settle_on.Given as goal
-
-abbrev pub invariant-loop-grade : goal.invariant-loop-grade
-invariant-loop-grade g l = LeadsTo (g.P.Steps.struck_by l.p) l.grade l.fn.candidates l.candidates
-
-abbrev pub decreases-loop-grade : goal.decreases-loop-grade
-decreases-loop-grade g l = l.candidates.size * l.candidates.size * l.candidates.size - length l.candidates.trail
