@@ -65,7 +65,7 @@ settled_base f Struck steps grade g q base copy left cut is size alike closure =
 -- and rows and columns strike nothing of them
 pub settled_lines : {P : Type 0} (f : Ghosts P) (Struck : P → CandidatesValue → Reason → ℕ → ℕ → Type 0) (grade : Grade) (g : GridValue) (q : P)
     (base copy left : CandidatesValue) → IsShared (f.puzzle q) (Struck q) → IsCutOf f g q → IsBase (Struck q) grade g base → copy.size ≡ base.size
-    → IsClosure (Struck q) grade copy left → AreLinesSettled left
+    → IsClosure (Struck q) grade copy left → AreLinesSettled grade left
 settled_lines f Struck grade g q base copy left shared cut is size closure =
     lines_of_settled (f.puzzle q) (Struck q) shared grade left (closure.size ∙ size ∙ is.size ∙ sym cut.size) closure.settled
 

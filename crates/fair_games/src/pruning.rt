@@ -56,7 +56,7 @@ fn prune<P: Steps>(
     requires inside { last ≤ length order.now }
     requires pruned { IsPrunedTo ⟦<P as Rules>⟧ (FailsBy P.struck_by grade grid.now) grid.now order.now first puzzle }
     requires base { IsBase (P.struck_by (P.cut puzzle (outside order.now first last))) grade grid.now base.now }
-    requires settled { AreLinesSettled base.now }
+    requires settled { AreLinesSettled grade base.now }
     ensures pruned { IsPrunedTo ⟦<P as Rules>⟧ (FailsBy P.struck_by grade grid.now) grid.now order.now last result }
     ensures earlier { (i : ℕ) → i < P.items_of grid.now.size → place_in i order.now < first → P.has result i ≡ P.has puzzle i }
 {

@@ -5,14 +5,17 @@ use Rattle.number_sets.specs.Sets.{has_number, IsSubset, IsEmpty}
 use Rattle.number_sets.proofs.Members.{has_number-none, below_from_number, same_set}
 use Rattle.number_sets.proofs.OneMore.{added_other, added_ones}
 use Rattle.latin_board.specs.Lines.{line_cell}
-use Rattle.trail_solver.specs.Candidates.{CandidatesValue}
+use Rattle.trail_solver.specs.Candidates.{CandidatesValue, may_be}
 use Rattle.named_steps.specs.Reasons.{IsByLine}
-use Rattle.named_steps.specs.Passes.{Passes}
+use Rattle.named_steps.specs.Left.{IsLeft}
+use Rattle.named_steps.specs.Passes.{LeadsTo}
 use Rattle.named_steps.specs.Inner.Takes.{Takes}
-use Rattle.named_steps.specs.Inner.LineStrikes.{AreLineSets, IsGroupQuiet, IsUnionOf, IsBySets}
+use Rattle.named_steps.specs.Inner.LineStrikes.{AreLineSets, IsByGroup, IsGroupQuiet, IsUnionOf, IsBySets}
+use Rattle.named_steps.specs.Inner.WaitingGroups.{IsGroupCalm}
 use Rattle.named_steps.proofs.Counts.{within_counts, one_less, several_counted, group_most}
 use Rattle.named_steps.proofs.LinePasses.{line_less}
-use Rattle.named_steps.proofs.Takes.{HasStruck, passes_taken, takes_both, takes_map, takes_none}
+use Rattle.named_steps.proofs.WaitingGroups.{group_stays}
+use Rattle.named_steps.proofs.Takes.{HasStruck, leads_fewer, leads_taken, takes_both, takes_map, takes_none}
 use Rattle.named_steps.specs.declared.reason.Reason.TheVariants.{Set}
 use Rattle.named_steps.specs.declared.grade.Grade.TheVariants.{Hard}
 
@@ -265,32 +268,30 @@ group_reason c line sets several cell v line_is are low h =
       },
     )
 
-pub group_pass : (line : ℕ) (sets : List ℕ) (several : ℕ) (a b : CandidatesValue) → line < 2 * a.size → AreLineSets a line a.size sets
-    → ((k : ℕ) → (has_number several k ≡ true) ↔ ((k < a.size) × (1 < count_ones (slice_index sets k))))
-    → Takes (IsBySets a.size line sets several 0) a b → Passes (IsByLine a.size) Hard (IsGroupQuiet line) a b
-group_pass line sets several a b line_is are of_several t =
-    let low : (squares k : ℕ) → squares < 2 ^ a.size → has_number squares k ≡ true → k < a.size = λ squares k below has.
-    below_from_number squares a.size k below has in
-    passes_taken (IsByLine a.size) (line_less a.size) Hard (IsGroupQuiet line) (IsBySets a.size line sets several 0) a b t
-    (λ cell v pair h. group_reason a line sets several cell v line_is are (λ k has. ((of_several k).0 has).0) h)
-    (λ gone cell v pair h. gone cell v pair (record {
+-- of a group of which several values are left of each square, by the sets of what is left
+group_of_sets : (a : CandidatesValue) (line : ℕ) (sets : List ℕ) (several cell v : ℕ) → AreLineSets a line a.size sets
+    → ((k : ℕ) → (has_number several k ≡ true) ↔ ((k < a.size) × (1 < count_ones (slice_index sets k)))) → IsByGroup a line cell v
+    → IsBySets a.size line sets several 0 cell v
+group_of_sets a line sets several cell v are of_several h =
+    let low : (k : ℕ) → has_number h.squares k ≡ true → k < a.size = λ k has. below_from_number h.squares a.size k h.below has in
+    record {
       group = h.squares;
       has = λ k has. absurd (both_ways (has_number 0 k) (has_number-none k) has);
       within = λ k has.
           let s = h.several k has in
-          let set = are.each k (low h.squares k h.below has) in
+          let set = are.each k (low k has) in
           inr ((of_several k).1 (
-            low h.squares k h.below has,
+            low k has,
             several_counted (slice_index sets k) s.0 s.1 s.2 ((set s.0).1 (s.3.pair, s.3.may)) ((set s.1).1 (s.4.pair, s.4.may)),
           ));
       union = h.union;
       is = record {
         all = λ k v has in_set.
-            let left = (are.each k (low h.squares k h.below has) v).0 in_set in
+            let left = (are.each k (low k has) v).0 in_set in
             h.is.all k v has (record { pair = left.0; may = left.1 });
         only = λ v has.
             let k = h.is.only v has in
-            (k.0, k.1, (are.each k.0 (low h.squares k.0 h.below k.1) v).1 (k.2.pair, k.2.may));
+            (k.0, k.1, (are.each k.0 (low k.0 k.1) v).1 (k.2.pair, k.2.may));
       };
       same = h.same;
       index = h.index;
@@ -298,4 +299,26 @@ group_pass line sets several a b line_is are of_several t =
       outside = h.outside;
       here = h.here;
       one = h.one;
-    }))
+    }
+
+-- what the groups strike is taken away by their reasons
+pub group_leads : (line : ℕ) (sets : List ℕ) (several : ℕ) (a b : CandidatesValue) → line < 2 * a.size → AreLineSets a line a.size sets
+    → ((k : ℕ) → (has_number several k ≡ true) ↔ ((k < a.size) × (1 < count_ones (slice_index sets k))))
+    → Takes (IsBySets a.size line sets several 0) a b → LeadsTo (IsByLine a.size) Hard a b
+group_leads line sets several a b line_is are of_several t =
+    leads_taken (IsByLine a.size) (line_less a.size) Hard (IsBySets a.size line sets several 0) a b t
+    (λ cell v pair h. group_reason a line sets several cell v line_is are (λ k has. ((of_several k).0 has).0) h)
+
+-- and where none of the line's squares lost anything its groups struck nothing
+pub group_calm : (line : ℕ) (sets : List ℕ) (several : ℕ) (a b : CandidatesValue) → line < 2 * a.size → AreLineSets a line a.size sets
+    → ((k : ℕ) → (has_number several k ≡ true) ↔ ((k < a.size) × (1 < count_ones (slice_index sets k))))
+    → Takes (IsBySets a.size line sets several 0) a b → IsGroupCalm line a b
+group_calm line sets several a b line_is are of_several t stays =
+    let leads = group_leads line sets several a b line_is are of_several t in
+    let quiet : IsGroupQuiet line a = λ cell v pair h.
+    let by = group_of_sets a line sets several cell v are of_several h in
+    false_from_ne_true (may_be a cell v) (λ may.
+    let was : IsLeft a (line_cell a.size line h.index) v = subst (λ (n : ℕ). IsLeft a n v) h.here (record { pair = pair; may = may }) in
+    let is : IsLeft b cell v = subst (λ (n : ℕ). IsLeft b n v) (sym h.here) (stays h.index v h.index_is was) in
+    both_ways (may_be b cell v) (t.gone cell v pair by) is.may) in
+    group_stays line a b t.size (leads_fewer (IsByLine a.size) Hard a b leads) stays quiet

@@ -19,6 +19,7 @@ pub mod GivenPasses
 pub mod ChangedLines
 pub mod WaitingLines
 pub mod LinePasses
+pub mod WaitingGroups
 pub mod GroupPasses
 pub mod ViewPasses
 pub mod SignPasses

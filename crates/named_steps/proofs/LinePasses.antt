@@ -5,7 +5,7 @@ use Rattle.latin_board.specs.Lines.{line_cell}
 use Rattle.latin_board.proofs.PeerLines.{line_peers}
 use Rattle.trail_solver.specs.Candidates.{CandidatesValue}
 use Rattle.named_steps.specs.Reasons.{IsByLine}
-use Rattle.named_steps.specs.Grades.{is_of_lines}
+use Rattle.named_steps.specs.Grades.{has_reason, is_of_lines}
 use Rattle.named_steps.specs.Laws.Less.{peer_less, place_less, set_less}
 use Rattle.named_steps.specs.Passes.{Passes, AreLinesSettled}
 use Rattle.named_steps.specs.Inner.Takes.{Takes}
@@ -14,6 +14,7 @@ use Rattle.named_steps.specs.Inner.WaitingLines.{AreLinesQuiet}
 use Rattle.named_steps.proofs.Antitone.{IsAntitone}
 use Rattle.named_steps.proofs.Takes.{HasStruck, passes_taken}
 use Rattle.named_steps.specs.declared.reason.Reason.{Reason}
+use Rattle.named_steps.specs.declared.grade.Grade.{Grade}
 use Rattle.named_steps.specs.declared.reason.Reason.TheVariants.{Given, Peer, Place, Bound, Stand, Clue, Sign, Set}
 use Rattle.named_steps.specs.declared.grade.Grade.TheVariants.{Latin}
 
@@ -77,8 +78,19 @@ rest_pass line row a b line_is r t =
     subst (λ (n : ℕ). HasStruck (IsByLine a.size) Latin a n v) (sym h.2) (rest_reason a line h.0 v line_is h.1 by))
     (λ gone k v low pair h. gone (line_cell a.size line k) v pair (k, low, refl, (r.each k v low).1 (pair.low, pair.high, h)))
 
+-- a reason of the lowest grade is one of each grade
+pub latin_has : (grade : Grade) (reason : Reason) → has_reason Latin reason ≡ true → has_reason grade reason ≡ true
+latin_has grade (Given at) h = refl
+latin_has grade (Peer by) h = refl
+latin_has grade (Place line index other) h = refl
+latin_has grade (Bound place) h = absurd (cc)
+latin_has grade (Stand place) h = absurd (cc)
+latin_has grade (Clue place) h = absurd (cc)
+latin_has grade (Sign from to) h = absurd (cc)
+latin_has grade (Set line squares values) h = absurd (cc)
+
 -- where lone values and last places strike nothing, the lines are quiet
-pub settled_quiet : (c : CandidatesValue) → AreLinesSettled c → AreLinesQuiet c
-settled_quiet c settled line line_is k v low pair h =
+pub settled_quiet : (grade : Grade) (c : CandidatesValue) → AreLinesSettled grade c → AreLinesQuiet c
+settled_quiet grade c settled line line_is k v low pair h =
     let by = rest_reason c line k v line_is low h in
-    settled by.0 (line_cell c.size line k) v by.1 pair by.2
+    settled by.0 (line_cell c.size line k) v (latin_has grade by.0 by.1) pair by.2

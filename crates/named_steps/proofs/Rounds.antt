@@ -1,5 +1,6 @@
 -- From passes to what a grade leaves.
 use Rattle.std.proofs.Common.{◌≡◌, ◌↔◌, ℕ, ◌*◌, ◌<◌, ◌≤◌, true, length, ◌++◌, refl, sym, ap, ◌∙◌, subst, arith}
+use Rattle.latin_board.specs.Lines.{line_cell}
 use Rattle.trail_solver.specs.Candidates.{CandidatesValue}
 use Rattle.trail_solver.specs.Puzzles.{Puzzle}
 use Rattle.named_steps.specs.Left.{IsLeft, AreAlike}
@@ -10,8 +11,9 @@ use Rattle.named_steps.specs.Following.{IsSettled, IsClosure}
 use Rattle.named_steps.specs.Passes.{LeadsTo, Passes, AreCluesSettled, AreGivensSettled}
 use Rattle.named_steps.specs.Inner.LineStrikes.{IsRestQuiet, IsGroupQuiet}
 use Rattle.named_steps.specs.Inner.WaitingLines.{AreLinesQuiet}
+use Rattle.named_steps.specs.Inner.WaitingGroups.{IsGroupCalm}
 use Rattle.named_steps.specs.Inner.RestSteps.{AreRestSettled}
-use Rattle.named_steps.proofs.LinePasses.{line_reason}
+use Rattle.named_steps.proofs.LinePasses.{latin_has, line_reason}
 use Rattle.named_steps.proofs.QuietLines.{peer_quiet, place_quiet, set_quiet}
 use Rattle.named_steps.proofs.Parts.{chain_joined, left_append}
 use Rattle.named_steps.proofs.Takes.{allowed_joined, leads_on, leads_same, leads_size, leads_length, leads_wider, passes_both, passes_map, passes_wider}
@@ -26,18 +28,8 @@ pub record IsShared (p : Puzzle) (Struck : CandidatesValue → Reason → ℕ �
   pub line : (c : CandidatesValue) (reason : Reason) (cell value : ℕ) → is_of_lines reason ≡ true
       → IsByLine p.size c reason cell value ↔ Struck c reason cell value
 
--- a reason of the lowest grade is one of each grade
-pub latin_has : (grade : Grade) (reason : Reason) → has_reason Latin reason ≡ true → has_reason grade reason ≡ true
-latin_has grade (Given at) h = refl
-latin_has grade (Peer by) h = refl
-latin_has grade (Place line index other) h = refl
-latin_has grade (Bound place) h = absurd (cc)
-latin_has grade (Stand place) h = absurd (cc)
-latin_has grade (Clue place) h = absurd (cc)
-latin_has grade (Sign from to) h = absurd (cc)
-latin_has grade (Set line squares values) h = absurd (cc)
-
-past_easy_is : (grade : Grade) → is_past_easy grade ≡ true → grade ≡ Hard
+-- a grade past the second is the third
+pub past_easy_is : (grade : Grade) → is_past_easy grade ≡ true → grade ≡ Hard
 past_easy_is Latin h = absurd (cc)
 past_easy_is Easy h = absurd (cc)
 past_easy_is Hard h = refl
@@ -81,11 +73,17 @@ givens_lead Struck grade a b h = leads_wider Struck Struck Latin grade (λ d rea
 
 -- clues or signs, and then groups
 pub rest_groups : (p : Puzzle) (Struck : CandidatesValue → Reason → ℕ → ℕ → Type 0) → IsShared p Struck → (grade : Grade) (a b c : CandidatesValue) → a.size ≡ p.size
-    → Passes Struck grade (AreCluesSettled Struck grade) a b → is_past_easy grade ≡ true
-    → Passes (IsByLine b.size) Hard (λ d. (line : ℕ) → line < 2 * b.size → IsGroupQuiet line d) b c → Passes Struck grade (AreRestSettled Struck grade) a c
-rest_groups p Struck s grade a b c size first past second =
+    → Passes Struck grade (AreCluesSettled Struck grade) a b → is_past_easy grade ≡ true → LeadsTo (IsByLine b.size) Hard b c
+    → ((line : ℕ) → line < 2 * b.size → IsGroupCalm line b c) → Passes Struck grade (AreRestSettled Struck grade) a c
+rest_groups p Struck s grade a b c size first past lead calm =
     let same : b.size ≡ a.size = leads_size Struck grade a b first.leads in
     let Quiet : CandidatesValue → Type 0 = λ d. (line : ℕ) → line < 2 * b.size → IsGroupQuiet line d in
+    let second : Passes (IsByLine b.size) Hard Quiet b c = record {
+      leads = lead;
+      quiet = λ e line low.
+          let still : c ≡ b = leads_same (IsByLine b.size) Hard b c lead e in
+          subst (λ d. IsGroupQuiet line d) still (calm line low (λ k v k_is left. subst (λ d. IsLeft d (line_cell b.size line k) v) (sym still) left));
+    } in
     let lift = passes_wider (IsByLine b.size) Struck Hard grade (lines_lift p Struck s b.size (same ∙ size))
     (λ reason h. subst (λ (g : Grade). has_reason g reason ≡ true) (sym (past_easy_is grade past)) h) Quiet b c second in
     passes_map Struck grade (λ d. AreCluesSettled Struck grade d × Quiet d) (AreRestSettled Struck grade) a c

@@ -137,7 +137,7 @@ waits_across line places before after a b line_is waits size fewer quiet changed
 -- ---- squares before and after
 
 -- of a line that is as the sets say, all is left that was
-sets_stay : (line : ℕ) (sets : List ℕ) (c d : CandidatesValue) → line < 2 * c.size → d.size ≡ c.size → AreSets c (c.size * c.size) sets → AreSetsOn line d sets
+pub sets_stay : (line : ℕ) (sets : List ℕ) (c d : CandidatesValue) → line < 2 * c.size → d.size ≡ c.size → AreSets c (c.size * c.size) sets → AreSetsOn line d sets
     → (k v : ℕ) → k < c.size → IsLeft c (line_cell c.size line k) v → IsLeft d (line_cell c.size line k) v
 sets_stay line sets c d line_is size before after k v low left =
     let cell = line_cell c.size line k in

@@ -5,6 +5,7 @@ pub mod KnownRows
 pub mod Takes
 pub mod LineStrikes
 pub mod WaitingLines
+pub mod WaitingGroups
 pub mod RestSteps
 pub mod OtherSets
 pub mod SignStrikes

@@ -9,7 +9,6 @@ use Rattle.named_steps.specs.Reasons.{IsByGiven, IsByLine}
 use Rattle.named_steps.specs.Chains.{StepValue, IsChain, AreOfGrade, left_by}
 use Rattle.named_steps.specs.declared.reason.Reason.{Reason}
 use Rattle.named_steps.specs.declared.grade.Grade.{Grade}
-use Rattle.named_steps.specs.declared.grade.Grade.TheVariants.{Latin}
 
 -- a chain of the grade's steps leads from the first candidates to the second
 pub record LeadsTo (Struck : CandidatesValue → Reason → ℕ → ℕ → Type 0) (grade : Grade) (c d : CandidatesValue) : Type 0 where
@@ -30,10 +29,10 @@ AreCluesSettled Struck grade c =
     (reason : Reason) (cell value : ℕ) → is_of_clues reason ≡ true → has_reason grade reason ≡ true → IsPair c.size cell value
     → Struck c reason cell value → may_be c cell value ≡ false
 
--- no lone value and no last place of a row or column strikes anything that is left
-abbrev pub AreLinesSettled : CandidatesValue → Type 0
-AreLinesSettled c =
-    (reason : Reason) (cell value : ℕ) → has_reason Latin reason ≡ true → IsPair c.size cell value → IsByLine c.size c reason cell value
+-- no reason of rows and columns that the grade has strikes anything that is left
+abbrev pub AreLinesSettled : Grade → CandidatesValue → Type 0
+AreLinesSettled grade c =
+    (reason : Reason) (cell value : ℕ) → has_reason grade reason ≡ true → IsPair c.size cell value → IsByLine c.size c reason cell value
     → may_be c cell value ≡ false
 
 -- no given strikes anything that is left

@@ -1,5 +1,6 @@
 //! Rows and columns that wait to be looked at: those with a square of which something went.
-ghost use Rattle.std.specs.Prelude.{◌≡◌, ℕ, ◌*◌, ◌<◌, ◌≤◌, true, false, not, ◌&&◌, ◌||◌, ◌==◌};
+ghost use Rattle.std.specs.Prelude.{◌≡◌, ℕ, ◌*◌, ◌<◌, ◌≤◌, true, false, not, ◌&&◌, ◌||◌, ◌==◌, slice_index};
+ghost use Rattle.number_sets.specs.Sets.{has_number};
 ghost use Rattle.named_steps.specs.Inner.WaitingLines.{is_waiting, is_through, is_crossing, AreSets, AreSetsOn};
 
 use latin_board::CELLS;
@@ -112,6 +113,13 @@ pub(crate) fn sets_of(candidates: &Candidates) -> [NumberSet; CELLS]
         sets[cell] = candidates.values(cell);
     }
     sets
+}
+
+/// Sets of more than can be left of any square: each line has changed since.
+pub(crate) fn greater_sets() -> [NumberSet; CELLS]
+    ensures { (cell v : ℕ) → cell < 81 → v ≤ 9 → has_number (slice_index result cell) v ≡ true }
+{
+    [NumberSet::up_to(9).union(NumberSet::one(0)); CELLS]
 }
 
 /// The rows and columns with a square of which something else is left than a set says.

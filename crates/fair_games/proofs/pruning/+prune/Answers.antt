@@ -22,7 +22,7 @@ steps_of g = record {
 }
 
 pub settle_on-requires-clause-lines : goal.settle_on-requires-clause-lines
-settle_on-requires-clause-lines g t c = lines_of_alike c.args.base.now c.copy_of-left.result c.copy_of-left.ensures.size c.copy_of-left.ensures.alike c.requires.settled
+settle_on-requires-clause-lines g t c = lines_of_alike c.args.grade c.args.base.now c.copy_of-left.result c.copy_of-left.ensures.size c.copy_of-left.ensures.alike c.requires.settled
 
 pub returns-then-are_numbers-clause-pruned : goal.returns-then-are_numbers-clause-pruned
 returns-then-are_numbers-clause-pruned g t c =
@@ -83,7 +83,7 @@ prune-half-requires g t c κs within =
     c.requires.pruned c.without-fewer.ensures left in
     let fewer = c.without-fewer.result in
     let shared : IsShared (f.puzzle fewer) (Struck fewer) = record { given = g.met.P.Steps.given_struck fewer; line = g.met.P.Steps.line_struck fewer } in
-    let lines : AreLinesSettled c.settle_on.new.candidates = settled_lines f Struck c.args.grade square fewer c.args.base.now c.copy_of-left.result
+    let lines : AreLinesSettled c.args.grade c.settle_on.new.candidates = settled_lines f Struck c.args.grade square fewer c.args.base.now c.copy_of-left.result
     c.settle_on.new.candidates shared cut is c.copy_of-left.ensures.size c.settle_on.ensures in
     search rules
 
@@ -108,6 +108,6 @@ prune-requires g t c κs within =
     (omega (arith, c.middle_of-middle.ensures.before)) c.requires.pruned c.without-fewer.ensures c.prune-half.ensures.pruned c.prune-half.ensures.earlier left in
     let fewer = c.without-fewer.result in
     let shared : IsShared (f.puzzle fewer) (Struck fewer) = record { given = g.met.P.Steps.given_struck fewer; line = g.met.P.Steps.line_struck fewer } in
-    let lines : AreLinesSettled c.settle_on.new.candidates = settled_lines f Struck c.args.grade square fewer c.args.base.now c.copy_of-left.result
+    let lines : AreLinesSettled c.args.grade c.settle_on.new.candidates = settled_lines f Struck c.args.grade square fewer c.args.base.now c.copy_of-left.result
     c.settle_on.new.candidates shared cut is c.copy_of-left.ensures.size c.settle_on.ensures in
     search rules

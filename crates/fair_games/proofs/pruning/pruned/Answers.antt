@@ -21,7 +21,8 @@ prune-requires-clause-base g c =
 pub prune-requires-clause-settled : goal.prune-requires-clause-settled
 prune-requires-clause-settled g c =
     let wide : 3 ≤ c.all-all.result.size = omega (arith, c.all-all.ensures.size, c.size.ensures.value, c.size.ensures.valid.smallest) in
-    lines_of_all c.all-all.result wide c.all-all.ensures.trail
+    let small : c.all-all.result.size ≤ 9 = omega (arith, c.all-all.ensures.size, c.size.ensures.value, c.size.ensures.valid.largest) in
+    lines_of_all c.args.grade c.all-all.result wide small c.all-all.ensures.trail
 
 pub returns : goal.returns
 returns g c =

@@ -5,15 +5,24 @@ use Rattle.named_steps.specs.Inner.RestSteps.{AreRestSettled}
 use Rattle.named_steps.proofs.GivenPasses.{givens_stay}
 use Rattle.named_steps.proofs.Rounds.{IsShared, lines_lead, rest_settles, closure_reached, round_longer}
 use Rattle.named_steps.proofs.Takes.{leads_fewer, leads_length, leads_on, leads_size}
+use Rattle.named_steps.proofs.WaitingGroups.{grouped_stay}
 use Rattle.named_steps.proofs.WaitingLines.{unchanged_quiet}
 use Rattle.named_steps.specs.declared.grade.Grade.TheVariants.{Latin}
 use Rattle.named_steps.proofs.settling.settle_from.Goals as goal
 
-pub strike_rest-requires : goal.strike_rest-requires
-strike_rest-requires g c =
+pub strike_rest-requires-clause-size : goal.strike_rest-requires-clause-size
+strike_rest-requires-clause-size g c =
     let now = c.loop-grade.candidates in
     let same = leads_size (g.P.Steps.struck_by c.args.p.now) c.args.grade c.args.candidates.now now c.loop-grade.invariant.0 in
     leads_size (IsByLine now.size) Latin now c.strike_lines.new.candidates c.strike_lines.ensures.leads ∙ same ∙ c.requires.size
+
+pub strike_rest-requires-clause-grouped : goal.strike_rest-requires-clause-grouped
+strike_rest-requires-clause-grouped g c = λ past.
+    let now = c.loop-grade.candidates in
+    let lines = c.strike_lines.new.candidates in
+    let leads = c.strike_lines.ensures.leads in
+    grouped_stay c.loop-grade.grouped now lines (leads_size (IsByLine now.size) Latin now lines leads) (leads_fewer (IsByLine now.size) Latin now lines leads)
+    (c.loop-grade.invariant.3 past)
 
 pub returns-then-trail_len-count : goal.returns-then-trail_len-count
 returns-then-trail_len-count g c =
@@ -31,7 +40,7 @@ returns-then-trail_len-count g c =
     let givens : AreGivensSettled puzzle lines = givens_stay puzzle now lines (leads_size Struck c.args.grade now lines lead) (leads_fewer Struck c.args.grade now lines lead)
     c.loop-grade.invariant.1 in
     closure_reached Struck c.args.grade first lines next (leads_on Struck c.args.grade first now lines c.loop-grade.invariant.0 lead)
-    (rest_settles puzzle Struck shared c.args.grade lines next small (size ∙ c.requires.size) givens c.strike_lines.ensures.quiet c.strike_rest.ensures)
+    (rest_settles puzzle Struck shared c.args.grade lines next small (size ∙ c.requires.size) givens c.strike_lines.ensures.quiet c.strike_rest.ensures.passes)
     (sym c.trail_len.ensures.value ∙ c.if-trail_len-count.true ∙ c.trail_len-count.ensures.value)
 
 pub loop-grade-smaller : goal.loop-grade-smaller
@@ -42,10 +51,10 @@ loop-grade-smaller g c =
     let next = c.strike_rest.new.candidates in
     let more : length now.trail ≤ length lines.trail = leads_length (IsByLine now.size) Latin now lines c.strike_lines.ensures.leads in
     let longer : length lines.trail < length next.trail =
-    round_longer Struck c.args.grade (AreRestSettled Struck c.args.grade) lines next c.strike_rest.ensures
+    round_longer Struck c.args.grade (AreRestSettled Struck c.args.grade) lines next c.strike_rest.ensures.passes
     (λ e. c.if-trail_len-count.false (c.trail_len.ensures.value ∙ e ∙ sym c.trail_len-count.ensures.value)) in
     let size : next.size ≡ now.size =
-    leads_size Struck c.args.grade lines next c.strike_rest.ensures.leads ∙ leads_size (IsByLine now.size) Latin now lines c.strike_lines.ensures.leads in
+    leads_size Struck c.args.grade lines next c.strike_rest.ensures.passes.leads ∙ leads_size (IsByLine now.size) Latin now lines c.strike_lines.ensures.leads in
     let cube : next.size * next.size * next.size ≡ now.size * now.size * now.size = ap (λ (n : ℕ). n * n * n) size in
     let bound : length next.trail ≤ next.size * next.size * next.size = omega (arith, c.trail_len.ensures.value, c.trail_len.ensures.bound) in
     let less : next.size * next.size * next.size - length next.trail < now.size * now.size * now.size - length now.trail =
@@ -63,10 +72,11 @@ loop-grade-preserved g c =
     let next = c.strike_rest.new.candidates in
     let same : now.size ≡ first.size = leads_size Struck c.args.grade first now c.loop-grade.invariant.0 in
     let lead = lines_lead puzzle Struck shared c.args.grade now lines (same ∙ c.requires.size) c.strike_lines.ensures.leads in
-    let on = leads_on Struck c.args.grade now lines next lead c.strike_rest.ensures.leads in (
+    let on = leads_on Struck c.args.grade now lines next lead c.strike_rest.ensures.passes.leads in (
       leads_on Struck c.args.grade first now next c.loop-grade.invariant.0 on,
       givens_stay puzzle now next (leads_size Struck c.args.grade now next on) (leads_fewer Struck c.args.grade now next on) c.loop-grade.invariant.1,
       unchanged_quiet c.changed_lines-waiting.result c.sets_of-lines.result lines next
-          (leads_size Struck c.args.grade lines next c.strike_rest.ensures.leads) (leads_fewer Struck c.args.grade lines next c.strike_rest.ensures.leads)
+          (leads_size Struck c.args.grade lines next c.strike_rest.ensures.passes.leads) (leads_fewer Struck c.args.grade lines next c.strike_rest.ensures.passes.leads)
           c.strike_lines.ensures.quiet c.sets_of-lines.ensures c.changed_lines-waiting.ensures,
+      c.strike_rest.ensures.grouped,
     )

@@ -1,9 +1,12 @@
-use Rattle.std.proofs.Common.{◌∙◌}
+use Rattle.std.proofs.Common.{◌∙◌, subst}
+use Rattle.named_steps.specs.Passes.{AreLinesSettled}
 use Rattle.named_steps.proofs.LinePasses.{settled_quiet}
-use Rattle.named_steps.proofs.Rounds.{givens_lead, closure_after}
+use Rattle.named_steps.proofs.Rounds.{past_easy_is, givens_lead, closure_after}
 use Rattle.named_steps.proofs.Takes.{leads_fewer, leads_size}
+use Rattle.named_steps.proofs.WaitingGroups.{grouped_stay, grouped_settled}
 use Rattle.named_steps.proofs.WaitingLines.{unchanged_quiet}
-use Rattle.named_steps.specs.declared.grade.Grade.TheVariants.{Latin}
+use Rattle.named_steps.specs.declared.grade.Grade.{Grade}
+use Rattle.named_steps.specs.declared.grade.Grade.TheVariants.{Latin, Hard}
 use Rattle.named_steps.proofs.settling.settle_on.Goals as goal
 
 pub settle_from-requires-clause-size : goal.settle_from-requires-clause-size
@@ -17,7 +20,17 @@ settle_from-requires-clause-others g c =
     let new = c.strike_givens.new.candidates in
     let leads = c.strike_givens.ensures.leads in
     unchanged_quiet c.changed_lines-waiting.result c.sets_of-before.result old new (leads_size Struck Latin old new leads) (leads_fewer Struck Latin old new leads)
-    (settled_quiet old c.requires.lines) c.sets_of-before.ensures c.changed_lines-waiting.ensures
+    (settled_quiet c.args.grade old c.requires.lines) c.sets_of-before.ensures c.changed_lines-waiting.ensures
+
+pub settle_from-requires-clause-grouped : goal.settle_from-requires-clause-grouped
+settle_from-requires-clause-grouped g c = λ past.
+    let Struck = g.P.Steps.struck_by c.args.p.now in
+    let old = c.args.candidates.now in
+    let new = c.strike_givens.new.candidates in
+    let leads = c.strike_givens.ensures.leads in
+    let settled : AreLinesSettled Hard old = subst (λ (grade : Grade). AreLinesSettled grade old) (past_easy_is c.args.grade past) c.requires.lines in
+    grouped_stay c.sets_of-before.result old new (leads_size Struck Latin old new leads) (leads_fewer Struck Latin old new leads)
+    (grouped_settled c.sets_of-before.result old settled c.sets_of-before.ensures)
 
 pub returns : goal.returns
 returns g c =
