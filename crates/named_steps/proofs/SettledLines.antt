@@ -39,9 +39,8 @@ left_of_all : (c : CandidatesValue) (cell v : ℕ) → c.trail ≡ [] → IsPair
 left_of_all c cell v none pair = record { pair = pair; may = ap not (ap (λ (ps : List (ℕ × ℕ)). has_pair ps cell v) none) }
 
 -- where all pairs are left, no squares of a line take as many values as they are but all of them
-no_group : (c : CandidatesValue) (line squares values cell v : ℕ) → 3 ≤ c.size → c.size ≤ 9 → c.trail ≡ [] → IsPair c.size cell v
-    → IsBySet c.size c line squares values cell v → ⊥
-no_group c line squares values cell v wide small none pair h =
+no_group : (c : CandidatesValue) (line squares values cell v : ℕ) → c.size ≤ 9 → c.trail ≡ [] → IsBySet c.size c line squares values cell v → ⊥
+no_group c line squares values cell v small none h =
     let a = one_less values v h.one in
     let some : count_ones squares ≡ suc (count_ones squares - 1) = omega (arith, added_ones a, h.same) in
     let k = some_counted squares (count_ones squares - 1) some (λ j has. omega (arith, h.inside j has, small)) in
@@ -76,4 +75,4 @@ lines_of_all grade c wide small none (Bound place) cell v has pair h = absurd h
 lines_of_all grade c wide small none (Stand place) cell v has pair h = absurd h
 lines_of_all grade c wide small none (Clue place) cell v has pair h = absurd h
 lines_of_all grade c wide small none (Sign from to) cell v has pair h = absurd h
-lines_of_all grade c wide small none (Set line squares values) cell v has pair h = absurd (no_group c line squares values cell v wide small none pair h)
+lines_of_all grade c wide small none (Set line squares values) cell v has pair h = absurd (no_group c line squares values cell v small none h)

@@ -2,9 +2,9 @@
 //!
 //! A `Reason` is a kind of step and the place where it looks. What each strikes from candidates is a definition of one line, and
 //! `strikes` tells it exactly. A `Grade` has some kinds of reasons. `settle` takes away all that the reasons of a grade strike,
-//! one after another, until they strike nothing that is left: in whatever order that is done, the same is left (`laws`). A puzzle
-//! follows by a grade where its solution alone is left of all pairs (`follows`, `solution_by`), and `grade_of` is the least such
-//! grade. Nothing here takes memory from the heap.
+//! one after another, until they strike nothing that is left: in whatever order that is done, the same is left (`laws`).
+//! `settle_on` does so for who settles many candidates, one after another. A puzzle follows by a grade where its solution alone is
+//! left of all pairs (`follows`, `solution_by`), and `grade_of` is the least such grade. Nothing here takes memory from the heap.
 //!
 //! ```
 //! match grade_of(&puzzle) {

@@ -1,5 +1,5 @@
 //! Rows and columns that wait to be looked at: those with a square of which something went.
-ghost use Rattle.std.specs.Prelude.{◌≡◌, ℕ, ◌*◌, ◌<◌, ◌≤◌, true, false, not, ◌&&◌, ◌||◌, ◌==◌, slice_index};
+ghost use Rattle.std.specs.Prelude.{◌≡◌, ◌↔◌, ℕ, ◌*◌, ◌<◌, ◌≤◌, true, false, not, ◌&&◌, ◌||◌, ◌==◌, slice_index};
 ghost use Rattle.number_sets.specs.Sets.{has_number};
 ghost use Rattle.named_steps.specs.Inner.WaitingLines.{is_waiting, is_through, is_crossing, AreSets, AreSetsOn};
 
@@ -124,8 +124,8 @@ pub(crate) fn greater_sets() -> [NumberSet; CELLS]
 
 /// The rows and columns with a square of which something else is left than a set says.
 pub(crate) fn changed_lines(before: &[NumberSet; CELLS], candidates: &Candidates) -> Waiting
-    ensures { (line : ℕ) → line < 2 * candidates.now.size → is_waiting candidates.now.size result line ≡ false
-        → AreSetsOn line candidates.now before.now }
+    ensures { (line : ℕ) → line < 2 * candidates.now.size
+        → (is_waiting candidates.now.size result line ≡ false) ↔ AreSetsOn line candidates.now before.now }
 {
     let width = candidates.size().get() as usize;
     let mut waiting = Waiting::none();

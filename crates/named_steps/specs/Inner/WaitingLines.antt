@@ -33,7 +33,7 @@ pub record IsWithout (w line : ℕ) (before after : Waiting) : Type 0 where
   pub this : is_waiting w after line ≡ false
   pub others : (other : ℕ) → is_waiting w before other ≡ false → is_waiting w after other ≡ false
 
--- something went of the line's squares at these places, and of no others; and nothing at all where there is none of them
+-- all stays that was left of other squares than those at these places of the line; something went where there are any, and nothing where not
 pub record AreChanged (line places : ℕ) (old new : CandidatesValue) : Type 0 where
   pub stays : (cell v : ℕ) → IsLeft old cell v
       → ((k : ℕ) → k < old.size → has_number places k ≡ true → cell ≢ line_cell old.size line k) → IsLeft new cell v

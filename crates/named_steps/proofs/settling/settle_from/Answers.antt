@@ -77,6 +77,6 @@ loop-grade-preserved g c =
       givens_stay puzzle now next (leads_size Struck c.args.grade now next on) (leads_fewer Struck c.args.grade now next on) c.loop-grade.invariant.1,
       unchanged_quiet c.changed_lines-waiting.result c.sets_of-lines.result lines next
           (leads_size Struck c.args.grade lines next c.strike_rest.ensures.passes.leads) (leads_fewer Struck c.args.grade lines next c.strike_rest.ensures.passes.leads)
-          c.strike_lines.ensures.quiet c.sets_of-lines.ensures c.changed_lines-waiting.ensures,
+          c.strike_lines.ensures.quiet c.sets_of-lines.ensures (λ line low. (c.changed_lines-waiting.ensures line low).0),
       c.strike_rest.ensures.grouped,
     )

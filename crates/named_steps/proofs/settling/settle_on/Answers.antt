@@ -20,7 +20,7 @@ settle_from-requires-clause-others g c =
     let new = c.strike_givens.new.candidates in
     let leads = c.strike_givens.ensures.leads in
     unchanged_quiet c.changed_lines-waiting.result c.sets_of-before.result old new (leads_size Struck Latin old new leads) (leads_fewer Struck Latin old new leads)
-    (settled_quiet c.args.grade old c.requires.lines) c.sets_of-before.ensures c.changed_lines-waiting.ensures
+    (settled_quiet c.args.grade old c.requires.lines) c.sets_of-before.ensures (λ line low. (c.changed_lines-waiting.ensures line low).0)
 
 pub settle_from-requires-clause-grouped : goal.settle_from-requires-clause-grouped
 settle_from-requires-clause-grouped g c = λ past.

@@ -26,7 +26,7 @@ strike_groups-requires g c =
     let past = sym c.has_groups.ensures ∙ c.if-has_groups.true in
     let grouped : AreGrouped c.args.grouped.now mid =
     grouped_stay c.args.grouped.now old mid (leads_size Struck c.args.grade old mid leads) (leads_fewer Struck c.args.grade old mid leads) (c.requires.grouped past) in
-    λ line low free. grouped.quiet line low (c.changed_lines-waiting.ensures line low free)
+    λ line low free. grouped.quiet line low ((c.changed_lines-waiting.ensures line low).0 free)
 
 pub returns-then-has_groups-clause-passes : goal.returns-then-has_groups-clause-passes
 returns-then-has_groups-clause-passes g c =
