@@ -10,6 +10,9 @@ use tower_lines::supported;
 // So many that of the rows of one game few come to the same slot, and few enough for a small stack: a slot has 38 bytes.
 const SLOTS: usize = 256;
 
+// 2^32 over the golden ratio, which spreads what is multiplied by it over all bits.
+const SPREAD: u32 = 2_654_435_761;
+
 /// Rows of sets that were looked at, each with its clue and what was found of it, in the slot that its sets and its clue give. They speak
 /// of sets and clues alone, so they stay right whatever is taken away, and in any puzzle.
 #[derive(Debug, Drop)]
@@ -87,9 +90,10 @@ fn slot_of(sets: &[NumberSet; 9], clue: u8) -> usize
 {
     let mut mixed = clue as u32;
     for k in 0..9 {
-        mixed = (mixed * 31 + sets[k].bits() as u32) % 8191;
+        let more = mixed.wrapping_add(sets[k].bits() as u32);
+        mixed = more.wrapping_mul(SPREAD);
     }
-    mixed as usize % SLOTS
+    (mixed >> 16) as usize % SLOTS
 }
 
 // Whether each set is between those of two rows: then the same is kept of it as of the greater.
