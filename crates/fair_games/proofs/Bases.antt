@@ -4,7 +4,7 @@ use Rattle.latin_board.specs.Squares.{GridValue, number_at}
 use Rattle.trail_solver.specs.Candidates.{CandidatesValue, IsOnly, IsWithin}
 use Rattle.trail_solver.specs.Pairs.{IsPair}
 use Rattle.trail_solver.specs.Puzzles.{Puzzle, Solves}
-use Rattle.named_steps.specs.Left.{IsLeft, IsFewer, AreAlike, all_of, without}
+use Rattle.named_steps.specs.Left.{IsLeft, IsFewer, all_of, without}
 use Rattle.named_steps.specs.Chains.{StepValue, IsChain, AreOfGrade, left_by}
 use Rattle.named_steps.specs.Following.{IsClosure, Follows}
 use Rattle.named_steps.proofs.Antitone.{IsAntitone, chain_less, chain_settled, left_size}
@@ -26,22 +26,6 @@ base_all Struck grade g c size none =
       fewer = λ cell value left. left;
       within = record { each = λ cell inside. refl };
     })
-
--- candidates of which the same is left are one too
-pub base_alike : (p : Puzzle) (Struck : CandidatesValue → Reason → ℕ → ℕ → Type 0) (grade : Grade) (g : GridValue) (c d : CandidatesValue)
-    → Solves p g → IsBase Struck grade g c → d.size ≡ c.size → AreAlike c d → IsBase Struck grade g d
-base_alike p Struck grade g c d s base size alike = record {
-  size = size ∙ base.size;
-  steps = base.steps;
-  chain = base.chain;
-  allowed = base.allowed;
-  fewer = λ cell value left. alike.1 cell value (base.fewer cell value left);
-  within = record {
-    each = λ cell inside.
-        (alike.1 cell (number_at g cell) (number_left p c g cell (base.size ∙ s.same_size) s base.within
-        (subst (λ (w : ℕ). cell < w * w) size inside))).may;
-  };
-}
 
 -- ---- more items
 

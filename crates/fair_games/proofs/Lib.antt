@@ -4,6 +4,5 @@ pub mod Bases
 pub mod Shuffles
 pub mod Trials
 pub mod RowSteps
-pub mod Copies
 pub mod PruneSteps
 pub mod FairSteps

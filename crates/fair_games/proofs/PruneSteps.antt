@@ -7,7 +7,6 @@ use Rattle.trail_solver.specs.Puzzles.{Solves}
 use Rattle.trail_solver.specs.declared.rules.Rules.{Ghosts}
 use Rattle.puzzle_gen.specs.Orders.{place_in}
 use Rattle.puzzle_gen.proofs.ItemLaws.{AreCuts, ItemLaws, cuts_of_full}
-use Rattle.named_steps.specs.Left.{AreAlike}
 use Rattle.named_steps.specs.Following.{IsClosure}
 use Rattle.named_steps.specs.Passes.{AreLinesSettled}
 use Rattle.named_steps.proofs.Antitone.{IsAntitone}
@@ -21,7 +20,7 @@ use Rattle.fair_games.specs.Fair.{FailsBy}
 use Rattle.fair_games.specs.Inner.PrunedTo.{outside, IsPrunedTo}
 use Rattle.fair_games.specs.Inner.Bases.{IsBase}
 use Rattle.fair_games.proofs.PrunedItems.{cut_again, kept_of_cut, outside_before, outside_within, outside_after, pruned_stays, pruned_goes}
-use Rattle.fair_games.proofs.Bases.{base_alike, base_more, base_settled, base_follows, follows_base}
+use Rattle.fair_games.proofs.Bases.{base_more, base_settled, base_follows, follows_base}
 
 -- what a game owes of its items and of its steps
 pub record HasSteps {P : Type 0} (f : Ghosts P) (Struck : P → CandidatesValue → Reason → ℕ → ℕ → Type 0) : Type 0 where
@@ -54,20 +53,19 @@ cut_of {P} f g p keep laws grid latin is_cut =
       solves = laws.cut_solved (f.full_of g) keep g full_valid (laws.full_solved g grid latin);
     })
 
--- the candidates of a base, copied and settled, are one of the puzzle without the items
+-- the candidates of a base, settled, are one of the puzzle without the items
 pub settled_base : {P : Type 0} (f : Ghosts P) (Struck : P → CandidatesValue → Reason → ℕ → ℕ → Type 0) → HasSteps f Struck → (grade : Grade)
-    (g : GridValue) (q : P) (base copy left : CandidatesValue) → IsCutOf f g q → IsBase (Struck q) grade g base → copy.size ≡ base.size
-    → AreAlike base copy → IsClosure (Struck q) grade copy left → IsBase (Struck q) grade g left
-settled_base f Struck steps grade g q base copy left cut is size alike closure =
-    base_settled (f.puzzle q) (Struck q) (steps.sound q cut.valid) (steps.less q) grade g copy left cut.solves
-    (base_alike (f.puzzle q) (Struck q) grade g base copy cut.solves is size alike) closure
+    (g : GridValue) (q : P) (base left : CandidatesValue) → IsCutOf f g q → IsBase (Struck q) grade g base → IsClosure (Struck q) grade base left
+    → IsBase (Struck q) grade g left
+settled_base f Struck steps grade g q base left cut is closure =
+    base_settled (f.puzzle q) (Struck q) (steps.sound q cut.valid) (steps.less q) grade g base left cut.solves is closure
 
 -- and rows and columns strike nothing of them
 pub settled_lines : {P : Type 0} (f : Ghosts P) (Struck : P → CandidatesValue → Reason → ℕ → ℕ → Type 0) (grade : Grade) (g : GridValue) (q : P)
-    (base copy left : CandidatesValue) → IsShared (f.puzzle q) (Struck q) → IsCutOf f g q → IsBase (Struck q) grade g base → copy.size ≡ base.size
-    → IsClosure (Struck q) grade copy left → AreLinesSettled grade left
-settled_lines f Struck grade g q base copy left shared cut is size closure =
-    lines_of_settled (f.puzzle q) (Struck q) shared grade left (closure.size ∙ size ∙ is.size ∙ sym cut.size) closure.settled
+    (base left : CandidatesValue) → IsShared (f.puzzle q) (Struck q) → IsCutOf f g q → IsBase (Struck q) grade g base → IsClosure (Struck q) grade base left
+    → AreLinesSettled grade left
+settled_lines f Struck grade g q base left shared cut is closure =
+    lines_of_settled (f.puzzle q) (Struck q) shared grade left (closure.size ∙ is.size ∙ sym cut.size) closure.settled
 
 -- where the square's numbers alone are left, all those items go
 pub prune_goes : {P : Type 0} (f : Ghosts P) (Struck : P → CandidatesValue → Reason → ℕ → ℕ → Type 0) → HasSteps f Struck → (grade : Grade)
@@ -80,19 +78,19 @@ prune_goes f Struck steps grade g order first last p q left grid latin ordered s
 
 -- where something else is left, an item that is alone stays
 pub prune_stays : {P : Type 0} (f : Ghosts P) (Struck : P → CandidatesValue → Reason → ℕ → ℕ → Type 0) → HasSteps f Struck → (grade : Grade)
-    (g : GridValue) (order : List ℕ) (first last : ℕ) (p q : P) (base copy left : CandidatesValue) → IsGrid g → IsLatin g → first ≤ last → last < first + 2
+    (g : GridValue) (order : List ℕ) (first last : ℕ) (p q : P) (base left : CandidatesValue) → IsGrid g → IsLatin g → first ≤ last → last < first + 2
     → IsPrunedTo f (FailsBy Struck grade g) g order first p → q ≡ f.cut p (outside order first last) → IsCutOf f g q → IsBase (Struck q) grade g base
-    → copy.size ≡ base.size → AreAlike base copy → IsClosure (Struck q) grade copy left
+    → IsClosure (Struck q) grade base left
     → (((cell : ℕ) → cell < left.size * left.size → IsOnly left cell (number_at g cell)) → ⊥) → IsPrunedTo f (FailsBy Struck grade g) g order last p
-prune_stays {P} f Struck steps grade g order first last p q base copy left grid latin ordered small so_far gone cut is size alike closure other =
+prune_stays {P} f Struck steps grade g order first last p q base left grid latin ordered small so_far gone cut is closure other =
     let Fails : P → Type 0 = FailsBy Struck grade g in
     elim (cases_eq first last) [
       | inl same ↦ subst (λ (k : ℕ). IsPrunedTo f Fails g order k p) same so_far
       | inr apart ↦
           let next : last ≡ first + 1 = omega (arith, ordered, small, apart) in
           let fails : Fails (f.cut p (outside order first last)) = subst Fails gone (λ follows.
-          other (follows_base (f.puzzle q) (Struck q) (steps.sound q cut.valid) (steps.less q) grade g copy left cut.solves
-          (base_alike (f.puzzle q) (Struck q) grade g base copy cut.solves is size alike) closure follows)) in
+          other (follows_base (f.puzzle q) (Struck q) (steps.sound q cut.valid) (steps.less q) grade g base left cut.solves
+          is closure follows)) in
           subst (λ (k : ℕ). IsPrunedTo f Fails g order k p) (sym next)
           (pruned_stays f Fails g order first p (cuts_of_full f g steps.items grid latin) so_far
           (subst (λ (k : ℕ). Fails (f.cut p (outside order first k))) next fails))

@@ -2,9 +2,8 @@
 
 ghost use Rattle.std.specs.Prelude.{◌≡◌, ◌↔◌, ℕ, ◌+◌, ◌*◌, ◌<◌, ◌≤◌, length, IsTrue};
 ghost use Rattle.latin_board.specs.Squares.{IsLatin, number_at};
-ghost use Rattle.trail_solver.specs.Candidates.{IsOnly};
+ghost use Rattle.trail_solver.specs.Candidates.{IsEarlier, IsOnly};
 ghost use Rattle.puzzle_gen.specs.Orders.{place_in};
-ghost use Rattle.named_steps.specs.Left.{AreAlike};
 ghost use Rattle.named_steps.specs.Passes.{AreLinesSettled};
 ghost use Rattle.fair_games.specs.Pruned.{IsTrial, IsPrunedBy};
 ghost use Rattle.fair_games.specs.Fair.{FailsBy};
@@ -13,7 +12,6 @@ ghost use Rattle.fair_games.specs.Inner.Bases.{IsBase};
 
 use latin_board::Grid;
 use named_steps::{Grade, KnownRows, Steps, settle_on};
-use number_sets::NumberSet;
 use trail_solver::{Candidates, Rules};
 
 /// The pruned puzzle of a Latin square, where the items are tried in this order.
@@ -22,7 +20,7 @@ pub(crate) fn pruned<P: Steps>(grid: &Grid, order: &[u8], grade: Grade) -> P
     requires trial { IsTrial (P.items_of grid.now.size) order.now }
     ensures { IsPrunedBy ⟦<P as Rules>⟧ (FailsBy P.struck_by grade grid.now) grid.now order.now result }
 {
-    let all = Candidates::all(grid.size());
+    let mut left = Candidates::all(grid.size());
     let mut known = KnownRows::none();
     prune(
         P::full(grid),
@@ -31,15 +29,15 @@ pub(crate) fn pruned<P: Steps>(grid: &Grid, order: &[u8], grade: Grade) -> P
         0,
         order.len(),
         grade,
-        &all,
+        &mut left,
         &mut known,
     )
 }
 
 // Tries the items from one place of the order up to another: all of them together, and where the rest doesn't follow without
 // them, one half after the other. From the candidates the steps of the rest lead on as from all, and rows and columns strike nothing of
-// them. What is known of rows of sets serves
-// all tries.
+// them. What the rest strikes without all of them stays struck for both halves, and what it strikes without the first half is given back
+// for the second. What is known of rows of sets serves all tries.
 fn prune<P: Steps>(
     puzzle: P,
     grid: &Grid,
@@ -47,7 +45,7 @@ fn prune<P: Steps>(
     first: usize,
     last: usize,
     grade: Grade,
-    base: &Candidates,
+    left: &mut Candidates,
     known: &mut KnownRows,
 ) -> P
     requires latin { IsLatin grid.now }
@@ -55,24 +53,26 @@ fn prune<P: Steps>(
     requires ordered { first ≤ last }
     requires inside { last ≤ length order.now }
     requires pruned { IsPrunedTo ⟦<P as Rules>⟧ (FailsBy P.struck_by grade grid.now) grid.now order.now first puzzle }
-    requires base { IsBase (P.struck_by (P.cut puzzle (outside order.now first last))) grade grid.now base.now }
-    requires settled { AreLinesSettled grade base.now }
+    requires base { IsBase (P.struck_by (P.cut puzzle (outside order.now first last))) grade grid.now left.old }
+    requires settled { AreLinesSettled grade left.old }
     ensures pruned { IsPrunedTo ⟦<P as Rules>⟧ (FailsBy P.struck_by grade grid.now) grid.now order.now last result }
     ensures earlier { (i : ℕ) → i < P.items_of grid.now.size → place_in i order.now < first → P.has result i ≡ P.has puzzle i }
+    ensures later { IsEarlier left.old left.new }
 {
     let _size = grid.size();
     let fewer = without(puzzle, order, first, last);
-    let mut left = copy_of(base);
-    settle_on(&fewer, grade, &mut left, known);
-    if are_numbers(&left, grid) {
+    settle_on(&fewer, grade, left, known);
+    if are_numbers(left, grid) {
         return fewer;
     }
     if last - first < 2 {
         return puzzle;
     }
     let middle = middle_of(first, last);
-    let half = prune(puzzle, grid, order, first, middle, grade, &left, known);
-    prune(half, grid, order, middle, last, grade, &left, known)
+    let mark = left.mark();
+    let half = prune(puzzle, grid, order, first, middle, grade, left, known);
+    left.give_back(mark);
+    prune(half, grid, order, middle, last, grade, left, known)
 }
 
 // A place between two others.
@@ -98,22 +98,6 @@ fn without<P: Steps>(puzzle: P, order: &[u8], first: usize, last: usize) -> P
         fewer.drop_item(order[k] as usize);
     }
     fewer
-}
-
-// Candidates of which the same is left.
-fn copy_of(candidates: &Candidates) -> Candidates
-    ensures size { result.size ≡ candidates.now.size }
-    ensures alike { AreAlike candidates.now result }
-{
-    let size = candidates.size();
-    let width = size.get() as usize;
-    let all = NumberSet::up_to(size.get());
-    let mut copy = Candidates::all(size);
-    for cell in 0..width * width {
-        let _size = copy.size();
-        copy.remove_all(cell, all.difference(candidates.values(cell)));
-    }
-    copy
 }
 
 // Whether nothing but a grid's numbers is left.

@@ -23,6 +23,8 @@ use trail_solver::Rules;
 /// The fair game that the words ask for: its parameters and its puzzle. It takes no memory.
 ///
 /// Refused, in this order, as `BadSize`, `BadLetter`, `BadSeed`, `NoneFound`.
+// What it takes of the stack is on it while a game is drawn alone.
+#[inline(never)]
 pub(crate) fn fair_game<P: Shows>(words: FairWords<&[u8]>) -> Result<(Params, P), FairRefusal>
     ensures asked { IfOk result (λ game. AskFor ⟦<P as Facts>⟧.facts ⟦<P as ShownFacts>⟧.board_facts
         (words_copied words.entry) game.0 game.1) }

@@ -21,6 +21,8 @@ use std::alloc::{AllocError, Global};
 use trail_solver::{Answer, completion};
 
 /// The line of the object with the answer, beside what each object has.
+// What it takes of the stack isn't on it while a fair game is drawn.
+#[inline(never)]
 pub(crate) fn answer_line<P: Shows>(
     alloc: Global,
     session: &Session<P>,

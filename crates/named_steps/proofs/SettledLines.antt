@@ -1,20 +1,19 @@
 -- Candidates of which rows and columns strike nothing more.
-use Rattle.std.proofs.Common.{◌≡◌, ℕ, suc, ◌+◌, ◌-◌, ◌^◌, ◌<◌, ◌≤◌, true, not, List, [], count_ones, inl, inr, refl, sym, ap, ◌∙◌, subst, arith}
-use Rattle.std.proofs.lemmas.Bool.{both_ways, cases_eq, false_from_ne_true}
+use Rattle.std.proofs.Common.{◌≡◌, ℕ, suc, ◌+◌, ◌-◌, ◌^◌, ◌<◌, ◌≤◌, true, not, List, [], count_ones, inl, inr, refl, sym, ap, ◌∙◌, arith}
+use Rattle.std.proofs.lemmas.Bool.{cases_eq}
 use Rattle.number_sets.specs.Sets.{has_number}
 use Rattle.number_sets.proofs.OneMore.{added_with, added_other, added_ones}
 use Rattle.latin_board.specs.Lines.{line_cell}
 use Rattle.latin_board.proofs.LatinLines.{line_cell_inside}
 use Rattle.trail_solver.specs.Pairs.{IsPair, has_pair}
-use Rattle.trail_solver.specs.Candidates.{CandidatesValue, may_be}
+use Rattle.trail_solver.specs.Candidates.{CandidatesValue}
 use Rattle.trail_solver.specs.Puzzles.{Puzzle}
-use Rattle.named_steps.specs.Left.{IsLeft, AreAlike}
-use Rattle.named_steps.specs.Reasons.{IsByLine, IsBySet}
+use Rattle.named_steps.specs.Left.{IsLeft}
+use Rattle.named_steps.specs.Reasons.{IsBySet}
 use Rattle.named_steps.specs.Following.{IsSettled}
 use Rattle.named_steps.specs.Passes.{AreLinesSettled}
 use Rattle.trail_solver.proofs.Pigeonholes.{pigeonhole}
 use Rattle.named_steps.proofs.Counts.{one_less, some_counted}
-use Rattle.named_steps.proofs.LinePasses.{line_less}
 use Rattle.named_steps.proofs.Rounds.{IsShared, lines_lift}
 use Rattle.named_steps.specs.declared.reason.Reason.{Reason}
 use Rattle.named_steps.specs.declared.reason.Reason.TheVariants.{Given, Peer, Place, Bound, Stand, Clue, Sign, Set}
@@ -25,14 +24,6 @@ pub lines_of_settled : (p : Puzzle) (Struck : CandidatesValue → Reason → ℕ
     → c.size ≡ p.size → IsSettled Struck grade c → AreLinesSettled grade c
 lines_of_settled p Struck s grade c size settled reason cell v has pair h =
     settled reason cell v has pair (lines_lift p Struck s c.size size c reason cell v h)
-
--- and where the same is left
-pub lines_of_alike : (grade : Grade) (c d : CandidatesValue) → d.size ≡ c.size → AreAlike c d → AreLinesSettled grade c → AreLinesSettled grade d
-lines_of_alike grade c d size alike settled reason cell v has pair h =
-    let was : IsByLine c.size c reason cell v = subst (λ (w : ℕ). IsByLine w c reason cell v) size (line_less d.size d c reason cell v alike.1 h) in
-    let there : IsPair c.size cell v = subst (λ (w : ℕ). IsPair w cell v) size pair in
-    false_from_ne_true (may_be d cell v) (λ may.
-    both_ways (may_be c cell v) (settled reason cell v has there was) (alike.0 cell v (record { pair = pair; may = may })).may)
 
 -- what was never taken is left
 left_of_all : (c : CandidatesValue) (cell v : ℕ) → c.trail ≡ [] → IsPair c.size cell v → IsLeft c cell v

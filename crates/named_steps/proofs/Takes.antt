@@ -3,8 +3,9 @@ use Rattle.std.proofs.Common.{◌≡◌, ◌↔◌, ◌⊎◌, ℕ, ◌+◌, ◌
 use Rattle.std.proofs.lemmas.Bool.{both_ways, and_parts, and_from, or_left, or_right, eq-eqb, eqb-true, cases_eq, cases_Bool, not_from_false, false_from_ne_true}
 use Rattle.std.proofs.lemmas.List.Folds.{list_any-append}
 use Rattle.number_sets.specs.Sets.{has_number}
-use Rattle.trail_solver.specs.Pairs.{IsPair, has_pair, pairs_of}
-use Rattle.trail_solver.specs.Candidates.{CandidatesValue, may_be}
+use Rattle.trail_solver.specs.Pairs.{IsPair, IsPrefix, has_pair, pairs_of}
+use Rattle.trail_solver.specs.Candidates.{CandidatesValue, IsEarlier, may_be}
+use Rattle.trail_solver.proofs.Earlier.{prefix-append}
 use Rattle.trail_solver.proofs.Removals.{set_below}
 use Rattle.trail_solver.proofs.SetPairs.{has_pair-pairs_of}
 use Rattle.named_steps.specs.Left.{IsLeft, IsFewer, without}
@@ -200,6 +201,15 @@ pub leads_length : (Struck : CandidatesValue → Reason → ℕ → ℕ → Type
 leads_length Struck grade a b h =
     let m = leads_more Struck grade a b h in
     omega (arith, ap length m.trail, length-append a.trail m.pairs)
+
+-- what is taken away comes at the trail's end
+pub leads_earlier : (Struck : CandidatesValue → Reason → ℕ → ℕ → Type 0) (grade : Grade) (a b : CandidatesValue) → LeadsTo Struck grade a b → IsEarlier a b
+leads_earlier Struck grade a b h =
+    let m = leads_more Struck grade a b h in
+    record {
+      size = m.size;
+      adds = let P : List (ℕ × ℕ) → Type 0 = λ ps. IsPrefix a.trail ps in subst P (sym m.trail) (prefix-append a.trail m.pairs);
+    }
 
 nil_from_length : (ps : List (ℕ × ℕ)) → length ps ≡ 0 → ps ≡ []
 nil_from_length [] e = refl

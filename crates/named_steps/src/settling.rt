@@ -1,7 +1,7 @@
 //! What a grade leaves of candidates.
 ghost use Rattle.std.specs.Prelude.{◌≡◌, ℕ, ◌*◌, ◌<◌, true};
 ghost use Rattle.trail_solver.specs.Pairs.{IsPair};
-ghost use Rattle.trail_solver.specs.Candidates.{may_be};
+ghost use Rattle.trail_solver.specs.Candidates.{IsEarlier, may_be};
 ghost use Rattle.named_steps.specs.Following.{IsClosure, IsSettled};
 ghost use Rattle.named_steps.specs.Passes.{LeadsTo, Passes, AreGivensSettled, AreLinesSettled};
 ghost use Rattle.named_steps.specs.Inner.WaitingLines.{AreOthersQuiet, AreSets};
@@ -40,11 +40,12 @@ pub fn settle<P: Steps>(p: &P, grade: Grade, candidates: &mut Candidates)
 }
 
 /// As `settle`, for who settles many candidates: rows and columns strike nothing of these, and what is known of rows of sets is used
-/// and added to.
+/// and added to. What is taken away can be given back by a mark.
 pub fn settle_on<P: Steps>(p: &P, grade: Grade, candidates: &mut Candidates, known: &mut KnownRows)
     requires size { candidates.old.size ≡ (P.puzzle p.now).size }
     requires lines { AreLinesSettled grade candidates.old }
-    ensures { IsClosure (P.struck_by p.now) grade candidates.old candidates.new }
+    ensures closure { IsClosure (P.struck_by p.now) grade candidates.old candidates.new }
+    ensures earlier { IsEarlier candidates.old candidates.new }
 {
     let before = sets_of(candidates);
     strike_givens(p, candidates);
@@ -66,7 +67,8 @@ fn settle_from<P: Steps>(
     requires givens { AreGivensSettled (P.puzzle p.now) candidates.old }
     requires others { AreOthersQuiet first candidates.old }
     requires grouped { is_past_easy grade ≡ true → AreGrouped sets candidates.old }
-    ensures { IsClosure (P.struck_by p.now) grade candidates.old candidates.new }
+    ensures closure { IsClosure (P.struck_by p.now) grade candidates.old candidates.new }
+    ensures earlier { IsEarlier candidates.old candidates.new }
 {
     let _size = candidates.size();
     let mut waiting = first;

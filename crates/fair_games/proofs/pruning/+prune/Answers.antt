@@ -1,9 +1,8 @@
-use Rattle.std.proofs.Common.{rules, sym, subst, arith}
+use Rattle.std.proofs.Common.{◌≡◌, rules, sym, subst, arith}
 use Rattle.std.proofs.lemmas.Bool.{both_ways}
 use Rattle.puzzle_gen.proofs.ItemLaws.{laws_of, cuts_of_full}
 use Rattle.named_steps.specs.Passes.{AreLinesSettled}
 use Rattle.named_steps.proofs.Rounds.{IsShared}
-use Rattle.named_steps.proofs.SettledLines.{lines_of_alike}
 use Rattle.fair_games.specs.Inner.PrunedTo.{outside}
 use Rattle.fair_games.specs.Inner.Bases.{IsBase}
 use Rattle.fair_games.specs.Fair.{FailsBy}
@@ -21,9 +20,6 @@ steps_of g = record {
   cut = g.met.P.Steps.struck_cut;
 }
 
-pub settle_on-requires-clause-lines : goal.settle_on-requires-clause-lines
-settle_on-requires-clause-lines g t c = lines_of_alike c.args.grade c.args.base.now c.copy_of-left.result c.copy_of-left.ensures.size c.copy_of-left.ensures.alike c.requires.settled
-
 pub returns-then-are_numbers-clause-pruned : goal.returns-then-are_numbers-clause-pruned
 returns-then-are_numbers-clause-pruned g t c =
     let f = g.P.Rules in
@@ -35,12 +31,12 @@ returns-then-are_numbers-clause-pruned g t c =
     let kept = kept_of_cut f (FailsBy Struck c.args.grade square) square c.args.order.now c.args.first c.args.last c.args.puzzle c.without-fewer.result cuts
     c.requires.pruned c.without-fewer.ensures in
     let cut = cut_of f square c.without-fewer.result _ steps.items grid c.requires.latin kept.is_cut in
-    let is : IsBase (Struck c.without-fewer.result) c.args.grade square c.args.base.now =
-    subst (λ p. IsBase (Struck p) c.args.grade square c.args.base.now) (sym c.without-fewer.ensures) c.requires.base in
+    let is : IsBase (Struck c.without-fewer.result) c.args.grade square c.args.left.now =
+    subst (λ p. IsBase (Struck p) c.args.grade square c.args.left.now) (sym c.without-fewer.ensures) c.requires.base in
     prune_goes f Struck steps c.args.grade square c.args.order.now c.args.first c.args.last c.args.puzzle c.without-fewer.result c.settle_on.new.candidates
     grid c.requires.latin c.requires.ordered c.requires.pruned c.without-fewer.ensures
-    (settled_base f Struck steps c.args.grade square c.without-fewer.result c.args.base.now c.copy_of-left.result c.settle_on.new.candidates cut is
-    c.copy_of-left.ensures.size c.copy_of-left.ensures.alike c.settle_on.ensures)
+    (settled_base f Struck steps c.args.grade square c.without-fewer.result c.args.left.now c.settle_on.new.candidates cut is
+    c.settle_on.ensures.closure)
     (c.are_numbers.ensures.0 c.if-are_numbers.true)
 
 pub returns-then-last-first-lt2-clause-pruned : goal.returns-then-last-first-lt2-clause-pruned
@@ -54,12 +50,11 @@ returns-then-last-first-lt2-clause-pruned g t c =
     let kept = kept_of_cut f (FailsBy Struck c.args.grade square) square c.args.order.now c.args.first c.args.last c.args.puzzle c.without-fewer.result cuts
     c.requires.pruned c.without-fewer.ensures in
     let cut = cut_of f square c.without-fewer.result _ steps.items grid c.requires.latin kept.is_cut in
-    let is : IsBase (Struck c.without-fewer.result) c.args.grade square c.args.base.now =
-    subst (λ p. IsBase (Struck p) c.args.grade square c.args.base.now) (sym c.without-fewer.ensures) c.requires.base in
-    prune_stays f Struck steps c.args.grade square c.args.order.now c.args.first c.args.last c.args.puzzle c.without-fewer.result c.args.base.now
-    c.copy_of-left.result c.settle_on.new.candidates grid c.requires.latin c.requires.ordered
-    (omega (arith, c.if-last-first-lt2.true, c.requires.ordered)) c.requires.pruned c.without-fewer.ensures cut is
-    c.copy_of-left.ensures.size c.copy_of-left.ensures.alike c.settle_on.ensures
+    let is : IsBase (Struck c.without-fewer.result) c.args.grade square c.args.left.now =
+    subst (λ p. IsBase (Struck p) c.args.grade square c.args.left.now) (sym c.without-fewer.ensures) c.requires.base in
+    prune_stays f Struck steps c.args.grade square c.args.order.now c.args.first c.args.last c.args.puzzle c.without-fewer.result c.args.left.now
+    c.settle_on.new.candidates grid c.requires.latin c.requires.ordered
+    (omega (arith, c.if-last-first-lt2.true, c.requires.ordered)) c.requires.pruned c.without-fewer.ensures cut is c.settle_on.ensures.closure
     (λ all. both_ways c.are_numbers.result c.if-are_numbers.false (c.are_numbers.ensures.1 all))
 
 pub prune-half-requires : goal.prune-half-requires
@@ -73,18 +68,18 @@ prune-half-requires g t c κs within =
     let kept = kept_of_cut f (FailsBy Struck c.args.grade square) square c.args.order.now c.args.first c.args.last c.args.puzzle c.without-fewer.result cuts
     c.requires.pruned c.without-fewer.ensures in
     let cut = cut_of f square c.without-fewer.result _ steps.items grid c.requires.latin kept.is_cut in
-    let is : IsBase (Struck c.without-fewer.result) c.args.grade square c.args.base.now =
-    subst (λ p. IsBase (Struck p) c.args.grade square c.args.base.now) (sym c.without-fewer.ensures) c.requires.base in
-    let left = settled_base f Struck steps c.args.grade square c.without-fewer.result c.args.base.now c.copy_of-left.result c.settle_on.new.candidates cut is
-    c.copy_of-left.ensures.size c.copy_of-left.ensures.alike c.settle_on.ensures in
+    let is : IsBase (Struck c.without-fewer.result) c.args.grade square c.args.left.now =
+    subst (λ p. IsBase (Struck p) c.args.grade square c.args.left.now) (sym c.without-fewer.ensures) c.requires.base in
+    let left = settled_base f Struck steps c.args.grade square c.without-fewer.result c.args.left.now c.settle_on.new.candidates cut is
+    c.settle_on.ensures.closure in
     let base : IsBase (Struck (f.cut c.args.puzzle (outside c.args.order.now c.args.first c.middle_of-middle.result))) c.args.grade square c.settle_on.new.candidates =
     first_base f Struck steps c.args.grade square c.args.order.now c.args.first c.middle_of-middle.result c.args.last c.args.puzzle c.without-fewer.result
     c.settle_on.new.candidates grid c.requires.latin (omega (arith, c.middle_of-middle.ensures.after)) (omega (arith, c.middle_of-middle.ensures.before))
     c.requires.pruned c.without-fewer.ensures left in
     let fewer = c.without-fewer.result in
     let shared : IsShared (f.puzzle fewer) (Struck fewer) = record { given = g.met.P.Steps.given_struck fewer; line = g.met.P.Steps.line_struck fewer } in
-    let lines : AreLinesSettled c.args.grade c.settle_on.new.candidates = settled_lines f Struck c.args.grade square fewer c.args.base.now c.copy_of-left.result
-    c.settle_on.new.candidates shared cut is c.copy_of-left.ensures.size c.settle_on.ensures in
+    let lines : AreLinesSettled c.args.grade c.settle_on.new.candidates = settled_lines f Struck c.args.grade square fewer c.args.left.now c.settle_on.new.candidates
+    shared cut is c.settle_on.ensures.closure in
     search rules
 
 pub prune-requires : goal.prune-requires
@@ -98,16 +93,21 @@ prune-requires g t c κs within =
     let kept = kept_of_cut f (FailsBy Struck c.args.grade square) square c.args.order.now c.args.first c.args.last c.args.puzzle c.without-fewer.result cuts
     c.requires.pruned c.without-fewer.ensures in
     let cut = cut_of f square c.without-fewer.result _ steps.items grid c.requires.latin kept.is_cut in
-    let is : IsBase (Struck c.without-fewer.result) c.args.grade square c.args.base.now =
-    subst (λ p. IsBase (Struck p) c.args.grade square c.args.base.now) (sym c.without-fewer.ensures) c.requires.base in
-    let left = settled_base f Struck steps c.args.grade square c.without-fewer.result c.args.base.now c.copy_of-left.result c.settle_on.new.candidates cut is
-    c.copy_of-left.ensures.size c.copy_of-left.ensures.alike c.settle_on.ensures in
+    let is : IsBase (Struck c.without-fewer.result) c.args.grade square c.args.left.now =
+    subst (λ p. IsBase (Struck p) c.args.grade square c.args.left.now) (sym c.without-fewer.ensures) c.requires.base in
+    let left = settled_base f Struck steps c.args.grade square c.without-fewer.result c.args.left.now c.settle_on.new.candidates cut is
+    c.settle_on.ensures.closure in
     let base : IsBase (Struck (f.cut c.prune-half.result (outside c.args.order.now c.middle_of-middle.result c.args.last))) c.args.grade square c.settle_on.new.candidates =
     second_base f Struck steps c.args.grade square c.args.order.now c.args.first c.middle_of-middle.result c.args.last c.args.puzzle c.without-fewer.result
     c.prune-half.result c.settle_on.new.candidates grid c.requires.latin (omega (arith, c.middle_of-middle.ensures.after))
     (omega (arith, c.middle_of-middle.ensures.before)) c.requires.pruned c.without-fewer.ensures c.prune-half.ensures.pruned c.prune-half.ensures.earlier left in
     let fewer = c.without-fewer.result in
     let shared : IsShared (f.puzzle fewer) (Struck fewer) = record { given = g.met.P.Steps.given_struck fewer; line = g.met.P.Steps.line_struck fewer } in
-    let lines : AreLinesSettled c.args.grade c.settle_on.new.candidates = settled_lines f Struck c.args.grade square fewer c.args.base.now c.copy_of-left.result
-    c.settle_on.new.candidates shared cut is c.copy_of-left.ensures.size c.settle_on.ensures in
+    let back : c.give_back.new.self ≡ c.settle_on.new.candidates =
+    c.give_back.ensures.restores c.settle_on.new.candidates c.prune-half.ensures.later c.mark-mark.ensures in
+    let base_back : IsBase (Struck (f.cut c.prune-half.result (outside c.args.order.now c.middle_of-middle.result c.args.last))) c.args.grade square c.give_back.new.self =
+    subst (IsBase (Struck (f.cut c.prune-half.result (outside c.args.order.now c.middle_of-middle.result c.args.last))) c.args.grade square) (sym back) base in
+    let lines : AreLinesSettled c.args.grade c.settle_on.new.candidates = settled_lines f Struck c.args.grade square fewer c.args.left.now c.settle_on.new.candidates
+    shared cut is c.settle_on.ensures.closure in
+    let lines_back : AreLinesSettled c.args.grade c.give_back.new.self = subst (AreLinesSettled c.args.grade) (sym back) lines in
     search rules

@@ -16,13 +16,13 @@ prune-requires-clause-pruned g c =
 
 pub prune-requires-clause-base : goal.prune-requires-clause-base
 prune-requires-clause-base g c =
-    base_all _ c.args.grade c.args.grid.now c.all-all.result (c.all-all.ensures.size ∙ c.size.ensures.value) c.all-all.ensures.trail
+    base_all _ c.args.grade c.args.grid.now c.all-left.result (c.all-left.ensures.size ∙ c.size.ensures.value) c.all-left.ensures.trail
 
 pub prune-requires-clause-settled : goal.prune-requires-clause-settled
 prune-requires-clause-settled g c =
-    let wide : 3 ≤ c.all-all.result.size = omega (arith, c.all-all.ensures.size, c.size.ensures.value, c.size.ensures.valid.smallest) in
-    let small : c.all-all.result.size ≤ 9 = omega (arith, c.all-all.ensures.size, c.size.ensures.value, c.size.ensures.valid.largest) in
-    lines_of_all c.args.grade c.all-all.result wide small c.all-all.ensures.trail
+    let wide : 3 ≤ c.all-left.result.size = omega (arith, c.all-left.ensures.size, c.size.ensures.value, c.size.ensures.valid.smallest) in
+    let small : c.all-left.result.size ≤ 9 = omega (arith, c.all-left.ensures.size, c.size.ensures.value, c.size.ensures.valid.largest) in
+    lines_of_all c.args.grade c.all-left.result wide small c.all-left.ensures.trail
 
 pub returns : goal.returns
 returns g c =

@@ -31,4 +31,4 @@ returns g c =
     let Struck = g.P.Steps.struck_by c.args.p.now in
     let new = c.strike_givens.new.candidates in
     closure_after Struck c.args.grade c.args.candidates.now new c.settle_from.new.candidates
-    (givens_lead Struck c.args.grade c.args.candidates.now new c.strike_givens.ensures.leads) c.settle_from.ensures
+    (givens_lead Struck c.args.grade c.args.candidates.now new c.strike_givens.ensures.leads) c.settle_from.ensures.closure

@@ -1,10 +1,11 @@
 use Rattle.std.proofs.Common.{◌≡◌, ℕ, ◌-◌, ◌*◌, ◌<◌, ◌≤◌, length, sym, ap, ◌∙◌, arith}
+use Rattle.trail_solver.proofs.Earlier.{earlier_trans}
 use Rattle.named_steps.specs.Reasons.{IsByLine}
 use Rattle.named_steps.specs.Passes.{AreGivensSettled}
 use Rattle.named_steps.specs.Inner.RestSteps.{AreRestSettled}
 use Rattle.named_steps.proofs.GivenPasses.{givens_stay}
 use Rattle.named_steps.proofs.Rounds.{IsShared, lines_lead, rest_settles, closure_reached, round_longer}
-use Rattle.named_steps.proofs.Takes.{leads_fewer, leads_length, leads_on, leads_size}
+use Rattle.named_steps.proofs.Takes.{leads_earlier, leads_fewer, leads_length, leads_on, leads_size}
 use Rattle.named_steps.proofs.WaitingGroups.{grouped_stay}
 use Rattle.named_steps.proofs.WaitingLines.{unchanged_quiet}
 use Rattle.named_steps.specs.declared.grade.Grade.TheVariants.{Latin}
@@ -24,8 +25,8 @@ strike_rest-requires-clause-grouped g c = λ past.
     grouped_stay c.loop-grade.grouped now lines (leads_size (IsByLine now.size) Latin now lines leads) (leads_fewer (IsByLine now.size) Latin now lines leads)
     (c.loop-grade.invariant.3 past)
 
-pub returns-then-trail_len-count : goal.returns-then-trail_len-count
-returns-then-trail_len-count g c =
+pub returns-then-trail_len-count-clause-closure : goal.returns-then-trail_len-count-clause-closure
+returns-then-trail_len-count-clause-closure g c =
     let Struck = g.P.Steps.struck_by c.args.p.now in
     let puzzle = g.P.Rules.puzzle c.args.p.now in
     let shared : IsShared puzzle Struck = record { given = g.met.P.Steps.given_struck c.args.p.now; line = g.met.P.Steps.line_struck c.args.p.now } in
@@ -42,6 +43,17 @@ returns-then-trail_len-count g c =
     closure_reached Struck c.args.grade first lines next (leads_on Struck c.args.grade first now lines c.loop-grade.invariant.0 lead)
     (rest_settles puzzle Struck shared c.args.grade lines next small (size ∙ c.requires.size) givens c.strike_lines.ensures.quiet c.strike_rest.ensures.passes)
     (sym c.trail_len.ensures.value ∙ c.if-trail_len-count.true ∙ c.trail_len-count.ensures.value)
+
+pub returns-then-trail_len-count-clause-earlier : goal.returns-then-trail_len-count-clause-earlier
+returns-then-trail_len-count-clause-earlier g c =
+    let Struck = g.P.Steps.struck_by c.args.p.now in
+    let first = c.args.candidates.now in
+    let now = c.loop-grade.candidates in
+    let lines = c.strike_lines.new.candidates in
+    let next = c.strike_rest.new.candidates in
+    earlier_trans first now next (leads_earlier Struck c.args.grade first now c.loop-grade.invariant.0)
+    (earlier_trans now lines next (leads_earlier (IsByLine now.size) Latin now lines c.strike_lines.ensures.leads)
+    (leads_earlier Struck c.args.grade lines next c.strike_rest.ensures.passes.leads))
 
 pub loop-grade-smaller : goal.loop-grade-smaller
 loop-grade-smaller g c =

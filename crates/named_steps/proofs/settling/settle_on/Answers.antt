@@ -1,8 +1,9 @@
 use Rattle.std.proofs.Common.{◌∙◌, subst}
+use Rattle.trail_solver.proofs.Earlier.{earlier_trans}
 use Rattle.named_steps.specs.Passes.{AreLinesSettled}
 use Rattle.named_steps.proofs.LinePasses.{settled_quiet}
 use Rattle.named_steps.proofs.Rounds.{past_easy_is, givens_lead, closure_after}
-use Rattle.named_steps.proofs.Takes.{leads_fewer, leads_size}
+use Rattle.named_steps.proofs.Takes.{leads_earlier, leads_fewer, leads_size}
 use Rattle.named_steps.proofs.WaitingGroups.{grouped_stay, grouped_settled}
 use Rattle.named_steps.proofs.WaitingLines.{unchanged_quiet}
 use Rattle.named_steps.specs.declared.grade.Grade.{Grade}
@@ -32,9 +33,16 @@ settle_from-requires-clause-grouped g c = λ past.
     grouped_stay c.sets_of-before.result old new (leads_size Struck Latin old new leads) (leads_fewer Struck Latin old new leads)
     (grouped_settled c.sets_of-before.result old settled c.sets_of-before.ensures)
 
-pub returns : goal.returns
-returns g c =
+pub returns-clause-closure : goal.returns-clause-closure
+returns-clause-closure g c =
     let Struck = g.P.Steps.struck_by c.args.p.now in
     let new = c.strike_givens.new.candidates in
     closure_after Struck c.args.grade c.args.candidates.now new c.settle_from.new.candidates
-    (givens_lead Struck c.args.grade c.args.candidates.now new c.strike_givens.ensures.leads) c.settle_from.ensures
+    (givens_lead Struck c.args.grade c.args.candidates.now new c.strike_givens.ensures.leads) c.settle_from.ensures.closure
+
+pub returns-clause-earlier : goal.returns-clause-earlier
+returns-clause-earlier g c =
+    let old = c.args.candidates.now in
+    let new = c.strike_givens.new.candidates in
+    earlier_trans old new c.settle_from.new.candidates (leads_earlier (g.P.Steps.struck_by c.args.p.now) Latin old new c.strike_givens.ensures.leads)
+    c.settle_from.ensures.earlier
