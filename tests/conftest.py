@@ -16,6 +16,7 @@ from building.ready import NotReady, ready
 from building.record import BUILT
 from tests.harness.browser import Browser
 from tests.harness.builds import TOP, copy
+from tests.harness.bytecode import compile_scripts
 from tests.harness.faults import FaultLibrary
 from tests.harness.mounts import own_mounts
 from tests.harness.room import Room
@@ -44,6 +45,8 @@ def pytest_xdist_make_scheduler(config: pytest.Config, log: Any) -> InTurn:
 
 def pytest_configure(config: pytest.Config) -> None:
     own_mounts()
+    if not hasattr(config, 'workerinput'):
+        config.add_cleanup(compile_scripts())
     # What has been made is taken away where the tests are ended, too.
     signal.signal(signal.SIGTERM, signal.default_int_handler)
 

@@ -10,6 +10,7 @@ from board.board import Place
 from board.program import Program
 from tests.harness import Room, User
 from tests.harness.builds import TOP, copy
+from tests.harness.bytecode import bytecode
 from tests.harness.terminal import Look, Terminal
 
 #: Lines and columns.
@@ -54,6 +55,7 @@ class BoardFront:
             'HOME': self.room.path,
             'XDG_STATE_HOME': os.path.join(self.room.path, 'state'),
             'PUZZLES_JSON': self.program,
+            **bytecode(),
         }
 
     def window(self, words: Sequence[str], size: Tuple[int, int] = USUAL, env: Optional[Dict[str, str]] = None) -> Terminal:

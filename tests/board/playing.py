@@ -7,6 +7,7 @@ import re
 from typing import Dict, NamedTuple, Optional, Sequence
 
 from tests.harness import Room, run
+from tests.harness.bytecode import bytecode
 from tests.harness.terminal import Terminal
 
 #: Where something is to be typed: at the prompt, or after a question.
@@ -52,7 +53,7 @@ class LineFront:
     def __init__(self, front: str, room: Room, program: Optional[str] = None) -> None:
         self._front = front
         self._room = room
-        self._env: Dict[str, str] = {'PATH': os.environ.get('PATH', os.defpath), 'TERM': 'dumb', 'HOME': '/', 'LC_ALL': 'C'}
+        self._env: Dict[str, str] = {'PATH': os.environ.get('PATH', os.defpath), 'TERM': 'dumb', 'HOME': '/', 'LC_ALL': 'C', **bytecode()}
         if program:
             self._env['PUZZLES_JSON'] = program
 

@@ -6,6 +6,7 @@ terminal  a run in a terminal, with what is typed to it and what it shows
 screen    the screen of that terminal
 browser   a browser without a window, and what it prints
 builds    where the repository is, and copies of programs
+bytecode  what Python compiles of scripts, kept for a run
 game      a small game, what its saves are, and the new files that saves leave
 puzzles   larger ones, which the usual program made
 faults    the library tests/faults/faults.c, by which a chosen call of the program fails

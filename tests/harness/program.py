@@ -9,6 +9,7 @@ import subprocess
 import tempfile
 from typing import Dict, Mapping, NamedTuple, Optional, Sequence, Union
 
+from tests.harness.bytecode import bytecode
 from tests.harness.room import Folder
 from tests.harness.users import User
 
@@ -71,7 +72,7 @@ def run(
 
     # A process is started much sooner where nothing is to be done in it first.
     is_plain = not (ignored or limits or closed or user)
-    environment: Dict[str, str] = {'LC_ALL': 'C', 'PATH': os.environ.get('PATH', ''), **(env or {})}
+    environment: Dict[str, str] = {'LC_ALL': 'C', 'PATH': os.environ.get('PATH', ''), **bytecode(), **(env or {})}
     with tempfile.TemporaryFile() as file:
         file.write(input)
         file.seek(0)

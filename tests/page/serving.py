@@ -17,6 +17,7 @@ from typing import Any, Dict, List, Mapping, NamedTuple, Optional, Sequence
 
 from tests.harness import Room
 from tests.harness.builds import TOP
+from tests.harness.bytecode import bytecode
 
 PATH = str(TOP / 'page' / 'puzzles-page')
 
@@ -225,6 +226,7 @@ def env(room: Room, program: str) -> Dict[str, str]:
         'HOME': room.path,
         'XDG_STATE_HOME': os.path.join(room.path, 'state'),
         'PUZZLES_JSON': program,
+        **bytecode(),
     }
 
 
