@@ -12,6 +12,7 @@ import pytest
 
 from tests.harness import Room, by_name, run
 from tests.lines.runs import Player, Run
+from tests.second_implementation.grades import LETTERS
 
 STACK = 64 * 1024
 
@@ -19,7 +20,7 @@ STACK = 64 * 1024
 COMMANDS = Path(__file__).with_name('commands.txt').read_bytes()
 
 #: The lines that the plain program doesn't know.
-FURTHER = b'board\ncompletable\nhint\n'
+FURTHER = b'board\ncompletable\nhint\ngrade\n'
 
 
 class Board(NamedTuple):
@@ -61,6 +62,16 @@ def test_puzzles(program: str, room: Room, board: Board) -> None:
 @pytest.mark.parametrize('board', BOARDS, ids=by_name)
 def test_objects(objects: str, room: Room, board: Board) -> None:
     words, script = [objects, board.game, '--id', board.id], FURTHER + COMMANDS + FURTHER
+    wanted = run(words, room, input=script)
+    assert run(words, room, input=script, limits={resource.RLIMIT_STACK: STACK}) == wanted
+    assert wanted.status == 0
+
+
+@pytest.mark.parametrize(('game', 'letter'), [(game, letter) for game, letters in LETTERS.items() for letter in letters])
+def test_fair(objects: str, room: Room, game: str, letter: str) -> None:
+    """Fair games of the largest boards, and what follows in each."""
+    words = [objects, game]
+    script = b''.join(b'fair 9 %s %d\n%s' % (letter.encode(), seed, FURTHER) for seed in (1, 7, 20261126))
     wanted = run(words, room, input=script)
     assert run(words, room, input=script, limits={resource.RLIMIT_STACK: STACK}) == wanted
     assert wanted.status == 0
