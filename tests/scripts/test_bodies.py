@@ -1,11 +1,13 @@
 """What is said of wrong bodies and twins that a prover refuses here or there, or not at all."""
 
 import os
+from pathlib import Path
 from typing import Dict, NamedTuple, Sequence, Tuple
 
 import pytest
 
 from bodies.sources import functions
+from gating.proofs import sum_of_sources
 from tests.harness import by_name
 from tests.scripts.place import Place
 
@@ -64,6 +66,9 @@ ROUNDS = [
 ]
 
 
+#: The line of the kit that stands for the prover's.
+KIT = 'a kit of words'
+
 #: By what the prover knows a function: its file, what stands above it, how far in it is, and its path, or nothing.
 PATHS = [
     ('src/lib.rt', '', 0, 'words::f'),
@@ -95,7 +100,7 @@ class Words:
         self._kit = place.put('../words kit/bin/rt', b'#!/bin/sh\nexit 1\n')
         for name in ('rtlib.py', 'rattle'):
             place.stand_in(name, f'../words kit/bin/{name}')
-        place.put('../words kit/KIT-ID', b'a kit of words\n', 0o644)
+        place.put('../words kit/KIT-ID', f'{KIT}\n'.encode(), 0o644)
         place.put('crates.txt', b'letters:\nwords: letters\n', 0o644)
         place.put('crates/letters/src/lib.rt', b'letters\n', 0o644)
         place.put('crates/letters/out/rlib/stamp', b'letters\n', 0o644)
@@ -142,6 +147,14 @@ def test_libraries(words: Words) -> None:
     made = put('crates/letters/out/rlib/letters.rlib/format', b'', 0o644)
     words.expect(['4 passed, 0 failed'], ANEW='1')
     os.utime(made, (1, 1))
+    words.expect(lacks, 1, ANEW='1')
+    # As the gate's `rt ci` brings it back from an earlier run; and so again, where the sources aren't those any more, nor it the library.
+    note = put('build/libraries', sum_of_sources(KIT, Path(words.place.path)).encode(), 0o644)
+    words.expect(['4 passed, 0 failed'], ANEW='1')
+    put('crates/letters/src/lib.rt', b'more letters\n', 0o644)
+    words.expect(lacks, 1, ANEW='1')
+    put('crates/letters/src/lib.rt', b'other letters\n', 0o644)
+    os.utime(note, (0, 0))
     words.expect(lacks, 1, ANEW='1')
     os.utime(made)
     words.expect(["FAILED: wrong bodies: beside", '0 passed, 1 failed'], 1, RT='/bin/true')

@@ -12,7 +12,8 @@ from typing import Any, Collection, Iterator, List, NamedTuple, Sequence, Set
 
 from bodies.edits import Texts
 from building.changes import command, kit_of
-from building.crates import PARTS, all_of, copy_folder, listed, own, write_list
+from building.crates import PARTS, ROOT, all_of, copy_folder, listed, own, write_list
+from gating.proofs import when_left
 
 #: What a check takes at most, in bytes.
 MEMORY = 3_000_000_000
@@ -98,6 +99,7 @@ class Tree:
     def __init__(self, folder: Path, names: Collection[str], kit: Kit) -> None:
         self.kit = kit
         self.top = folder
+        self._left = when_left(kit.line, ROOT)
         crates = listed()
         write_list(self.top, names, crates)
         for name in all_of(names, crates):
@@ -110,7 +112,7 @@ class Tree:
 
     def lacking(self, name: str) -> List[str]:
         """The libraries below a crate that aren't there as their sources are now."""
-        return [library.name for library in self.kit.crate(self.top, name).below() if not is_there(library)]
+        return [library.name for library in self.kit.crate(self.top, name).below() if not is_there(library, self._left)]
 
     def check(self, name: str, texts: Texts, paths: Sequence[str]) -> Said:
         """Checks these functions of a crate, or all of it, with these texts in it, over what was checked here before."""
@@ -126,15 +128,16 @@ class Tree:
                 file.write_bytes(content)
 
 
-def is_there(library: Any) -> bool:
-    """Whether a library was made of the sources that it has now: by the sum that `rt lib` left beside it, or, of one that `rt ci` left, by the dates of the files."""
+def is_there(library: Any, left: float) -> bool:
+    """Whether a library was made of the sources that it has now: by the sum that `rt lib` left beside it; or, of one that `rt ci` left, by the time until which those
+    were left that are of the sources here, or the dates of the files."""
     if (Path(library.folder) / 'out' / 'rlib' / 'stamp').exists():
         return bool(library.is_built())
     try:
         made = os.stat(Path(library.rlib) / 'format').st_mtime
     except OSError:
         return False
-    return all(date <= made for crate in [library, *library.below()] for date in dates(Path(crate.folder)))
+    return made <= left or all(date <= made for crate in [library, *library.below()] for date in dates(Path(crate.folder)))
 
 
 def dates(folder: Path) -> Iterator[float]:

@@ -20,8 +20,10 @@ from gating.kept import Store
 READ = ['crates.txt', 'HANDLES', 'crates']
 MADE = 'out'
 
-#: What `rt ci` leaves of each crate for those above it.
+#: What `rt ci` leaves of each crate for those above it, and a file that says of which sources these are. By their dates nobody knows: those that
+#: an earlier run has kept come back with the dates of then.
 LIBRARIES = 'crates/*/out/rlib'
+NOTE = Path('build', 'libraries')
 
 #: How many results are kept.
 MOST = 4
@@ -41,6 +43,8 @@ def prove(turns: Turns, name: str, rt: str, prover: str, programs: Sequence[str]
         from_kept(turns, name, unpacked(found), programs)
         return
     # The libraries that other parts check with are those that are built here, too: `rt ci` would bring back those that it finds.
+    with contextlib.suppress(FileNotFoundError):
+        NOTE.unlink()
     for library in Path().glob(LIBRARIES):
         shutil.rmtree(library)
     # Without the word it takes what an earlier run has kept beside the kit, and leaves no library of a crate where it finds all of them.
@@ -50,6 +54,7 @@ def prove(turns: Turns, name: str, rt: str, prover: str, programs: Sequence[str]
     built = {program: Path(program).read_bytes() for program in programs if os.path.isfile(program)}
     # What was changed meanwhile may not be what was proved.
     if has_passed and len(built) == len(programs) and sum_of_sources(prover) == key:
+        NOTE.write_text(key, encoding='ascii')
         now = time.strftime('%Y-%m-%d %H:%M UTC', time.gmtime())
         store.keep(key, packed({SAID: said.text, WHEN: now.encode(), **built}))
 
@@ -75,8 +80,17 @@ def unpacked(content: bytes) -> Dict[str, bytes]:
     return {name: b64decode(text) for name, text in json.loads(content).items()}
 
 
-def sum_of_sources(prover: str) -> str:
-    """A checksum over the prover's line, and the names, modes and texts of all that `rt ci` reads."""
+def when_left(prover: str, top: Path) -> float:
+    """When `rt ci` left libraries of a repository's sources there for the gate: those that aren't newer are of the sources as they are. 0 for never."""
+    try:
+        is_same = (top / NOTE).read_text(encoding='ascii') == sum_of_sources(prover, top)
+        return (top / NOTE).stat().st_mtime if is_same else 0
+    except (OSError, UnicodeError):
+        return 0
+
+
+def sum_of_sources(prover: str, top: Path = Path()) -> str:
+    """A checksum over the prover's line, and the names, modes and texts of all that `rt ci` reads in a repository."""
     digest = hashlib.sha256()
 
     def add(*parts: bytes) -> None:
@@ -85,17 +99,19 @@ def sum_of_sources(prover: str) -> str:
             digest.update(part)
 
     add(prover.encode())
-    for path in sources():
-        add(os.fsencode(path), b'%o' % (os.stat(path).st_mode & 0o111), Path(path).read_bytes())
+    for path in sources(top):
+        file = top / path
+        add(os.fsencode(path), b'%o' % (file.stat().st_mode & 0o111), file.read_bytes())
     return digest.hexdigest()
 
 
-def sources() -> Iterator[str]:
-    """All files that `rt ci` reads, in order."""
-    for top in READ:
-        if os.path.isfile(top):
-            yield top
-        for way, folders, names in os.walk(top):
-            is_crate = os.path.dirname(way) == top
-            folders[:] = sorted(folder for folder in folders if not (is_crate and folder == MADE))
-            yield from (os.path.join(way, name) for name in sorted(names) if os.path.isfile(os.path.join(way, name)))
+def sources(top: Path) -> Iterator[str]:
+    """All files that `rt ci` reads, in order, by their paths from the top."""
+    for read in READ:
+        if (top / read).is_file():
+            yield read
+        for folder, folders, names in os.walk(top / read):
+            way = os.path.relpath(folder, top)
+            is_crate = os.path.dirname(way) == read
+            folders[:] = sorted(name for name in folders if not (is_crate and name == MADE))
+            yield from (os.path.join(way, name) for name in sorted(names) if os.path.isfile(os.path.join(folder, name)))
