@@ -15,14 +15,14 @@ nothing_has k value = elim (cases_lt k 9) [
 ]
 
 -- a row of no squares has no fillings' values
-pub none_known : AreKnown (replicate 256 0) (replicate 256 0) (replicate 256 (replicate 9 0)) (replicate 256 (replicate 9 0))
+pub none_known : AreKnown (replicate 64 0) (replicate 64 0) (replicate 64 (replicate 9 0)) (replicate 64 (replicate 9 0))
 none_known = record {
   each = λ place low.
       let empty : List ℕ = replicate 9 0 in
-      let widths : List ℕ = replicate 256 0 in
-      let rows : List (List ℕ) = replicate 256 empty in
-      let width : slice_index widths place ≡ 0 = get_or-replicate 256 place 0 0 low in
-      let kept : slice_index_or rows place [] ≡ empty = get_or-replicate 256 place empty [] low in
+      let widths : List ℕ = replicate 64 0 in
+      let rows : List (List ℕ) = replicate 64 empty in
+      let width : slice_index widths place ≡ 0 = get_or-replicate 64 place 0 0 low in
+      let kept : slice_index_or rows place [] ≡ empty = get_or-replicate 64 place empty [] low in
       let none : IsKnown 0 (slice_index widths place) (slice_index_or rows place []) empty = record {
         room = omega arith;
         stays = λ k value. (
@@ -35,8 +35,8 @@ none_known = record {
 }
 
 -- the row of one slot is another one, of which this is kept
-pub one_known : (widths clues : List ℕ) (sets kept : List (List ℕ)) (place width clue : ℕ) (row found : List ℕ) → length widths ≡ 256 → length clues ≡ 256
-    → length sets ≡ 256 → length kept ≡ 256 → place < 256 → AreKnown widths clues sets kept → IsKnown width clue row found
+pub one_known : (widths clues : List ℕ) (sets kept : List (List ℕ)) (place width clue : ℕ) (row found : List ℕ) → length widths ≡ 64 → length clues ≡ 64
+    → length sets ≡ 64 → length kept ≡ 64 → place < 64 → AreKnown widths clues sets kept → IsKnown width clue row found
     → AreKnown (set widths place width) (set clues place clue) (set sets place row) (set kept place found)
 one_known widths clues sets kept place width clue row found ws cs ss ks low known new = record {
   each = λ k inside. elim (cases_eq k place) [

@@ -7,8 +7,8 @@ use number_sets::NumberSet;
 use std::marker::Model;
 use tower_lines::supported;
 
-// So many that of the rows of one game few come to the same slot, and few enough for a small stack: a slot has 38 bytes.
-const SLOTS: usize = 256;
+// More of them keep more, 256 twice as much of a large game; but a slot has 38 bytes, and a hint has four tables on the stack at once.
+const SLOTS: usize = 64;
 
 // 2^32 over the golden ratio, which spreads what is multiplied by it over all bits.
 const SPREAD: u32 = 2_654_435_761;
@@ -74,7 +74,7 @@ impl KnownRows {
         clue: u8,
         kept: &[NumberSet; 9],
     )
-        requires slot { slot < 256 }
+        requires slot { slot < 64 }
         requires known { IsKnown width clue sets.now kept.now }
     {
         self.widths[slot] = width;
@@ -86,7 +86,7 @@ impl KnownRows {
 
 // Where a row is known: a number that is another one for most other rows.
 fn slot_of(sets: &[NumberSet; 9], clue: u8) -> usize
-    ensures { result < 256 }
+    ensures { result < 64 }
 {
     let mut mixed = clue as u32;
     for k in 0..9 {

@@ -17,7 +17,7 @@ pub record IsKnown (width clue : ℕ) (sets kept : List ℕ) : Type 0 where
   pub room : width ≤ length sets
   pub stays : AreKept (take width sets) clue kept
 
--- so in each of the 256 slots
+-- so in each of the 64 slots
 pub record AreKnown (widths clues : List ℕ) (sets kept : List (List ℕ)) : Type 0 where
-  pub each : (slot : ℕ) → slot < 256
+  pub each : (slot : ℕ) → slot < 64
       → IsKnown (slice_index widths slot) (slice_index clues slot) (slice_index_or sets slot []) (slice_index_or kept slot [])
