@@ -6,7 +6,8 @@ import json
 import os
 import subprocess
 import sys
-from typing import Any, Dict, List, NamedTuple, Optional, Sequence
+import tempfile
+from typing import Any, Dict, List, NamedTuple, Optional, Sequence, Tuple
 
 from board import fair
 from timing.answering import TOP, processor_time
@@ -41,12 +42,16 @@ class Made(NamedTuple):
     nanoseconds: int
 
 
+def program() -> str:
+    """The file of our program."""
+    return os.environ.get('PUZZLES_JSON') or str(TOP / 'programs' / 'linux-amd64' / 'puzzles-json')
+
+
 class Maker:
     """Our program, from the beginning of a `with` to its end."""
 
     def __init__(self, game: str) -> None:
-        program = os.environ.get('PUZZLES_JSON') or str(TOP / 'programs' / 'linux-amd64' / 'puzzles-json')
-        self._process = subprocess.Popen(['puzzles-json', game], executable=program, stdin=subprocess.PIPE, stdout=subprocess.PIPE)
+        self._process = subprocess.Popen(['puzzles-json', game], executable=program(), stdin=subprocess.PIPE, stdout=subprocess.PIPE)
 
     def __enter__(self) -> Maker:
         return self
@@ -82,6 +87,24 @@ class Maker:
         return Made(None if answer['refused'] else answer['session']['id'], nanoseconds)
 
 
+def used_by(words: Sequence[str], **more: Any) -> Tuple[bytes, int]:
+    """What a command answers, and the nanoseconds of a processor that all of it took."""
+    with subprocess.Popen(words, stdout=subprocess.PIPE, **more) as process:
+        assert process.stdout
+        answer = process.stdout.read()
+        _, status, used = os.wait4(process.pid, 0)
+        process.returncode = os.waitstatus_to_exitcode(status) if hasattr(os, 'waitstatus_to_exitcode') else status
+    return answer, round((used.ru_utime + used.ru_stime) * 1e9)
+
+
+def at_once(kind: Kind, count: int) -> int:
+    """The nanoseconds that our program takes for the fair games of the seeds from 1 on, all in one file, from its start to its end."""
+    with tempfile.TemporaryFile() as lines:
+        lines.write(''.join(f'{fair.line(kind.size, kind.letter, seed)}\n' for seed in range(1, count + 1)).encode())
+        lines.seek(0)
+        return used_by(['puzzles-json', kind.game], executable=program(), stdin=lines)[1]
+
+
 class Usual(NamedTuple):
     """What the usual program made at once, and the nanoseconds that all of it took."""
 
@@ -92,10 +115,5 @@ class Usual(NamedTuple):
 def usual(kind: Kind, count: int) -> Usual:
     """Puzzles of the usual program's own generator. Without a display it makes them all the same."""
     env = {name: value for name, value in os.environ.items() if name not in ('DISPLAY', 'WAYLAND_DISPLAY')}
-    words = [f'sgt-{kind.game}', '--generate', str(count), kind.params]
-    with subprocess.Popen(words, stdout=subprocess.PIPE, env={**env, 'PATH': PATH}) as process:
-        assert process.stdout
-        ids = process.stdout.read().decode().split()
-        _, status, used = os.wait4(process.pid, 0)
-        process.returncode = os.waitstatus_to_exitcode(status) if hasattr(os, 'waitstatus_to_exitcode') else status
-    return Usual(ids, round((used.ru_utime + used.ru_stime) * 1e9))
+    answer, nanoseconds = used_by([f'sgt-{kind.game}', '--generate', str(count), kind.params], env={**env, 'PATH': PATH})
+    return Usual(answer.decode().split(), nanoseconds)

@@ -20,6 +20,7 @@ pub mod QuietSteps
 pub mod RangeLemmas
 pub mod SettledLines
 pub mod SignLemmas
+pub mod SignOrders
 pub mod SignSteps
 pub mod TowersKept
 pub mod TowersTables

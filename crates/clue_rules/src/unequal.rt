@@ -1,6 +1,6 @@
 //! The puzzles of Unequal: a Latin square with signs between neighbours that say which of the two is the greater.
 
-ghost use Rattle.std.specs.Prelude.{◌≡◌, ◌*◌, ◌<◌, ◌≤◌, ◌↔◌, IsTrue};
+ghost use Rattle.std.specs.Prelude.{◌≡◌, ◌≢◌, ◌*◌, ◌<◌, ◌≤◌, ◌↔◌, IsTrue, IfSome, Some};
 ghost use Rattle.std.specs.Cmp.{decided, partial_equiv_from_equiv};
 ghost use Rattle.latin_board.specs.declared.grid.TheConstants.{CELLS};
 ghost use Rattle.clue_rules.specs.Unequal.{IsUnequal, IsGreater, unequal_given_grid, is_greater, sign_between, right_sign, lower_sign};
@@ -18,6 +18,7 @@ mod sign;
 
 use latin_board::{CELLS, Grid, Size};
 use sign::Sign;
+use std::cmp::Ordering;
 use std::marker::Model;
 
 /// An Unequal puzzle: a size, a sign or none between each two neighbouring squares, and a given or none at each square.
@@ -69,6 +70,25 @@ impl Unequal {
         ensures value { result ≡ is_greater self.now a b }
     {
         self.is_greater(a, b)
+    }
+
+    /// Which of two squares holds the greater number, as the sign between them says: the first is `Greater` or `Less` than the second.
+    /// There is nothing where no sign stands between them.
+    ///
+    /// Squares are counted from 0 in reading order; both are squares of the grid, and the second comes after the first.
+    #[tactic(auto, using(crate::proofs::SignOrders::first_by_sign, crate::proofs::SignOrders::second_by_sign))]
+    pub fn order(&self, first: usize, second: usize) -> Option<Ordering>
+        requires ordered { first < second }
+        requires inside { second < self.now.size * self.now.size }
+        ensures greater { (result ≡ Some Ordering.Greater) ↔ IsGreater self.now first second }
+        ensures less { (result ≡ Some Ordering.Less) ↔ IsGreater self.now second first }
+        ensures said { IfSome result (λ order. order ≢ Ordering.Equal) }
+    {
+        match self.sign_between(first, second) {
+            Sign::Absent => None,
+            Sign::FirstGreater => Some(Ordering::Greater),
+            Sign::SecondGreater => Some(Ordering::Less),
+        }
     }
 
     // A function of its own, so that `greater` need only prove that the test decides which is the greater.

@@ -1,6 +1,6 @@
 -- The steps of the pruning, for puzzles whose steps have names.
-use Rattle.std.proofs.Common.{◌≡◌, ℕ, ◌+◌, ◌*◌, ◌<◌, ◌≤◌, Bool, true, false, ◌&&◌, List, inl, inr, refl, sym, ◌∙◌, ap, subst, arith}
-use Rattle.std.proofs.lemmas.Bool.{cases_eq, cases_lt}
+use Rattle.std.proofs.Common.{◌≡◌, ℕ, ◌*◌, ◌<◌, ◌≤◌, Bool, true, false, ◌&&◌, List, inl, inr, refl, sym, ◌∙◌, ap, subst, arith}
+use Rattle.std.proofs.lemmas.Bool.{cases_lt}
 use Rattle.latin_board.specs.Squares.{GridValue, IsGrid, IsLatin, number_at}
 use Rattle.trail_solver.specs.Candidates.{CandidatesValue, IsOnly}
 use Rattle.trail_solver.specs.Puzzles.{Solves}
@@ -19,7 +19,7 @@ use Rattle.named_steps.specs.declared.grade.Grade.{Grade}
 use Rattle.fair_games.specs.Fair.{FailsBy}
 use Rattle.fair_games.specs.Inner.PrunedTo.{outside, IsPrunedTo}
 use Rattle.fair_games.specs.Inner.Bases.{IsBase}
-use Rattle.fair_games.proofs.PrunedItems.{cut_again, kept_of_cut, outside_before, outside_within, outside_after, pruned_stays, pruned_goes}
+use Rattle.fair_games.proofs.PrunedItems.{cut_again, kept_of_cut, outside_before, outside_within, outside_after, pruned_goes}
 use Rattle.fair_games.proofs.Bases.{base_more, base_settled, base_follows, follows_base}
 
 -- what a game owes of its items and of its steps
@@ -53,54 +53,53 @@ cut_of {P} f g p keep laws grid latin is_cut =
       solves = laws.cut_solved (f.full_of g) keep g full_valid (laws.full_solved g grid latin);
     })
 
--- the candidates of a base, settled, are one of the puzzle without the items
-pub settled_base : {P : Type 0} (f : Ghosts P) (Struck : P → CandidatesValue → Reason → ℕ → ℕ → Type 0) → HasSteps f Struck → (grade : Grade)
-    (g : GridValue) (q : P) (base left : CandidatesValue) → IsCutOf f g q → IsBase (Struck q) grade g base → IsClosure (Struck q) grade base left
-    → IsBase (Struck q) grade g left
-settled_base f Struck steps grade g q base left cut is closure =
-    base_settled (f.puzzle q) (Struck q) (steps.sound q cut.valid) (steps.less q) grade g base left cut.solves is closure
+-- the square solves the puzzle without some items
+pub solves_without : {P : Type 0} (f : Ghosts P) (Struck : P → CandidatesValue → Reason → ℕ → ℕ → Type 0) → ItemLaws f → (grade : Grade) (g : GridValue)
+    (order : List ℕ) (first last : ℕ) (p q : P) → IsGrid g → IsLatin g → IsPrunedTo f (FailsBy Struck grade g) g order first p
+    → q ≡ f.cut p (outside order first last) → Solves (f.puzzle q) g
+solves_without {P} f Struck items grade g order first last p q grid latin so_far gone =
+    (cut_of f g q (λ j. f.has p j && outside order first last j) items grid latin
+    (gone ∙ cut_again f (FailsBy Struck grade g) g order first p (outside order first last) (cuts_of_full f g items grid latin) so_far)).solves
 
--- and rows and columns strike nothing of them
-pub settled_lines : {P : Type 0} (f : Ghosts P) (Struck : P → CandidatesValue → Reason → ℕ → ℕ → Type 0) (grade : Grade) (g : GridValue) (q : P)
-    (base left : CandidatesValue) → IsShared (f.puzzle q) (Struck q) → IsCutOf f g q → IsBase (Struck q) grade g base → IsClosure (Struck q) grade base left
-    → AreLinesSettled grade left
-settled_lines f Struck grade g q base left shared cut is closure =
-    lines_of_settled (f.puzzle q) (Struck q) shared grade left (closure.size ∙ is.size ∙ sym cut.size) closure.settled
+-- what a grade's steps leave of a base without some items: it is a base, rows and columns strike nothing of it, and it tells whether
+-- the items go
+pub record IsLeftWithout {P : Type 0} (f : Ghosts P) (Struck : P → CandidatesValue → Reason → ℕ → ℕ → Type 0) (grade : Grade) (g : GridValue)
+    (order : List ℕ) (first last : ℕ) (p : P) (left : CandidatesValue) : Type 0 where
+  pub base : IsBase (Struck (f.cut p (outside order first last))) grade g left
+  pub lines : AreLinesSettled grade left
+  pub goes : ((cell : ℕ) → cell < left.size * left.size → IsOnly left cell (number_at g cell))
+      → IsPrunedTo f (FailsBy Struck grade g) g order last (f.cut p (outside order first last))
+  pub fails : (((cell : ℕ) → cell < left.size * left.size → IsOnly left cell (number_at g cell)) → ⊥)
+      → FailsBy Struck grade g (f.cut p (outside order first last))
 
--- where the square's numbers alone are left, all those items go
-pub prune_goes : {P : Type 0} (f : Ghosts P) (Struck : P → CandidatesValue → Reason → ℕ → ℕ → Type 0) → HasSteps f Struck → (grade : Grade)
-    (g : GridValue) (order : List ℕ) (first last : ℕ) (p q : P) (left : CandidatesValue) → IsGrid g → IsLatin g → first ≤ last
-    → IsPrunedTo f (FailsBy Struck grade g) g order first p → q ≡ f.cut p (outside order first last) → IsBase (Struck q) grade g left
-    → ((cell : ℕ) → cell < left.size * left.size → IsOnly left cell (number_at g cell)) → IsPrunedTo f (FailsBy Struck grade g) g order last q
-prune_goes f Struck steps grade g order first last p q left grid latin ordered so_far gone base only =
-    pruned_goes f (FailsBy Struck grade g) g order first last p q (cuts_of_full f g steps.items grid latin) (fewer_fail f Struck steps grade g)
-    ordered so_far gone (λ fails. fails (base_follows (Struck q) grade g left base only))
-
--- where something else is left, an item that is alone stays
-pub prune_stays : {P : Type 0} (f : Ghosts P) (Struck : P → CandidatesValue → Reason → ℕ → ℕ → Type 0) → HasSteps f Struck → (grade : Grade)
-    (g : GridValue) (order : List ℕ) (first last : ℕ) (p q : P) (base left : CandidatesValue) → IsGrid g → IsLatin g → first ≤ last → last < first + 2
-    → IsPrunedTo f (FailsBy Struck grade g) g order first p → q ≡ f.cut p (outside order first last) → IsCutOf f g q → IsBase (Struck q) grade g base
-    → IsClosure (Struck q) grade base left
-    → (((cell : ℕ) → cell < left.size * left.size → IsOnly left cell (number_at g cell)) → ⊥) → IsPrunedTo f (FailsBy Struck grade g) g order last p
-prune_stays {P} f Struck steps grade g order first last p q base left grid latin ordered small so_far gone cut is closure other =
+-- the candidates of a base, settled
+pub left_without : {P : Type 0} (f : Ghosts P) (Struck : P → CandidatesValue → Reason → ℕ → ℕ → Type 0) → HasSteps f Struck
+    → ((p : P) → IsShared (f.puzzle p) (Struck p)) → (grade : Grade) (g : GridValue) (order : List ℕ) (first last : ℕ) (p q : P)
+    (base left : CandidatesValue) → IsGrid g → IsLatin g → first ≤ last → IsPrunedTo f (FailsBy Struck grade g) g order first p
+    → q ≡ f.cut p (outside order first last) → IsBase (Struck (f.cut p (outside order first last))) grade g base
+    → IsClosure (Struck q) grade base left → IsLeftWithout f Struck grade g order first last p left
+left_without {P} f Struck steps shared grade g order first last p q base left grid latin ordered so_far gone is closed =
     let Fails : P → Type 0 = FailsBy Struck grade g in
-    elim (cases_eq first last) [
-      | inl same ↦ subst (λ (k : ℕ). IsPrunedTo f Fails g order k p) same so_far
-      | inr apart ↦
-          let next : last ≡ first + 1 = omega (arith, ordered, small, apart) in
-          let fails : Fails (f.cut p (outside order first last)) = subst Fails gone (λ follows.
-          other (follows_base (f.puzzle q) (Struck q) (steps.sound q cut.valid) (steps.less q) grade g base left cut.solves
-          is closure follows)) in
-          subst (λ (k : ℕ). IsPrunedTo f Fails g order k p) (sym next)
-          (pruned_stays f Fails g order first p (cuts_of_full f g steps.items grid latin) so_far
-          (subst (λ (k : ℕ). Fails (f.cut p (outside order first k))) next fails))
-    ]
+    let r = f.cut p (outside order first last) in
+    let cuts = cuts_of_full f g steps.items grid latin in
+    let cut : IsCutOf f g r = cut_of f g r (λ j. f.has p j && outside order first last j) steps.items grid latin
+    (cut_again f Fails g order first p (outside order first last) cuts so_far) in
+    let closure : IsClosure (Struck r) grade base left = subst (λ (s : P). IsClosure (Struck s) grade base left) gone closed in
+    let now = base_settled (f.puzzle r) (Struck r) (steps.sound r cut.valid) (steps.less r) grade g base left cut.solves is closure in
+    record {
+      base = now;
+      lines = lines_of_settled (f.puzzle r) (Struck r) (shared r) grade left (now.size ∙ sym cut.size) closure.settled;
+      goes = λ only. pruned_goes f Fails g order first last p r cuts (fewer_fail f Struck steps grade g) ordered so_far refl
+          (λ fails. fails (base_follows (Struck r) grade g left now only));
+      fails = λ other follows. other (follows_base (f.puzzle r) (Struck r) (steps.sound r cut.valid) (steps.less r) grade g base left
+          cut.solves is closure follows);
+    }
 
 -- the puzzle without all those items is a cut of that without the first half
-first_half : {P : Type 0} (f : Ghosts P) (Fails : P → Type 0) (g : GridValue) (order : List ℕ) (first middle last : ℕ) (p q : P) → AreCuts f g
-    → first ≤ middle → middle ≤ last → IsPrunedTo f Fails g order first p → q ≡ f.cut p (outside order first last)
-    → f.cut (f.cut p (outside order first middle)) (outside order middle last) ≡ q
-first_half {P} f Fails g order first middle last p q cuts low high so_far gone =
+first_half : {P : Type 0} (f : Ghosts P) (Fails : P → Type 0) (g : GridValue) (order : List ℕ) (first middle last : ℕ) (p : P) → AreCuts f g
+    → first ≤ middle → middle ≤ last → IsPrunedTo f Fails g order first p
+    → f.cut (f.cut p (outside order first middle)) (outside order middle last) ≡ f.cut p (outside order first last)
+first_half {P} f Fails g order first middle last p cuts low high so_far =
     ap (λ (r : P). f.cut r (outside order middle last)) (cut_again f Fails g order first p (outside order first middle) cuts so_far)
     ∙ cuts.again (λ j. f.has p j && outside order first middle j) (outside order middle last)
     ∙ cuts.agrees (λ j. (f.has p j && outside order first middle j) && outside order middle last j) (λ j. f.has p j && outside order first last j)
@@ -121,20 +120,21 @@ first_half {P} f Fails g order first middle last p q cuts low high so_far gone =
             (rw (outside_after order first middle j (omega (arith, after, high)), outside_after order middle last j after, outside_after order first last j after) refl)
       ]
     ])
-    ∙ sym (cut_again f Fails g order first p (outside order first last) cuts so_far) ∙ sym gone
+    ∙ sym (cut_again f Fails g order first p (outside order first last) cuts so_far)
   where
     both : (a b c d : Bool) → (b && c) ≡ d → ((a && b) && c) ≡ (a && d)
     both true b c d e = e
     both false b c d e = refl
 
 -- and of what was pruned by the first half, without the second
-second_half : {P : Type 0} (f : Ghosts P) (Fails : P → Type 0) (g : GridValue) (order : List ℕ) (first middle last : ℕ) (p q half : P) → AreCuts f g
-    → first ≤ middle → middle ≤ last → IsPrunedTo f Fails g order first p → q ≡ f.cut p (outside order first last)
+second_half : {P : Type 0} (f : Ghosts P) (Fails : P → Type 0) (g : GridValue) (order : List ℕ) (first middle last : ℕ) (p half : P) → AreCuts f g
+    → first ≤ middle → middle ≤ last → IsPrunedTo f Fails g order first p
     → IsPrunedTo f Fails g order middle half
     → ((j : ℕ) → j < f.items_of g.size → place_in j order < first → f.has half j ≡ f.has p j)
-    → f.cut (f.cut half (outside order middle last)) (outside order first middle) ≡ q
-second_half {P} f Fails g order first middle last p q half cuts low high so_far gone halved same =
-    let kept = kept_of_cut f Fails g order first last p q cuts so_far gone in
+    → f.cut (f.cut half (outside order middle last)) (outside order first middle) ≡ f.cut p (outside order first last)
+second_half {P} f Fails g order first middle last p half cuts low high so_far halved same =
+    let q = f.cut p (outside order first last) in
+    let kept = kept_of_cut f Fails g order first last p q cuts so_far refl in
     ap (λ (r : P). f.cut r (outside order first middle)) (cut_again f Fails g order middle half (outside order middle last) cuts halved)
     ∙ cuts.again (λ j. f.has half j && outside order middle last j) (outside order first middle)
     ∙ cuts.agrees (λ j. (f.has half j && outside order middle last j) && outside order first middle j) (f.has q)
@@ -176,22 +176,29 @@ cut_base {P} f Struck steps grade g r q keep left is base =
     base_more (Struck (f.cut r keep)) (Struck r) (steps.cut r keep) grade g left
     (subst (λ (s : P). IsBase (Struck s) grade g left) (sym is) base)
 
--- what is left is a base for the first half
+-- what is left without all those items is a base for the first half
 pub first_base : {P : Type 0} (f : Ghosts P) (Struck : P → CandidatesValue → Reason → ℕ → ℕ → Type 0) → HasSteps f Struck → (grade : Grade)
-    (g : GridValue) (order : List ℕ) (first middle last : ℕ) (p q : P) (left : CandidatesValue) → IsGrid g → IsLatin g → first ≤ middle → middle ≤ last
-    → IsPrunedTo f (FailsBy Struck grade g) g order first p → q ≡ f.cut p (outside order first last) → IsBase (Struck q) grade g left
+    (g : GridValue) (order : List ℕ) (first middle last : ℕ) (p : P) (left : CandidatesValue) → IsGrid g → IsLatin g → first ≤ middle → middle ≤ last
+    → IsPrunedTo f (FailsBy Struck grade g) g order first p → IsBase (Struck (f.cut p (outside order first last))) grade g left
     → IsBase (Struck (f.cut p (outside order first middle))) grade g left
-first_base f Struck steps grade g order first middle last p q left grid latin low high so_far gone base =
-    cut_base f Struck steps grade g (f.cut p (outside order first middle)) q (outside order middle last) left
-    (first_half f (FailsBy Struck grade g) g order first middle last p q (cuts_of_full f g steps.items grid latin) low high so_far gone) base
+first_base f Struck steps grade g order first middle last p left grid latin low high so_far base =
+    cut_base f Struck steps grade g (f.cut p (outside order first middle)) (f.cut p (outside order first last)) (outside order middle last) left
+    (first_half f (FailsBy Struck grade g) g order first middle last p (cuts_of_full f g steps.items grid latin) low high so_far) base
 
 -- and for the second
 pub second_base : {P : Type 0} (f : Ghosts P) (Struck : P → CandidatesValue → Reason → ℕ → ℕ → Type 0) → HasSteps f Struck → (grade : Grade)
-    (g : GridValue) (order : List ℕ) (first middle last : ℕ) (p q half : P) (left : CandidatesValue) → IsGrid g → IsLatin g → first ≤ middle → middle ≤ last
-    → IsPrunedTo f (FailsBy Struck grade g) g order first p → q ≡ f.cut p (outside order first last)
-    → IsPrunedTo f (FailsBy Struck grade g) g order middle half
-    → ((j : ℕ) → j < f.items_of g.size → place_in j order < first → f.has half j ≡ f.has p j) → IsBase (Struck q) grade g left
-    → IsBase (Struck (f.cut half (outside order middle last))) grade g left
-second_base f Struck steps grade g order first middle last p q half left grid latin low high so_far gone halved same base =
-    cut_base f Struck steps grade g (f.cut half (outside order middle last)) q (outside order first middle) left
-    (second_half f (FailsBy Struck grade g) g order first middle last p q half (cuts_of_full f g steps.items grid latin) low high so_far gone halved same) base
+    (g : GridValue) (order : List ℕ) (first middle last : ℕ) (p half : P) (left : CandidatesValue) → IsGrid g → IsLatin g → first ≤ middle → middle ≤ last
+    → IsPrunedTo f (FailsBy Struck grade g) g order first p → IsPrunedTo f (FailsBy Struck grade g) g order middle half
+    → ((j : ℕ) → j < f.items_of g.size → place_in j order < first → f.has half j ≡ f.has p j)
+    → IsBase (Struck (f.cut p (outside order first last))) grade g left → IsBase (Struck (f.cut half (outside order middle last))) grade g left
+second_base f Struck steps grade g order first middle last p half left grid latin low high so_far halved same base =
+    cut_base f Struck steps grade g (f.cut half (outside order middle last)) (f.cut p (outside order first last)) (outside order first middle) left
+    (second_half f (FailsBy Struck grade g) g order first middle last p half (cuts_of_full f g steps.items grid latin) low high so_far halved same) base
+
+-- where the first half went, the puzzle without the second is that without all those items
+pub first_gone : {P : Type 0} (f : Ghosts P) (Fails : P → Type 0) → ItemLaws f → (g : GridValue) (order : List ℕ) (first middle last : ℕ) (p fewer : P)
+    → IsGrid g → IsLatin g → first ≤ middle → middle ≤ last → IsPrunedTo f Fails g order first p → fewer ≡ f.cut p (outside order first middle)
+    → f.cut p (outside order first last) ≡ f.cut fewer (outside order middle last)
+first_gone {P} f Fails laws g order first middle last p fewer grid latin low high so_far gone =
+    sym (ap (λ (r : P). f.cut r (outside order middle last)) gone
+    ∙ first_half f Fails g order first middle last p (cuts_of_full f g laws grid latin) low high so_far)

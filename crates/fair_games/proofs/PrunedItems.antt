@@ -1,12 +1,12 @@
 -- How the pruned puzzle comes about, some places of the order at a time.
 use Rattle.std.proofs.Common.{◌≡◌, ◌↔◌, ℕ, ◌+◌, ◌<◌, ◌≤◌, length, slice_index, Bool, true, false, not, ◌&&◌, ◌||◌, List, IsTrue, inl, inr, refl, sym, ◌∙◌, ap, subst, arith, eq-eqb}
-use Rattle.std.proofs.lemmas.Bool.{both_ways, cases_lt, ne_eqb, lt-ltb, le-ltb}
-use Rattle.latin_board.specs.Squares.{GridValue, IsGrid, IsLatin}
+use Rattle.std.proofs.lemmas.Bool.{both_ways, cases_eq, cases_lt, ne_eqb, lt-ltb, le-ltb}
+use Rattle.latin_board.specs.Squares.{GridValue}
 use Rattle.trail_solver.specs.declared.rules.Rules.{Ghosts}
 use Rattle.puzzle_gen.specs.Orders.{place_in}
 use Rattle.puzzle_gen.specs.Pruning.{all_but, rest, rest_puzzle}
 use Rattle.puzzle_gen.proofs.ItemLaws.{AreCuts, ItemLaws}
-use Rattle.fair_games.specs.Pruned.{IsTrial, IsPrunedBy}
+use Rattle.fair_games.specs.Pruned.{IsTrial}
 use Rattle.fair_games.specs.Inner.PrunedTo.{outside, IsPrunedTo}
 
 and_false : (b : Bool) → (b && false) ≡ false
@@ -148,7 +148,7 @@ next_is_rest f Fails g order k i p cuts here so_far =
     ])
 
 -- an item without which the test fails stays
-pub pruned_stays : {P : Type 0} (f : Ghosts P) (Fails : P → Type 0) (g : GridValue) (order : List ℕ) (k : ℕ) (p : P) → AreCuts f g
+pruned_stays : {P : Type 0} (f : Ghosts P) (Fails : P → Type 0) (g : GridValue) (order : List ℕ) (k : ℕ) (p : P) → AreCuts f g
     → IsPrunedTo f Fails g order k p → Fails (f.cut p (outside order k (k + 1))) → IsPrunedTo f Fails g order (k + 1) p
 pruned_stays {P} f Fails g order k p cuts so_far fails = record {
   is_cut = so_far.is_cut;
@@ -162,6 +162,18 @@ pruned_stays {P} f Fails g order k p cuts so_far fails = record {
   ];
   untried = λ i small after. so_far.untried i small (omega (arith, after));
 }
+
+-- so do those of some places, where these are one at most
+pub pruned_single : {P : Type 0} (f : Ghosts P) (Fails : P → Type 0) (g : GridValue) (order : List ℕ) (first last : ℕ) (p : P) → AreCuts f g
+    → first ≤ last → last < first + 2 → IsPrunedTo f Fails g order first p → Fails (f.cut p (outside order first last))
+    → IsPrunedTo f Fails g order last p
+pruned_single {P} f Fails g order first last p cuts ordered few so_far fails = elim (cases_eq first last) [
+  | inl none ↦ subst (λ (k : ℕ). IsPrunedTo f Fails g order k p) none so_far
+  | inr apart ↦
+      let one : last ≡ first + 1 = omega (arith, ordered, few, apart) in
+      subst (λ (k : ℕ). IsPrunedTo f Fails g order k p) (sym one)
+      (pruned_stays f Fails g order first p cuts so_far (subst (λ (k : ℕ). Fails (f.cut p (outside order first k))) one fails))
+]
 
 -- which items the puzzle without those of some places has
 pub record AreKept {P : Type 0} (f : Ghosts P) (g : GridValue) (order : List ℕ) (first last : ℕ) (p q : P) : Type 0 where
@@ -230,15 +242,3 @@ pruned_goes {P} f Fails g order first last p q cuts fewer_fail ordered so_far go
       ];
       untried = λ i small after. kept.after i small after ∙ so_far.untried i small (omega (arith, after, ordered));
     }
-
--- all were tried
-pub pruned_all : {P : Type 0} (f : Ghosts P) (Fails : P → Type 0) (g : GridValue) (order : List ℕ) (p : P) → IsGrid g → IsLatin g
-    → IsTrial (f.items_of g.size) order → IsPrunedTo f Fails g order (length order) p → IsPrunedBy f Fails g order p
-pruned_all f Fails g order p grid latin trial so_far = record {
-  is_grid = grid;
-  is_latin = latin;
-  is_trial = trial;
-  is_cut = so_far.is_cut;
-  stays = so_far.untried;
-  each = so_far.tried;
-}

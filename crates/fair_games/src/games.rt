@@ -147,13 +147,13 @@ fn draw_game<P: FairGame, R: Rng>(rng: &mut R, size: Size, grade: Grade) -> P
     pruned(&grid, order.as_slice(), grade)
 }
 
-// Whether a puzzle follows by a grade and not by the one below.
+// Whether a puzzle follows by a grade and not by the one below. That is asked first, since what was pruned by the grade follows by it.
 fn is_of_grade<P: Steps>(puzzle: &P, grade: Grade) -> bool
     ensures { IsTrue result ↔ IsOfGrade ⟦<P as Rules>⟧ P.struck_by grade puzzle.now }
 {
     match grade {
         Grade::Latin => follows(puzzle, Grade::Latin),
-        Grade::Easy => follows(puzzle, Grade::Easy) && !follows(puzzle, Grade::Latin),
-        Grade::Hard => follows(puzzle, Grade::Hard) && !follows(puzzle, Grade::Easy),
+        Grade::Easy => !follows(puzzle, Grade::Latin) && follows(puzzle, Grade::Easy),
+        Grade::Hard => !follows(puzzle, Grade::Easy) && follows(puzzle, Grade::Hard),
     }
 }

@@ -1,6 +1,6 @@
 //! The removal of items: each is tried once, and goes where the rest still follows by the grade.
 
-ghost use Rattle.std.specs.Prelude.{◌≡◌, ◌↔◌, ℕ, ◌+◌, ◌*◌, ◌<◌, ◌≤◌, length, IsTrue};
+ghost use Rattle.std.specs.Prelude.{◌≡◌, ◌↔◌, ℕ, ◌+◌, ◌*◌, ◌<◌, ◌≤◌, length, IfSome, IsTrue, MatchOption};
 ghost use Rattle.latin_board.specs.Squares.{IsLatin, number_at};
 ghost use Rattle.trail_solver.specs.Candidates.{IsEarlier, IsOnly};
 ghost use Rattle.puzzle_gen.specs.Orders.{place_in};
@@ -20,25 +20,59 @@ pub(crate) fn pruned<P: Steps>(grid: &Grid, order: &[u8], grade: Grade) -> P
     requires trial { IsTrial (P.items_of grid.now.size) order.now }
     ensures { IsPrunedBy ⟦<P as Rules>⟧ (FailsBy P.struck_by grade grid.now) grid.now order.now result }
 {
+    let full = P::full(grid);
+    let last = order.len();
     let mut left = Candidates::all(grid.size());
     let mut known = KnownRows::none();
-    prune(
-        P::full(grid),
-        grid,
-        order,
-        0,
-        order.len(),
-        grade,
-        &mut left,
-        &mut known,
-    )
+    match without_all(full, grid, order, 0, last, grade, &mut left, &mut known) {
+        Some(fewer) => fewer,
+        None => split(full, grid, order, 0, last, grade, &mut left, &mut known),
+    }
 }
 
-// Tries the items from one place of the order up to another: all of them together, and where the rest doesn't follow without
-// them, one half after the other. From the candidates the steps of the rest lead on as from all, and rows and columns strike nothing of
-// them. What the rest strikes without all of them stays struck for both halves, and what it strikes without the first half is given back
-// for the second. What is known of rows of sets serves all tries.
-fn prune<P: Steps>(
+// The puzzle without the items from one place of the order up to another, where the rest follows. From the candidates the steps of the
+// rest lead on as from all, and rows and columns strike nothing of them; and so it is with what the rest leaves of them. What is known of
+// rows of sets serves all tries.
+fn without_all<P: Steps>(
+    puzzle: P,
+    grid: &Grid,
+    order: &[u8],
+    first: usize,
+    last: usize,
+    grade: Grade,
+    left: &mut Candidates,
+    known: &mut KnownRows,
+) -> Option<P>
+    requires latin { IsLatin grid.now }
+    requires trial { IsTrial (P.items_of grid.now.size) order.now }
+    requires ordered { first ≤ last }
+    requires inside { last ≤ length order.now }
+    requires pruned { IsPrunedTo ⟦<P as Rules>⟧ (FailsBy P.struck_by grade grid.now) grid.now order.now first puzzle }
+    requires base { IsBase (P.struck_by (P.cut puzzle (outside order.now first last))) grade grid.now left.old }
+    requires settled { AreLinesSettled grade left.old }
+    ensures cut { IfSome result (λ fewer. fewer ≡ P.cut puzzle (outside order.now first last)) }
+    ensures pruned { MatchOption result (FailsBy P.struck_by grade grid.now (P.cut puzzle (outside order.now first last)))
+        (IsPrunedTo ⟦<P as Rules>⟧ (FailsBy P.struck_by grade grid.now) grid.now order.now last) }
+    ensures earlier { IfSome result (λ fewer. (i : ℕ) → i < P.items_of grid.now.size → place_in i order.now < first
+        → P.has fewer i ≡ P.has puzzle i) }
+    ensures base { IsBase (P.struck_by (P.cut puzzle (outside order.now first last))) grade grid.now left.new }
+    ensures settled { AreLinesSettled grade left.new }
+    ensures later { IsEarlier left.old left.new }
+{
+    let _size = grid.size();
+    let fewer = without(puzzle, order, first, last);
+    settle_on(&fewer, grid, grade, left, known);
+    if are_numbers(left, grid) {
+        Some(fewer)
+    } else {
+        None
+    }
+}
+
+// Tries the items from one place of the order up to another, without all of which the rest doesn't follow: one half after the other.
+// Where the first half goes, the second isn't tried as a whole, since that would be all of them. What the rest strikes without all of them
+// stays struck for both halves, and what it strikes without the first half is given back for the second.
+fn split<P: Steps>(
     puzzle: P,
     grid: &Grid,
     order: &[u8],
@@ -53,6 +87,7 @@ fn prune<P: Steps>(
     requires ordered { first ≤ last }
     requires inside { last ≤ length order.now }
     requires pruned { IsPrunedTo ⟦<P as Rules>⟧ (FailsBy P.struck_by grade grid.now) grid.now order.now first puzzle }
+    requires fails { FailsBy P.struck_by grade grid.now (P.cut puzzle (outside order.now first last)) }
     requires base { IsBase (P.struck_by (P.cut puzzle (outside order.now first last))) grade grid.now left.old }
     requires settled { AreLinesSettled grade left.old }
     ensures pruned { IsPrunedTo ⟦<P as Rules>⟧ (FailsBy P.struck_by grade grid.now) grid.now order.now last result }
@@ -60,19 +95,25 @@ fn prune<P: Steps>(
     ensures later { IsEarlier left.old left.new }
 {
     let _size = grid.size();
-    let fewer = without(puzzle, order, first, last);
-    settle_on(&fewer, grade, left, known);
-    if are_numbers(left, grid) {
-        return fewer;
-    }
     if last - first < 2 {
         return puzzle;
     }
     let middle = middle_of(first, last);
     let mark = left.mark();
-    let half = prune(puzzle, grid, order, first, middle, grade, left, known);
-    left.give_back(mark);
-    prune(half, grid, order, middle, last, grade, left, known)
+    match without_all(puzzle, grid, order, first, middle, grade, left, known) {
+        Some(fewer) => {
+            left.give_back(mark);
+            split(fewer, grid, order, middle, last, grade, left, known)
+        }
+        None => {
+            let half = split(puzzle, grid, order, first, middle, grade, left, known);
+            left.give_back(mark);
+            match without_all(half, grid, order, middle, last, grade, left, known) {
+                Some(fewer) => fewer,
+                None => split(half, grid, order, middle, last, grade, left, known),
+            }
+        }
+    }
 }
 
 // A place between two others.

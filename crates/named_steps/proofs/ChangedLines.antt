@@ -1,15 +1,16 @@
 -- The lines with a square of which something went, and those where all is as it was.
-use Rattle.std.proofs.Common.{◌≡◌, ◌↔◌, ℕ, ◌+◌, ◌-◌, ◌*◌, ◌/◌, ◌%◌, ◌<◌, Bool, true, false, not, ◌||◌, ◌==◌, List, slice_index, inl, inr, refl, sym, ap, ◌∙◌, subst, arith}
-use Rattle.std.proofs.lemmas.Bool.{both_ways, cases_Bool, cases_eq, cases_lt, or_parts, eq-eqb, eqb-true, lt-ltb, le-ltb, false_from_ne_true}
+use Rattle.std.proofs.Common.{◌≡◌, ◌≢◌, ◌⊎◌, ℕ, ◌+◌, ◌-◌, ◌*◌, ◌/◌, ◌%◌, ◌<◌, Bool, true, false, not, ◌||◌, ◌==◌, List, slice_index, inl, inr, refl, sym, ap, ◌∙◌, subst, arith}
+use Rattle.std.proofs.lemmas.Bool.{both_ways, cases_Bool, cases_eq, cases_lt, or_parts, eq-eqb, ne_eqb, eqb-true, lt-ltb, le-ltb}
 use Rattle.std.proofs.lemmas.Nat.{div-mul-add, mod-mul-add, div_below, mod_below}
 use Rattle.number_sets.specs.Sets.{has_number}
 use Rattle.number_sets.proofs.Members.{same_set}
 use Rattle.latin_board.specs.Lines.{line_cell}
-use Rattle.latin_board.proofs.LatinLines.{some_width, line_cell_inside, line_cell_of_row}
+use Rattle.latin_board.proofs.LatinLines.{some_width, line_cell_of_row}
 use Rattle.latin_board.proofs.PeerLines.{line_cell_of_column}
 use Rattle.trail_solver.specs.Candidates.{CandidatesValue, IsSetOf}
-use Rattle.named_steps.specs.Inner.WaitingLines.{is_waiting, is_through, AreSetsOn}
-use Rattle.named_steps.specs.declared.waiting.Waiting.{Waiting}
+use Rattle.named_steps.specs.Inner.WaitingLines.{is_through}
+use Rattle.named_steps.specs.Left.{IsLeft}
+use Rattle.named_steps.specs.Passes.{StaysOn}
 
 -- two numbers are the same where a test says that they don't differ
 pub equal_from : (a b : ℕ) (differ : Bool) → differ ≡ not (a == b) → differ ≡ false → a ≡ b
@@ -29,52 +30,6 @@ other_set c cell a b differ is apart first second =
     same_truth true false f g = sym (f refl)
     same_truth false true f g = g refl
     same_truth false false f g = refl
-
--- of the first squares, those on a line that doesn't wait are as the sets say, and on one that waits there is another
-pub record AreNoted (c : CandidatesValue) (before : List ℕ) (n : ℕ) (waiting : Waiting) : Type 0 where
-  pub same : (cell line : ℕ) → cell < n → is_through c.size cell line ≡ true → is_waiting c.size waiting line ≡ false → IsSetOf c cell (slice_index before cell)
-  pub other : (line : ℕ) → is_waiting c.size waiting line ≡ true
-      → (cell : ℕ) × (cell < n) × (is_through c.size cell line ≡ true) × (IsSetOf c cell (slice_index before cell) → ⊥)
-
--- at first none waits
-pub noted_none : (c : CandidatesValue) (before : List ℕ) (waiting : Waiting) → ((w line : ℕ) → is_waiting w waiting line ≡ false) → AreNoted c before 0 waiting
-noted_none c before waiting none = record {
-  same = λ cell line low. absurd (omega (arith, low));
-  other = λ line waits. absurd (both_ways (is_waiting c.size waiting line) (none c.size line) waits);
-}
-
--- the next square is as its set says
-pub noted_same : (c : CandidatesValue) (before : List ℕ) (n : ℕ) (waiting : Waiting) → IsSetOf c n (slice_index before n) → AreNoted c before n waiting
-    → AreNoted c before (n + 1) waiting
-noted_same c before n waiting here h = record {
-  same = λ cell line low through free. elim (cases_eq cell n) [
-    | inl last ↦ subst (λ (k : ℕ). IsSetOf c k (slice_index before k)) (sym last) here
-    | inr apart ↦ h.same cell line (omega (arith, low, apart)) through free
-  ];
-  other = λ line waits. let at = h.other line waits in (at.0, omega (arith, at.1), at.2, at.3);
-}
-
--- or its lines wait
-pub noted_changed : (c : CandidatesValue) (before : List ℕ) (n : ℕ) (waiting more : Waiting)
-    → ((line : ℕ) → is_waiting c.size more line ≡ (is_waiting c.size waiting line || is_through c.size n line))
-    → (IsSetOf c n (slice_index before n) → ⊥) → AreNoted c before n waiting → AreNoted c before (n + 1) more
-noted_changed c before n waiting more is here h = record {
-  same = λ cell line low through free.
-      let parts = or_parts (is_waiting c.size waiting line) (is_through c.size n line) (sym (is line) ∙ free) in
-      elim (cases_eq cell n) [
-        | inl last ↦ absurd (both_ways (is_through c.size n line) parts.1 (subst (λ (k : ℕ). is_through c.size k line ≡ true) last through))
-        | inr apart ↦ h.same cell line (omega (arith, low, apart)) through parts.0
-      ];
-  other = λ line waits. elim (cases_Bool (is_waiting c.size waiting line)) [
-    | inl before' ↦ let at = h.other line before' in (at.0, omega (arith, at.1), at.2, at.3)
-    | inr free ↦ (
-      n,
-      omega arith,
-      sym (is line ∙ ap (λ (b : Bool). b || is_through c.size n line) free) ∙ waits,
-      here,
-    )
-  ];
-}
 
 -- each line is the row or the column of its squares
 through_own : (w line k : ℕ) → line < 2 * w → k < w → is_through w (line_cell w line k) line ≡ true
@@ -100,14 +55,61 @@ place_on w line cell line_is inside through =
           (cell / w, div_below cell w w some inside, ap (λ (l : ℕ). line_cell w l (cell / w)) is ∙ line_cell_of_column w cell)
     ]
 
--- a line doesn't wait just where its squares are as the sets say
-pub noted_on : (c : CandidatesValue) (before : List ℕ) (waiting : Waiting) → AreNoted c before (c.size * c.size) waiting → (line : ℕ) → line < 2 * c.size
-    → (is_waiting c.size waiting line ≡ false) ↔ AreSetsOn line c before
-noted_on c before waiting h line line_is = (
-  λ free k low.
-      h.same (line_cell c.size line k) line (line_cell_inside c.size line k line_is low) (through_own c.size line k line_is low) free,
-  λ on. false_from_ne_true (is_waiting c.size waiting line) (λ waits.
-      let at = h.other line waits in
-      let place = place_on c.size line at.0 line_is at.1 at.2 in
-      at.3 (subst (λ (n : ℕ). IsSetOf c n (slice_index before n)) place.2 (on place.0 place.1))),
+-- ---- the places of a line
+
+-- of the first squares of a line, those at no place are as the sets say, and each at a place is not
+abbrev pub ArePlacesNoted : CandidatesValue → ℕ → ℕ → List ℕ → ℕ → Type 0
+ArePlacesNoted c line n before places =
+    ((j : ℕ) → j < n → has_number places j ≡ false → IsSetOf c (line_cell c.size line j) (slice_index before j))
+    × ((j : ℕ) → has_number places j ≡ true → (j < n) × (IsSetOf c (line_cell c.size line j) (slice_index before j) → ⊥))
+
+-- the next square is as its set says
+pub places_same : (c : CandidatesValue) (line n : ℕ) (before : List ℕ) (places : ℕ) → IsSetOf c (line_cell c.size line n) (slice_index before n)
+    → ArePlacesNoted c line n before places → ArePlacesNoted c line (n + 1) before places
+places_same c line n before places here h = (
+  λ j low free. elim (cases_eq j n) [
+    | inl last ↦ subst (λ (k : ℕ). IsSetOf c (line_cell c.size line k) (slice_index before k)) (sym last) here
+    | inr apart ↦ h.0 j (omega (arith, low, apart)) free
+  ],
+  λ j has. let at = h.1 j has in (omega (arith, at.0), at.1),
 )
+
+-- or its place is noted
+pub places_other : (c : CandidatesValue) (line n : ℕ) (before : List ℕ) (places one more : ℕ) → ((j : ℕ) → has_number one j ≡ (j == n))
+    → ((j : ℕ) → has_number more j ≡ (has_number places j || has_number one j)) → (IsSetOf c (line_cell c.size line n) (slice_index before n) → ⊥)
+    → ArePlacesNoted c line n before places → ArePlacesNoted c line (n + 1) before more
+places_other c line n before places one more is_one is_more here h = (
+  λ j low free.
+      let parts = or_parts (has_number places j) (has_number one j) (sym (is_more j) ∙ free) in
+      elim (cases_eq j n) [
+        | inl last ↦ absurd (both_ways (has_number one j) parts.1 (is_one j ∙ eq-eqb j n last))
+        | inr apart ↦ h.0 j (omega (arith, low, apart)) parts.0
+      ],
+  λ j has. elim (cases_eq j n) [
+    | inl last ↦ (omega (arith, last), subst (λ (k : ℕ). IsSetOf c (line_cell c.size line k) (slice_index before k) → ⊥) (sym last) here)
+    | inr apart ↦
+        let before' : has_number places j ≡ true = elim (cases_Bool (has_number places j)) [
+          | inl was ↦ was
+          | inr lacks ↦ absurd (both_ways (has_number more j) (is_more j ∙ ap (λ (b : Bool). b || has_number one j) lacks ∙ is_one j ∙ ne_eqb j n apart) has)
+        ] in
+        let at = h.1 j before' in (omega (arith, at.0), at.1)
+  ],
+)
+
+-- a square is on a line or not
+pub on_or_off : (w line cell : ℕ) → line < 2 * w → cell < w * w
+    → ((k : ℕ) × (k < w) × (line_cell w line k ≡ cell)) ⊎ ((k : ℕ) → k < w → line_cell w line k ≢ cell)
+on_or_off w line cell line_is inside = elim (cases_Bool (is_through w cell line)) [
+  | inl through ↦ inl (place_on w line cell line_is inside through)
+  | inr off ↦ inr (λ k low here.
+      both_ways (is_through w cell line) off (subst (λ (n : ℕ). is_through w n line ≡ true) here (through_own w line k line_is low)))
+]
+
+-- where nothing went but of one square, all stays on the lines that it isn't on
+pub stays_off : (w line cell : ℕ) (a b c : CandidatesValue) → a.size ≡ w → line < 2 * w → is_through w cell line ≡ false
+    → ((other v : ℕ) → other ≢ cell → IsLeft b other v → IsLeft c other v) → StaysOn line a b → StaysOn line a c
+stays_off w line cell a b c size line_is off others stays k v low left =
+    let through : is_through w (line_cell a.size line k) line ≡ true =
+    subst (λ (n : ℕ). is_through w (line_cell n line k) line ≡ true) (sym size) (through_own w line k line_is (subst (λ (n : ℕ). k < n) size low)) in
+    others (line_cell a.size line k) v (λ same. both_ways (is_through w cell line) off (subst (λ (n : ℕ). is_through w n line ≡ true) same through))
+    (stays k v low left)

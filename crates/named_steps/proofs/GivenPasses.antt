@@ -1,29 +1,21 @@
 -- What givens strike, square by square.
-use Rattle.std.proofs.Common.{◌≡◌, ◌≢◌, ◌↔◌, ℕ, ◌*◌, ◌<◌, true, false, nat_le, ◌&&◌, ◌==◌, not, refl, sym, subst, arith}
+use Rattle.std.proofs.Common.{◌≡◌, ◌≢◌, ◌↔◌, ℕ, ◌*◌, ◌<◌, true, nat_le, ◌&&◌, ◌==◌, not, length, refl, sym, subst}
 use Rattle.std.proofs.lemmas.Bool.{both_ways}
 use Rattle.number_sets.specs.Sets.{has_number}
 use Rattle.trail_solver.specs.Pairs.{IsPair}
 use Rattle.trail_solver.specs.Candidates.{CandidatesValue, may_be}
 use Rattle.trail_solver.specs.Puzzles.{Puzzle}
 use Rattle.named_steps.specs.Reasons.{IsByGiven}
-use Rattle.named_steps.specs.Left.{IsFewer}
-use Rattle.named_steps.specs.Passes.{LeadsTo, AreGivensSettled}
-use Rattle.named_steps.specs.Inner.Takes.{Strikes}
+use Rattle.named_steps.specs.Left.{IsFewer, IsLeft}
+use Rattle.named_steps.specs.Passes.{LeadsTo, IsGivenQuiet, AreGivensSettled}
+use Rattle.named_steps.specs.Inner.Takes.{Strikes, Takes}
 use Rattle.named_steps.proofs.Antitone.{IsAntitone}
 use Rattle.named_steps.proofs.GameSets.{given_struck}
 use Rattle.named_steps.proofs.QuietLines.{gone_from}
-use Rattle.named_steps.proofs.Takes.{takes_struck, leads_taken}
+use Rattle.named_steps.proofs.Takes.{takes_struck, takes_stays, takes_same, leads_taken}
 use Rattle.named_steps.specs.declared.reason.Reason.{Reason}
 use Rattle.named_steps.specs.declared.reason.Reason.TheVariants.{Given}
 use Rattle.named_steps.specs.declared.grade.Grade.TheVariants.{Latin}
-
--- the given of the square strikes nothing that is left
-abbrev pub IsGivenQuiet : Puzzle → ℕ → CandidatesValue → Type 0
-IsGivenQuiet p at c = (cell value : ℕ) → IsPair c.size cell value → IsByGiven p at cell value → may_be c cell value ≡ false
-
--- no given, nothing to strike
-pub no_given : (p : Puzzle) (at given : ℕ) (c : CandidatesValue) → given ≡ p.given at → given ≡ 0 → IsGivenQuiet p at c
-no_given p at given c is none = λ cell value pair h. absurd (omega (arith, is, none, h.given))
 
 -- what a given doesn't strike of candidates it doesn't strike of fewer
 pub given_stays : (p : Puzzle) (at : ℕ) (a b : CandidatesValue) → b.size ≡ a.size → IsFewer a b → IsGivenQuiet p at a → IsGivenQuiet p at b
@@ -34,21 +26,31 @@ given_stays p at a b size fewer quiet = λ cell value pair h.
 pub givens_stay : (p : Puzzle) (a b : CandidatesValue) → b.size ≡ a.size → IsFewer a b → AreGivensSettled p a → AreGivensSettled p b
 givens_stay p a b size fewer quiet at = given_stays p at a b size fewer (quiet at)
 
--- what a given strikes is gone
+-- what a given strikes is gone, and nothing of other squares
+pub record IsGivenTaken (p : Puzzle) (Struck : CandidatesValue → Reason → ℕ → ℕ → Type 0) (at : ℕ) (a b : CandidatesValue) : Type 0 where
+  pub leads : LeadsTo Struck Latin a b
+  pub quiet : IsGivenQuiet p at b
+  pub others : (other v : ℕ) → other ≢ at → IsLeft a other v → IsLeft b other v
+  pub same : length b.trail ≡ length a.trail → b ≡ a
+
 pub given_taken : (p : Puzzle) (Struck : CandidatesValue → Reason → ℕ → ℕ → Type 0) → IsAntitone Struck
     → ((c : CandidatesValue) (at cell value : ℕ) → IsByGiven p at cell value ↔ Struck c (Given at) cell value) → (at all one rest given : ℕ) (a b : CandidatesValue)
     → at < a.size * a.size → given ≡ p.given at → given ≢ 0 → ((k : ℕ) → has_number all k ≡ (nat_le 1 k && nat_le k a.size))
     → ((k : ℕ) → has_number one k ≡ (k == given)) → ((n : ℕ) → has_number rest n ≡ (has_number all n && not (has_number one n)))
-    → Strikes a b at rest → LeadsTo Struck Latin a b × IsGivenQuiet p at b
+    → Strikes a b at rest → IsGivenTaken p Struck at a b
 given_taken p Struck less law at all one rest given a b inside is some members single rest_is s =
     let tested : (v : ℕ) → (has_number rest v ≡ true) ↔ (IsPair a.size at v × IsByGiven p at at v) =
     λ v. given_struck p a.size at at all one rest given v refl inside is some members single rest_is in
-    let taken = takes_struck a b at rest s in (
-      leads_taken Struck less Latin (λ c v. (c ≡ at) × (has_number rest v ≡ true)) a b taken
-          (λ cell v pair h. (Given at, refl, (law a at cell v).0 (subst (λ (n : ℕ). IsByGiven p at n v) (sym h.0) ((tested v).0 h.1).1))),
-      λ cell v pair h.
+    let Which : ℕ → ℕ → Type 0 = λ c v. (c ≡ at) × (has_number rest v ≡ true) in
+    let taken : Takes Which a b = takes_struck a b at rest s in
+    record {
+      leads = leads_taken Struck less Latin Which a b taken
+          (λ cell v pair h. (Given at, refl, (law a at cell v).0 (subst (λ (n : ℕ). IsByGiven p at n v) (sym h.0) ((tested v).0 h.1).1)));
+      quiet = λ cell v pair h.
           let here : IsPair a.size cell v = subst (λ (n : ℕ). IsPair n cell v) s.size pair in
           let there : IsPair a.size at v = subst (λ (n : ℕ). IsPair a.size n v) h.here here in
           let again : IsByGiven p at at v = subst (λ (n : ℕ). IsByGiven p at n v) h.here h in
-          taken.gone cell v here (h.here, (tested v).1 (there, again)),
-    )
+          taken.gone cell v here (h.here, (tested v).1 (there, again));
+      others = λ other v apart left. takes_stays Which a b other v taken left (λ h. apart h.0);
+      same = λ e. takes_same Which a b taken e;
+    }

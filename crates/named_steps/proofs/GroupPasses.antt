@@ -8,10 +8,9 @@ use Rattle.latin_board.specs.Lines.{line_cell}
 use Rattle.trail_solver.specs.Candidates.{CandidatesValue, may_be}
 use Rattle.named_steps.specs.Reasons.{IsByLine}
 use Rattle.named_steps.specs.Left.{IsLeft}
-use Rattle.named_steps.specs.Passes.{LeadsTo}
+use Rattle.named_steps.specs.Passes.{LeadsTo, StaysOn}
 use Rattle.named_steps.specs.Inner.Takes.{Takes}
 use Rattle.named_steps.specs.Inner.LineStrikes.{AreLineSets, IsByGroup, IsGroupQuiet, IsUnionOf, IsBySets}
-use Rattle.named_steps.specs.Inner.WaitingGroups.{IsGroupCalm}
 use Rattle.named_steps.proofs.Counts.{within_counts, one_less, several_counted, group_most}
 use Rattle.named_steps.proofs.LinePasses.{line_less}
 use Rattle.named_steps.proofs.WaitingGroups.{group_stays}
@@ -312,7 +311,7 @@ group_leads line sets several a b line_is are of_several t =
 -- and where none of the line's squares lost anything its groups struck nothing
 pub group_calm : (line : ℕ) (sets : List ℕ) (several : ℕ) (a b : CandidatesValue) → line < 2 * a.size → AreLineSets a line a.size sets
     → ((k : ℕ) → (has_number several k ≡ true) ↔ ((k < a.size) × (1 < count_ones (slice_index sets k))))
-    → Takes (IsBySets a.size line sets several 0) a b → IsGroupCalm line a b
+    → Takes (IsBySets a.size line sets several 0) a b → StaysOn line a b → IsGroupQuiet line b
 group_calm line sets several a b line_is are of_several t stays =
     let leads = group_leads line sets several a b line_is are of_several t in
     let quiet : IsGroupQuiet line a = λ cell v pair h.

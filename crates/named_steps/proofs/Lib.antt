@@ -6,7 +6,9 @@ pub mod Parts
 pub mod Takes
 pub mod Supports
 pub mod StandingSets
+pub mod RowFillings
 pub mod RowsNoted
+pub mod ReducedRows
 pub mod GroupSets
 pub mod AloneSets
 pub mod SignSets
@@ -20,6 +22,7 @@ pub mod ChangedLines
 pub mod WaitingLines
 pub mod LinePasses
 pub mod WaitingGroups
+pub mod StageLooks
 pub mod GroupPasses
 pub mod ViewPasses
 pub mod SignPasses
@@ -27,3 +30,4 @@ pub mod Rounds
 pub mod SettledLines
 pub mod Solutions
 pub mod FoundSets
+pub mod LineTallies

@@ -1,6 +1,5 @@
 -- What is taken away along a row or column is struck by reasons, and where nothing is taken these are quiet.
-use Rattle.std.proofs.Common.{◌≡◌, ℕ, ◌*◌, ◌<◌, true, List, slice_index, inl, inr, refl, sym, subst}
-use Rattle.number_sets.specs.Sets.{has_number}
+use Rattle.std.proofs.Common.{◌≡◌, ℕ, ◌*◌, ◌<◌, true, inl, inr, refl, sym, subst}
 use Rattle.latin_board.specs.Lines.{line_cell}
 use Rattle.latin_board.proofs.PeerLines.{line_peers}
 use Rattle.trail_solver.specs.Candidates.{CandidatesValue}
@@ -9,8 +8,7 @@ use Rattle.named_steps.specs.Grades.{has_reason, is_of_lines}
 use Rattle.named_steps.specs.Laws.Less.{peer_less, place_less, set_less}
 use Rattle.named_steps.specs.Passes.{Passes, AreLinesSettled}
 use Rattle.named_steps.specs.Inner.Takes.{Takes}
-use Rattle.named_steps.specs.Inner.LineStrikes.{IsByRest, AreRestRow, IsRestQuiet}
-use Rattle.named_steps.specs.Inner.WaitingLines.{AreLinesQuiet}
+use Rattle.named_steps.specs.Inner.LineStrikes.{IsByRest, IsRestQuiet}
 use Rattle.named_steps.proofs.Antitone.{IsAntitone}
 use Rattle.named_steps.proofs.Takes.{HasStruck, passes_taken}
 use Rattle.named_steps.specs.declared.reason.Reason.{Reason}
@@ -67,16 +65,15 @@ rest_reason c line index v line_is index_is h = elim h [
   )
 ]
 
-pub rest_pass : (line : ℕ) (row : List ℕ) (a b : CandidatesValue) → line < 2 * a.size → AreRestRow a line a.size row
-    → Takes (λ cell v. (k : ℕ) × (k < a.size) × (cell ≡ line_cell a.size line k) × (has_number (slice_index row k) v ≡ true)) a b
+-- and a chain of these takes away what they strike along a line
+pub rest_pass : (line : ℕ) (a b : CandidatesValue) → line < 2 * a.size
+    → Takes (λ cell v. (k : ℕ) × (k < a.size) × (cell ≡ line_cell a.size line k) × IsByRest a line k v) a b
     → Passes (IsByLine a.size) Latin (IsRestQuiet line) a b
-rest_pass line row a b line_is r t =
+rest_pass line a b line_is t =
     passes_taken (IsByLine a.size) (line_less a.size) Latin (IsRestQuiet line)
-    (λ cell v. (k : ℕ) × (k < a.size) × (cell ≡ line_cell a.size line k) × (has_number (slice_index row k) v ≡ true)) a b t
-    (λ cell v pair h.
-    let by = ((r.each h.0 v h.1).0 h.3).2 in
-    subst (λ (n : ℕ). HasStruck (IsByLine a.size) Latin a n v) (sym h.2) (rest_reason a line h.0 v line_is h.1 by))
-    (λ gone k v low pair h. gone (line_cell a.size line k) v pair (k, low, refl, (r.each k v low).1 (pair.low, pair.high, h)))
+    (λ cell v. (k : ℕ) × (k < a.size) × (cell ≡ line_cell a.size line k) × IsByRest a line k v) a b t
+    (λ cell v pair h. subst (λ (n : ℕ). HasStruck (IsByLine a.size) Latin a n v) (sym h.2) (rest_reason a line h.0 v line_is h.1 h.3))
+    (λ gone k v low pair h. gone (line_cell a.size line k) v pair (k, low, refl, h))
 
 -- a reason of the lowest grade is one of each grade
 pub latin_has : (grade : Grade) (reason : Reason) → has_reason Latin reason ≡ true → has_reason grade reason ≡ true
@@ -90,7 +87,7 @@ latin_has grade (Sign from to) h = absurd (cc)
 latin_has grade (Set line squares values) h = absurd (cc)
 
 -- where lone values and last places strike nothing, the lines are quiet
-pub settled_quiet : (grade : Grade) (c : CandidatesValue) → AreLinesSettled grade c → AreLinesQuiet c
+pub settled_quiet : (grade : Grade) (c : CandidatesValue) → AreLinesSettled grade c → (line : ℕ) → line < 2 * c.size → IsRestQuiet line c
 settled_quiet grade c settled line line_is k v low pair h =
     let by = rest_reason c line k v line_is low h in
     settled by.0 (line_cell c.size line k) v (latin_has grade by.0 by.1) pair by.2

@@ -1,13 +1,17 @@
 -- What the other squares of a line strike in one, as sets.
-use Rattle.std.proofs.Common.{◌≡◌, ◌≢◌, ◌↔◌, ℕ, ◌*◌, ◌<◌, ◌≤◌, true, List, slice_index, nat_le, ◌&&◌, ◌||◌, ◌==◌, not, inl, inr, sym, ap, ◌∙◌, subst, arith}
-use Rattle.std.proofs.lemmas.Bool.{both_ways, and_parts, and_from, or_left, or_right, cases_eq, cases_Bool, false_from_ne_true, leb-true, le-leb, not_from_false, eq-eqb, ne_eqb}
-use Rattle.number_sets.specs.Sets.{has_number, IsSingle, IsLeast, IsGreatest}
+use Rattle.std.proofs.Common.{◌≡◌, ◌≢◌, ◌↔◌, ℕ, ◌-◌, ◌*◌, ◌^◌, ◌<◌, ◌==◌, if◌then◌else◌, bit_and, zero-mul, true, false, ◌&&◌, ◌||◌, not, inl, inr, sym, ap, ◌∙◌, subst, arith}
+use Rattle.std.proofs.lemmas.Bool.{both_ways, and_parts, and_from, or_cases, or_left, or_right, cases_eq, eq-eqb, ne_eqb, false_from_ne_true, not_from_false}
+use Rattle.number_sets.specs.Sets.{has_number, no_numbers, IsEmpty, IsSubset, IsSingle}
+use Rattle.number_sets.proofs.Ends.{lowest_power}
+use Rattle.number_sets.proofs.Members.{has_number-none, none_from_numbers, number_of_one, power_most, some_number}
+use Rattle.number_sets.proofs.OneMore.{added_other}
 use Rattle.latin_board.specs.Lines.{line_cell}
 use Rattle.latin_board.proofs.LatinLines.{line_cell_inside}
-use Rattle.trail_solver.specs.Candidates.{CandidatesValue, may_be}
-use Rattle.named_steps.specs.Left.{IsLeft, HasNoOther, HasNoOtherPlace}
-use Rattle.named_steps.specs.Inner.LineStrikes.{IsByRest, IsRestQuiet, AreLineSets, AreAloneSets}
-use Rattle.named_steps.specs.Inner.OtherSets.{AreOthers, AreStill}
+use Rattle.trail_solver.specs.Candidates.{CandidatesValue}
+use Rattle.named_steps.specs.Left.{IsLeft, HasNoOtherPlace}
+use Rattle.named_steps.specs.Inner.LineStrikes.{IsRestSet}
+use Rattle.named_steps.specs.Inner.LineTallies.{IsUpTo, IsAlone}
+use Rattle.named_steps.proofs.Counts.{one_less, was_other}
 
 -- what one set has and another lacks
 has_rest : (all some rest v : ℕ) → ((n : ℕ) → has_number rest n ≡ (has_number all n && not (has_number some n)))
@@ -20,134 +24,159 @@ has_rest all some rest v is = (
       (not_from_false (has_number some v) (false_from_ne_true (has_number some v) h.1)),
 )
 
-pub rest_struck : (c : CandidatesValue) (line index all left lacking lone beside result v : ℕ)
-    → ((k : ℕ) → has_number all k ≡ (nat_le 1 k && nat_le k c.size))
+-- what is alone in another square, and all beside some number that is left of none, is what the others strike
+pub rest_struck : (c : CandidatesValue) (line index all left lacking lone beside result : ℕ) → line < 2 * c.size → IsUpTo c.size all
     → ((v : ℕ) → (has_number left v ≡ true) ↔ ((k : ℕ) × (k < c.size) × (k ≢ index) × IsLeft c (line_cell c.size line k) v))
     → ((n : ℕ) → has_number lacking n ≡ (has_number all n && not (has_number left n)))
-    → ((v : ℕ) → (has_number lone v ≡ true)
-    ↔ ((1 ≤ v) × (v ≤ c.size) × ((k : ℕ) × (k < c.size) × ((k ≢ index) × HasNoOther c (line_cell c.size line k) v))))
+    → ((v : ℕ) → (has_number lone v ≡ true) ↔ ((k : ℕ) × (k < c.size) × (k ≢ index) × IsAlone c (line_cell c.size line k) v))
     → ((v : ℕ) → (has_number beside v ≡ true) ↔ ((has_number all v ≡ true) × ((u : ℕ) × (has_number lacking u ≡ true) × (v ≢ u))))
-    → ((n : ℕ) → has_number result n ≡ (has_number lone n || has_number beside n))
-    → (has_number result v ≡ true) ↔ ((1 ≤ v) × (v ≤ c.size) × IsByRest c line index v)
-rest_struck c line index all left lacking lone beside result v all_is left_is lacking_is lone_is beside_is result_is =
-    let within : (u : ℕ) → (has_number all u ≡ true) ↔ ((1 ≤ u) × (u ≤ c.size)) = λ u. (
-      λ has. let both = and_parts (nat_le 1 u) (nat_le u c.size) (sym (all_is u) ∙ has) in (leb-true 1 u both.0, leb-true u c.size both.1),
-      λ h. all_is u ∙ and_from (nat_le 1 u) (nat_le u c.size) (le-leb 1 u h.0) (le-leb u c.size h.1),
-    ) in
+    → ((n : ℕ) → has_number result n ≡ (has_number lone n || has_number beside n)) → IsRestSet c line index result
+rest_struck c line index all left lacking lone beside result line_is all_is left_is lacking_is lone_is beside_is result_is =
     let no_place : (u : ℕ) → (has_number left u ≡ true → ⊥) → HasNoOtherPlace c line u index = λ u lacks k low there. elim (cases_eq k index) [
       | inl same ↦ same
       | inr other ↦ absurd (lacks ((left_is u).1 (k, low, other, there)))
-    ] in (
-      λ has. elim (cases_Bool (has_number lone v)) [
-        | inl first ↦ let h = (lone_is v).0 first in (h.0, h.1, inl (h.2.0, h.2.1, h.2.2.0, h.2.2.1))
-        | inr lacks ↦
-            let second : has_number beside v ≡ true = elim (cases_Bool (has_number beside v)) [
-              | inl is ↦ is
-              | inr absent ↦ absurd (both_ways (has_number result v) (result_is v ∙ ap (λ b. b || has_number beside v) lacks ∙ absent) has)
-            ] in
+    ] in λ v. (
+      λ has. elim (or_cases (has_number lone v) (has_number beside v) (sym (result_is v) ∙ has)) [
+        | inl first ↦ let h = (lone_is v).0 first in (h.3.pair.low, h.3.pair.high, inl (h.0, h.1, h.2, h.3.alone))
+        | inr second ↦
             let h = (beside_is v).0 second in
-            let bounds = (within v).0 h.0 in
+            let bounds = (all_is v).0 h.0 in
             let u = (has_rest all left lacking h.1.0 lacking_is).0 h.1.1 in
-            let u_bounds = (within h.1.0).0 u.0 in
+            let u_bounds = (all_is h.1.0).0 u.0 in
             (bounds.0, bounds.1, inr (h.1.0, u_bounds.0, u_bounds.1, h.1.2, no_place h.1.0 u.1))
       ],
       λ h. elim h.2 [
-        | inl alone ↦ result_is v ∙ or_left (has_number lone v) (has_number beside v) ((lone_is v).1 (h.0, h.1, (alone.0, alone.1, (alone.2, alone.3))))
+        | inl alone ↦ result_is v ∙ or_left (has_number lone v) (has_number beside v) ((lone_is v).1 (
+          alone.0,
+          alone.1,
+          alone.2,
+          record {
+            pair = record { inside = line_cell_inside c.size line alone.0 line_is alone.1; low = h.0; high = h.1 };
+            alone = alone.3;
+          },
+        ))
         | inr p ↦
             let lacks : has_number left p.0 ≡ true → ⊥ = λ has. let there = (left_is p.0).0 has in there.2 (p.4 there.0 there.1 there.3) in
-            let u : has_number lacking p.0 ≡ true = (has_rest all left lacking p.0 lacking_is).1 ((within p.0).1 (p.1, p.2), lacks) in
-            result_is v ∙ or_right (has_number lone v) (has_number beside v) ((beside_is v).1 ((within v).1 (h.0, h.1), (p.0, u, p.3)))
+            let u : has_number lacking p.0 ≡ true = (has_rest all left lacking p.0 lacking_is).1 ((all_is p.0).1 (p.1, p.2), lacks) in
+            result_is v ∙ or_right (has_number lone v) (has_number beside v) ((beside_is v).1 ((all_is v).1 (h.0, h.1), (p.0, u, p.3)))
       ],
     )
 
--- what is left of the other squares of a line
-pub left_elsewhere : (c : CandidatesValue) (line index : ℕ) (sets row : List ℕ) → AreLineSets c line c.size sets → AreOthers sets c.size c.size row
-    → index < c.size → (v : ℕ) → (has_number (slice_index row index) v ≡ true)
-    ↔ ((k : ℕ) × (k < c.size) × (k ≢ index) × IsLeft c (line_cell c.size line k) v)
-left_elsewhere c line index sets row are others low v = (
-  λ has.
-      let h = (others.each index v low).0 has in
-      let left = (are.each h.0 h.1 v).0 h.3 in
-      (h.0, h.1, h.2, record { pair = left.0; may = left.1 }),
-  λ h. (others.each index v low).1 (h.0, h.1, h.2, (are.each h.0 h.1 v).1 (h.3.pair, h.3.may)),
+-- ---- sets of at most one number
+
+-- what has one number alone is a set of which nothing is left without its least
+pub single_by_rest : (set rest flag result v : ℕ) → set < 2 ^ 16 → (set ≢ 0 → rest ≡ bit_and set (set - 1)) → flag ≡ (if rest == 0 then 1 else 0)
+    → result ≡ set * flag → (has_number result v ≡ true) ↔ IsSingle set v
+single_by_rest set rest flag result v small rest_is flag_is result_is =
+    let lacks : (n : ℕ) → n ≡ 0 → has_number n v ≡ true → ⊥ = λ n none has.
+    both_ways (has_number n v) (ap (λ (m : ℕ). has_number m v) none ∙ has_number-none v) has in
+    elim (cases_eq set 0) [
+      | inl none ↦ (λ has. absurd (lacks result (result_is ∙ ap (λ (n : ℕ). n * flag) none ∙ zero-mul flag) has), λ h. absurd (lacks set none h.has))
+      | inr some ↦
+          let least = lowest_power set (omega (arith, some)) (omega (arith, small)) in
+          elim (cases_eq rest 0) [
+            | inl none ↦
+                let one : flag ≡ 1 = rw (eq-eqb rest 0 none) at flag_is in
+                let same : result ≡ set = omega (arith, result_is ∙ ap (λ (n : ℕ). set * n) one) in
+                let whole : set ≡ 2 ^ least.0 = omega (arith, least.1, sym (rest_is some) ∙ none) in
+                let only : (n : ℕ) → has_number set n ≡ true → n ≡ least.0 = λ n has.
+                number_of_one least.0 n (ap (λ (m : ℕ). has_number m n) (sym whole) ∙ has) in (
+                  λ has.
+                      let here : has_number set v ≡ true = ap (λ (n : ℕ). has_number n v) (sym same) ∙ has in
+                      record { has = here; alone = λ n there. only n there ∙ sym (only v here) },
+                  λ h. ap (λ (n : ℕ). has_number n v) same ∙ h.has,
+                )
+            | inr more ↦
+                let zero : flag ≡ 0 = rw (ne_eqb rest 0 more) at flag_is in
+                let several : IsSingle set v → ⊥ = λ h.
+                let power : set - bit_and set (set - 1) ≡ 2 ^ v = least.1 ∙ ap (λ (k : ℕ). 2 ^ k) (h.alone least.0 least.2) in
+                let none : set - 2 ^ v ≡ 0 = none_from_numbers (set - 2 ^ v) (λ k. false_from_ne_true (has_number (set - 2 ^ v) k) (λ there.
+                let was = was_other (set - 2 ^ v) v set k (one_less set v h.has) there in
+                was.0 (h.alone k was.1))) in
+                more (rest_is some ∙ omega (arith, power, none, power_most set v h.has, some)) in
+                (λ has. absurd (lacks result (omega (arith, result_is ∙ ap (λ (n : ℕ). set * n) zero)) has), λ h. absurd (several h))
+          ]
+    ]
+
+-- the numbers but for which a set has none
+pub alone_by_parts : (all set flag empty single result v : ℕ) → set < 2 ^ 16 → flag ≡ (if set == 0 then 1 else 0) → empty ≡ all * flag
+    → (has_number single v ≡ true) ↔ IsSingle set v → has_number result v ≡ (has_number empty v || has_number single v) → IsSubset set all
+    → (has_number result v ≡ true) ↔ ((has_number all v ≡ true) × ((u : ℕ) → has_number set u ≡ true → u ≡ v))
+alone_by_parts all set flag empty single result v small flag_is empty_is single_is result_is sub = elim (cases_eq set 0) [
+  | inl none ↦
+      let one : flag ≡ 1 = rw (eq-eqb set 0 none) at flag_is in
+      let same : empty ≡ all = omega (arith, empty_is ∙ ap (λ (n : ℕ). all * n) one) in
+      let nothing : (u : ℕ) → has_number set u ≡ true → ⊥ = λ u has.
+      both_ways (has_number set u) (ap (λ (n : ℕ). has_number n u) none ∙ has_number-none u) has in (
+        λ has. elim (or_cases (has_number empty v) (has_number single v) (sym result_is ∙ has)) [
+          | inl here ↦ (ap (λ (n : ℕ). has_number n v) (sym same) ∙ here, λ u there. absurd (nothing u there))
+          | inr here ↦ absurd (nothing v (single_is.0 here).has)
+        ],
+        λ h. result_is ∙ or_left (has_number empty v) (has_number single v) (ap (λ (n : ℕ). has_number n v) same ∙ h.0),
+      )
+  | inr some ↦
+      let zero : flag ≡ 0 = rw (ne_eqb set 0 some) at flag_is in
+      let none : empty ≡ 0 = omega (arith, empty_is ∙ ap (λ (n : ℕ). all * n) zero) in (
+        λ has. elim (or_cases (has_number empty v) (has_number single v) (sym result_is ∙ has)) [
+          | inl here ↦ absurd (both_ways (has_number empty v) (ap (λ (n : ℕ). has_number n v) none ∙ has_number-none v) here)
+          | inr here ↦ let one = single_is.0 here in (sub v one.has, one.alone)
+        ],
+        λ h.
+            let n = some_number set some small in
+            let has : has_number set v ≡ true = subst (λ (i : ℕ). has_number set i ≡ true) (h.1 n.0 n.1) n.1 in
+            result_is ∙ or_right (has_number empty v) (has_number single v) (single_is.1 (record { has = has; alone = h.1 })),
+      )
+]
+
+-- ---- the numbers beside some number of a set
+
+-- a set with a number that isn't its only one has another
+another : (set n : ℕ) → set < 2 ^ 16 → has_number set n ≡ true → ((k : ℕ) → IsSingle set k → ⊥) → (k : ℕ) × (k ≢ n) × (has_number set k ≡ true)
+another set n small has several =
+    let fewer = set - 2 ^ n in
+    let a = one_less set n has in
+    elim (cases_eq fewer 0) [
+      | inl none ↦ absurd (several n (record {
+        has = has;
+        alone = λ k there. elim (cases_eq k n) [
+          | inl same ↦ same
+          | inr other ↦ absurd (both_ways (has_number fewer k) (ap (λ (m : ℕ). has_number m k) none ∙ has_number-none k) (sym (added_other a k other) ∙ there))
+        ];
+      }))
+      | inr some ↦
+          let k = some_number fewer some (omega (arith, small)) in
+          let was = was_other fewer n set k.0 a k.1 in
+          (k.0, was.0, was.1)
+    ]
+
+-- no number is beside one of an empty set
+pub beside_none : (all some any single rest v : ℕ) → any ≡ no_numbers → IsEmpty some
+    → has_number rest v ≡ (has_number any v && not (has_number single v))
+    → (has_number rest v ≡ true) ↔ ((has_number all v ≡ true) × ((u : ℕ) × (has_number some u ≡ true) × (v ≢ u)))
+beside_none all some any single rest v is none rest_is = (
+  λ has. absurd (both_ways (has_number any v) (ap (λ (n : ℕ). has_number n v) is ∙ has_number-none v)
+      (and_parts (has_number any v) (not (has_number single v)) (sym rest_is ∙ has)).0),
+  λ h. absurd (both_ways (has_number some h.1.0) (none h.1.0) h.1.1),
 )
 
--- the values but for which nothing is left of another one
-pub lone_elsewhere : (c : CandidatesValue) (line index : ℕ) (sets row : List ℕ) → line < 2 * c.size → AreAloneSets c line c.size sets
-    → AreOthers sets c.size c.size row → index < c.size → (v : ℕ) → (has_number (slice_index row index) v ≡ true)
-    ↔ ((1 ≤ v) × (v ≤ c.size) × ((k : ℕ) × (k < c.size) × ((k ≢ index) × HasNoOther c (line_cell c.size line k) v)))
-lone_elsewhere c line index sets row line_is are others low v = (
-  λ has.
-      let h = (others.each index v low).0 has in
-      let alone = (are.each h.0 v h.1).0 h.3 in
-      (alone.0.low, alone.0.high, (h.0, h.1, (h.2, alone.1))),
-  λ h. (others.each index v low).1 (
-    h.2.0,
-    h.2.1,
-    h.2.2.0,
-    (are.each h.2.0 v h.2.1).1 (record { inside = line_cell_inside c.size line h.2.0 line_is h.2.1; low = h.0; high = h.1 }, h.2.2.1),
-  ),
-)
-
--- where the sets of what is left of a line are still, no lone value and no last place strikes anything in it
-pub still_quiet : (c : CandidatesValue) (line : ℕ) (sets : List ℕ) → AreLineSets c line c.size sets → AreStill sets c.size → IsRestQuiet line c
-still_quiet c line sets are still k v low pair h =
-    let Set : ℕ → ℕ = λ j. slice_index sets j in
-    let in_set : (j x : ℕ) → j < c.size → IsLeft c (line_cell c.size line j) x → has_number (Set j) x ≡ true = λ j x less left.
-    (are.each j less x).1 (left.pair, left.may) in
-    let left_of : (j x : ℕ) → j < c.size → has_number (Set j) x ≡ true → IsLeft c (line_cell c.size line j) x = λ j x less has.
-    let l = (are.each j less x).0 has in
-    record { pair = l.0; may = l.1 } in
-    false_from_ne_true (may_be c (line_cell c.size line k) v) (λ may.
-    let here : IsLeft c (line_cell c.size line k) v = record { pair = pair; may = may } in
-    elim h [
-      | inl alone ↦
-          let j = alone.0 in
-          let x = still.some j alone.1 in
-          let same : x.0 ≡ v = alone.3 x.0 (left_of j x.0 alone.1 x.1) in
-          let single : IsSingle (Set j) v = record {
-            has = subst (λ (n : ℕ). has_number (Set j) n ≡ true) same x.1;
-            alone = λ n has. alone.3 n (left_of j n alone.1 has);
-          } in
-          still.apart j k v alone.1 low alone.2 single (in_set k v low here)
-      | inr last ↦ elim (still.placed last.0 last.1 last.2) [
-        | inl only ↦
-            let same : only.0 ≡ k = last.4 only.0 only.1 (left_of only.0 last.0 only.1 only.2.has) in
-            last.3 (only.2.alone v (subst (λ (n : ℕ). has_number (Set n) v ≡ true) (sym same) (in_set k v low here)))
-        | inr two ↦
-            let first = last.4 two.0 (omega (arith, two.2, two.3)) (left_of two.0 last.0 (omega (arith, two.2, two.3)) two.4) in
-            let second = last.4 two.1 two.3 (left_of two.1 last.0 two.3 two.5) in
-            omega (arith, first, second, two.2)
-      ]
-    ])
-
-pub beside_ends : (all some least greatest one last low high result v : ℕ) → IsLeast some least → IsGreatest some greatest
-    → ((k : ℕ) → has_number one k ≡ (k == least)) → ((k : ℕ) → has_number last k ≡ (k == greatest))
-    → ((n : ℕ) → has_number low n ≡ (has_number all n && not (has_number one n))) → ((n : ℕ) → has_number high n ≡ (has_number all n && not (has_number last n)))
-    → ((n : ℕ) → has_number result n ≡ (has_number low n || has_number high n))
-    → (has_number result v ≡ true) ↔ ((has_number all v ≡ true) × ((u : ℕ) × (has_number some u ≡ true) × (v ≢ u)))
-beside_ends all some least greatest one last low high result v least_is greatest_is one_is last_is low_is high_is result_is = (
-  λ has. elim (cases_Bool (has_number low v)) [
-    | inl first ↦
-        let h = (has_rest all one low v low_is).0 first in
-        (h.0, (least, least_is.has, λ same. h.1 (one_is v ∙ eq-eqb v least same)))
-    | inr lacks ↦
-        let second : has_number high v ≡ true = elim (cases_Bool (has_number high v)) [
-          | inl is ↦ is
-          | inr absent ↦ absurd (both_ways (has_number result v) (result_is v ∙ ap (λ b. b || has_number high v) lacks ∙ absent) has)
-        ] in
-        let h = (has_rest all last high v high_is).0 second in
-        (h.0, (greatest, greatest_is.has, λ same. h.1 (last_is v ∙ eq-eqb v greatest same)))
-  ],
-  λ h. elim (cases_eq v least) [
-    | inl first ↦
-        let under = least_is.least h.1.0 h.1.1 in
-        let over = greatest_is.greatest h.1.0 h.1.1 in
-        let other : v ≢ greatest = λ same. h.1.2 (omega (arith, first, same, under, over)) in
-        result_is v ∙ or_right (has_number low v) (has_number high v) ((has_rest all last high v high_is).1
-        (h.0, λ there. both_ways (has_number last v) (last_is v ∙ ne_eqb v greatest other) there))
-    | inr other ↦
-        result_is v ∙ or_left (has_number low v) (has_number high v) ((has_rest all one low v low_is).1
-        (h.0, λ there. both_ways (has_number one v) (one_is v ∙ ne_eqb v least other) there))
-  ],
-)
+-- and else each, but for the set's only one
+pub beside_some : (all some any single rest v : ℕ) → some < 2 ^ 16 → any ≡ all → (n : ℕ) × (has_number some n ≡ true)
+    → (has_number single v ≡ true) ↔ IsSingle some v → has_number rest v ≡ (has_number any v && not (has_number single v))
+    → (has_number rest v ≡ true) ↔ ((has_number all v ≡ true) × ((u : ℕ) × (has_number some u ≡ true) × (v ≢ u)))
+beside_some all some any single rest v small is one single_is rest_is =
+    let same : has_number any v ≡ has_number all v = ap (λ (n : ℕ). has_number n v) is in (
+      λ has.
+          let both = and_parts (has_number any v) (not (has_number single v)) (sym rest_is ∙ has) in
+          let several : IsSingle some v → ⊥ = λ h. both_ways (not (has_number single v)) (ap not (single_is.1 h)) both.1 in (
+            sym same ∙ both.0,
+            elim (cases_eq v one.0) [
+              | inl here ↦
+                  let u = another some one.0 small one.1 (λ k h. several (subst (λ (i : ℕ). IsSingle some i) (sym (h.alone one.0 one.1) ∙ sym here) h)) in
+                  (u.0, u.2, λ e. u.1 (sym e ∙ here))
+              | inr other ↦ (one.0, one.1, other)
+            ],
+          ),
+      λ h.
+          let lacks : has_number single v ≡ false = false_from_ne_true (has_number single v) (λ has. h.1.2 (sym ((single_is.0 has).alone h.1.0 h.1.1))) in
+          rest_is ∙ and_from (has_number any v) (not (has_number single v)) (same ∙ h.0) (not_from_false (has_number single v) lacks),
+    )

@@ -1,22 +1,22 @@
 -- From passes to what a grade leaves.
-use Rattle.std.proofs.Common.{◌≡◌, ◌↔◌, ℕ, ◌*◌, ◌<◌, ◌≤◌, true, length, ◌++◌, refl, sym, ap, ◌∙◌, subst, arith}
-use Rattle.latin_board.specs.Lines.{line_cell}
-use Rattle.trail_solver.specs.Candidates.{CandidatesValue}
-use Rattle.trail_solver.specs.Puzzles.{Puzzle}
+use Rattle.std.proofs.Common.{◌≡◌, ◌↔◌, ℕ, ◌*◌, ◌<◌, ◌≤◌, true, ◌++◌, refl, sym, ap, ◌∙◌, subst}
+use Rattle.latin_board.specs.Squares.{GridValue, number_at}
+use Rattle.trail_solver.specs.Candidates.{CandidatesValue, IsOnly, IsWithin, may_be}
+use Rattle.trail_solver.specs.Puzzles.{Puzzle, Solves}
 use Rattle.named_steps.specs.Left.{IsLeft, AreAlike}
 use Rattle.named_steps.specs.Reasons.{IsByGiven, IsByPeer, IsByPlace, IsBySet, IsByLine}
-use Rattle.named_steps.specs.Grades.{has_reason, is_of_lines, is_past_easy}
+use Rattle.named_steps.specs.Grades.{has_reason, is_of_lines, is_past_latin, is_past_easy}
 use Rattle.named_steps.specs.Chains.{IsChain, left_by}
 use Rattle.named_steps.specs.Following.{IsSettled, IsClosure}
-use Rattle.named_steps.specs.Passes.{LeadsTo, Passes, AreCluesSettled, AreGivensSettled}
+use Rattle.named_steps.specs.Passes.{LeadsTo, AreCluesSettled, AreGivensSettled}
 use Rattle.named_steps.specs.Inner.LineStrikes.{IsRestQuiet, IsGroupQuiet}
-use Rattle.named_steps.specs.Inner.WaitingLines.{AreLinesQuiet}
-use Rattle.named_steps.specs.Inner.WaitingGroups.{IsGroupCalm}
-use Rattle.named_steps.specs.Inner.RestSteps.{AreRestSettled}
+use Rattle.std.proofs.lemmas.Bool.{false_from_ne_true}
+use Rattle.named_steps.specs.Laws.Quiet.{latin_clues}
+use Rattle.named_steps.proofs.Kept.{IsSoundFor, chain_keeps, number_left}
 use Rattle.named_steps.proofs.LinePasses.{latin_has, line_reason}
 use Rattle.named_steps.proofs.QuietLines.{peer_quiet, place_quiet, set_quiet}
 use Rattle.named_steps.proofs.Parts.{chain_joined, left_append}
-use Rattle.named_steps.proofs.Takes.{allowed_joined, leads_on, leads_same, leads_size, leads_length, leads_wider, passes_both, passes_map, passes_wider}
+use Rattle.named_steps.proofs.Takes.{allowed_joined, leads_size, leads_wider}
 use Rattle.named_steps.specs.declared.reason.Reason.{Reason}
 use Rattle.named_steps.specs.declared.reason.Reason.TheVariants.{Given, Peer, Place, Bound, Stand, Clue, Sign, Set}
 use Rattle.named_steps.specs.declared.grade.Grade.{Grade}
@@ -71,51 +71,53 @@ pub givens_lead : (Struck : CandidatesValue → Reason → ℕ → ℕ → Type 
     → LeadsTo Struck grade a b
 givens_lead Struck grade a b h = leads_wider Struck Struck Latin grade (λ d reason cell v h. h) (latin_has grade) a b h
 
--- clues or signs, and then groups
-pub rest_groups : (p : Puzzle) (Struck : CandidatesValue → Reason → ℕ → ℕ → Type 0) → IsShared p Struck → (grade : Grade) (a b c : CandidatesValue) → a.size ≡ p.size
-    → Passes Struck grade (AreCluesSettled Struck grade) a b → is_past_easy grade ≡ true → LeadsTo (IsByLine b.size) Hard b c
-    → ((line : ℕ) → line < 2 * b.size → IsGroupCalm line b c) → Passes Struck grade (AreRestSettled Struck grade) a c
-rest_groups p Struck s grade a b c size first past lead calm =
-    let same : b.size ≡ a.size = leads_size Struck grade a b first.leads in
-    let Quiet : CandidatesValue → Type 0 = λ d. (line : ℕ) → line < 2 * b.size → IsGroupQuiet line d in
-    let second : Passes (IsByLine b.size) Hard Quiet b c = record {
-      leads = lead;
-      quiet = λ e line low.
-          let still : c ≡ b = leads_same (IsByLine b.size) Hard b c lead e in
-          subst (λ d. IsGroupQuiet line d) still (calm line low (λ k v k_is left. subst (λ d. IsLeft d (line_cell b.size line k) v) (sym still) left));
-    } in
-    let lift = passes_wider (IsByLine b.size) Struck Hard grade (lines_lift p Struck s b.size (same ∙ size))
-    (λ reason h. subst (λ (g : Grade). has_reason g reason ≡ true) (sym (past_easy_is grade past)) h) Quiet b c second in
-    passes_map Struck grade (λ d. AreCluesSettled Struck grade d × Quiet d) (AreRestSettled Struck grade) a c
-    (λ q. record { clues = q.0; groups = λ one line low. q.1 line (omega (arith, low, same)) })
-    (passes_both Struck grade (AreCluesSettled Struck grade) Quiet a b c first lift)
+-- a chain of groups is one of the game's, where the grade looks at them
+pub groups_lead : (p : Puzzle) (Struck : CandidatesValue → Reason → ℕ → ℕ → Type 0) → IsShared p Struck → (grade : Grade) (a b : CandidatesValue) → a.size ≡ p.size
+    → is_past_easy grade ≡ true → LeadsTo (IsByLine a.size) Hard a b → LeadsTo Struck grade a b
+groups_lead p Struck s grade a b size past h =
+    leads_wider (IsByLine a.size) Struck Hard grade (lines_lift p Struck s a.size size)
+    (λ reason has. subst (λ (g : Grade). has_reason g reason ≡ true) (sym (past_easy_is grade past)) has) a b h
 
--- where givens, rows and columns strike nothing, the others settle all
-pub rest_settles : (p : Puzzle) (Struck : CandidatesValue → Reason → ℕ → ℕ → Type 0) → IsShared p Struck → (grade : Grade) (a b : CandidatesValue) → a.size ≤ 9
-    → a.size ≡ p.size → AreGivensSettled p a → AreLinesQuiet a → Passes Struck grade (AreRestSettled Struck grade) a b
-    → Passes Struck grade (IsSettled Struck grade) a b
-rest_settles p Struck s grade a b small size givens lines h =
-    passes_map Struck grade (AreRestSettled Struck grade) (IsSettled Struck grade) a b
-    (λ rest. settled_all p Struck s grade a small size givens lines rest.clues rest.groups) h
+-- the lowest grade has no clues and no signs
+pub clues_settled : (Struck : CandidatesValue → Reason → ℕ → ℕ → Type 0) (grade : Grade) (c : CandidatesValue)
+    → (is_past_latin grade ≡ true → AreCluesSettled Struck grade c) → AreCluesSettled Struck grade c
+clues_settled Struck Latin c h = latin_clues Struck c
+clues_settled Struck Easy c h = h refl
+clues_settled Struck Hard c h = h refl
+
+-- a chain of a game's steps loses no solution
+pub leads_within : (p : Puzzle) (Struck : CandidatesValue → Reason → ℕ → ℕ → Type 0) → IsSoundFor p Struck → (grade : Grade) (a b : CandidatesValue) (g : GridValue)
+    → a.size ≡ p.size → LeadsTo Struck grade a b → Solves p g → IsWithin a g → IsWithin b g
+leads_within p Struck sound grade a b g size h s within =
+    subst (λ (d : CandidatesValue). IsWithin d g) (sym h.is) (chain_keeps p Struck sound a h.steps g size h.chain s within)
+
+-- where a solution alone is left, nothing more is struck
+pub filled_settled : (p : Puzzle) (Struck : CandidatesValue → Reason → ℕ → ℕ → Type 0) → IsSoundFor p Struck → (grade : Grade) (c : CandidatesValue) (g : GridValue)
+    → c.size ≡ p.size → Solves p g → IsWithin c g → ((cell : ℕ) → cell < c.size * c.size → (v : ℕ) × IsOnly c cell v) → IsSettled Struck grade c
+filled_settled p Struck sound grade c g size s within filled reason cell value has pair h =
+    false_from_ne_true (may_be c cell value) (λ may.
+    let only = filled cell pair.inside in
+    let left = number_left p c g cell size s within pair.inside in
+    let number : number_at g cell ≡ only.0 = only.1.alone (number_at g cell) left.pair.low left.pair.high left.may in
+    let same : value ≡ only.0 = only.1.alone value pair.low pair.high may in
+    sound c reason cell value g size s within (subst (λ (w : ℕ). cell < w * w) size pair.inside) h (number ∙ sym same))
 
 -- ---- rounds until nothing goes
 
-pub closure_reached : (Struck : CandidatesValue → Reason → ℕ → ℕ → Type 0) (grade : Grade) (a b c : CandidatesValue) → LeadsTo Struck grade a b
-    → Passes Struck grade (IsSettled Struck grade) b c → length c.trail ≡ length b.trail → IsClosure Struck grade a c
-closure_reached Struck grade a b c lead h e =
-    let whole = leads_on Struck grade a b c lead h.leads in
-    let same : c ≡ b = leads_same Struck grade b c h.leads e in
-    record {
-      steps = whole.steps;
-      chain = whole.chain;
-      allowed = whole.allowed;
-      size = leads_size Struck grade a c whole;
-      left = (
-        λ cell value left. subst (λ d. IsLeft d cell value) whole.is left,
-        λ cell value left. subst (λ d. IsLeft d cell value) (sym whole.is) left,
-      );
-      settled = subst (λ d. IsSettled Struck grade d) (sym same) (h.quiet e);
-    }
+-- what a chain leads to and is settled is what the grade leaves
+pub closure_reached : (Struck : CandidatesValue → Reason → ℕ → ℕ → Type 0) (grade : Grade) (a b : CandidatesValue) → LeadsTo Struck grade a b
+    → IsSettled Struck grade b → IsClosure Struck grade a b
+closure_reached Struck grade a b lead settled = record {
+  steps = lead.steps;
+  chain = lead.chain;
+  allowed = lead.allowed;
+  size = leads_size Struck grade a b lead;
+  left = (
+    λ cell value left. subst (λ d. IsLeft d cell value) lead.is left,
+    λ cell value left. subst (λ d. IsLeft d cell value) (sym lead.is) left,
+  );
+  settled = settled;
+}
 
 -- what a grade leaves of what a chain leads to it leaves of the start
 pub closure_after : (Struck : CandidatesValue → Reason → ℕ → ℕ → Type 0) (grade : Grade) (a b c : CandidatesValue) → LeadsTo Struck grade a b
@@ -128,8 +130,3 @@ closure_after Struck grade a b c lead h = record {
   left = subst (λ d. AreAlike d c) (ap (λ d. left_by d h.steps) lead.is ∙ sym (left_append a lead.steps h.steps)) h.left;
   settled = h.settled;
 }
-
--- each round takes something away
-pub round_longer : (Struck : CandidatesValue → Reason → ℕ → ℕ → Type 0) (grade : Grade) (IsQuiet : CandidatesValue → Type 0) (b c : CandidatesValue)
-    → Passes Struck grade IsQuiet b c → (length c.trail ≡ length b.trail → ⊥) → length b.trail < length c.trail
-round_longer Struck grade IsQuiet b c h moved = let more = leads_length Struck grade b c h.leads in omega (arith, more, moved)

@@ -1,10 +1,12 @@
 -- What is known of no rows, and of one more.
-use Rattle.std.proofs.Common.{◌≡◌, ℕ, ◌<◌, ◌≤◌, true, false, inl, inr, [], List, length, replicate, set, take, slice_index, slice_index_or, refl, sym, ap, ◌∙◌, subst, arith}
+use Rattle.std.proofs.Common.{◌≡◌, ℕ, ◌<◌, ◌≤◌, false, inl, inr, [], List, length, replicate, set, take, slice_index, slice_index_or, refl, sym, ap, ◌∙◌, subst, arith}
 use Rattle.std.proofs.lemmas.Bool.{both_ways, cases_eq, cases_lt}
-use Rattle.std.proofs.lemmas.List.{get_or_past, get_or-replicate, get_or-set_same, get_or-set_other, get_or-take, length-replicate, length-take-le}
+use Rattle.std.proofs.lemmas.List.{get_or_past, get_or-replicate, get_or-set_same, get_or-set_other, length-replicate, length-take-le}
 use Rattle.number_sets.specs.Sets.{has_number}
 use Rattle.number_sets.proofs.Members.{has_number-none}
+use Rattle.named_steps.specs.declared.known_rows.TheConstants.{SLOTS}
 use Rattle.named_steps.specs.Inner.KnownRows.{AreKept, IsBetween, IsKnown, AreKnown}
+use Rattle.named_steps.proofs.RowFillings.{HaveFillings, kept_of_both, has_taken}
 
 nothing_has : (k value : ℕ) → has_number (slice_index (replicate 9 0) k) value ≡ false
 nothing_has k value = elim (cases_lt k 9) [
@@ -15,14 +17,14 @@ nothing_has k value = elim (cases_lt k 9) [
 ]
 
 -- a row of no squares has no fillings' values
-pub none_known : AreKnown (replicate 64 0) (replicate 64 0) (replicate 64 (replicate 9 0)) (replicate 64 (replicate 9 0))
+pub none_known : AreKnown (replicate SLOTS 0) (replicate SLOTS 0) (replicate SLOTS (replicate 9 0)) (replicate SLOTS (replicate 9 0))
 none_known = record {
   each = λ place low.
       let empty : List ℕ = replicate 9 0 in
-      let widths : List ℕ = replicate 64 0 in
-      let rows : List (List ℕ) = replicate 64 empty in
-      let width : slice_index widths place ≡ 0 = get_or-replicate 64 place 0 0 low in
-      let kept : slice_index_or rows place [] ≡ empty = get_or-replicate 64 place empty [] low in
+      let widths : List ℕ = replicate SLOTS 0 in
+      let rows : List (List ℕ) = replicate SLOTS empty in
+      let width : slice_index widths place ≡ 0 = get_or-replicate SLOTS place 0 0 low in
+      let kept : slice_index_or rows place [] ≡ empty = get_or-replicate SLOTS place empty [] low in
       let none : IsKnown 0 (slice_index widths place) (slice_index_or rows place []) empty = record {
         room = omega arith;
         stays = λ k value. (
@@ -35,8 +37,8 @@ none_known = record {
 }
 
 -- the row of one slot is another one, of which this is kept
-pub one_known : (widths clues : List ℕ) (sets kept : List (List ℕ)) (place width clue : ℕ) (row found : List ℕ) → length widths ≡ 64 → length clues ≡ 64
-    → length sets ≡ 64 → length kept ≡ 64 → place < 64 → AreKnown widths clues sets kept → IsKnown width clue row found
+pub one_known : (widths clues : List ℕ) (sets kept : List (List ℕ)) (place width clue : ℕ) (row found : List ℕ)
+    → length widths ≡ SLOTS → length clues ≡ SLOTS → length sets ≡ SLOTS → length kept ≡ SLOTS → place < SLOTS → AreKnown widths clues sets kept → IsKnown width clue row found
     → AreKnown (set widths place width) (set clues place clue) (set sets place row) (set kept place found)
 one_known widths clues sets kept place width clue row found ws cs ss ks low known new = record {
   each = λ k inside. elim (cases_eq k place) [
@@ -61,55 +63,25 @@ one_known widths clues sets kept place width clue row found ws cs ss ks low know
 pub kept_between : (width clue : ℕ) (sets kept row : List ℕ) → IsKnown width clue sets kept → width ≤ 9 → length row ≡ 9
     → ((k : ℕ) → k < 9 → IsBetween (slice_index kept k) (slice_index row k) (slice_index sets k))
     → AreKept (take width row) clue kept
-kept_between width clue sets kept row known small count between place value =
+kept_between width clue sets kept row known small count between =
     let first : List ℕ = take width sets in
     let other : List ℕ = take width row in
     let long : length first ≡ width = length-take-le width sets known.room in
     let same : length other ≡ width = length-take-le width row (omega (arith, small, count)) in
-    let of_first : (k : ℕ) → k < width → slice_index first k ≡ slice_index sets k = λ k low. get_or-take width sets k 0 low in
-    let of_other : (k : ℕ) → k < width → slice_index other k ≡ slice_index row k = λ k low. get_or-take width row k 0 low in (
-      λ has.
-          let s = (known.stays place value).0 has in
-          let f = s.filling in
-          record {
-            line = s.line;
-            filling = record {
-              start = record {
-                room = omega (arith, f.whole, long, same);
-                values = λ j low. let v = f.start.values j low in (v.0, omega (arith, v.1, long, same));
-                candidates = λ j low.
-                    let below : j < width = omega (arith, low, f.whole, long) in
-                    let stays = (known.stays j (slice_index s.line j)).1
-                    (record { line = s.line; filling = f; inside = omega (arith, below, long); here = refl }) in
-                    subst (λ (set : ℕ). has_number set (slice_index s.line j) ≡ true) (sym (of_other j below))
-                    ((between j (omega (arith, below, small))).low (slice_index s.line j) stays);
-                apart = f.start.apart;
-              };
-              whole = f.whole ∙ long ∙ sym same;
-              shown = f.shown;
-            };
-            inside = omega (arith, s.inside, long, same);
-            here = s.here;
-          },
-      λ s.
-          let f = s.filling in
-          (known.stays place value).1 (record {
-            line = s.line;
-            filling = record {
-              start = record {
-                room = omega (arith, f.whole, long, same);
-                values = λ j low. let v = f.start.values j low in (v.0, omega (arith, v.1, long, same));
-                candidates = λ j low.
-                    let below : j < width = omega (arith, low, f.whole, same) in
-                    let there = subst (λ (set : ℕ). has_number set (slice_index s.line j) ≡ true) (of_other j below) (f.start.candidates j low) in
-                    subst (λ (set : ℕ). has_number set (slice_index s.line j) ≡ true) (sym (of_first j below))
-                    ((between j (omega (arith, below, small))).high (slice_index s.line j) there);
-                apart = f.start.apart;
-              };
-              whole = f.whole ∙ same ∙ sym long;
-              shown = f.shown;
-            };
-            inside = omega (arith, s.inside, long, same);
-            here = s.here;
-          }),
-    )
+    let there : HaveFillings clue first other = record {
+      count = long ∙ sym same;
+      each = λ line f k low.
+          let below : k < width = omega (arith, low, same) in
+          let v = slice_index line k in
+          let stays = (known.stays k v).1 (record { line = line; filling = f; inside = omega (arith, below, long); here = refl }) in
+          (has_taken width k v row below).1 ((between k (omega (arith, below, small))).low v stays);
+    } in
+    let back : HaveFillings clue other first = record {
+      count = same ∙ sym long;
+      each = λ line f k low.
+          let below : k < width = omega (arith, low, long) in
+          let v = slice_index line k in
+          let has = (has_taken width k v row below).0 (f.start.candidates k (omega (arith, f.whole, same, below))) in
+          (has_taken width k v sets below).1 ((between k (omega (arith, below, small))).high v has);
+    } in
+    kept_of_both clue first other kept there back known.stays

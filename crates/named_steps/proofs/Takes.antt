@@ -1,13 +1,17 @@
 -- Values that are taken away, square by square, and the steps that this is.
-use Rattle.std.proofs.Common.{◌≡◌, ◌↔◌, ◌⊎◌, ℕ, ◌+◌, ◌<◌, ◌≤◌, true, false, not, ◌&&◌, ◌||◌, ◌==◌, List, [], ◌∷◌, ◌++◌, length, inl, inr, refl, sym, ap, ◌∙◌, subst, arith, append_assoc, append-nil, length-append}
+use Rattle.std.proofs.Common.{◌≡◌, ◌↔◌, ◌⊎◌, ℕ, ◌+◌, ◌*◌, ◌<◌, ◌≤◌, true, false, not, ◌&&◌, ◌||◌, ◌==◌, List, [], ◌∷◌, ◌++◌, length, inl, inr, refl, sym, ap, ◌∙◌, subst, arith, append_assoc, append-nil, length-append}
 use Rattle.std.proofs.lemmas.Bool.{both_ways, and_parts, and_from, or_left, or_right, eq-eqb, eqb-true, cases_eq, cases_Bool, not_from_false, false_from_ne_true}
 use Rattle.std.proofs.lemmas.List.Folds.{list_any-append}
-use Rattle.number_sets.specs.Sets.{has_number}
+use Rattle.std.proofs.lemmas.Nat.{zero_from_ones}
+use Rattle.number_sets.specs.Sets.{has_number, IsEmpty}
+use Rattle.number_sets.proofs.Members.{has_number-none}
+use Rattle.latin_board.specs.Lines.{line_cell}
+use Rattle.latin_board.proofs.PeerLines.{places_apart}
 use Rattle.trail_solver.specs.Pairs.{IsPair, IsPrefix, has_pair, pairs_of}
-use Rattle.trail_solver.specs.Candidates.{CandidatesValue, IsEarlier, may_be}
+use Rattle.trail_solver.specs.Candidates.{CandidatesValue, IsEarlier, IsSetOf, AreCandidates, may_be}
 use Rattle.trail_solver.proofs.Earlier.{prefix-append}
 use Rattle.trail_solver.proofs.Removals.{set_below}
-use Rattle.trail_solver.proofs.SetPairs.{has_pair-pairs_of}
+use Rattle.trail_solver.proofs.SetPairs.{has_pair-pairs_of, length-pairs_of, pairs_of_none}
 use Rattle.named_steps.specs.Left.{IsLeft, IsFewer, without}
 use Rattle.named_steps.specs.Grades.{has_reason}
 use Rattle.named_steps.specs.Chains.{StepValue, IsChain, AreOfGrade, left_by}
@@ -105,6 +109,34 @@ takes_struck a b cell values s =
             | inr gone ↦ gone_append a b (pairs_of cell s.set) cell v s.trail gone
           ]);
     }
+
+-- what is struck is what a square's set shares with some values
+pub strikes_shared : (a b : CandidatesValue) (cell set values struck : ℕ) → a.size ≤ 9 → IsSetOf a cell set
+    → ((n : ℕ) → has_number struck n ≡ (has_number set n && has_number values n)) → AreCandidates a cell struck → b.size ≡ a.size
+    → b.trail ≡ a.trail ++ pairs_of cell struck → Strikes a b cell values
+strikes_shared a b cell set values struck small is shared left size trail = record {
+  set = struck;
+  small = small;
+  some = λ v has. (and_parts (has_number set v) (has_number values v) (sym (shared v) ∙ has)).1;
+  left = left;
+  all = λ v has pair may. shared v ∙ and_from (has_number set v) (has_number values v) ((is v).1 (pair, may)) has;
+  size = size;
+  trail = trail;
+}
+
+-- the trail grows where something is struck
+pub struck_moved : (a b : CandidatesValue) (cell struck : ℕ) → a.size ≤ 9 → AreCandidates a cell struck → b.trail ≡ a.trail ++ pairs_of cell struck
+    → (n : ℕ) × (has_number struck n ≡ true) → length b.trail ≡ length a.trail → ⊥
+struck_moved a b cell struck small left trail some e =
+    let low = set_below a.size cell struck small (λ v has. (left v has).0) in
+    let none : struck ≡ 0 = zero_from_ones struck (omega (arith, e, ap length trail, length-append a.trail (pairs_of cell struck), length-pairs_of cell struck low)) in
+    both_ways (has_number struck some.0) (ap (λ (n : ℕ). has_number n some.0) none ∙ has_number-none some.0) some.1
+
+-- and else not
+pub struck_still : (a b : CandidatesValue) (cell struck : ℕ) → b.trail ≡ a.trail ++ pairs_of cell struck → IsEmpty struck
+    → length b.trail ≡ length a.trail
+struck_still a b cell struck trail none =
+    ap length (trail ∙ ap (λ (ps : List (ℕ × ℕ)). a.trail ++ ps) (pairs_of_none cell struck none) ∙ append-nil a.trail)
 
 -- what the next of a row of squares loses
 pub takes_next : (at : ℕ → ℕ) (Values : ℕ → ℕ → Type 0) (k values : ℕ) (a b c : CandidatesValue)
@@ -234,6 +266,10 @@ leads_same Struck grade a b h e = same_more a b (leads_more Struck grade a b h) 
 pub takes_length : (Which : ℕ → ℕ → Type 0) (a b : CandidatesValue) → Takes Which a b → length a.trail ≤ length b.trail
 takes_length Which a b t = omega (arith, ap length t.trail, length-append a.trail t.pairs)
 
+-- so it is with what a square loses
+pub strikes_length : (a b : CandidatesValue) (cell values : ℕ) → Strikes a b cell values → length a.trail ≤ length b.trail
+strikes_length a b cell values s = takes_length (λ n v. (n ≡ cell) × (has_number values v ≡ true)) a b (takes_struck a b cell values s)
+
 -- and where it is no longer nothing was taken
 pub takes_same : (Which : ℕ → ℕ → Type 0) (a b : CandidatesValue) → Takes Which a b → length b.trail ≡ length a.trail → b ≡ a
 takes_same Which a b t e = same_more a b (record { pairs = t.pairs; size = t.size; trail = t.trail }) e
@@ -244,6 +280,22 @@ takes_stays Which a b cell v t left other =
     let is : b ≡ without a t.pairs = λ i. record { size = t.size i; trail = t.trail i } in
     subst (λ d. IsLeft d cell v) (sym is)
     (still_left a t.pairs cell v left (false_from_ne_true (has_pair t.pairs cell v) (λ has. other (t.each cell v has).1)))
+
+-- what went of the squares before leaves a square of a line as it was
+pub set_before : (Which : ℕ → ℕ → Type 0) (line k set : ℕ) (a b : CandidatesValue) → line < 2 * a.size
+    → Takes (λ cell v. (j : ℕ) × (j < k) × (cell ≡ line_cell a.size line j) × Which j v) a b → IsSetOf b (line_cell a.size line k) set
+    → IsSetOf a (line_cell a.size line k) set
+set_before Which line k set a b line_is t is v =
+    let cell = line_cell a.size line k in
+    let Gone : ℕ → ℕ → Type 0 = λ n u. (j : ℕ) × (j < k) × (n ≡ line_cell a.size line j) × Which j u in
+    let whole : b ≡ without a t.pairs = λ i. record { size = t.size i; trail = t.trail i } in
+    let fewer : IsFewer a b = subst (λ (d : CandidatesValue). IsFewer a d) (sym whole) (without_fewer a t.pairs) in (
+      λ has. let h = (is v).0 has in let left = fewer cell v (record { pair = h.0; may = h.1 }) in (left.pair, left.may),
+      λ h.
+          let left = takes_stays Gone a b cell v t (record { pair = h.0; may = h.1 })
+          (λ g. places_apart a.size line k g.0 line_is (λ e. omega (arith, e, g.1)) g.2) in
+          (is v).1 (left.pair, left.may),
+    )
 
 -- a reason of the grade strikes the pair
 abbrev pub HasStruck : (CandidatesValue → Reason → ℕ → ℕ → Type 0) → Grade → CandidatesValue → ℕ → ℕ → Type 0
@@ -310,42 +362,7 @@ passes_taken Struck less grade IsQuiet Which a b t why quiet = record {
       quiet (λ cell v pair h. subst (λ (d : CandidatesValue). may_be d cell v ≡ false) same (t.gone cell v pair h));
 }
 
--- ---- passes
-
--- nothing to go through
-pub passes_none : (Struck : CandidatesValue → Reason → ℕ → ℕ → Type 0) (grade : Grade) (IsQuiet : CandidatesValue → Type 0) (c : CandidatesValue) → IsQuiet c
-    → Passes Struck grade IsQuiet c c
-passes_none Struck grade IsQuiet c quiet = record { leads = leads_none Struck grade c; quiet = λ e. quiet }
-
--- what is quiet so is quiet in another way too
-pub passes_map : (Struck : CandidatesValue → Reason → ℕ → ℕ → Type 0) (grade : Grade) (IsQuiet IsStill : CandidatesValue → Type 0) (a b : CandidatesValue)
-    → (IsQuiet a → IsStill a) → Passes Struck grade IsQuiet a b → Passes Struck grade IsStill a b
-passes_map Struck grade IsQuiet IsStill a b f h = record { leads = h.leads; quiet = λ e. f (h.quiet e) }
-
--- one pass after another
-pub passes_both : (Struck : CandidatesValue → Reason → ℕ → ℕ → Type 0) (grade : Grade) (First Second : CandidatesValue → Type 0) (a b c : CandidatesValue)
-    → Passes Struck grade First a b → Passes Struck grade Second b c → Passes Struck grade (λ d. First d × Second d) a c
-passes_both Struck grade First Second a b c h k = record {
-  leads = leads_on Struck grade a b c h.leads k.leads;
-  quiet = λ e.
-      let first = leads_length Struck grade a b h.leads in
-      let second = leads_length Struck grade b c k.leads in
-      let same : length b.trail ≡ length a.trail = omega (arith, e, first, second) in
-      let whole : b ≡ a = leads_same Struck grade a b h.leads same in
-      (h.quiet same, subst (λ (d : CandidatesValue). Second d) whole (k.quiet (omega (arith, e, same))));
-}
-
--- the passes of a loop
-pub passes_next : (Struck : CandidatesValue → Reason → ℕ → ℕ → Type 0) (grade : Grade) (IsQuiet : ℕ → CandidatesValue → Type 0) (k : ℕ) (a b c : CandidatesValue)
-    → Passes Struck grade (λ d. (j : ℕ) → j < k → IsQuiet j d) a b → Passes Struck grade (IsQuiet k) b c
-    → Passes Struck grade (λ d. (j : ℕ) → j < k + 1 → IsQuiet j d) a c
-passes_next Struck grade IsQuiet k a b c h s =
-    let both = passes_both Struck grade (λ d. (j : ℕ) → j < k → IsQuiet j d) (IsQuiet k) a b c h s in
-    passes_map Struck grade (λ d. ((j : ℕ) → j < k → IsQuiet j d) × IsQuiet k d) (λ d. (j : ℕ) → j < k + 1 → IsQuiet j d) a c (λ q j low.
-    elim (cases_eq j k) [
-      | inl last ↦ subst (λ (i : ℕ). IsQuiet i a) (sym last) q.1
-      | inr other ↦ q.0 j (omega (arith, low, other))
-    ]) both
+-- ---- wider relations
 
 -- by a wider relation, and a higher grade
 wider_chain : (Less More : CandidatesValue → Reason → ℕ → ℕ → Type 0) (lower higher : Grade)
@@ -365,13 +382,3 @@ pub leads_wider : (Less More : CandidatesValue → Reason → ℕ → ℕ → Ty
 leads_wider Less More lower higher wider has a b h =
     let w = wider_chain Less More lower higher wider has a h.steps h.chain h.allowed in
     record { steps = h.steps; chain = w.0; allowed = w.1; is = h.is }
-
--- and a pass
-pub passes_wider : (Less More : CandidatesValue → Reason → ℕ → ℕ → Type 0) (lower higher : Grade)
-    → ((c : CandidatesValue) (reason : Reason) (cell v : ℕ) → Less c reason cell v → More c reason cell v)
-    → ((reason : Reason) → has_reason lower reason ≡ true → has_reason higher reason ≡ true) → (IsQuiet : CandidatesValue → Type 0) (a b : CandidatesValue)
-    → Passes Less lower IsQuiet a b → Passes More higher IsQuiet a b
-passes_wider Less More lower higher wider has IsQuiet a b h = record {
-  leads = leads_wider Less More lower higher wider has a b h.leads;
-  quiet = h.quiet;
-}

@@ -1,38 +1,63 @@
 -- What clues take away is struck by them, and where they take nothing they are settled.
-use Rattle.std.proofs.Common.{◌≡◌, ◌≢◌, ℕ, ◌*◌, ◌<◌, true, List, slice_index, refl, sym, subst, arith}
+use Rattle.std.proofs.Common.{◌≡◌, ◌≢◌, ℕ, ◌+◌, ◌-◌, ◌*◌, ◌<◌, ◌⊎◌, true, List, slice_index, inl, inr, refl, sym, ap, ◌∙◌, subst, arith}
+use Rattle.std.proofs.lemmas.Bool.{cases_lt, lt-ltb, le-ltb}
 use Rattle.number_sets.specs.Sets.{has_number}
 use Rattle.trail_solver.specs.Pairs.{IsPair}
 use Rattle.trail_solver.specs.Candidates.{CandidatesValue}
 use Rattle.clue_rules.specs.Towers.{TowersValue, clue_of}
-use Rattle.clue_rules.specs.Views.{view_cell}
-use Rattle.named_steps.specs.Left.{IsLeft}
-use Rattle.named_steps.specs.Fillings.{Anything, Standing, IsUnfilled}
+use Rattle.latin_board.specs.Lines.{line_cell}
+use Rattle.clue_rules.specs.Views.{view_cell, view_line, view_index, front_place}
+use Rattle.clue_rules.specs.Laws.Edges.{edge_cases, view_index_low}
+use Rattle.named_steps.specs.Fillings.{IsUnfilled}
 use Rattle.named_steps.specs.Reasons.{IsByClue, IsTowersStruckBy, AreStruckFrom}
 use Rattle.named_steps.specs.Grades.{has_reason}
-use Rattle.named_steps.specs.Laws.Less.{clue_less, towers_less}
-use Rattle.named_steps.specs.Passes.{Passes, AreCluesSettled}
+use Rattle.named_steps.specs.Laws.Less.{towers_less}
+use Rattle.named_steps.specs.Passes.{LeadsTo, StaysOn}
 use Rattle.named_steps.specs.Inner.Takes.{Takes}
-use Rattle.named_steps.specs.Inner.Rows.{May, IsViewQuiet, look_grade, look_reason}
-use Rattle.named_steps.proofs.Takes.{passes_taken, passes_map, passes_none, takes_map}
+use Rattle.named_steps.specs.QuietLines.{IsViewQuiet, AreViewsQuiet}
+use Rattle.named_steps.specs.Inner.Rows.{May, IsAlong, look_grade, look_reason}
+use Rattle.named_steps.specs.Laws.Quiet.{clue_was}
+use Rattle.named_steps.proofs.Takes.{leads_taken, takes_map}
 use Rattle.named_steps.specs.declared.clue_strikes.Look.{Look}
 use Rattle.named_steps.specs.declared.clue_strikes.Look.TheVariants.{Alone, Stands, Marks}
-use Rattle.named_steps.specs.declared.reason.Reason.{Reason}
-use Rattle.named_steps.specs.declared.reason.Reason.TheVariants.{Given, Peer, Place, Bound, Stand, Clue, Sign, Set}
-use Rattle.named_steps.specs.declared.grade.Grade.TheVariants.{Latin, Easy, Hard}
 
--- the values that are in no filling, square by square
-pub view_taken : (May : ℕ → ℕ → Type 0) (place clue : ℕ) (row : List ℕ) (a b : CandidatesValue)
-    → AreStruckFrom a.size (IsUnfilled a.size May place clue) place a.size row
-    → Takes (λ cell v. (k : ℕ) × (k < a.size) × (cell ≡ view_cell a.size place k) × (has_number (slice_index row k) v ≡ true)) a b
+-- the place of a square in the row from a place, and back
+view_index_twice : (w place k : ℕ) → k < w → view_index w place (view_index w place k) ≡ k
+view_index_twice w place k low = elim (cases_lt place w) [
+  | inl top ↦ rw (lt-ltb place w top) refl
+  | inr below ↦ elim (cases_lt place (2 * w)) [
+    | inl bottom ↦ rw (le-ltb place w below, lt-ltb place (2 * w) bottom) (omega (arith, low))
+    | inr beside ↦ elim (cases_lt place (3 * w)) [
+      | inl left ↦ rw (le-ltb place w below, le-ltb place (2 * w) beside, lt-ltb place (3 * w) left) refl
+      | inr right ↦ rw (le-ltb place w below, le-ltb place (2 * w) beside, le-ltb place (3 * w) right) (omega (arith, low))
+    ]
+  ]
+]
+
+-- the values that are in no filling, square by square along the line
+pub view_taken : (May : ℕ → ℕ → Type 0) (line place clue : ℕ) (row along : List ℕ) (a b : CandidatesValue) → view_line a.size place ≡ line
+    → AreStruckFrom a.size (IsUnfilled a.size May place clue) place a.size row → IsAlong a.size place row a.size along
+    → Takes (λ cell v. (k : ℕ) × (k < a.size) × (cell ≡ line_cell a.size line k) × (has_number (slice_index along k) v ≡ true)) a b
     → Takes (λ cell v. IsUnfilled a.size May place clue cell v) a b
-view_taken May place clue row a b r t =
-    takes_map (λ cell v. (k : ℕ) × (k < a.size) × (cell ≡ view_cell a.size place k) × (has_number (slice_index row k) v ≡ true))
-    (λ cell v. IsUnfilled a.size May place clue cell v) a b
-    (λ cell v h. subst (λ (n : ℕ). IsUnfilled a.size May place clue n v) (sym h.2) ((r.each h.0 v h.1).0 h.3).1)
+view_taken May line place clue row along a b on r is t =
+    let w = a.size in
+    let at : (k : ℕ) → view_cell w place k ≡ line_cell w line (view_index w place k) = λ k. ap (λ (l : ℕ). line_cell w l (view_index w place k)) on in
+    takes_map (λ cell v. (k : ℕ) × (k < w) × (cell ≡ line_cell w line k) × (has_number (slice_index along k) v ≡ true))
+    (λ cell v. IsUnfilled w May place clue cell v) a b
+    (λ cell v h.
+    let j = view_index w place h.0 in
+    let low : j < w = view_index_low w place h.0 h.1 in
+    let has : has_number (slice_index row j) v ≡ true = subst (λ (set : ℕ). has_number set v ≡ true) (is.each h.0 h.1) h.3 in
+    let here : view_cell w place j ≡ cell = at j ∙ ap (line_cell w line) (view_index_twice w place h.0 h.1) ∙ sym h.2 in
+    subst (λ (n : ℕ). IsUnfilled w May place clue n v) here ((r.each j v low).0 has).1)
     (λ cell v pair h.
-    let there : IsPair a.size (view_cell a.size place h.index) v = subst (λ (n : ℕ). IsPair a.size n v) (sym h.here) pair in
-    let again : IsUnfilled a.size May place clue (view_cell a.size place h.index) v = subst (λ (n : ℕ). IsUnfilled a.size May place clue n v) (sym h.here) h in
-    (h.index, h.inside, sym h.here, (r.each h.index v h.inside).1 (there, again))) t
+    let k = view_index w place h.index in
+    let low : k < w = view_index_low w place h.index h.inside in
+    let there : IsPair w (view_cell w place h.index) v = subst (λ (n : ℕ). IsPair w n v) (sym h.here) pair in
+    let again : IsUnfilled w May place clue (view_cell w place h.index) v = subst (λ (n : ℕ). IsUnfilled w May place clue n v) (sym h.here) h in
+    let has : has_number (slice_index row h.index) v ≡ true = (r.each h.index v h.inside).1 (there, again) in
+    let set : slice_index along k ≡ slice_index row h.index = is.each k low ∙ ap (slice_index row) (view_index_twice w place h.index h.inside) in
+    (k, low, sym h.here ∙ at h.index, subst (λ (n : ℕ). has_number n v ≡ true) (sym set) has)) t
 
 look_has : (look : Look) (place : ℕ) → has_reason (look_grade look) (look_reason look place) ≡ true
 look_has Alone place = refl
@@ -48,13 +73,12 @@ look_struck v Stands c place cell value h =
 look_struck v Marks c place cell value h =
     record { place_is = h.place_is; clued = h.clued; unfilled = h.unfilled }
 
-pub view_pass : (v : TowersValue) (look : Look) (place clue : ℕ) (a b : CandidatesValue) → a.size ≡ v.size → place < 4 * a.size → clue ≡ clue_of v place
-    → clue ≢ 0 → Takes (λ cell x. IsUnfilled a.size (May look a) place clue cell x) a b
-    → Passes (IsTowersStruckBy v) (look_grade look) (IsViewQuiet v look place) a b
-view_pass v look place clue a b size place_in is some t =
+-- what is taken away from a place a clue strikes, and it strikes nothing more where all stays along its line
+pub view_leads : (v : TowersValue) (look : Look) (place clue : ℕ) (a b : CandidatesValue) → a.size ≡ v.size → place < 4 * a.size → clue ≡ clue_of v place
+    → clue ≢ 0 → Takes (λ cell x. IsUnfilled a.size (May look a) place clue cell x) a b → LeadsTo (IsTowersStruckBy v) (look_grade look) a b
+view_leads v look place clue a b size place_in is some t =
     let A : ℕ → ℕ → ℕ → ℕ → Type 0 = λ n k cell x. IsUnfilled n (May look a) place k cell x in
-    passes_taken (IsTowersStruckBy v) (towers_less v) (look_grade look) (IsViewQuiet v look place)
-    (λ cell x. IsUnfilled a.size (May look a) place clue cell x) a b t
+    leads_taken (IsTowersStruckBy v) (towers_less v) (look_grade look) (λ cell x. IsUnfilled a.size (May look a) place clue cell x) a b t
     (λ cell x pair h. (
       look_reason look place,
       look_has look place,
@@ -64,68 +88,45 @@ view_pass v look place clue a b size place_in is some t =
         unfilled = subst (λ (n : ℕ). A n (clue_of v place) cell x) size (subst (λ (k : ℕ). A a.size k cell x) is h);
       }),
     ))
-    (λ gone cell x pair h. gone cell x pair
-    (subst (λ (k : ℕ). A a.size k cell x) (sym is) (subst (λ (n : ℕ). A n (clue_of v place) cell x) (sym size) h.unfilled)))
 
--- no clue, nothing to strike
-pub view_skip : (v : TowersValue) (look : Look) (place clue : ℕ) (c : CandidatesValue) → clue ≡ clue_of v place → clue ≡ 0 → IsViewQuiet v look place c
-view_skip v look place clue c is none = λ cell value pair h. absurd (omega (arith, is, none, h.clued))
+pub view_calm : (v : TowersValue) (look : Look) (line place clue : ℕ) (a b : CandidatesValue) → a.size ≡ v.size → place < 4 * a.size
+    → view_line a.size place ≡ line → clue ≡ clue_of v place → Takes (λ cell x. IsUnfilled a.size (May look a) place clue cell x) a b → StaysOn line a b
+    → IsViewQuiet v look place b
+view_calm v look line place clue a b size place_in on is t stays cell value pair h =
+    let was = clue_was v look place cell value a b size place_in (subst (λ (l : ℕ). StaysOn l a b) (sym on) stays) h in
+    let A : ℕ → ℕ → ℕ → ℕ → Type 0 = λ n k c x. IsUnfilled n (May look a) place k c x in
+    let struck : A a.size clue cell value = subst (λ (k : ℕ). A a.size k cell value) (sym is) (subst (λ (n : ℕ). A n (clue_of v place) cell value) (sym size) was.unfilled) in
+    t.gone cell value (subst (λ (w : ℕ). IsPair w cell value) t.size pair) struck
 
--- ---- all clues, as a grade looks at them
+-- a place that looks along a line is one of its two ends
+ends : (w place line : ℕ) → place < 4 * w → view_line w place ≡ line → (place ≡ front_place w line) ⊎ (place ≡ front_place w line + w)
+ends w place line inside =
+    edge_cases (λ at. at ≡ line → (place ≡ front_place w line) ⊎ (place ≡ front_place w line + w)) w place _ _ _ _
+    (λ upper is. inl (rw (le-ltb line w (omega arith)) (omega arith)))
+    (λ from lower is. inr (rw (le-ltb line w (omega arith)) (omega arith)))
+    (λ from left is. inl (rw (lt-ltb line w (omega arith)) (omega arith)))
+    (λ right is. inr (rw (lt-ltb line w (omega arith)) (omega arith)))
 
--- the lowest grade looks at no clue and no sign
-pub latin_clues : (Struck : CandidatesValue → Reason → ℕ → ℕ → Type 0) (c : CandidatesValue) → AreCluesSettled Struck Latin c
-latin_clues Struck c (Given at) cell value is has = absurd (cc)
-latin_clues Struck c (Peer by) cell value is has = absurd (cc)
-latin_clues Struck c (Place line index other) cell value is has = absurd (cc)
-latin_clues Struck c (Bound place) cell value is has = absurd (cc)
-latin_clues Struck c (Stand place) cell value is has = absurd (cc)
-latin_clues Struck c (Clue place) cell value is has = absurd (cc)
-latin_clues Struck c (Sign from to) cell value is has = absurd (cc)
-latin_clues Struck c (Set line squares values) cell value is has = absurd (cc)
+-- the place after the last square of a line looks along it, too
+pub back_line : (w line : ℕ) → line < 2 * w → view_line w (front_place w line + w) ≡ line
+back_line w line inside = elim (cases_lt line w) [
+  | inl row ↦
+      rw (lt-ltb line w row, le-ltb (2 * w + line + w) w (omega arith), le-ltb (2 * w + line + w) (2 * w) (omega arith), le-ltb (2 * w + line + w) (3 * w) (omega arith))
+      (omega arith)
+  | inr column ↦ rw (le-ltb line w column, le-ltb (line - w + w) w (omega arith), lt-ltb (line - w + w) (2 * w) (omega arith)) (omega arith)
+]
 
--- what is left may stand
-left_stands : (c : CandidatesValue) (cell value : ℕ) → IsLeft c cell value → Standing c cell value
-left_stands c cell value left = λ alone none. none value left
+-- and it is one of the grid's
+pub back_low : (w line : ℕ) → line < 2 * w → front_place w line + w < 4 * w
+back_low w line inside = elim (cases_lt line w) [
+  | inl row ↦ rw (lt-ltb line w row) (omega (arith, row))
+  | inr column ↦ rw (le-ltb line w column) (omega (arith, inside, column))
+]
 
-easy_settled : (v : TowersValue) (c : CandidatesValue) → ((place : ℕ) → place < 4 * v.size → IsViewQuiet v Stands place c)
-    → AreCluesSettled (IsTowersStruckBy v) Easy c
-easy_settled v c quiet (Given at) cell value is has pair h = absurd (cc)
-easy_settled v c quiet (Peer by) cell value is has pair h = absurd (cc)
-easy_settled v c quiet (Place line index other) cell value is has pair h = absurd (cc)
-easy_settled v c quiet (Bound place) cell value is has pair h =
-    quiet place h.place_is cell value pair (clue_less v Anything (Standing c) place cell value (λ k x may. tt) h)
-easy_settled v c quiet (Stand place) cell value is has pair h = quiet place h.place_is cell value pair h
-easy_settled v c quiet (Clue place) cell value is has pair h = absurd (cc)
-easy_settled v c quiet (Sign from to) cell value is has pair h = absurd h
-easy_settled v c quiet (Set line squares values) cell value is has pair h = absurd (cc)
-
-hard_settled : (v : TowersValue) (c : CandidatesValue) → ((place : ℕ) → place < 4 * v.size → IsViewQuiet v Marks place c)
-    → AreCluesSettled (IsTowersStruckBy v) Hard c
-hard_settled v c quiet (Given at) cell value is has pair h = absurd (cc)
-hard_settled v c quiet (Peer by) cell value is has pair h = absurd (cc)
-hard_settled v c quiet (Place line index other) cell value is has pair h = absurd (cc)
-hard_settled v c quiet (Bound place) cell value is has pair h =
-    quiet place h.place_is cell value pair (clue_less v Anything (IsLeft c) place cell value (λ k x may. tt) h)
-hard_settled v c quiet (Stand place) cell value is has pair h =
-    quiet place h.place_is cell value pair (clue_less v (Standing c) (IsLeft c) place cell value (left_stands c) h)
-hard_settled v c quiet (Clue place) cell value is has pair h = quiet place h.place_is cell value pair h
-hard_settled v c quiet (Sign from to) cell value is has pair h = absurd h
-hard_settled v c quiet (Set line squares values) cell value is has pair h = absurd (cc)
-
-pub latin_towers : (v : TowersValue) (c : CandidatesValue) → Passes (IsTowersStruckBy v) Latin (AreCluesSettled (IsTowersStruckBy v) Latin) c c
-latin_towers v c = passes_none (IsTowersStruckBy v) Latin (AreCluesSettled (IsTowersStruckBy v) Latin) c (latin_clues (IsTowersStruckBy v) c)
-
-pub easy_towers : (v : TowersValue) (a b : CandidatesValue) → a.size ≡ v.size
-    → Passes (IsTowersStruckBy v) Easy (λ c. (place : ℕ) → place < 4 * a.size → IsViewQuiet v Stands place c) a b
-    → Passes (IsTowersStruckBy v) Easy (AreCluesSettled (IsTowersStruckBy v) Easy) a b
-easy_towers v a b size h =
-    passes_map (IsTowersStruckBy v) Easy (λ c. (place : ℕ) → place < 4 * a.size → IsViewQuiet v Stands place c) (AreCluesSettled (IsTowersStruckBy v) Easy) a b
-    (λ quiet. easy_settled v a (λ place low. quiet place (omega (arith, low, size)))) h
-
-pub hard_towers : (v : TowersValue) (a b : CandidatesValue) → a.size ≡ v.size
-    → Passes (IsTowersStruckBy v) Hard (λ c. (place : ℕ) → place < 4 * a.size → IsViewQuiet v Marks place c) a b
-    → Passes (IsTowersStruckBy v) Hard (AreCluesSettled (IsTowersStruckBy v) Hard) a b
-hard_towers v a b size h =
-    passes_map (IsTowersStruckBy v) Hard (λ c. (place : ℕ) → place < 4 * a.size → IsViewQuiet v Marks place c) (AreCluesSettled (IsTowersStruckBy v) Hard) a b
-    (λ quiet. hard_settled v a (λ place low. quiet place (omega (arith, low, size)))) h
+-- where the clues at both ends strike nothing, no clue along the line does
+pub ends_quiet : (v : TowersValue) (look : Look) (line : ℕ) (c : CandidatesValue) → IsViewQuiet v look (front_place c.size line) c
+    → IsViewQuiet v look (front_place c.size line + c.size) c → AreViewsQuiet v look line c
+ends_quiet v look line c front back place low on = elim (ends c.size place line low on) [
+  | inl first ↦ subst (λ (n : ℕ). IsViewQuiet v look n c) (sym first) front
+  | inr second ↦ subst (λ (n : ℕ). IsViewQuiet v look n c) (sym second) back
+]

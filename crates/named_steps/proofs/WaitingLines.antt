@@ -1,18 +1,18 @@
 -- Which lines wait after a look along one, and which are quiet.
-use Rattle.std.proofs.Common.{◌≡◌, ◌≢◌, ℕ, ◌+◌, ◌-◌, ◌*◌, ◌/◌, ◌%◌, ◌<◌, ◌≤◌, ◌⊎◌, Bool, true, false, not, ◌&&◌, ◌||◌, ◌==◌, List, length, slice_index, inl, inr, refl, sym, ap, ◌∙◌, subst, arith}
-use Rattle.std.proofs.lemmas.Bool.{both_ways, cases_eq, cases_lt, or_parts, or_left, or_right, eq-eqb, ne_eqb, lt-ltb, le-ltb, false_from_ne_true}
+use Rattle.std.proofs.Common.{◌≡◌, ◌≢◌, ℕ, ◌+◌, ◌-◌, ◌*◌, ◌/◌, ◌%◌, ◌<◌, ◌≤◌, ◌⊎◌, Bool, true, false, ◌||◌, ◌==◌, List, length, slice_index, inl, inr, refl, sym, ap, ◌∙◌, subst, arith}
+use Rattle.std.proofs.lemmas.Bool.{both_ways, cases_eq, cases_lt, cases_Bool, or_left, or_right, eq-eqb, lt-ltb, le-ltb, false_from_ne_true}
 use Rattle.std.proofs.lemmas.Nat.{div-mul-add, mod-mul-add}
 use Rattle.number_sets.specs.Sets.{has_number, IsEmpty}
 use Rattle.latin_board.specs.Lines.{line_cell}
-use Rattle.latin_board.proofs.LatinLines.{line_cell_inside}
 use Rattle.trail_solver.specs.Pairs.{IsPair}
 use Rattle.trail_solver.specs.Candidates.{CandidatesValue, IsSetOf, may_be}
 use Rattle.named_steps.specs.Left.{IsLeft, IsFewer, HasNoOther}
-use Rattle.named_steps.specs.Inner.LineStrikes.{IsByRest, IsRestQuiet}
+use Rattle.named_steps.specs.Passes.{StaysOn, LosesAt}
+use Rattle.named_steps.specs.Inner.LineStrikes.{IsByRest, IsRestQuiet, AreLineSets}
 use Rattle.named_steps.specs.Inner.Takes.{Strikes, Takes}
-use Rattle.named_steps.specs.Inner.WaitingLines.{is_waiting, is_crossing, AreOthersQuiet, AreLinesQuiet, AreChanged, AreSets, AreSetsOn}
+use Rattle.named_steps.specs.Inner.WaitingLines.{is_crossing, AreChanged}
+use Rattle.named_steps.proofs.ChangedLines.{on_or_off}
 use Rattle.named_steps.proofs.Takes.{takes_struck, takes_length, takes_same, takes_stays}
-use Rattle.named_steps.specs.declared.waiting.Waiting.{Waiting}
 
 -- ---- squares of which something went
 
@@ -38,6 +38,19 @@ changed_next line places one more k values a b c low longer is_one is_more h s m
           takes_stays Here b c cell v t before (λ here. apart k low last here.0);
       went = λ j has. omega (arith, longer, takes_length Here b c t, moved);
       same = λ e. absurd (both_ways (has_number more k) (e k) last);
+    }
+
+-- of one square
+pub changed_one : (line one k values : ℕ) (a b : CandidatesValue) → k < a.size → ((j : ℕ) → has_number one j ≡ (j == k))
+    → Strikes a b (line_cell a.size line k) values → (length b.trail ≡ length a.trail → ⊥) → AreChanged line one a b
+changed_one line one k values a b low is s moved =
+    let Here : ℕ → ℕ → Type 0 = λ cell v. (cell ≡ line_cell a.size line k) × (has_number values v ≡ true) in
+    let t : Takes Here a b = takes_struck a b (line_cell a.size line k) values s in
+    let has : has_number one k ≡ true = is k ∙ eq-eqb k k refl in
+    record {
+      stays = λ cell v left apart. takes_stays Here a b cell v t left (λ here. apart k low has here.0);
+      went = λ j there. omega (arith, takes_length Here a b t, moved);
+      same = λ e. absurd (both_ways (has_number one k) (e k) has);
     }
 
 -- or nothing
@@ -108,54 +121,77 @@ apart_from w line places other line_is other_is apart uncrossed j k j_is k_is ha
           ]
     ]
 
--- nothing was struck along the line, which is quiet then
-pub waits_no_more : (line : ℕ) (before after : Waiting) (c : CandidatesValue) → AreOthersQuiet before c → IsRestQuiet line c
-    → ((other : ℕ) → is_waiting c.size after other ≡ (is_waiting c.size before other && not (other == line))) → AreOthersQuiet after c
-waits_no_more line before after c quiet here is other low free = elim (cases_eq other line) [
-  | inl same ↦ subst (λ (l : ℕ). IsRestQuiet l c) (sym same) here
-  | inr apart ↦ quiet other low (free_before (is_waiting c.size before other) (other == line) (ne_eqb other line apart) (sym (is other) ∙ free))
-]
-  where
-    free_before : (b e : Bool) → e ≡ false → (b && not e) ≡ false → b ≡ false
-    free_before true e other free = absurd (both_ways (not e) free (ap not other))
-    free_before false e other free = refl
+-- where nothing went of other squares than those at some places of a line, all stays on lines that don't cross it there
+pub stays_apart : (line places other : ℕ) (a b : CandidatesValue) → line < 2 * a.size → other < 2 * a.size → other ≢ line
+    → is_crossing a.size line places other ≡ false → LosesAt line places a b → StaysOn other a b
+stays_apart line places other a b line_is other_is apart uncrossed loses j v j_is left =
+    loses.stays (line_cell a.size other j) v left (λ k k_is has. apart_from a.size line places other line_is other_is apart uncrossed j k j_is k_is has)
 
--- something was struck, so the lines wait that cross it there
-pub waits_across : (line places : ℕ) (before after : Waiting) (a b : CandidatesValue) → line < 2 * a.size → is_waiting a.size before line ≡ true
-    → b.size ≡ a.size → IsFewer a b → AreOthersQuiet before a → AreChanged line places a b
-    → ((other : ℕ) → is_waiting a.size after other ≡ (is_waiting a.size before other || is_crossing a.size line places other)) → AreOthersQuiet after b
-waits_across line places before after a b line_is waits size fewer quiet changed is other low free =
-    let here : other < 2 * a.size = omega (arith, low, size) in
-    let free_a : is_waiting a.size after other ≡ false = subst (λ (w : ℕ). is_waiting w after other ≡ false) size free in
-    let parts = or_parts (is_waiting a.size before other) (is_crossing a.size line places other) (sym (is other) ∙ free_a) in
-    let apart : other ≢ line = λ same. both_ways (is_waiting a.size before other) parts.0 (subst (λ (l : ℕ). is_waiting a.size before l ≡ true) (sym same) waits) in
-    quiet_stays other a b size fewer
-    (λ j v j_is left. changed.stays (line_cell a.size other j) v left
-    (λ k k_is has. apart_from a.size line places other line_is here apart parts.1 j k j_is k_is has))
-    (quiet other here parts.0)
+-- where nothing went at any place, all stays on each line
+pub stays_all : (line places other : ℕ) (a b : CandidatesValue) → IsEmpty places → LosesAt line places a b → StaysOn other a b
+stays_all line places other a b none loses j v j_is left =
+    loses.stays (line_cell a.size other j) v left (λ k k_is has. absurd (both_ways (has_number places k) (none k) has))
+
+-- what stays stays at first
+pub stays_first : (line : ℕ) (a b c : CandidatesValue) → IsFewer b c → StaysOn line a c → StaysOn line a b
+stays_first line a b c fewer stays = λ k v low left. fewer (line_cell a.size line k) v (stays k v low left)
+
+-- and afterwards
+pub stays_second : (line : ℕ) (a b c : CandidatesValue) → b.size ≡ a.size → IsFewer a b → StaysOn line a c → StaysOn line b c
+stays_second line a b c size fewer stays =
+    let On : ℕ → Type 0 = λ w. (k v : ℕ) → k < w → IsLeft b (line_cell w line k) v → IsLeft c (line_cell w line k) v in
+    subst On (sym size) (λ k v low left. stays k v low (fewer (line_cell a.size line k) v left))
+
+-- the exact places serve
+pub loses_changed : (line places : ℕ) (a b : CandidatesValue) → AreChanged line places a b → LosesAt line places a b
+loses_changed line places a b h = record { stays = h.stays; went = h.went }
+
+-- what goes at some places, and then at others
+pub loses_both : (line first second both : ℕ) (a b c : CandidatesValue) → b.size ≡ a.size → length a.trail ≤ length b.trail → length b.trail ≤ length c.trail
+    → ((k : ℕ) → has_number both k ≡ (has_number first k || has_number second k)) → LosesAt line first a b → LosesAt line second b c → LosesAt line both a c
+loses_both line first second both a b c size longer further is h k = record {
+  stays = λ cell v left apart.
+      let there = h.stays cell v left (λ j low has. apart j low (is j ∙ or_left (has_number first j) (has_number second j) has)) in
+      let Apart : ℕ → Type 0 = λ w. (j : ℕ) → j < w → has_number second j ≡ true → cell ≢ line_cell w line j in
+      k.stays cell v there (subst Apart (sym size) (λ j low has. apart j low (is j ∙ or_right (has_number first j) (has_number second j) has)));
+  went = λ j has. elim (cases_Bool (has_number first j)) [
+    | inl before ↦ omega (arith, h.went j before, further)
+    | inr lacks ↦
+        let after : has_number second j ≡ true = elim (cases_Bool (has_number second j)) [
+          | inl one ↦ one
+          | inr none ↦ absurd (both_ways (has_number both j) (is j ∙ ap (λ (x : Bool). x || has_number second j) lacks ∙ none) has)
+        ] in
+        omega (arith, k.went j after, longer)
+  ];
+}
+
+-- what goes of the squares of a line alone, at the places where the sets have changed
+pub loses_by_sets : (line places : ℕ) (sets : List ℕ) (a b : CandidatesValue) → line < 2 * a.size → b.size ≡ a.size → AreLineSets a line a.size sets
+    → ((k : ℕ) → k < b.size → has_number places k ≡ false → IsSetOf b (line_cell b.size line k) (slice_index sets k))
+    → ((k : ℕ) → has_number places k ≡ true → (k < b.size) × (IsSetOf b (line_cell b.size line k) (slice_index sets k) → ⊥))
+    → ((cell v : ℕ) → IsLeft a cell v → ((k : ℕ) → k < a.size → cell ≢ line_cell a.size line k) → IsLeft b cell v)
+    → length a.trail ≤ length b.trail → (length b.trail ≡ length a.trail → b ≡ a) → LosesAt line places a b
+loses_by_sets line places sets a b line_is size before unchanged changed elsewhere longer same = record {
+  stays = λ cell v left apart. elim (on_or_off a.size line cell line_is left.pair.inside) [
+    | inl at ↦
+        let lacks : has_number places at.0 ≡ false = false_from_ne_true (has_number places at.0) (λ has. apart at.0 at.1 has (sym at.2)) in
+        let P : ℕ → Type 0 = λ (n : ℕ). IsLeft a n v in
+        let left_at : IsLeft a (line_cell a.size line at.0) v = subst P (sym at.2) left in
+        let has : has_number (slice_index sets at.0) v ≡ true = (before.each at.0 at.1 v).1 (left_at.pair, left_at.may) in
+        let now = (unchanged at.0 (omega (arith, at.1, size)) lacks v).0 has in
+        let there : IsLeft b (line_cell b.size line at.0) v = record { pair = now.0; may = now.1 } in
+        subst (λ (n : ℕ). IsLeft b n v) (ap (λ (n : ℕ). line_cell n line at.0) size ∙ at.2) there
+    | inr away ↦ elsewhere cell v left (λ k low here. away k low (sym here))
+  ];
+  went = λ k has. elim (cases_eq (length b.trail) (length a.trail)) [
+    | inl still ↦
+        let is : b ≡ a = same still in
+        let at = changed k has in
+        let Other : CandidatesValue → Type 0 = λ d. (k < d.size) × (IsSetOf d (line_cell d.size line k) (slice_index sets k) → ⊥) in
+        let there : Other a = subst Other is at in
+        absurd (there.1 (before.each k there.0))
+    | inr moved ↦ omega (arith, longer, moved)
+  ];
+}
 
 -- ---- squares before and after
-
--- of a line that is as the sets say, all is left that was
-pub sets_stay : (line : ℕ) (sets : List ℕ) (c d : CandidatesValue) → line < 2 * c.size → d.size ≡ c.size → AreSets c (c.size * c.size) sets → AreSetsOn line d sets
-    → (k v : ℕ) → k < c.size → IsLeft c (line_cell c.size line k) v → IsLeft d (line_cell c.size line k) v
-sets_stay line sets c d line_is size before after k v low left =
-    let cell = line_cell c.size line k in
-    let has : has_number (slice_index sets cell) v ≡ true = (before.each cell (line_cell_inside c.size line k line_is low) v).1 (left.pair, left.may) in
-    let there : IsSetOf d cell (slice_index sets cell) =
-    subst (λ (w : ℕ). IsSetOf d (line_cell w line k) (slice_index sets (line_cell w line k))) size (after k (omega (arith, low, size))) in
-    let now = (there v).0 has in
-    record { pair = now.0; may = now.1 }
-
--- where all lines were quiet, those are that haven't changed
-pub unchanged_quiet : (waiting : Waiting) (sets : List ℕ) (c d : CandidatesValue) → d.size ≡ c.size → IsFewer c d → AreLinesQuiet c
-    → AreSets c (c.size * c.size) sets → ((line : ℕ) → line < 2 * d.size → is_waiting d.size waiting line ≡ false → AreSetsOn line d sets)
-    → AreOthersQuiet waiting d
-unchanged_quiet waiting sets c d size fewer quiet before after line low free =
-    let here : line < 2 * c.size = omega (arith, low, size) in
-    quiet_stays line c d size fewer (sets_stay line sets c d here size before (after line low free)) (quiet line here)
-
--- where all lines wait no other is to be quiet
-pub all_wait : (waiting : Waiting) (c : CandidatesValue) → c.size ≤ 9 → ((w line : ℕ) → w ≤ 9 → line < 2 * w → is_waiting w waiting line ≡ true)
-    → AreOthersQuiet waiting c
-all_wait waiting c small all line low free = absurd (both_ways (is_waiting c.size waiting line) free (all c.size line small low))

@@ -5,8 +5,6 @@ pub mod KnownRows
 pub mod Takes
 pub mod LineStrikes
 pub mod WaitingLines
-pub mod WaitingGroups
-pub mod RestSteps
-pub mod OtherSets
-pub mod SignStrikes
+pub mod Stages
+pub mod LineTallies
 pub mod Fills

@@ -4,3 +4,4 @@ pub mod Sound
 pub mod Cuts
 pub mod Shared
 pub mod Placed
+pub mod Quiet

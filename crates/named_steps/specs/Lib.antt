@@ -15,6 +15,8 @@ pub mod Chains
 pub mod Following
 -- what going through some reasons leads to
 pub mod Passes
+-- along which lines clues or signs strike nothing more
+pub mod QuietLines
 -- which puzzles follow by a grade, and the least of them
 pub mod Graded
 -- the laws of named steps

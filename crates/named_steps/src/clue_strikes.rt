@@ -1,15 +1,13 @@
 //! What a clue strikes.
-ghost use Rattle.std.specs.Prelude.{◌≡◌, ◌↔◌, ℕ, ◌*◌, ◌<◌, ◌≤◌, true, length, slice_index};
+ghost use Rattle.std.specs.Prelude.{◌≡◌, ◌↔◌, ℕ, ◌-◌, ◌*◌, ◌<◌, ◌≤◌, true, if◌then◌else◌, length, slice_index};
 ghost use Rattle.number_sets.specs.Sets.{has_number};
 ghost use Rattle.trail_solver.specs.Pairs.{IsPair};
-ghost use Rattle.clue_rules.specs.Views.{view_cell};
+ghost use Rattle.clue_rules.specs.Views.{view_cell, view_index};
 ghost use Rattle.named_steps.specs.Fillings.{IsUnfilled};
-ghost use Rattle.named_steps.specs.Inner.Rows.{May, IsMaySet, AreMaySets, AreMissing};
+ghost use Rattle.named_steps.specs.Inner.Rows.{May, IsMaySet, AreMaySets, AreMissing, IsAlong};
 ghost use Rattle.named_steps.specs.Reasons.{AreStruckFrom};
-ghost use Rattle.named_steps.specs.Inner.Takes.{Takes};
 
 use crate::known_rows::KnownRows;
-use crate::striking::strike;
 use clue_rules::view_cell;
 use number_sets::NumberSet;
 use trail_solver::Candidates;
@@ -50,32 +48,31 @@ pub(crate) fn by_clue(
     NumberSet::empty()
 }
 
-/// Takes away what the clue at a place rules out in the squares from there.
-pub(crate) fn strike_view(
-    candidates: &mut Candidates,
-    look: Look,
-    place: u8,
-    clue: u8,
-    known: &mut KnownRows,
-)
-    requires place { place < 4 * candidates.old.size }
-    requires clue { clue ≤ candidates.old.size }
-    ensures { Takes (λ cell v. IsUnfilled candidates.old.size (May look candidates.old) place clue cell v)
-        candidates.old candidates.new }
+/// A row of sets from a place, in the order of the squares of its line.
+pub(crate) fn along_line(row: &[NumberSet; 9], place: u8, width: u8) -> [NumberSet; 9]
+    requires width { width ≤ 9 }
+    requires place { place < 4 * width }
+    ensures { IsAlong width place row.now width result }
 {
-    let row = unfilled_row(candidates, look, place, clue, known);
-    strike_row(candidates, place, &row);
+    let is_far = is_far(place, width);
+    let mut along = [NumberSet::empty(); 9];
+    for k in 0..width {
+        let from = if is_far { width - 1 - k } else { k };
+        along[k as usize] = row[from as usize];
+    }
+    along
 }
 
-// Takes away from each square from a place the values of its set.
-fn strike_row(candidates: &mut Candidates, place: u8, row: &[NumberSet; 9])
-    requires { place < 4 * candidates.old.size }
-    ensures { Takes (λ cell v. (k : ℕ) × (k < candidates.old.size) × (cell ≡ view_cell candidates.old.size place k)
-        × (has_number (slice_index row.now k) v ≡ true)) candidates.old candidates.new }
+// Whether a place is after the last square of its line: at the lower or the right edge.
+fn is_far(place: u8, width: u8) -> bool
+    requires width { width ≤ 9 }
+    requires place { place < 4 * width }
+    ensures { (k : ℕ) → view_index width place k ≡ (if result then width - 1 - k else k) }
 {
-    let size = candidates.size();
-    for k in 0..size.get() as usize {
-        strike(candidates, view_cell(size, place, k), row[k]);
+    if place < 2 * width {
+        place >= width
+    } else {
+        place >= 3 * width
     }
 }
 

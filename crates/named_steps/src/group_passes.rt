@@ -1,45 +1,30 @@
 //! What groups of a line's squares strike: as many values as squares are all that is left of them.
 ghost use Rattle.std.specs.Prelude.{◌≡◌, ◌↔◌, ℕ, ◌*◌, ◌<◌, ◌≤◌, true, slice_index, count_ones};
-ghost use Rattle.number_sets.specs.Sets.{has_number};
+ghost use Rattle.number_sets.specs.Sets.{has_number, IsEmpty};
 ghost use Rattle.named_steps.specs.Reasons.{IsByLine};
-ghost use Rattle.named_steps.specs.Passes.{LeadsTo};
-ghost use Rattle.named_steps.specs.Inner.LineStrikes.{IsUnionOf, IsBySets};
-ghost use Rattle.named_steps.specs.Inner.WaitingGroups.{AreOthersGroupQuiet, IsGroupCalm};
+ghost use Rattle.named_steps.specs.Passes.{LeadsTo, LosesAt};
+ghost use Rattle.named_steps.specs.Inner.LineStrikes.{IsUnionOf, IsBySets, IsGroupQuiet};
 ghost use Rattle.named_steps.specs.Inner.Takes.{Takes};
 ghost use Rattle.named_steps.specs.declared.grade.Grade.TheVariants.{Hard};
 
-use crate::line_passes::line_sets;
+use crate::line_passes::{changed_places, line_sets};
 use crate::striking::strike_elsewhere;
-use crate::waiting::Waiting;
 use number_sets::NumberSet;
 use trail_solver::Candidates;
 
-/// Goes once through the rows and columns that wait, and takes away what groups of their squares strike. In the others they strike
-/// nothing. Squares of which one value is left are in none of the groups: once that value is gone elsewhere in the line, a group strikes
-/// no less without such a square.
-pub(crate) fn strike_groups(candidates: &mut Candidates, waiting: &Waiting)
-    requires { AreOthersGroupQuiet waiting.now candidates.old }
-    ensures leads { LeadsTo (IsByLine candidates.old.size) Hard candidates.old candidates.new }
-    ensures calm { (line : ℕ) → line < 2 * candidates.old.size → IsGroupCalm line candidates.old candidates.new }
-{
-    let size = candidates.size();
-    for line in 0..2 * size.get() {
-        if waiting.has(line, size.get()) {
-            strike_groups_on(candidates, line);
-        }
-    }
-}
-
-// The same in one row or column.
-fn strike_groups_on(candidates: &mut Candidates, line: u8)
+/// Takes away what groups of a line's squares strike, and gives the places of those of which something went. Squares of which one
+/// value is left are in none of the groups: once that value is gone elsewhere in the line, a group strikes no less without such a square.
+pub(crate) fn strike_groups_on(candidates: &mut Candidates, line: u8) -> NumberSet
     requires { line < 2 * candidates.old.size }
     ensures leads { LeadsTo (IsByLine candidates.old.size) Hard candidates.old candidates.new }
-    ensures calm { IsGroupCalm line candidates.old candidates.new }
+    ensures loses { LosesAt line result candidates.old candidates.new }
+    ensures quiet { IsEmpty result → IsGroupQuiet line candidates.new }
 {
     let sets = line_sets(candidates, line);
     let several = squares_of_several(&sets, candidates.size().get());
     let none = NumberSet::empty();
     strike_by_groups(candidates, line, &sets, several, none, none);
+    changed_places(&sets, candidates, line)
 }
 
 // The places of sets with several numbers.

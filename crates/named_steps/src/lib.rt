@@ -3,8 +3,9 @@
 //! A `Reason` is a kind of step and the place where it looks. What each strikes from candidates is a definition of one line, and
 //! `strikes` tells it exactly. A `Grade` has some kinds of reasons. `settle` takes away all that the reasons of a grade strike,
 //! one after another, until they strike nothing that is left: in whatever order that is done, the same is left (`laws`).
-//! `settle_on` does so for who settles many candidates, one after another. A puzzle follows by a grade where its solution alone is
-//! left of all pairs (`follows`, `solution_by`), and `grade_of` is the least such grade. Nothing here takes memory from the heap.
+//! `settle_knowing` and `settle_on` do so for who settles many candidates, one after another, and `settle_on` for who knows a solution
+//! among them. A puzzle follows by a grade where its solution alone is left of all pairs (`follows`, `solution_by`), and `grade_of` is
+//! the least such grade. Nothing here takes memory from the heap.
 //!
 //! ```
 //! match grade_of(&puzzle) {
@@ -23,11 +24,12 @@ mod group_passes;
 mod known_rows;
 mod latin_strikes;
 mod line_passes;
-mod other_sets;
+mod line_tally;
 mod reason;
 mod set_strikes;
 mod settling;
 mod sign_strikes;
+mod stages;
 mod step_laws;
 mod steps;
 mod strikes;
@@ -41,7 +43,7 @@ pub use goal::Goal;
 pub use grade::Grade;
 pub use known_rows::KnownRows;
 pub use reason::Reason;
-pub use settling::{settle, settle_on};
+pub use settling::{settle, settle_knowing, settle_on};
 pub use step_laws::laws;
 pub use steps::Steps;
 pub use striking::strike;

@@ -1,22 +1,24 @@
 //! What a grade leaves of candidates.
-ghost use Rattle.std.specs.Prelude.{◌≡◌, ℕ, ◌*◌, ◌<◌, true};
+ghost use Rattle.std.specs.Prelude.{◌≡◌, ◌≢◌, ℕ, ◌*◌, ◌<◌, true, false, length};
+ghost use Rattle.std.specs.Bool.{OnTrue};
 ghost use Rattle.trail_solver.specs.Pairs.{IsPair};
-ghost use Rattle.trail_solver.specs.Candidates.{IsEarlier, may_be};
+ghost use Rattle.trail_solver.specs.Candidates.{IsEarlier, IsOnly, IsWithin, may_be};
+ghost use Rattle.trail_solver.specs.Puzzles.{Solves};
+ghost use Rattle.named_steps.specs.Inner.Fills.{HasSolutionWithin};
 ghost use Rattle.named_steps.specs.Following.{IsClosure, IsSettled};
-ghost use Rattle.named_steps.specs.Passes.{LeadsTo, Passes, AreGivensSettled, AreLinesSettled};
-ghost use Rattle.named_steps.specs.Inner.WaitingLines.{AreOthersQuiet, AreSets};
-ghost use Rattle.named_steps.specs.Inner.WaitingGroups.{AreGrouped};
-ghost use Rattle.named_steps.specs.Inner.RestSteps.{AreRestSettled};
-ghost use Rattle.named_steps.specs.Grades.{is_past_easy};
+ghost use Rattle.named_steps.specs.Left.{IsLeft};
+ghost use Rattle.named_steps.specs.Passes.{LeadsTo, StaysOn, IsGivenQuiet, AreGivensSettled, AreLinesSettled};
+ghost use Rattle.named_steps.specs.Inner.WaitingLines.{is_waiting};
+ghost use Rattle.named_steps.specs.Inner.Stages.{AreWaiting, AreAllQuiet};
+ghost use Rattle.named_steps.specs.Grades.{is_past_latin, is_past_easy};
 
 use crate::grade::Grade;
-use crate::group_passes::strike_groups;
 use crate::known_rows::KnownRows;
-use crate::line_passes::strike_lines;
+use crate::stages::{Stage, Waits, look};
 use crate::steps::Steps;
 use crate::striking::strike;
-use crate::waiting::{Waiting, changed_lines, greater_sets, sets_of};
-use latin_board::CELLS;
+use crate::waiting::Waiting;
+use latin_board::Grid;
 use number_sets::NumberSet;
 use trail_solver::{Candidates, Rules};
 
@@ -26,91 +28,141 @@ pub fn settle<P: Steps>(p: &P, grade: Grade, candidates: &mut Candidates)
     requires { candidates.old.size ≡ (P.puzzle p.now).size }
     ensures { IsClosure (P.struck_by p.now) grade candidates.old candidates.new }
 {
-    let _size = candidates.size();
-    let mut known = KnownRows::none();
-    strike_givens(p, candidates);
-    settle_from(
-        p,
-        grade,
-        candidates,
-        Waiting::all(),
-        greater_sets(),
-        &mut known,
-    );
+    settle_knowing(p, grade, candidates, &mut KnownRows::none());
 }
 
-/// As `settle`, for who settles many candidates: rows and columns strike nothing of these, and what is known of rows of sets is used
-/// and added to. What is taken away can be given back by a mark.
-pub fn settle_on<P: Steps>(p: &P, grade: Grade, candidates: &mut Candidates, known: &mut KnownRows)
+/// As `settle`, for who keeps what is known of rows of sets: it is used and added to.
+pub fn settle_knowing<P: Steps>(
+    p: &P,
+    grade: Grade,
+    candidates: &mut Candidates,
+    known: &mut KnownRows,
+)
+    requires { candidates.old.size ≡ (P.puzzle p.now).size }
+    ensures { IsClosure (P.struck_by p.now) grade candidates.old candidates.new }
+{
+    let _size = candidates.size();
+    strike_givens(p, candidates);
+    settle_from(p, grade, candidates, Waits::all(), false, known);
+}
+
+/// As `settle`, for who settles many candidates and knows a solution among them: rows and columns strike nothing of these, and what is
+/// known of rows of sets is used and added to. Nothing is looked at any more once the solution alone is left. What is taken away can be
+/// given back by a mark.
+pub fn settle_on<P: Steps>(
+    p: &P,
+    solution: &Grid,
+    grade: Grade,
+    candidates: &mut Candidates,
+    known: &mut KnownRows,
+)
     requires size { candidates.old.size ≡ (P.puzzle p.now).size }
+    requires solves { Solves (P.puzzle p.now) solution.now }
+    requires within { IsWithin candidates.old solution.now }
     requires lines { AreLinesSettled grade candidates.old }
     ensures closure { IsClosure (P.struck_by p.now) grade candidates.old candidates.new }
     ensures earlier { IsEarlier candidates.old candidates.new }
 {
-    let before = sets_of(candidates);
-    strike_givens(p, candidates);
-    let waiting = changed_lines(&before, candidates);
-    settle_from(p, grade, candidates, waiting, before, known);
+    let _size = candidates.size();
+    let _solution = solution.size();
+    let _valid = p.size();
+    let squares = strike_givens(p, candidates);
+    let groups = squares;
+    let waits = Waits {
+        squares,
+        clues: Waiting::all(),
+        groups,
+    };
+    settle_from(p, grade, candidates, waits, true, known);
 }
 
-// The same from candidates of which the givens strike nothing, and no row and column but those that wait. Groups strike nothing along a
-// line of which just that is left what the sets say.
+// The same from candidates of which the givens strike nothing, and nothing else but along the lines that wait; and whether a solution is
+// among them.
 fn settle_from<P: Steps>(
     p: &P,
     grade: Grade,
     candidates: &mut Candidates,
-    first: Waiting,
-    sets: [NumberSet; CELLS],
+    first: Waits,
+    is_solved: bool,
     known: &mut KnownRows,
 )
     requires size { candidates.old.size ≡ (P.puzzle p.now).size }
     requires givens { AreGivensSettled (P.puzzle p.now) candidates.old }
-    requires others { AreOthersQuiet first candidates.old }
-    requires grouped { is_past_easy grade ≡ true → AreGrouped sets candidates.old }
+    requires waiting { AreWaiting (P.quiet_on p.now) grade first candidates.old }
+    requires solved { is_solved ≡ true → HasSolutionWithin (P.puzzle p.now) candidates.old }
     ensures closure { IsClosure (P.struck_by p.now) grade candidates.old candidates.new }
     ensures earlier { IsEarlier candidates.old candidates.new }
 {
     let _size = candidates.size();
-    let mut waiting = first;
-    let mut grouped = sets;
+    let _valid = p.size();
+    let mut waits = first;
     loop {
-        strike_lines(candidates, waiting);
-        let lines = sets_of(candidates);
         let count = candidates.trail_len();
-        strike_rest(p, grade, candidates, &lines, &mut grouped, known);
+        waits = look_in_turn(p, grade, candidates, waits, known);
         if candidates.trail_len() == count {
             return;
         }
-        waiting = changed_lines(&lines, candidates);
+        if is_solved && is_filled(candidates) {
+            return;
+        }
     }
 }
 
-// Goes once through the clues or signs, and where these strike nothing through the groups of squares, where the grade looks at them. That
-// is along the lines that have changed since the last such look, of which the sets are kept.
-fn strike_rest<P: Steps>(
+// Whether one value is left of each square: where a solution is among them, nothing more can go.
+fn is_filled(candidates: &Candidates) -> bool
+    ensures { OnTrue result ((cell : ℕ) → cell < candidates.now.size * candidates.now.size → (v : ℕ) × IsOnly candidates.now cell v) }
+{
+    let width = candidates.size().get() as usize;
+    let cells = width * width;
+    // As many pairs are left as squares, or more: mostly more.
+    candidates.trail_len() + cells >= cells * width && has_only(candidates)
+}
+
+// The same, square by square.
+fn has_only(candidates: &Candidates) -> bool
+    ensures { OnTrue result ((cell : ℕ) → cell < candidates.now.size * candidates.now.size → (v : ℕ) × IsOnly candidates.now cell v) }
+{
+    let width = candidates.size().get() as usize;
+    for cell in 0..width * width {
+        let Some(_) = candidates.only(cell) else {
+            return false;
+        };
+    }
+    true
+}
+
+// Looks along the lines that wait for the first stage, and for the next one where that struck nothing. Gives those that wait then.
+fn look_in_turn<P: Steps>(
     p: &P,
     grade: Grade,
     candidates: &mut Candidates,
-    lines: &[NumberSet; CELLS],
-    grouped: &mut [NumberSet; CELLS],
+    first: Waits,
     known: &mut KnownRows,
-)
+) -> Waits
     requires size { candidates.old.size ≡ (P.puzzle p.now).size }
-    requires lines { AreSets candidates.old (candidates.old.size * candidates.old.size) lines.now }
-    requires grouped { is_past_easy grade ≡ true → AreGrouped grouped.old candidates.old }
-    ensures passes { Passes (P.struck_by p.now) grade (AreRestSettled (P.struck_by p.now) grade) candidates.old candidates.new }
-    ensures grouped { is_past_easy grade ≡ true → AreGrouped grouped.new candidates.new }
+    requires waiting { AreWaiting (P.quiet_on p.now) grade first candidates.old }
+    ensures leads { LeadsTo (P.struck_by p.now) grade candidates.old candidates.new }
+    ensures waiting { AreWaiting (P.quiet_on p.now) grade result candidates.new }
+    ensures none { length candidates.new.trail ≡ length candidates.old.trail
+        → AreAllQuiet (P.quiet_on p.now) grade candidates.old }
 {
-    let before = candidates.trail_len();
-    p.strike_by_clues(grade, candidates, known);
-    if candidates.trail_len() != before {
-        return;
+    let count = candidates.trail_len();
+    let squares = look(p, grade, Stage::Squares, candidates, first, known);
+    if candidates.trail_len() != count || !has_clues(grade) {
+        return squares;
     }
-    if has_groups(grade) {
-        let waiting = changed_lines(grouped, candidates);
-        strike_groups(candidates, &waiting);
-        *grouped = *lines;
+    let clues = look(p, grade, Stage::Clues, candidates, squares, known);
+    if candidates.trail_len() != count || !has_groups(grade) {
+        return clues;
     }
+    look(p, grade, Stage::Groups, candidates, clues, known)
+}
+
+// Whether a grade looks at clues or signs.
+fn has_clues(grade: Grade) -> bool
+    ensures { result ≡ is_past_latin grade }
+{
+    !matches!(grade, Grade::Latin)
 }
 
 // Whether a grade looks at groups of squares.
@@ -120,22 +172,40 @@ fn has_groups(grade: Grade) -> bool
     matches!(grade, Grade::Hard)
 }
 
-// Goes through the givens once, and takes away what they strike.
-fn strike_givens<P: Steps>(p: &P, candidates: &mut Candidates)
+// Goes through the givens once, and takes away what they strike. Gives the rows and columns with a square of which something went.
+fn strike_givens<P: Steps>(p: &P, candidates: &mut Candidates) -> Waiting
     requires { candidates.old.size ≡ (P.puzzle p.now).size }
     ensures leads { LeadsTo (P.struck_by p.now) Grade.Latin candidates.old candidates.new }
     ensures settled { AreGivensSettled (P.puzzle p.now) candidates.new }
+    ensures others { (line : ℕ) → line < 2 * candidates.old.size → is_waiting candidates.old.size result line ≡ false
+        → StaysOn line candidates.old candidates.new }
 {
-    let size = candidates.size();
-    let width = size.get() as usize;
+    let width = candidates.size().get() as usize;
+    let mut changed = Waiting::none();
     for cell in 0..width * width {
-        let given = p.given(cell);
-        if given != 0 {
-            strike(
-                candidates,
-                cell,
-                NumberSet::up_to(size.get()).difference(NumberSet::one(given)),
-            );
+        if strike_given(p, candidates, cell) {
+            changed = changed.with_square(cell, width);
         }
     }
+    changed
+}
+
+// Takes away what the given of a square strikes, and tells whether something was left of that.
+fn strike_given<P: Steps>(p: &P, candidates: &mut Candidates, cell: usize) -> bool
+    requires size { candidates.old.size ≡ (P.puzzle p.now).size }
+    requires inside { cell < candidates.old.size * candidates.old.size }
+    ensures leads { LeadsTo (P.struck_by p.now) Grade.Latin candidates.old candidates.new }
+    ensures quiet { IsGivenQuiet (P.puzzle p.now) cell candidates.new }
+    ensures others { (other v : ℕ) → other ≢ cell → IsLeft candidates.old other v → IsLeft candidates.new other v }
+    ensures none { result ≡ false → candidates.new ≡ candidates.old }
+{
+    let size = candidates.size();
+    let given = p.given(cell);
+    if given == 0 {
+        return false;
+    }
+    let count = candidates.trail_len();
+    let values = NumberSet::up_to(size.get()).difference(NumberSet::one(given));
+    strike(candidates, cell, values);
+    candidates.trail_len() != count
 }

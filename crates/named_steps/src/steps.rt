@@ -1,6 +1,6 @@
 //! What the steps of a game owe.
 ghost use Rattle.std.specs.Prelude.{◌≡◌, ◌≢◌, ◌↔◌, ℕ, ◌+◌, ◌*◌, ◌<◌, Bool, true, IfSome};
-ghost use Rattle.number_sets.specs.Sets.{has_number};
+ghost use Rattle.number_sets.specs.Sets.{has_number, IsEmpty};
 ghost use Rattle.latin_board.specs.Squares.{GridValue, number_at};
 ghost use Rattle.trail_solver.specs.Pairs.{IsPair};
 ghost use Rattle.trail_solver.specs.Candidates.{CandidatesValue, IsWithin};
@@ -8,7 +8,8 @@ ghost use Rattle.trail_solver.specs.Puzzles.{Solves};
 ghost use Rattle.named_steps.specs.Left.{IsFewer};
 ghost use Rattle.named_steps.specs.Grades.{IsPlaced, is_of_clues, is_of_lines};
 ghost use Rattle.named_steps.specs.Reasons.{IsByGiven, IsByLine, AreStruckFrom};
-ghost use Rattle.named_steps.specs.Passes.{Passes, AreCluesSettled};
+ghost use Rattle.named_steps.specs.Passes.{LeadsTo, LosesAt, StaysOn, AreCluesSettled};
+ghost use Rattle.named_steps.specs.declared.grade.Grade.{Grade};
 ghost use Rattle.named_steps.specs.declared.reason.Reason.{Reason};
 ghost use Rattle.named_steps.specs.declared.reason.Reason.TheVariants.{Given};
 
@@ -22,6 +23,9 @@ use trail_solver::{Candidates, Rules};
 pub trait Steps: Rules {
     // What a reason strikes from candidates: pairs of a square and a value.
     ghost struck_by: { Self → CandidatesValue → Reason → ℕ → ℕ → Type 0 };
+
+    // Along a line the clues or signs strike nothing that is left, as a grade looks at them.
+    ghost quiet_on: { Self → Grade → ℕ → CandidatesValue → Type 0 };
 
     /// The values that a reason strikes in a square; the sizes are equal, and the square is one of the grid's. What is known of rows of
     /// sets may be used and added to.
@@ -51,11 +55,21 @@ pub trait Steps: Rules {
         ensures { IfSome result (AreStruckFrom candidates.now.size (struck_by self.now candidates.now reason) place
             candidates.now.size) };
 
-    /// Goes through the clues or signs once, and takes away what they strike by a grade's reasons; the sizes are equal. What is known of
-    /// rows of sets may be used and added to.
-    fn strike_by_clues(&self, grade: Grade, candidates: &mut Candidates, known: &mut KnownRows)
-        requires { candidates.old.size ≡ (Self.Rules.puzzle self.now).size }
-        ensures { Passes (struck_by self.now) grade (AreCluesSettled (struck_by self.now) grade) candidates.old candidates.new };
+    /// Takes away what the clues or signs along a row or column strike by a grade's reasons, and gives the places of those of its squares
+    /// of which something went; the sizes are equal, and the line is one of the grid's. What is known of rows of sets may be used and
+    /// added to.
+    fn strike_by_clues(
+        &self,
+        grade: Grade,
+        candidates: &mut Candidates,
+        line: u8,
+        known: &mut KnownRows,
+    ) -> NumberSet
+        requires size { candidates.old.size ≡ (Self.Rules.puzzle self.now).size }
+        requires line { line < 2 * candidates.old.size }
+        ensures leads { LeadsTo (struck_by self.now) grade candidates.old candidates.new }
+        ensures loses { LosesAt line result candidates.old candidates.new }
+        ensures quiet { IsEmpty result → quiet_on self.now grade line candidates.new };
 
     // What a given strikes, and what rows and columns do, is the same in each game.
     ghost given_struck: { (p : Self) (c : CandidatesValue) (at cell value : ℕ)
@@ -63,6 +77,14 @@ pub trait Steps: Rules {
 
     ghost line_struck: { (p : Self) (c : CandidatesValue) (reason : Reason) (cell value : ℕ) → is_of_lines reason ≡ true
         → IsByLine (Self.Rules.puzzle p).size c reason cell value ↔ struck_by p c reason cell value };
+
+    // Along a line of which nothing went they still strike nothing.
+    ghost quiet_stays: { (p : Self) (grade : Grade) (line : ℕ) (c d : CandidatesValue) → c.size ≡ (Self.Rules.puzzle p).size
+        → line < 2 * c.size → d.size ≡ c.size → IsFewer c d → StaysOn line c d → quiet_on p grade line c → quiet_on p grade line d };
+
+    // Where they strike nothing along each line they strike nothing at all.
+    ghost quiet_settles: { (p : Self) (grade : Grade) (c : CandidatesValue) → Self.Rules.valid p → c.size ≡ (Self.Rules.puzzle p).size
+        → ((line : ℕ) → line < 2 * c.size → quiet_on p grade line c) → AreCluesSettled (struck_by p) grade c };
 
     // A clue or a sign that strikes is the grid's.
     ghost struck_placed: { (p : Self) (c : CandidatesValue) (reason : Reason) (cell value : ℕ) → Self.Rules.valid p

@@ -1,15 +1,18 @@
 //! The steps of Towers.
 ghost use Rattle.std.specs.Prelude.{◌≡◌, ◌↔◌, ℕ, ◌*◌, ◌<◌, ◌≤◌, true, IfSome};
-ghost use Rattle.number_sets.specs.Sets.{has_number};
+ghost use Rattle.number_sets.specs.Sets.{has_number, IsEmpty};
 ghost use Rattle.trail_solver.specs.Pairs.{IsPair};
 ghost use Rattle.clue_rules.specs.Towers.{clue_of};
 ghost use Rattle.named_steps.specs.Reasons.{IsByClue, IsTowersStruckBy, AreStruckFrom};
-ghost use Rattle.named_steps.specs.Passes.{Passes};
-ghost use Rattle.named_steps.specs.Inner.Rows.{May, IsViewQuiet, look_grade};
+ghost use Rattle.clue_rules.specs.Views.{front_place, view_line};
+ghost use Rattle.named_steps.specs.Passes.{LeadsTo, LosesAt, StaysOn};
+ghost use Rattle.named_steps.specs.QuietLines.{IsViewQuiet, AreViewsQuiet};
+ghost use Rattle.named_steps.specs.Inner.Rows.{May, look_grade};
 
-use crate::clue_strikes::{Look, by_clue, strike_view, unfilled_row};
+use crate::clue_strikes::{Look, along_line, by_clue, unfilled_row};
 use crate::grade::Grade;
 use crate::known_rows::KnownRows;
+use crate::line_passes::strike_row;
 use crate::reason::Reason;
 use crate::steps::Steps;
 use crate::strikes::{by_any_peer, by_any_place, by_any_set, by_given};
@@ -24,8 +27,12 @@ impl Steps for Towers {
     ghost use Rattle.named_steps.specs.Laws.Less as less;
     ghost use Rattle.named_steps.specs.Laws.Sound as sound;
     ghost use Rattle.named_steps.specs.Laws.Cuts as cuts;
+    ghost use Rattle.named_steps.specs.Laws.Quiet as quiet;
+    ghost use Rattle.named_steps.specs.QuietLines.{are_towers_quiet};
 
     ghost struck_by = { IsTowersStruckBy };
+
+    ghost quiet_on = { are_towers_quiet };
 
     fn strikes(
         &self,
@@ -79,13 +86,23 @@ impl Steps for Towers {
         }
     }
 
-    fn strike_by_clues(&self, grade: Grade, candidates: &mut Candidates, known: &mut KnownRows) {
+    fn strike_by_clues(
+        &self,
+        grade: Grade,
+        candidates: &mut Candidates,
+        line: u8,
+        known: &mut KnownRows,
+    ) -> NumberSet {
         match grade {
-            Grade::Latin => {}
-            Grade::Easy => strike_views(self, Look::Stands, candidates, known),
-            Grade::Hard => strike_views(self, Look::Marks, candidates, known),
+            Grade::Latin => NumberSet::empty(),
+            Grade::Easy => strike_views(self, Look::Stands, candidates, line, known),
+            Grade::Hard => strike_views(self, Look::Marks, candidates, line, known),
         }
     }
+
+    ghost quiet_stays = { quiet.towers_stay };
+
+    ghost quiet_settles = { λ p grade c valid. quiet.towers_settle p grade c };
 
     ghost given_struck = { shared.towers_givens };
 
@@ -100,19 +117,64 @@ impl Steps for Towers {
     ghost struck_cut = { cuts.towers_whole };
 }
 
-// Goes through the clues once, and takes away what they strike as they are looked at.
-fn strike_views(p: &Towers, look: Look, candidates: &mut Candidates, known: &mut KnownRows)
-    requires { candidates.old.size ≡ p.now.size }
-    ensures { Passes (IsTowersStruckBy p.now) (look_grade look)
-        (λ c. (place : ℕ) → place < 4 * candidates.old.size → IsViewQuiet p.now look place c) candidates.old candidates.new }
+// Looks at the clues at both ends of a line, and takes away what they strike as they are looked at. Gives the places of the squares of
+// which something went.
+fn strike_views(
+    p: &Towers,
+    look: Look,
+    candidates: &mut Candidates,
+    line: u8,
+    known: &mut KnownRows,
+) -> NumberSet
+    requires size { candidates.old.size ≡ p.now.size }
+    requires line { line < 2 * candidates.old.size }
+    ensures leads { LeadsTo (IsTowersStruckBy p.now) (look_grade look) candidates.old candidates.new }
+    ensures loses { LosesAt line result candidates.old candidates.new }
+    ensures quiet { IsEmpty result → AreViewsQuiet p.now look line candidates.new }
 {
-    let size = candidates.size();
-    for place in 0..4 * size.get() {
-        let clue = p.clue(place);
-        if clue != 0 {
-            strike_view(candidates, look, place, clue, known);
-        }
+    let width = candidates.size().get();
+    let front = front_place(line, width);
+    let from_front = strike_view(p, look, candidates, line, front, known);
+    let from_back = strike_view(p, look, candidates, line, front + width, known);
+    from_front.union(from_back)
+}
+
+// The edge place before the first square of a line; that after its last one is as many further on as the width.
+fn front_place(line: u8, width: u8) -> u8
+    requires width { width ≤ 9 }
+    requires line { line < 2 * width }
+    ensures { result ≡ front_place width line }
+{
+    if line < width {
+        2 * width + line
+    } else {
+        line - width
     }
+}
+
+// Takes away what the clue at a place strikes in the squares of its line, if there is one.
+fn strike_view(
+    p: &Towers,
+    look: Look,
+    candidates: &mut Candidates,
+    line: u8,
+    place: u8,
+    known: &mut KnownRows,
+) -> NumberSet
+    requires size { candidates.old.size ≡ p.now.size }
+    requires place { place < 4 * candidates.old.size }
+    requires line { view_line candidates.old.size place ≡ line }
+    ensures leads { LeadsTo (IsTowersStruckBy p.now) (look_grade look) candidates.old candidates.new }
+    ensures loses { LosesAt line result candidates.old candidates.new }
+    ensures quiet { StaysOn line candidates.old candidates.new → IsViewQuiet p.now look place candidates.new }
+{
+    let width = candidates.size().get();
+    let clue = p.clue(place);
+    if clue == 0 {
+        return NumberSet::empty();
+    }
+    let row = unfilled_row(candidates, look, place, clue, known);
+    strike_row(candidates, line, &along_line(&row, place, width))
 }
 
 // What a clue strikes in a square.

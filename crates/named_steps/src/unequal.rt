@@ -4,20 +4,22 @@ ghost use Rattle.number_sets.specs.Sets.{has_number};
 ghost use Rattle.trail_solver.specs.Pairs.{IsPair};
 ghost use Rattle.clue_rules.specs.Unequal.{IsGreater, IsUnequal};
 ghost use Rattle.named_steps.specs.Reasons.{IsBySign, IsUnequalStruckBy};
-ghost use Rattle.named_steps.specs.Passes.{Passes};
-ghost use Rattle.named_steps.specs.Inner.SignStrikes.{IsSignQuiet, AreSignsQuiet};
+ghost use Rattle.latin_board.specs.Lines.{line_cell};
+ghost use Rattle.named_steps.specs.Passes.{LeadsTo, LosesAt, StaysOn};
+ghost use Rattle.named_steps.specs.QuietLines.{IsSignQuiet, AreSignsQuiet};
 ghost use Rattle.named_steps.specs.declared.grade.Grade.TheVariants.{Easy};
 
 use crate::grade::Grade;
 use crate::known_rows::KnownRows;
+use crate::line_passes::strike_at;
 use crate::reason::Reason;
 use crate::sign_strikes::{by_greater, by_lesser};
 use crate::steps::Steps;
 use crate::strikes::{by_any_peer, by_any_place, by_any_set, by_given};
-use crate::striking::strike;
 use clue_rules::Unequal;
 use latin_board::line_cell;
 use number_sets::NumberSet;
+use std::cmp::Ordering;
 use trail_solver::{Candidates, Rules};
 
 impl Steps for Unequal {
@@ -27,8 +29,12 @@ impl Steps for Unequal {
     ghost use Rattle.named_steps.specs.Laws.Less as less;
     ghost use Rattle.named_steps.specs.Laws.Sound as sound;
     ghost use Rattle.named_steps.specs.Laws.Cuts as cuts;
+    ghost use Rattle.named_steps.specs.Laws.Quiet as quiet;
+    ghost use Rattle.named_steps.specs.QuietLines.{are_unequal_quiet};
 
     ghost struck_by = { IsUnequalStruckBy };
+
+    ghost quiet_on = { are_unequal_quiet };
 
     fn strikes(
         &self,
@@ -68,14 +74,24 @@ impl Steps for Unequal {
         None
     }
 
-    fn strike_by_clues(&self, grade: Grade, candidates: &mut Candidates, _known: &mut KnownRows) {
+    fn strike_by_clues(
+        &self,
+        grade: Grade,
+        candidates: &mut Candidates,
+        line: u8,
+        _known: &mut KnownRows,
+    ) -> NumberSet {
         let _valid = self.size();
         match grade {
-            Grade::Latin => {}
-            Grade::Easy => strike_signs(self, candidates),
-            Grade::Hard => strike_signs(self, candidates),
+            Grade::Latin => NumberSet::empty(),
+            Grade::Easy => strike_signs(self, candidates, line),
+            Grade::Hard => strike_signs(self, candidates, line),
         }
     }
+
+    ghost quiet_stays = { quiet.unequal_stay };
+
+    ghost quiet_settles = { λ p grade c valid size. quiet.unequal_settle p grade c valid size valid.givens.smallest };
 
     ghost given_struck = { shared.unequal_givens };
 
@@ -90,49 +106,67 @@ impl Steps for Unequal {
     ghost struck_cut = { cuts.unequal_whole };
 }
 
-// Goes through the signs once, and takes away what they strike.
-fn strike_signs(p: &Unequal, candidates: &mut Candidates)
-    requires { candidates.old.size ≡ p.now.size }
-    ensures { Passes (IsUnequalStruckBy p.now) Easy
-        (λ c. (line : ℕ) → line < 2 * candidates.old.size → AreSignsQuiet p.now line c) candidates.old candidates.new }
-{
-    let size = candidates.size();
-    for line in 0..2 * size.get() {
-        strike_signs_on(p, candidates, line);
-    }
-}
-
-// The same along one row or column.
-fn strike_signs_on(p: &Unequal, candidates: &mut Candidates, line: u8)
+// Takes away what the signs along a row or column strike, and gives the places of the squares of which something went.
+fn strike_signs(p: &Unequal, candidates: &mut Candidates, line: u8) -> NumberSet
     requires size { candidates.old.size ≡ p.now.size }
     requires line { line < 2 * candidates.old.size }
-    ensures { Passes (IsUnequalStruckBy p.now) Easy (AreSignsQuiet p.now line) candidates.old candidates.new }
+    ensures leads { LeadsTo (IsUnequalStruckBy p.now) Easy candidates.old candidates.new }
+    ensures loses { LosesAt line result candidates.old candidates.new }
+    ensures quiet { StaysOn line candidates.old candidates.new → AreSignsQuiet p.now line candidates.new }
 {
     let size = candidates.size();
+    let mut changed = NumberSet::empty();
     for k in 0..size.get() - 1 {
-        let first = line_cell(size, line, k);
-        let second = line_cell(size, line, k + 1);
-        if p.greater(first, second) {
-            strike_sign(p, candidates, first, second);
-        } else if p.greater(second, first) {
-            strike_sign(p, candidates, second, first);
-        }
+        changed = changed.union(strike_after(p, candidates, line, k));
+    }
+    changed
+}
+
+// The same of the sign between a square of the line and the next.
+fn strike_after(p: &Unequal, candidates: &mut Candidates, line: u8, k: u8) -> NumberSet
+    requires size { candidates.old.size ≡ p.now.size }
+    requires line { line < 2 * candidates.old.size }
+    requires inside { k + 1 < candidates.old.size }
+    ensures leads { LeadsTo (IsUnequalStruckBy p.now) Easy candidates.old candidates.new }
+    ensures loses { LosesAt line result candidates.old candidates.new }
+    ensures quiet { StaysOn line candidates.old candidates.new
+        → IsSignQuiet p.now (line_cell candidates.old.size line k) (line_cell candidates.old.size line (k + 1)) candidates.new }
+{
+    let size = candidates.size();
+    let first = line_cell(size, line, k);
+    let second = line_cell(size, line, k + 1);
+    match p.order(first, second) {
+        Some(Ordering::Greater) => strike_sign(p, candidates, line, k, k + 1),
+        Some(Ordering::Less) => strike_sign(p, candidates, line, k + 1, k),
+        _ => NumberSet::empty(),
     }
 }
 
-// Takes away what a sign strikes at both its ends.
-fn strike_sign(p: &Unequal, candidates: &mut Candidates, greater: usize, lesser: usize)
+// Takes away what a sign strikes at both its ends, of which these are the places on a line.
+fn strike_sign(
+    p: &Unequal,
+    candidates: &mut Candidates,
+    line: u8,
+    greater: u8,
+    lesser: u8,
+) -> NumberSet
     requires size { candidates.old.size ≡ p.now.size }
-    requires greater { greater < candidates.old.size * candidates.old.size }
-    requires lesser { lesser < candidates.old.size * candidates.old.size }
-    requires sign { IsGreater p.now greater lesser }
-    ensures { Passes (IsUnequalStruckBy p.now) Easy (IsSignQuiet p.now greater lesser) candidates.old candidates.new }
+    requires line { line < 2 * candidates.old.size }
+    requires greater { greater < candidates.old.size }
+    requires lesser { lesser < candidates.old.size }
+    requires sign { IsGreater p.now (line_cell candidates.old.size line greater) (line_cell candidates.old.size line lesser) }
+    ensures leads { LeadsTo (IsUnequalStruckBy p.now) Easy candidates.old candidates.new }
+    ensures loses { LosesAt line result candidates.old candidates.new }
+    ensures quiet { StaysOn line candidates.old candidates.new
+        → IsSignQuiet p.now (line_cell candidates.old.size line greater) (line_cell candidates.old.size line lesser) candidates.new }
 {
     let _valid = p.size();
-    let above = by_lesser(candidates, lesser);
-    let below = by_greater(candidates, greater);
-    strike(candidates, greater, above);
-    strike(candidates, lesser, below);
+    let size = candidates.size();
+    let above = by_lesser(candidates, line_cell(size, line, lesser));
+    let below = by_greater(candidates, line_cell(size, line, greater));
+    let at_greater = strike_at(candidates, line, greater, above);
+    let at_lesser = strike_at(candidates, line, lesser, below);
+    at_greater.union(at_lesser)
 }
 
 // What a sign strikes in a square.

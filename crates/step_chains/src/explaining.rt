@@ -10,14 +10,14 @@ ghost use Rattle.step_chains.specs.Inner.Goals.{IsOpen, IsShownByAll};
 use crate::aims::{Aim, first_empty};
 use crate::chain::{Chain, Refutation, Step};
 use crate::goals::{is_open, shown_goal};
-use crate::layers::Sought;
+use crate::kinds::Sought;
 use crate::next_steps::all_steps;
 use crate::replays::shows_without;
 use crate::shortest::short_chain;
 use crate::tightening::tighten;
 use crate::view::view_of;
 use latin_board::{Grid, OutOfMemory};
-use named_steps::{Goal, Grade, KnownRows, Steps, settle};
+use named_steps::{Goal, Grade, KnownRows, Steps, settle, settle_knowing};
 use std::alloc::Global;
 use trail_solver::{Candidates, Rules};
 
@@ -44,13 +44,15 @@ pub fn explain<P: Steps>(
     requires { grid.now.size ≡ (P.puzzle p.now).size }
     ensures { IfOk result (Explains (P.struck_by p.now) grade grid.now) }
 {
-    match first_aim(p, grid, grade) {
+    // One table for all that follows, since it takes ten kilobytes of the stack.
+    let mut known = KnownRows::none();
+    match first_aim(p, grid, grade, &mut known) {
         Some(Aim::Number(goal)) => {
-            let chain = chain_to(alloc, p, grid, grade, goal)?;
+            let chain = chain_to(alloc, p, grid, grade, goal, &mut known)?;
             Ok(Explained::Follows(chain))
         }
         Some(Aim::Nothing { cell }) => {
-            let refutation = refutation_at(alloc, p, grid, grade, cell)?;
+            let refutation = refutation_at(alloc, p, grid, grade, cell, &mut known)?;
             Ok(Explained::Contradiction(refutation))
         }
         None => Ok(Explained::Nothing),
@@ -60,14 +62,14 @@ pub fn explain<P: Steps>(
 // The first square that all steps of the grade's together leave nothing, or else the first number of an empty square that they show,
 // if they show any. What they leave is in this frame alone, so that it isn't on the stack while a chain is searched.
 #[inline(never)]
-fn first_aim<P: Steps>(p: &P, grid: &Grid, grade: Grade) -> Option<Aim>
+fn first_aim<P: Steps>(p: &P, grid: &Grid, grade: Grade, known: &mut KnownRows) -> Option<Aim>
     requires { grid.now.size ≡ (P.puzzle p.now).size }
     ensures { MatchOption result
         (NothingIsShown (P.struck_by p.now) grade grid.now × (IsRefutedGrid (P.struck_by p.now) grade grid.now → ⊥))
         (IsFirstAim (P.struck_by p.now) grade grid.now) }
 {
     let mut settled = view_of(grid);
-    settle(p, grade, &mut settled);
+    settle_knowing(p, grade, &mut settled, known);
     if let Some(cell) = first_empty(&settled) {
         return Some(Aim::Nothing { cell });
     }
@@ -92,12 +94,14 @@ pub fn explain_number<P: Steps>(
         ((IsRefutedGrid (P.struck_by p.now) grade grid.now → ⊥) → NothingIsShown (P.struck_by p.now) grade grid.now)
         (λ chain. IsExplained (P.struck_by p.now) grade grid.now (steps_of chain.steps.items) chain.goal)) }
 {
-    if let Some(chain) = short_number(alloc, p, grid, grade)? {
+    // One table for all that follows, as in `explain`.
+    let mut known = KnownRows::none();
+    if let Some(chain) = short_number(alloc, p, grid, grade, &mut known)? {
         return Ok(Some(chain));
     }
-    match first_aim(p, grid, grade) {
+    match first_aim(p, grid, grade, &mut known) {
         Some(Aim::Number(goal)) => {
-            let chain = plain_number(alloc, p, grid, grade, goal)?;
+            let chain = plain_number(alloc, p, grid, grade, goal, &mut known)?;
             Ok(Some(chain))
         }
         Some(Aim::Nothing { cell: _ }) => Ok(None),
@@ -113,16 +117,17 @@ fn chain_to<P: Steps>(
     grid: &Grid,
     grade: Grade,
     goal: Goal,
+    known: &mut KnownRows,
 ) -> Result<Chain, OutOfMemory>
     requires size { grid.now.size ≡ (P.puzzle p.now).size }
     requires open { IsOpen grid.now goal }
     requires shown { IsShownByAll (P.struck_by p.now) grade grid.now goal }
     ensures { IfOk result (λ chain. IsExplained (P.struck_by p.now) grade grid.now (steps_of chain.steps.items) chain.goal) }
 {
-    if let Some(chain) = short_number(alloc, p, grid, grade)? {
+    if let Some(chain) = short_number(alloc, p, grid, grade, known)? {
         return Ok(chain);
     }
-    plain_number(alloc, p, grid, grade, goal)
+    plain_number(alloc, p, grid, grade, goal, known)
 }
 
 // The same, where one is found.
@@ -132,12 +137,13 @@ fn short_number<P: Steps>(
     p: &P,
     grid: &Grid,
     grade: Grade,
+    known: &mut KnownRows,
 ) -> Result<Option<Chain>, OutOfMemory>
     requires { grid.now.size ≡ (P.puzzle p.now).size }
     ensures { IfOk result (λ found. IfSome found
         (λ chain. IsExplained (P.struck_by p.now) grade grid.now (steps_of chain.steps.items) chain.goal)) }
 {
-    if let Some(found) = short_chain(alloc, p, grid, grade, Sought::Number)? {
+    if let Some(found) = short_chain(alloc, p, grid, grade, Sought::Number, known)? {
         if let Aim::Number(goal) = found.aim {
             if is_open(grid, goal) {
                 return Ok(Some(Chain {
@@ -158,13 +164,14 @@ fn plain_number<P: Steps>(
     grid: &Grid,
     grade: Grade,
     goal: Goal,
+    known: &mut KnownRows,
 ) -> Result<Chain, OutOfMemory>
     requires size { grid.now.size ≡ (P.puzzle p.now).size }
     requires open { IsOpen grid.now goal }
     requires shown { IsShownByAll (P.struck_by p.now) grade grid.now goal }
     ensures { IfOk result (λ chain. IsExplained (P.struck_by p.now) grade grid.now (steps_of chain.steps.items) chain.goal) }
 {
-    let steps = plain_chain(alloc, p, grid, grade, Aim::Number(goal))?;
+    let steps = plain_chain(alloc, p, grid, grade, Aim::Number(goal), known)?;
     Ok(Chain { steps, goal })
 }
 
@@ -176,13 +183,14 @@ fn refutation_at<P: Steps>(
     grid: &Grid,
     grade: Grade,
     cell: usize,
+    known: &mut KnownRows,
 ) -> Result<Refutation, OutOfMemory>
     requires size { grid.now.size ≡ (P.puzzle p.now).size }
     requires inside { cell < grid.now.size * grid.now.size }
     requires empty { IsShownByAll (P.struck_by p.now) grade grid.now (OnlyValue cell 0) }
     ensures { IfOk result (λ r. IsRefutation (P.struck_by p.now) grade grid.now (steps_of r.steps.items) r.cell) }
 {
-    if let Some(found) = short_chain(alloc, p, grid, grade, Sought::Nothing)? {
+    if let Some(found) = short_chain(alloc, p, grid, grade, Sought::Nothing, known)? {
         if let Aim::Nothing { cell } = found.aim {
             return Ok(Refutation {
                 steps: found.steps,
@@ -190,7 +198,7 @@ fn refutation_at<P: Steps>(
             });
         }
     }
-    let steps = plain_chain(alloc, p, grid, grade, Aim::Nothing { cell })?;
+    let steps = plain_chain(alloc, p, grid, grade, Aim::Nothing { cell }, known)?;
     Ok(Refutation { steps, cell })
 }
 
@@ -202,14 +210,15 @@ fn plain_chain<P: Steps>(
     grid: &Grid,
     grade: Grade,
     aim: Aim,
+    known: &mut KnownRows,
 ) -> Result<Vec<Step>, OutOfMemory>
     requires size { grid.now.size ≡ (P.puzzle p.now).size }
     requires aim { IsAimOf grid.now.size aim }
     requires reached { IsShownByAll (P.struck_by p.now) grade grid.now (aim_goal aim) }
     ensures { IfOk result (λ steps. IsReached (P.struck_by p.now) grade grid.now (steps_of steps.items) (aim_goal aim)) }
 {
-    let mut steps = all_steps(alloc, p, grade, &mut view_of(grid))?;
-    tighten(p, grade, &mut view_of(grid), &mut steps, aim);
+    let mut steps = all_steps(alloc, p, grade, &mut view_of(grid), known)?;
+    tighten(p, grade, &mut view_of(grid), &mut steps, aim, known);
     Ok(steps)
 }
 
@@ -274,7 +283,7 @@ fn reaches<P: Steps>(p: &P, grid: &Grid, grade: Grade, steps: &[Step], aim: Aim)
     if !shows_without(p, grade, &mut view, steps, steps.len(), aim, &mut known) {
         return false;
     }
-    is_tight(p, grade, &mut view, steps, aim)
+    is_tight(p, grade, &mut view, steps, aim, &mut known)
 }
 
 // Whether the aim isn't come to without any one of the steps.
@@ -284,14 +293,14 @@ fn is_tight<P: Steps>(
     candidates: &mut Candidates,
     steps: &[Step],
     aim: Aim,
+    known: &mut KnownRows,
 ) -> bool
     requires size { candidates.old.size ≡ (P.puzzle p.now).size }
     requires aim { IsAimOf candidates.old.size aim }
     ensures { IsTrue result ↔ IsTight (P.struck_by p.now) grade candidates.old (steps_of steps.now) (aim_goal aim) }
 {
-    let mut known = KnownRows::none();
     for place in 0..steps.len() {
-        if shows_without(p, grade, candidates, steps, place, aim, &mut known) {
+        if shows_without(p, grade, candidates, steps, place, aim, known) {
             return false;
         }
     }

@@ -4,6 +4,7 @@ ghost use Rattle.std.specs.Prelude.{◌≡◌};
 use crate::aims::first_empty;
 use crate::chain::Step;
 use crate::goals::shown_goal;
+use crate::kinds::{KINDS, Kind, Sought, is_done, is_of_use};
 use crate::needs::{Values, left, neighbours, single, squares_but, squares_from};
 use crate::replays::{struck, take};
 use crate::seen::{Seen, row_of, sharing, standing, union_of};
@@ -14,45 +15,12 @@ use number_sets::NumberSet;
 use std::alloc::Global;
 use trail_solver::{Candidates, Mark, Rules};
 
-/// What rounds are to lead to.
-#[derive(Clone, Copy, Debug)]
-pub(crate) enum Sought {
-    /// A number of an empty square.
-    Number,
-    /// A square that is left nothing.
-    Nothing,
-}
-
-// Kinds of steps, the cheapest first.
-#[derive(Clone, Copy, Debug)]
-enum Kind {
-    Peer,
-    Place,
-    Given,
-    Bound,
-    Sign,
-    Stand,
-    Clue,
-    Set,
-}
-
-const KINDS: [Kind; 8] = [
-    Kind::Peer,
-    Kind::Place,
-    Kind::Given,
-    Kind::Bound,
-    Kind::Sign,
-    Kind::Stand,
-    Kind::Clue,
-    Kind::Set,
-];
-
 // No more rounds than pairs that can be struck.
 const ROUNDS: usize = 729;
 
 /// Rounds of steps: the candidates at the beginning of a round, what its steps have struck by now, and all steps so far.
 #[derive(Drop)]
-pub(crate) struct Rounds {
+pub(crate) struct Rounds<'a> {
     pub(crate) now: Candidates,
     start: Mark,
     gone: Values,
@@ -63,12 +31,17 @@ pub(crate) struct Rounds {
     stands: Seen,
     clues: Seen,
     groups: Seen,
-    known: KnownRows,
+    pub(crate) known: &'a mut KnownRows,
 }
 
-impl Rounds {
+impl<'a> Rounds<'a> {
     /// No round yet, from what is in view.
-    pub(crate) fn of(alloc: Global, view: Candidates, sought: Sought) -> Rounds {
+    pub(crate) fn of(
+        alloc: Global,
+        view: Candidates,
+        sought: Sought,
+        known: &'a mut KnownRows,
+    ) -> Rounds<'a> {
         Rounds {
             start: view.mark(),
             now: view,
@@ -79,7 +52,7 @@ impl Rounds {
             stands: Seen::nothing(),
             clues: Seen::nothing(),
             groups: Seen::nothing(),
-            known: KnownRows::none(),
+            known,
         }
     }
 
@@ -272,7 +245,7 @@ impl Rounds {
                 (lesser, greater)
             };
             let reason = Reason::Sign { from, to };
-            let values = struck(p, &self.now, &reason, to, &mut self.known);
+            let values = struck(p, &self.now, &reason, to, self.known);
             if greatest.is_subset(values) == at_lesser {
                 self.list(grade, &reason, to, values)?;
             }
@@ -322,7 +295,7 @@ impl Rounds {
             Kind::Stand => Reason::Stand { place },
             _ => Reason::Clue { place },
         };
-        let Some(row) = p.strikes_from(&self.now, reason, place, &mut self.known) else {
+        let Some(row) = p.strikes_from(&self.now, reason, place, self.known) else {
             return Ok(());
         };
         let cells = squares_from(size, place);
@@ -411,7 +384,7 @@ impl Rounds {
         if cell >= CELLS || !grade.has(*reason) {
             return Ok(());
         }
-        let values = struck(p, &self.now, reason, cell, &mut self.known);
+        let values = struck(p, &self.now, reason, cell, self.known);
         self.list(grade, reason, cell, values)
     }
 
@@ -448,23 +421,6 @@ fn is_found(sought: Sought, candidates: &Candidates, grid: &Grid) -> bool
         Sought::Number => shown_goal(candidates, grid).is_some(),
         Sought::Nothing => first_empty(candidates).is_some(),
     }
-}
-
-// Whether steps of a kind may lead on, and are of the grade. What rows and columns alone strike shows a number at once, so on the way to
-// one they strike nothing.
-fn is_of_use(kind: Kind, sought: Sought, grade: Grade) -> bool {
-    match (kind, sought, grade) {
-        (Kind::Peer | Kind::Place, Sought::Number, _) => false,
-        (Kind::Peer | Kind::Place | Kind::Given, _, _) => true,
-        (Kind::Bound | Kind::Sign | Kind::Stand, _, Grade::Latin) => false,
-        (Kind::Clue | Kind::Set, _, Grade::Latin | Grade::Easy) => false,
-        _ => true,
-    }
-}
-
-// Whether the steps of a kind look at no candidates, so that there are none of them after their first round.
-fn is_done(kind: Kind) -> bool {
-    matches!(kind, Kind::Given | Kind::Bound)
 }
 
 // The values that have one place left in a row or column, or none.

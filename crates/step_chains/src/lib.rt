@@ -20,6 +20,7 @@ mod aims;
 mod chain;
 mod explaining;
 mod goals;
+mod kinds;
 mod layers;
 mod needs;
 mod next_steps;

@@ -16,12 +16,14 @@ use number_sets::NumberSet;
 use std::alloc::Global;
 use trail_solver::{Candidates, Rules};
 
-/// Takes away all that the grade's reasons strike, one square after another, and tells by which steps. The sizes are equal.
+/// Takes away all that the grade's reasons strike, one square after another, and tells by which steps. The sizes are equal. What is known
+/// of rows of sets is used and added to, here and in what follows.
 pub(crate) fn all_steps<P: Steps>(
     alloc: Global,
     p: &P,
     grade: Grade,
     candidates: &mut Candidates,
+    known: &mut KnownRows,
 ) -> Result<Vec<Step>, OutOfMemory>
     requires { candidates.old.size ≡ (P.puzzle p.now).size }
     ensures leads { IfOk result
@@ -29,7 +31,7 @@ pub(crate) fn all_steps<P: Steps>(
     ensures settled { IfOk result (λ _. IsSettled (P.struck_by p.now) grade candidates.new) }
 {
     let mut steps = Vec::new(alloc);
-    while let Some(step) = next_step(p, grade, candidates) {
+    while let Some(step) = next_step(p, grade, candidates, known) {
         candidates.remove_all(step.cell as usize, step.values);
         let _size = candidates.size();
         let _len = candidates.trail_len();
@@ -39,37 +41,47 @@ pub(crate) fn all_steps<P: Steps>(
 }
 
 // A step of the grade's that strikes something that is left, if there is one. The sizes are equal.
-fn next_step<P: Steps>(p: &P, grade: Grade, candidates: &Candidates) -> Option<Step>
+fn next_step<P: Steps>(
+    p: &P,
+    grade: Grade,
+    candidates: &Candidates,
+    known: &mut KnownRows,
+) -> Option<Step>
     requires { candidates.now.size ≡ (P.puzzle p.now).size }
     ensures { MatchOption result (IsSettled (P.struck_by p.now) grade candidates.now)
         (IsNew (P.struck_by p.now) grade candidates.now) }
 {
     let _valid = p.size();
     let _size = candidates.size();
-    if let Some(step) = step_by_squares(p, grade, candidates) {
+    if let Some(step) = step_by_squares(p, grade, candidates, known) {
         return Some(step);
     }
-    if let Some(step) = step_by_places(p, grade, candidates) {
+    if let Some(step) = step_by_places(p, grade, candidates, known) {
         return Some(step);
     }
-    if let Some(step) = step_by_clues(p, grade, candidates) {
+    if let Some(step) = step_by_clues(p, grade, candidates, known) {
         return Some(step);
     }
-    if let Some(step) = step_by_signs(p, grade, candidates) {
+    if let Some(step) = step_by_signs(p, grade, candidates, known) {
         return Some(step);
     }
-    step_by_groups(p, grade, candidates)
+    step_by_groups(p, grade, candidates, known)
 }
 
 // One by a given, or by a square of which one value is left.
-fn step_by_squares<P: Steps>(p: &P, grade: Grade, candidates: &Candidates) -> Option<Step>
+fn step_by_squares<P: Steps>(
+    p: &P,
+    grade: Grade,
+    candidates: &Candidates,
+    known: &mut KnownRows,
+) -> Option<Step>
     requires { candidates.now.size ≡ (P.puzzle p.now).size }
     ensures { MatchOption result ((cell : ℕ) → cell < candidates.now.size * candidates.now.size → IsSquareIdle (P.struck_by p.now) grade candidates.now cell)
         (IsNew (P.struck_by p.now) grade candidates.now) }
 {
     let width = candidates.size().get() as usize;
     for cell in 0..width * width {
-        if let Some(step) = step_by_square(p, grade, candidates, cell) {
+        if let Some(step) = step_by_square(p, grade, candidates, cell, known) {
             return Some(step);
         }
     }
@@ -82,26 +94,32 @@ fn step_by_square<P: Steps>(
     grade: Grade,
     candidates: &Candidates,
     cell: usize,
+    known: &mut KnownRows,
 ) -> Option<Step>
     requires { candidates.now.size ≡ (P.puzzle p.now).size }
     ensures { MatchOption result (IsSquareIdle (P.struck_by p.now) grade candidates.now cell)
         (IsNew (P.struck_by p.now) grade candidates.now) }
 {
-    if let Some(step) = step_by(p, grade, candidates, &Reason::Given { cell }) {
+    if let Some(step) = step_by(p, grade, candidates, &Reason::Given { cell }, known) {
         return Some(step);
     }
-    step_by(p, grade, candidates, &Reason::Peer { cell })
+    step_by(p, grade, candidates, &Reason::Peer { cell }, known)
 }
 
 // One by the last place of a value in a row or column.
-fn step_by_places<P: Steps>(p: &P, grade: Grade, candidates: &Candidates) -> Option<Step>
+fn step_by_places<P: Steps>(
+    p: &P,
+    grade: Grade,
+    candidates: &Candidates,
+    known: &mut KnownRows,
+) -> Option<Step>
     requires { candidates.now.size ≡ (P.puzzle p.now).size }
     ensures { MatchOption result ((line index : ℕ) → line < 2 * candidates.now.size → index < candidates.now.size → IsPlaceIdle (P.struck_by p.now) grade candidates.now line index)
         (IsNew (P.struck_by p.now) grade candidates.now) }
 {
     let width = candidates.size().get() as usize;
     for line in 0..2 * width {
-        if let Some(step) = step_by_places_on(p, grade, candidates, line) {
+        if let Some(step) = step_by_places_on(p, grade, candidates, line, known) {
             return Some(step);
         }
     }
@@ -114,6 +132,7 @@ fn step_by_places_on<P: Steps>(
     grade: Grade,
     candidates: &Candidates,
     line: usize,
+    known: &mut KnownRows,
 ) -> Option<Step>
     requires { candidates.now.size ≡ (P.puzzle p.now).size }
     ensures { MatchOption result ((index : ℕ) → index < candidates.now.size → IsPlaceIdle (P.struck_by p.now) grade candidates.now line index)
@@ -121,7 +140,7 @@ fn step_by_places_on<P: Steps>(
 {
     let width = candidates.size().get() as usize;
     for index in 0..width {
-        if let Some(step) = step_by_place(p, grade, candidates, line, index) {
+        if let Some(step) = step_by_place(p, grade, candidates, line, index, known) {
             return Some(step);
         }
     }
@@ -135,13 +154,20 @@ fn step_by_place<P: Steps>(
     candidates: &Candidates,
     line: usize,
     index: usize,
+    known: &mut KnownRows,
 ) -> Option<Step>
     requires { candidates.now.size ≡ (P.puzzle p.now).size }
     ensures { MatchOption result (IsPlaceIdle (P.struck_by p.now) grade candidates.now line index)
         (IsNew (P.struck_by p.now) grade candidates.now) }
 {
     for value in 1..candidates.size().get() + 1 {
-        if let Some(step) = step_by(p, grade, candidates, &Reason::Place { line, index, value }) {
+        if let Some(step) = step_by(
+            p,
+            grade,
+            candidates,
+            &Reason::Place { line, index, value },
+            known,
+        ) {
             return Some(step);
         }
     }
@@ -149,14 +175,19 @@ fn step_by_place<P: Steps>(
 }
 
 // One by a clue at the edge.
-fn step_by_clues<P: Steps>(p: &P, grade: Grade, candidates: &Candidates) -> Option<Step>
+fn step_by_clues<P: Steps>(
+    p: &P,
+    grade: Grade,
+    candidates: &Candidates,
+    known: &mut KnownRows,
+) -> Option<Step>
     requires { candidates.now.size ≡ (P.puzzle p.now).size }
     ensures { MatchOption result ((place : ℕ) → place < 4 * candidates.now.size → IsClueIdle (P.struck_by p.now) grade candidates.now place)
         (IsNew (P.struck_by p.now) grade candidates.now) }
 {
     let width = candidates.size().get() as usize;
     for place in 0..4 * width {
-        if let Some(step) = step_by_clue(p, grade, candidates, place) {
+        if let Some(step) = step_by_clue(p, grade, candidates, place, known) {
             return Some(step);
         }
     }
@@ -169,22 +200,28 @@ fn step_by_clue<P: Steps>(
     grade: Grade,
     candidates: &Candidates,
     place: usize,
+    known: &mut KnownRows,
 ) -> Option<Step>
     requires { candidates.now.size ≡ (P.puzzle p.now).size }
     ensures { MatchOption result (IsClueIdle (P.struck_by p.now) grade candidates.now place)
         (IsNew (P.struck_by p.now) grade candidates.now) }
 {
-    if let Some(step) = step_by(p, grade, candidates, &Reason::Bound { place }) {
+    if let Some(step) = step_by(p, grade, candidates, &Reason::Bound { place }, known) {
         return Some(step);
     }
-    if let Some(step) = step_by(p, grade, candidates, &Reason::Stand { place }) {
+    if let Some(step) = step_by(p, grade, candidates, &Reason::Stand { place }, known) {
         return Some(step);
     }
-    step_by(p, grade, candidates, &Reason::Clue { place })
+    step_by(p, grade, candidates, &Reason::Clue { place }, known)
 }
 
 // One by a sign.
-fn step_by_signs<P: Steps>(p: &P, grade: Grade, candidates: &Candidates) -> Option<Step>
+fn step_by_signs<P: Steps>(
+    p: &P,
+    grade: Grade,
+    candidates: &Candidates,
+    known: &mut KnownRows,
+) -> Option<Step>
     requires { candidates.now.size ≡ (P.puzzle p.now).size }
     ensures { MatchOption result ((to from : ℕ) → to < candidates.now.size * candidates.now.size → from < candidates.now.size * candidates.now.size
         → IsIdleIn (P.struck_by p.now) grade candidates.now (Sign from to) to)
@@ -192,7 +229,7 @@ fn step_by_signs<P: Steps>(p: &P, grade: Grade, candidates: &Candidates) -> Opti
 {
     let width = candidates.size().get() as usize;
     for to in 0..width * width {
-        if let Some(step) = step_by_signs_to(p, grade, candidates, to) {
+        if let Some(step) = step_by_signs_to(p, grade, candidates, to, known) {
             return Some(step);
         }
     }
@@ -205,6 +242,7 @@ fn step_by_signs_to<P: Steps>(
     grade: Grade,
     candidates: &Candidates,
     to: usize,
+    known: &mut KnownRows,
 ) -> Option<Step>
     requires size { candidates.now.size ≡ (P.puzzle p.now).size }
     requires inside { to < candidates.now.size * candidates.now.size }
@@ -212,10 +250,9 @@ fn step_by_signs_to<P: Steps>(
         (IsNew (P.struck_by p.now) grade candidates.now) }
 {
     let width = candidates.size().get() as usize;
-    let mut known = KnownRows::none();
     for from in 0..width * width {
         let reason = Reason::Sign { from, to };
-        if let Some(step) = step_in(p, grade, candidates, &reason, to, &mut known) {
+        if let Some(step) = step_in(p, grade, candidates, &reason, to, known) {
             return Some(step);
         }
     }
@@ -223,14 +260,19 @@ fn step_by_signs_to<P: Steps>(
 }
 
 // One by a group of squares.
-fn step_by_groups<P: Steps>(p: &P, grade: Grade, candidates: &Candidates) -> Option<Step>
+fn step_by_groups<P: Steps>(
+    p: &P,
+    grade: Grade,
+    candidates: &Candidates,
+    known: &mut KnownRows,
+) -> Option<Step>
     requires { candidates.now.size ≡ (P.puzzle p.now).size }
     ensures { MatchOption result ((line squares : ℕ) → line < 2 * candidates.now.size → squares < 2 ^ candidates.now.size
         → IsGroupIdle (P.struck_by p.now) grade candidates.now line squares)
         (IsNew (P.struck_by p.now) grade candidates.now) }
 {
     for line in 0..2 * candidates.size().get() {
-        if let Some(step) = step_by_groups_on(p, grade, candidates, line) {
+        if let Some(step) = step_by_groups_on(p, grade, candidates, line, known) {
             return Some(step);
         }
     }
@@ -243,6 +285,7 @@ fn step_by_groups_on<P: Steps>(
     grade: Grade,
     candidates: &Candidates,
     line: u8,
+    known: &mut KnownRows,
 ) -> Option<Step>
     requires size { candidates.now.size ≡ (P.puzzle p.now).size }
     requires line { line < 2 * candidates.now.size }
@@ -250,7 +293,14 @@ fn step_by_groups_on<P: Steps>(
         (IsNew (P.struck_by p.now) grade candidates.now) }
 {
     for group in 0..group_count(candidates.size().get()) {
-        if let Some(step) = step_by_group(p, grade, candidates, line, NumberSet::from_bits(group)) {
+        if let Some(step) = step_by_group(
+            p,
+            grade,
+            candidates,
+            line,
+            NumberSet::from_bits(group),
+            known,
+        ) {
             return Some(step);
         }
     }
@@ -272,6 +322,7 @@ fn step_by_group<P: Steps>(
     candidates: &Candidates,
     line: u8,
     squares: NumberSet,
+    known: &mut KnownRows,
 ) -> Option<Step>
     requires size { candidates.now.size ≡ (P.puzzle p.now).size }
     requires line { line < 2 * candidates.now.size }
@@ -288,7 +339,7 @@ fn step_by_group<P: Steps>(
         squares,
         values,
     };
-    step_by(p, grade, candidates, &reason)
+    step_by(p, grade, candidates, &reason, known)
 }
 
 // The values that are left of some squares of a row or column.
@@ -308,15 +359,20 @@ fn left_of(candidates: &Candidates, line: u8, squares: NumberSet) -> NumberSet
 }
 
 // What a reason strikes of what is left, in the first square where it does.
-fn step_by<P: Steps>(p: &P, grade: Grade, candidates: &Candidates, reason: &Reason) -> Option<Step>
+fn step_by<P: Steps>(
+    p: &P,
+    grade: Grade,
+    candidates: &Candidates,
+    reason: &Reason,
+    known: &mut KnownRows,
+) -> Option<Step>
     requires { candidates.now.size ≡ (P.puzzle p.now).size }
     ensures { MatchOption result (IsIdle (P.struck_by p.now) grade candidates.now reason.now)
         (IsNew (P.struck_by p.now) grade candidates.now) }
 {
     let width = candidates.size().get() as usize;
-    let mut known = KnownRows::none();
     for cell in 0..width * width {
-        if let Some(step) = step_in(p, grade, candidates, reason, cell, &mut known) {
+        if let Some(step) = step_in(p, grade, candidates, reason, cell, known) {
             return Some(step);
         }
     }

@@ -8,7 +8,8 @@ ghost use Rattle.step_chains.specs.Inner.Aims.{IsAimOf, IsReached, aim_goal};
 use crate::aims::{Aim, Aimed};
 use crate::chain::Step;
 use crate::goals::{shown_in_place, shown_in_square};
-use crate::layers::{Rounds, Sought};
+use crate::kinds::Sought;
+use crate::layers::Rounds;
 use crate::needs::left;
 use crate::replays::shows_without;
 use crate::slices::{gathered, slice, struck_once};
@@ -28,14 +29,15 @@ pub(crate) fn short_chain<P: Steps>(
     grid: &Grid,
     grade: Grade,
     sought: Sought,
+    known: &mut KnownRows,
 ) -> Result<Option<Aimed>, OutOfMemory>
     ensures { IfOk result (λ found. IfSome found (λ a. IsAimOf grid.now.size a.aim
         × IsReached (P.struck_by p.now) grade grid.now (steps_of a.steps.items) (aim_goal a.aim))) }
 {
-    let Some(mut found) = least_chain(alloc, p, grid, grade, sought)? else {
+    let Some(mut found) = least_chain(alloc, p, grid, grade, sought, known)? else {
         return Ok(None);
     };
-    if !shorten_from_view(p, grid, grade, &mut found.steps, found.aim) {
+    if !shorten_from_view(p, grid, grade, &mut found.steps, found.aim, known) {
         return Ok(None);
     }
     Ok(Some(found))
@@ -49,12 +51,13 @@ fn shorten_from_view<P: Steps>(
     grade: Grade,
     steps: &mut Vec<Step>,
     aim: Aim,
+    known: &mut KnownRows,
 ) -> bool
     ensures { OnTrue result (IsAimOf grid.now.size aim
         × IsReached (P.struck_by p.now) grade grid.now (steps_of steps.new.items) (aim_goal aim)) }
 {
     let mut view = view_of(grid);
-    shorten(p, grade, &mut view, steps, aim)
+    shorten(p, grade, &mut view, steps, aim, known)
 }
 
 // Leaves out what can be left out, where the steps come to the aim; and tells whether they do.
@@ -65,6 +68,7 @@ fn shorten<P: Steps>(
     candidates: &mut Candidates,
     steps: &mut Vec<Step>,
     aim: Aim,
+    known: &mut KnownRows,
 ) -> bool
     ensures same { candidates.new ≡ candidates.old }
     ensures of { OnTrue result (IsAimOf candidates.old.size aim) }
@@ -76,11 +80,10 @@ fn shorten<P: Steps>(
     if p.size() != size || !aim.is_of(size) {
         return false;
     }
-    let mut known = KnownRows::none();
-    if !shows_without(p, grade, candidates, steps.as_slice(), all, aim, &mut known) {
+    if !shows_without(p, grade, candidates, steps.as_slice(), all, aim, known) {
         return false;
     }
-    tighten(p, grade, candidates, steps, aim);
+    tighten(p, grade, candidates, steps, aim, known);
     true
 }
 
@@ -92,8 +95,9 @@ fn least_chain<P: Steps>(
     grid: &Grid,
     grade: Grade,
     sought: Sought,
+    known: &mut KnownRows,
 ) -> Result<Option<Aimed>, OutOfMemory> {
-    let mut rounds = Rounds::of(alloc, view_of(grid), sought);
+    let mut rounds = Rounds::of(alloc, view_of(grid), sought, known);
     rounds.go_through(p, grid, grade)?;
     let aims = match sought {
         Sought::Number => numbers_shown(alloc, grid, &rounds.now)?,
@@ -196,9 +200,16 @@ impl Least {
         if self.cost == 0 {
             return Ok(());
         }
-        let needed = slice(alloc, p, &mut rounds.now, rounds.steps.as_slice(), aim)?;
-        let mut all = gathered(alloc, p, &mut rounds.now, needed.as_slice())?;
-        if !shorten(p, self.grade, &mut rounds.now, &mut all, aim) {
+        let needed = slice(
+            alloc,
+            p,
+            &mut rounds.now,
+            rounds.steps.as_slice(),
+            aim,
+            rounds.known,
+        )?;
+        let mut all = gathered(alloc, p, &mut rounds.now, needed.as_slice(), rounds.known)?;
+        if !shorten(p, self.grade, &mut rounds.now, &mut all, aim, rounds.known) {
             return Ok(());
         }
         let steps = struck_once(alloc, &mut rounds.now, all.as_slice())?;

@@ -19,6 +19,7 @@ pub(crate) fn slice<P: Steps>(
     candidates: &mut Candidates,
     steps: &[Step],
     aim: Aim,
+    known: &mut KnownRows,
 ) -> Result<Vec<Step>, OutOfMemory> {
     let mut needs = needs_of(candidates, aim);
     let mut gone = Values::none();
@@ -39,7 +40,7 @@ pub(crate) fn slice<P: Steps>(
                 cell: step.cell,
                 values,
             };
-            let rest = few_premises(p, candidates, &steps[..place], &gone, &needs, &step);
+            let rest = few_premises(p, candidates, &steps[..place], &gone, &needs, &step, known);
             for at in looked_at(candidates.size(), &step.reason) {
                 needs.add(at as usize, rest.of(at as usize));
             }
@@ -60,13 +61,14 @@ fn few_premises<P: Steps>(
     gone: &Values,
     needs: &Values,
     step: &Step,
+    known: &mut KnownRows,
 ) -> Values {
     let cells = looked_at(candidates.size(), &step.reason);
     let mut rest = *gone;
     for i in 0..before.len() {
         let made = &before[before.len() - 1 - i];
         if cells.contains(&made.cell) {
-            leave_out(p, candidates, &cells, &mut rest, needs, step, made);
+            leave_out(p, candidates, &cells, &mut rest, needs, step, made, known);
         }
     }
     rest
@@ -81,10 +83,11 @@ fn leave_out<P: Steps>(
     needs: &Values,
     step: &Step,
     made: &Step,
+    known: &mut KnownRows,
 ) {
     let cell = made.cell as usize;
     let spare = made.values.difference(needs.of(cell));
-    if spare.is_empty() || leave_out_values(p, candidates, cells, rest, step, cell, spare) {
+    if spare.is_empty() || leave_out_values(p, candidates, cells, rest, step, cell, spare, known) {
         return;
     }
     if spare.is_single() {
@@ -100,6 +103,7 @@ fn leave_out<P: Steps>(
                 step,
                 cell,
                 NumberSet::one(value),
+                known,
             );
         }
     }
@@ -114,9 +118,10 @@ fn leave_out_values<P: Steps>(
     step: &Step,
     cell: usize,
     values: NumberSet,
+    known: &mut KnownRows,
 ) -> bool {
     rest.remove(cell, values);
-    if strikes_by(p, candidates, cells, rest, step) {
+    if strikes_by(p, candidates, cells, rest, step, known) {
         return true;
     }
     rest.add(cell, values);
@@ -130,6 +135,7 @@ fn strikes_by<P: Steps>(
     cells: &ArrayVec<u8, 9>,
     gone: &Values,
     step: &Step,
+    known: &mut KnownRows,
 ) -> bool {
     let mark = candidates.mark();
     for cell in cells.as_slice() {
@@ -147,7 +153,7 @@ fn strikes_by<P: Steps>(
         candidates,
         &step.reason,
         step.cell as usize,
-        &mut KnownRows::none(),
+        known,
     ));
     if mark.len() <= candidates.trail_len() {
         candidates.give_back(mark);
@@ -163,12 +169,20 @@ pub(crate) fn gathered<P: Steps>(
     p: &P,
     candidates: &mut Candidates,
     steps: &[Step],
+    known: &mut KnownRows,
 ) -> Result<Vec<Step>, OutOfMemory> {
     let mark = candidates.mark();
     let mut found = Vec::new(alloc);
     for place in 0..steps.len() {
         if place == 0 || !steps[place].is_same_look(&steps[place - 1]) {
-            gather(p, candidates, steps, &steps[place].reason, &mut found)?;
+            gather(
+                p,
+                candidates,
+                steps,
+                &steps[place].reason,
+                &mut found,
+                known,
+            )?;
         }
     }
     if mark.len() <= candidates.trail_len() {
@@ -184,9 +198,9 @@ fn gather<P: Steps>(
     steps: &[Step],
     reason: &Reason,
     found: &mut Vec<Step>,
+    known: &mut KnownRows,
 ) -> Result<(), OutOfMemory> {
     let mut wanted = Values::none();
-    let mut known = KnownRows::none();
     for step in steps {
         if step.reason == *reason {
             wanted.add(step.cell as usize, step.values);
@@ -196,7 +210,7 @@ fn gather<P: Steps>(
         let cell = step.cell as usize;
         let values = wanted
             .of(cell)
-            .intersection(struck(p, candidates, reason, cell, &mut known));
+            .intersection(struck(p, candidates, reason, cell, known));
         if step.reason == *reason && !values.is_empty() {
             wanted.remove(cell, values);
             let step = Step {

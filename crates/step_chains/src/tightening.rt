@@ -11,13 +11,15 @@ use named_steps::{Grade, KnownRows, Steps};
 use trail_solver::{Candidates, Rules};
 
 /// Leaves out, from the last step to the first, each without which the others still come to the aim. No step of what remains can
-/// be left out. The candidates are afterwards what they were. The steps come to the aim, and the sizes are equal.
+/// be left out. The candidates are afterwards what they were. The steps come to the aim, and the sizes are equal. What is known of rows
+/// of sets is used and added to.
 pub(crate) fn tighten<P: Steps>(
     p: &P,
     grade: Grade,
     candidates: &mut Candidates,
     steps: &mut Vec<Step>,
     aim: Aim,
+    known: &mut KnownRows,
 )
     requires size { candidates.old.size ≡ (P.puzzle p.now).size }
     requires aim { IsAimOf candidates.old.size aim }
@@ -26,19 +28,10 @@ pub(crate) fn tighten<P: Steps>(
     ensures shows { Shows (P.struck_by p.now) grade candidates.old (steps_of steps.new.items) (aim_goal aim) }
     ensures tight { IsTight (P.struck_by p.now) grade candidates.old (steps_of steps.new.items) (aim_goal aim) }
 {
-    let mut known = KnownRows::none();
     let mut place = steps.len();
     while place > 0 {
         place -= 1;
-        if shows_without(
-            p,
-            grade,
-            candidates,
-            steps.as_slice(),
-            place,
-            aim,
-            &mut known,
-        ) {
+        if shows_without(p, grade, candidates, steps.as_slice(), place, aim, known) {
             steps.remove(place);
         }
     }

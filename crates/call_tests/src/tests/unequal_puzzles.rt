@@ -7,6 +7,7 @@ use super::worked::{
 use clue_rules::{Game, IdFault, Unequal};
 use latin_board::Size;
 use std::alloc::Global;
+use std::cmp::Ordering;
 use trail_solver::Rules;
 
 // The puzzle of width 3 that a text describes.
@@ -94,9 +95,28 @@ fn has_just_pairs(puzzle: &Unequal, pairs: &[(usize, usize)]) -> bool {
     same
 }
 
+// What the signs say of each square and a later one.
+fn has_just_orders(puzzle: &Unequal, pairs: &[(usize, usize)]) -> bool {
+    let mut same = true;
+    for b in 0..9usize {
+        for a in 0..b {
+            let says = if pairs.contains(&(a, b)) {
+                Some(Ordering::Greater)
+            } else if pairs.contains(&(b, a)) {
+                Some(Ordering::Less)
+            } else {
+                None
+            };
+            same = same && puzzle.size().get() == 3 && puzzle.order(a, b) == says;
+        }
+    }
+    same
+}
+
 fn tells_pairs_and_givens(puzzle: &Unequal) -> bool {
     puzzle.size().get() == 3
         && has_just_pairs(puzzle, &[(1, 0), (2, 1), (3, 0), (6, 3)])
+        && has_just_orders(puzzle, &[(1, 0), (2, 1), (3, 0), (6, 3)])
         && puzzle.given(8) == 2
         && puzzle.given(0) == 0
 }

@@ -12,10 +12,9 @@ IsByRest c line index v =
     ((k : ℕ) × (k < c.size) × (k ≢ index) × HasNoOther c (line_cell c.size line k) v)
     ⊎ ((u : ℕ) × (1 ≤ u) × (u ≤ c.size) × (v ≢ u) × HasNoOtherPlace c line u index)
 
--- the first n sets are what the other squares of the line strike in each
-pub record AreRestRow (c : CandidatesValue) (line n : ℕ) (row : List ℕ) : Type 0 where
-  pub count : length row ≡ 9
-  pub each : (k v : ℕ) → k < n → (has_number (slice_index row k) v ≡ true) ↔ ((1 ≤ v) × (v ≤ c.size) × IsByRest c line k v)
+-- the set is of what the other squares of the line strike in one
+abbrev pub IsRestSet : CandidatesValue → ℕ → ℕ → ℕ → Type 0
+IsRestSet c line index set = (v : ℕ) → (has_number set v ≡ true) ↔ ((1 ≤ v) × (v ≤ c.size) × IsByRest c line index v)
 
 -- none of that is left
 abbrev pub IsRestQuiet : ℕ → CandidatesValue → Type 0
@@ -26,12 +25,6 @@ IsRestQuiet line c =
 pub record AreLineSets (c : CandidatesValue) (line n : ℕ) (sets : List ℕ) : Type 0 where
   pub count : length sets ≡ 9
   pub each : (k : ℕ) → k < n → IsSetOf c (line_cell c.size line k) (slice_index sets k)
-
--- the first n sets are of the values but for which nothing is left of the line's squares
-pub record AreAloneSets (c : CandidatesValue) (line n : ℕ) (sets : List ℕ) : Type 0 where
-  pub count : length sets ≡ 9
-  pub each : (k v : ℕ) → k < n
-      → (has_number (slice_index sets k) v ≡ true) ↔ (IsPair c.size (line_cell c.size line k) v × HasNoOther c (line_cell c.size line k) v)
 
 -- the values that are left of some of a line's squares
 pub record IsUnion (w : ℕ) (c : CandidatesValue) (line squares union : ℕ) : Type 0 where

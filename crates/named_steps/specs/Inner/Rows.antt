@@ -1,13 +1,11 @@
 -- What may stand in the squares from a place, as a row of sets.
-use Rattle.std.specs.Prelude.{◌≡◌, ◌↔◌, ℕ, ◌<◌, true, false, ◌&&◌, nat_le, not, List, length, slice_index}
+use Rattle.std.specs.Prelude.{◌≡◌, ◌↔◌, ℕ, ◌<◌, true, ◌&&◌, nat_le, not, List, length, slice_index}
 use Rattle.number_sets.specs.Sets.{has_number}
 use Rattle.trail_solver.specs.Pairs.{IsPair}
-use Rattle.trail_solver.specs.Candidates.{CandidatesValue, may_be}
-use Rattle.clue_rules.specs.Views.{view_cell}
+use Rattle.trail_solver.specs.Candidates.{CandidatesValue}
+use Rattle.clue_rules.specs.Views.{view_cell, view_index}
 use Rattle.named_steps.specs.Left.{IsLeft}
-use Rattle.clue_rules.specs.Towers.{TowersValue}
 use Rattle.named_steps.specs.Fillings.{Anything, Standing}
-use Rattle.named_steps.specs.Reasons.{IsByClue}
 use Rattle.named_steps.specs.declared.reason.Reason.{Reason}
 use Rattle.named_steps.specs.declared.reason.Reason.TheVariants.{Bound, Stand, Clue}
 use Rattle.named_steps.specs.declared.grade.Grade.{Grade}
@@ -47,7 +45,7 @@ look_grade Alone = Easy
 look_grade Stands = Easy
 look_grade Marks = Hard
 
--- as it is looked at, the clue at the place strikes nothing that is left
-abbrev pub IsViewQuiet : TowersValue → Look → ℕ → CandidatesValue → Type 0
-IsViewQuiet v look place c =
-    (cell value : ℕ) → IsPair c.size cell value → IsByClue v (May look c) place cell value → may_be c cell value ≡ false
+-- the first n sets are those of the row from a place, each at its square's place in the line
+pub record IsAlong (w place : ℕ) (row : List ℕ) (n : ℕ) (along : List ℕ) : Type 0 where
+  pub count : length along ≡ 9
+  pub each : (k : ℕ) → k < n → slice_index along k ≡ slice_index row (view_index w place k)

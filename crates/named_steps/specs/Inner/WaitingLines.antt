@@ -1,10 +1,9 @@
 -- Rows and columns that wait to be looked at, since something went of one of their squares.
-use Rattle.std.specs.Prelude.{◌≡◌, ◌≢◌, ℕ, ◌-◌, ◌*◌, ◌/◌, ◌%◌, ◌<◌, ◌==◌, Bool, true, false, nat_lt, if◌then◌else◌, List, length, slice_index}
+use Rattle.std.specs.Prelude.{◌≡◌, ◌≢◌, ℕ, ◌-◌, ◌/◌, ◌%◌, ◌<◌, ◌==◌, Bool, true, false, nat_lt, if◌then◌else◌, length}
 use Rattle.number_sets.specs.Sets.{has_number, IsEmpty}
 use Rattle.latin_board.specs.Lines.{line_cell}
-use Rattle.trail_solver.specs.Candidates.{CandidatesValue, IsSetOf}
+use Rattle.trail_solver.specs.Candidates.{CandidatesValue}
 use Rattle.named_steps.specs.Left.{IsLeft}
-use Rattle.named_steps.specs.Inner.LineStrikes.{IsRestQuiet}
 use Rattle.named_steps.specs.declared.waiting.Waiting.{Waiting}
 
 -- the line waits; the lines below the width are the rows
@@ -20,31 +19,9 @@ abbrev pub is_crossing : ℕ → ℕ → ℕ → ℕ → Bool
 is_crossing w line places other =
     if nat_lt line w then (if nat_lt other w then false else has_number places (other - w)) else (if nat_lt other w then has_number places other else false)
 
--- the lines that don't wait strike nothing that is left
-abbrev pub AreOthersQuiet : Waiting → CandidatesValue → Type 0
-AreOthersQuiet waiting c = (line : ℕ) → line < 2 * c.size → is_waiting c.size waiting line ≡ false → IsRestQuiet line c
-
--- no line strikes anything that is left
-abbrev pub AreLinesQuiet : CandidatesValue → Type 0
-AreLinesQuiet c = (line : ℕ) → line < 2 * c.size → IsRestQuiet line c
-
--- the line doesn't wait, and no line that didn't wait before
-pub record IsWithout (w line : ℕ) (before after : Waiting) : Type 0 where
-  pub this : is_waiting w after line ≡ false
-  pub others : (other : ℕ) → is_waiting w before other ≡ false → is_waiting w after other ≡ false
-
 -- all stays that was left of other squares than those at these places of the line; something went where there are any, and nothing where not
 pub record AreChanged (line places : ℕ) (old new : CandidatesValue) : Type 0 where
   pub stays : (cell v : ℕ) → IsLeft old cell v
       → ((k : ℕ) → k < old.size → has_number places k ≡ true → cell ≢ line_cell old.size line k) → IsLeft new cell v
   pub went : (k : ℕ) → has_number places k ≡ true → length old.trail < length new.trail
   pub same : IsEmpty places → new ≡ old
-
--- the first sets are of what is left of the first squares
-pub record AreSets (c : CandidatesValue) (cells : ℕ) (sets : List ℕ) : Type 0 where
-  pub count : length sets ≡ 81
-  pub each : (cell : ℕ) → cell < cells → IsSetOf c cell (slice_index sets cell)
-
--- of the line's squares is left what the sets say
-abbrev pub AreSetsOn : ℕ → CandidatesValue → List ℕ → Type 0
-AreSetsOn line c sets = (k : ℕ) → k < c.size → IsSetOf c (line_cell c.size line k) (slice_index sets (line_cell c.size line k))

@@ -4,27 +4,22 @@ use Rattle.named_steps.proofs.SettledLines.{lines_of_all}
 use Rattle.fair_games.specs.Fair.{FailsBy}
 use Rattle.fair_games.specs.Inner.PrunedTo.{IsPrunedTo}
 use Rattle.fair_games.proofs.Bases.{base_all}
-use Rattle.fair_games.proofs.PrunedItems.{pruned_none, pruned_all}
+use Rattle.fair_games.proofs.PrunedItems.{pruned_none}
 use Rattle.fair_games.proofs.pruning.pruned.Goals as goal
 
-pub prune-requires-clause-pruned : goal.prune-requires-clause-pruned
-prune-requires-clause-pruned g c =
+pub without_all-requires-clause-pruned : goal.without_all-requires-clause-pruned
+without_all-requires-clause-pruned g c =
     let square = c.args.grid.now in
     let cuts = cuts_of_full g.P.Rules square (laws_of g.met.P.Rules) c.size.ensures.valid c.requires.latin in
-    subst (λ p. IsPrunedTo g.P.Rules (FailsBy g.P.Steps.struck_by c.args.grade square) square c.args.order.now 0 p) (sym c.full.ensures)
+    subst (λ p. IsPrunedTo g.P.Rules (FailsBy g.P.Steps.struck_by c.args.grade square) square c.args.order.now 0 p) (sym c.full-full.ensures)
     (pruned_none g.P.Rules (FailsBy g.P.Steps.struck_by c.args.grade square) square c.args.order.now cuts)
 
-pub prune-requires-clause-base : goal.prune-requires-clause-base
-prune-requires-clause-base g c =
+pub without_all-requires-clause-base : goal.without_all-requires-clause-base
+without_all-requires-clause-base g c =
     base_all _ c.args.grade c.args.grid.now c.all-left.result (c.all-left.ensures.size ∙ c.size.ensures.value) c.all-left.ensures.trail
 
-pub prune-requires-clause-settled : goal.prune-requires-clause-settled
-prune-requires-clause-settled g c =
+pub without_all-requires-clause-settled : goal.without_all-requires-clause-settled
+without_all-requires-clause-settled g c =
     let wide : 3 ≤ c.all-left.result.size = omega (arith, c.all-left.ensures.size, c.size.ensures.value, c.size.ensures.valid.smallest) in
     let small : c.all-left.result.size ≤ 9 = omega (arith, c.all-left.ensures.size, c.size.ensures.value, c.size.ensures.valid.largest) in
     lines_of_all c.args.grade c.all-left.result wide small c.all-left.ensures.trail
-
-pub returns : goal.returns
-returns g c =
-    pruned_all g.P.Rules (FailsBy g.P.Steps.struck_by c.args.grade c.args.grid.now) c.args.grid.now c.args.order.now c.prune.result c.size.ensures.valid
-    c.requires.latin c.requires.trial c.prune.ensures.pruned

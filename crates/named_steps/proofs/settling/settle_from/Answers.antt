@@ -1,94 +1,102 @@
-use Rattle.std.proofs.Common.{◌≡◌, ℕ, ◌-◌, ◌*◌, ◌<◌, ◌≤◌, length, sym, ap, ◌∙◌, arith}
-use Rattle.trail_solver.proofs.Earlier.{earlier_trans}
-use Rattle.named_steps.specs.Reasons.{IsByLine}
-use Rattle.named_steps.specs.Passes.{AreGivensSettled}
-use Rattle.named_steps.specs.Inner.RestSteps.{AreRestSettled}
+use Rattle.std.proofs.Common.{◌≡◌, ℕ, ◌-◌, ◌*◌, ◌<◌, ◌≤◌, length, sym, ap, ◌∙◌, subst, arith}
+use Rattle.trail_solver.specs.Candidates.{CandidatesValue}
+use Rattle.named_steps.specs.Following.{IsSettled}
+use Rattle.named_steps.specs.Inner.Stages.{AreAllQuiet}
 use Rattle.named_steps.proofs.GivenPasses.{givens_stay}
-use Rattle.named_steps.proofs.Rounds.{IsShared, lines_lead, rest_settles, closure_reached, round_longer}
-use Rattle.named_steps.proofs.Takes.{leads_earlier, leads_fewer, leads_length, leads_on, leads_size}
-use Rattle.named_steps.proofs.WaitingGroups.{grouped_stay}
-use Rattle.named_steps.proofs.WaitingLines.{unchanged_quiet}
-use Rattle.named_steps.specs.declared.grade.Grade.TheVariants.{Latin}
+use Rattle.named_steps.proofs.Kept.{IsSoundFor}
+use Rattle.named_steps.proofs.Rounds.{IsShared, settled_all, clues_settled, leads_within, filled_settled, closure_reached}
+use Rattle.named_steps.proofs.Takes.{leads_earlier, leads_fewer, leads_length, leads_on, leads_same, leads_size}
+use Rattle.named_steps.specs.declared.stages.Stage.TheVariants.{Squares, Clues, Groups}
 use Rattle.named_steps.proofs.settling.settle_from.Goals as goal
 
-pub strike_rest-requires-clause-size : goal.strike_rest-requires-clause-size
-strike_rest-requires-clause-size g c =
-    let now = c.loop-grade.candidates in
-    let same = leads_size (g.P.Steps.struck_by c.args.p.now) c.args.grade c.args.candidates.now now c.loop-grade.invariant.0 in
-    leads_size (IsByLine now.size) Latin now c.strike_lines.new.candidates c.strike_lines.ensures.leads ∙ same ∙ c.requires.size
-
-pub strike_rest-requires-clause-grouped : goal.strike_rest-requires-clause-grouped
-strike_rest-requires-clause-grouped g c = λ past.
-    let now = c.loop-grade.candidates in
-    let lines = c.strike_lines.new.candidates in
-    let leads = c.strike_lines.ensures.leads in
-    grouped_stay c.loop-grade.grouped now lines (leads_size (IsByLine now.size) Latin now lines leads) (leads_fewer (IsByLine now.size) Latin now lines leads)
-    (c.loop-grade.invariant.3 past)
+pub look_in_turn-waits-requires-clause-size : goal.look_in_turn-waits-requires-clause-size
+look_in_turn-waits-requires-clause-size g c =
+    leads_size (g.P.Steps.struck_by c.args.p.now) c.args.grade c.args.candidates.now c.loop-grade.candidates c.loop-grade.invariant.0 ∙ c.requires.size
 
 pub returns-then-trail_len-count-clause-closure : goal.returns-then-trail_len-count-clause-closure
 returns-then-trail_len-count-clause-closure g c =
-    let Struck = g.P.Steps.struck_by c.args.p.now in
-    let puzzle = g.P.Rules.puzzle c.args.p.now in
-    let shared : IsShared puzzle Struck = record { given = g.met.P.Steps.given_struck c.args.p.now; line = g.met.P.Steps.line_struck c.args.p.now } in
+    let p = c.args.p.now in
+    let Struck = g.P.Steps.struck_by p in
+    let Quiet = g.P.Steps.quiet_on p in
+    let puzzle = g.P.Rules.puzzle p in
+    let shared : IsShared puzzle Struck = record { given = g.met.P.Steps.given_struck p; line = g.met.P.Steps.line_struck p } in
+    let grade = c.args.grade in
     let first = c.args.candidates.now in
     let now = c.loop-grade.candidates in
-    let lines = c.strike_lines.new.candidates in
-    let next = c.strike_rest.new.candidates in
-    let same : now.size ≡ first.size = leads_size Struck c.args.grade first now c.loop-grade.invariant.0 in
-    let lead = lines_lead puzzle Struck shared c.args.grade now lines (same ∙ c.requires.size) c.strike_lines.ensures.leads in
-    let size : lines.size ≡ first.size = leads_size Struck c.args.grade now lines lead ∙ same in
-    let small : lines.size ≤ 9 = omega (arith, size, c.size-size.ensures.valid.largest) in
-    let givens : AreGivensSettled puzzle lines = givens_stay puzzle now lines (leads_size Struck c.args.grade now lines lead) (leads_fewer Struck c.args.grade now lines lead)
-    c.loop-grade.invariant.1 in
-    closure_reached Struck c.args.grade first lines next (leads_on Struck c.args.grade first now lines c.loop-grade.invariant.0 lead)
-    (rest_settles puzzle Struck shared c.args.grade lines next small (size ∙ c.requires.size) givens c.strike_lines.ensures.quiet c.strike_rest.ensures.passes)
-    (sym c.trail_len.ensures.value ∙ c.if-trail_len-count.true ∙ c.trail_len-count.ensures.value)
+    let next = c.look_in_turn-waits.new.candidates in
+    let step = c.look_in_turn-waits.ensures.leads in
+    let same : now.size ≡ first.size = leads_size Struck grade first now c.loop-grade.invariant.0 in
+    let small : now.size ≤ 9 = omega (arith, same, c.size-size.ensures.valid.largest) in
+    let still : length next.trail ≡ length now.trail = sym c.trail_len.ensures.value ∙ c.if-trail_len-count.true ∙ c.trail_len-count.ensures.value in
+    let quiet : AreAllQuiet Quiet grade now = c.look_in_turn-waits.ensures.none still in
+    let settled : IsSettled Struck grade now = settled_all puzzle Struck shared grade now small (same ∙ c.requires.size) c.loop-grade.invariant.1
+    (λ line low. quiet Squares line low)
+    (clues_settled Struck grade now
+    (λ past. g.met.P.Steps.quiet_settles p grade now c.size-valid.ensures.valid (same ∙ c.requires.size) (λ line low. quiet Clues line low past)))
+    (λ past line low. quiet Groups line low past) in
+    let is : next ≡ now = leads_same Struck grade now next step still in
+    closure_reached Struck grade first next (leads_on Struck grade first now next c.loop-grade.invariant.0 step)
+    (subst (λ (d : CandidatesValue). IsSettled Struck grade d) (sym is) settled)
 
 pub returns-then-trail_len-count-clause-earlier : goal.returns-then-trail_len-count-clause-earlier
 returns-then-trail_len-count-clause-earlier g c =
     let Struck = g.P.Steps.struck_by c.args.p.now in
     let first = c.args.candidates.now in
     let now = c.loop-grade.candidates in
-    let lines = c.strike_lines.new.candidates in
-    let next = c.strike_rest.new.candidates in
-    earlier_trans first now next (leads_earlier Struck c.args.grade first now c.loop-grade.invariant.0)
-    (earlier_trans now lines next (leads_earlier (IsByLine now.size) Latin now lines c.strike_lines.ensures.leads)
-    (leads_earlier Struck c.args.grade lines next c.strike_rest.ensures.passes.leads))
+    let next = c.look_in_turn-waits.new.candidates in
+    leads_earlier Struck c.args.grade first next
+    (leads_on Struck c.args.grade first now next c.loop-grade.invariant.0 c.look_in_turn-waits.ensures.leads)
+
+pub returns-then-is_filled-clause-closure : goal.returns-then-is_filled-clause-closure
+returns-then-is_filled-clause-closure g c =
+    let p = c.args.p.now in
+    let Struck = g.P.Steps.struck_by p in
+    let puzzle = g.P.Rules.puzzle p in
+    let grade = c.args.grade in
+    let first = c.args.candidates.now in
+    let now = c.loop-grade.candidates in
+    let next = c.look_in_turn-waits.new.candidates in
+    let leads = leads_on Struck grade first now next c.loop-grade.invariant.0 c.look_in_turn-waits.ensures.leads in
+    let size : next.size ≡ puzzle.size = leads_size Struck grade first next leads ∙ c.requires.size in
+    let sound : IsSoundFor puzzle Struck = λ d reason cell value square. g.met.P.Steps.struck_sound p d reason cell value square c.size-valid.ensures.valid in
+    let known = c.requires.solved c.if-is_solved.true in
+    let within = leads_within puzzle Struck sound grade first next known.0 c.requires.size leads known.1 known.2 in
+    closure_reached Struck grade first next leads (filled_settled puzzle Struck sound grade next known.0 size known.1 within c.if-is_filled.ensures)
+
+pub returns-then-is_filled-clause-earlier : goal.returns-then-is_filled-clause-earlier
+returns-then-is_filled-clause-earlier g c =
+    let Struck = g.P.Steps.struck_by c.args.p.now in
+    let first = c.args.candidates.now in
+    let now = c.loop-grade.candidates in
+    let next = c.look_in_turn-waits.new.candidates in
+    leads_earlier Struck c.args.grade first next
+    (leads_on Struck c.args.grade first now next c.loop-grade.invariant.0 c.look_in_turn-waits.ensures.leads)
 
 pub loop-grade-smaller : goal.loop-grade-smaller
 loop-grade-smaller g c =
     let Struck = g.P.Steps.struck_by c.args.p.now in
     let now = c.loop-grade.candidates in
-    let lines = c.strike_lines.new.candidates in
-    let next = c.strike_rest.new.candidates in
-    let more : length now.trail ≤ length lines.trail = leads_length (IsByLine now.size) Latin now lines c.strike_lines.ensures.leads in
-    let longer : length lines.trail < length next.trail =
-    round_longer Struck c.args.grade (AreRestSettled Struck c.args.grade) lines next c.strike_rest.ensures.passes
-    (λ e. c.if-trail_len-count.false (c.trail_len.ensures.value ∙ e ∙ sym c.trail_len-count.ensures.value)) in
-    let size : next.size ≡ now.size =
-    leads_size Struck c.args.grade lines next c.strike_rest.ensures.passes.leads ∙ leads_size (IsByLine now.size) Latin now lines c.strike_lines.ensures.leads in
-    let cube : next.size * next.size * next.size ≡ now.size * now.size * now.size = ap (λ (n : ℕ). n * n * n) size in
+    let next = c.look_in_turn-waits.new.candidates in
+    let leads = c.look_in_turn-waits.ensures.leads in
+    let more : length now.trail ≤ length next.trail = leads_length Struck c.args.grade now next leads in
+    let moved : length next.trail ≡ length now.trail → ⊥ = λ e.
+    c.if-trail_len-count.false (c.trail_len.ensures.value ∙ e ∙ sym c.trail_len-count.ensures.value) in
+    let longer : length now.trail < length next.trail = omega (arith, more, moved) in
+    let cube : next.size * next.size * next.size ≡ now.size * now.size * now.size =
+    ap (λ (n : ℕ). n * n * n) (leads_size Struck c.args.grade now next leads) in
     let bound : length next.trail ≤ next.size * next.size * next.size = omega (arith, c.trail_len.ensures.value, c.trail_len.ensures.bound) in
-    let less : next.size * next.size * next.size - length next.trail < now.size * now.size * now.size - length now.trail =
-    omega (arith, more, longer, cube, bound) in
+    let less : next.size * next.size * next.size - length next.trail < now.size * now.size * now.size - length now.trail = omega (arith, longer, cube, bound) in
     less
 
 pub loop-grade-preserved : goal.loop-grade-preserved
 loop-grade-preserved g c =
     let Struck = g.P.Steps.struck_by c.args.p.now in
     let puzzle = g.P.Rules.puzzle c.args.p.now in
-    let shared : IsShared puzzle Struck = record { given = g.met.P.Steps.given_struck c.args.p.now; line = g.met.P.Steps.line_struck c.args.p.now } in
     let first = c.args.candidates.now in
     let now = c.loop-grade.candidates in
-    let lines = c.strike_lines.new.candidates in
-    let next = c.strike_rest.new.candidates in
-    let same : now.size ≡ first.size = leads_size Struck c.args.grade first now c.loop-grade.invariant.0 in
-    let lead = lines_lead puzzle Struck shared c.args.grade now lines (same ∙ c.requires.size) c.strike_lines.ensures.leads in
-    let on = leads_on Struck c.args.grade now lines next lead c.strike_rest.ensures.passes.leads in (
-      leads_on Struck c.args.grade first now next c.loop-grade.invariant.0 on,
-      givens_stay puzzle now next (leads_size Struck c.args.grade now next on) (leads_fewer Struck c.args.grade now next on) c.loop-grade.invariant.1,
-      unchanged_quiet c.changed_lines-waiting.result c.sets_of-lines.result lines next
-          (leads_size Struck c.args.grade lines next c.strike_rest.ensures.passes.leads) (leads_fewer Struck c.args.grade lines next c.strike_rest.ensures.passes.leads)
-          c.strike_lines.ensures.quiet c.sets_of-lines.ensures (λ line low. (c.changed_lines-waiting.ensures line low).0),
-      c.strike_rest.ensures.grouped,
+    let next = c.look_in_turn-waits.new.candidates in
+    let leads = c.look_in_turn-waits.ensures.leads in (
+      leads_on Struck c.args.grade first now next c.loop-grade.invariant.0 leads,
+      givens_stay puzzle now next (leads_size Struck c.args.grade now next leads) (leads_fewer Struck c.args.grade now next leads) c.loop-grade.invariant.1,
+      c.look_in_turn-waits.ensures.waiting,
     )

@@ -1,48 +1,72 @@
-use Rattle.std.proofs.Common.{◌∙◌, subst}
+use Rattle.std.proofs.Common.{◌≡◌, ℕ, ◌*◌, ◌<◌, ◌≤◌, false, ◌∙◌, subst, arith}
+use Rattle.std.proofs.lemmas.Bool.{both_ways}
 use Rattle.trail_solver.proofs.Earlier.{earlier_trans}
 use Rattle.named_steps.specs.Passes.{AreLinesSettled}
+use Rattle.named_steps.specs.Inner.WaitingLines.{is_waiting}
+use Rattle.named_steps.specs.Inner.Stages.{IsFree, IsQuietFor}
 use Rattle.named_steps.proofs.LinePasses.{settled_quiet}
-use Rattle.named_steps.proofs.Rounds.{past_easy_is, givens_lead, closure_after}
+use Rattle.named_steps.proofs.Kept.{IsSoundFor}
+use Rattle.named_steps.proofs.Rounds.{leads_within, past_easy_is, givens_lead, closure_after}
 use Rattle.named_steps.proofs.Takes.{leads_earlier, leads_fewer, leads_size}
-use Rattle.named_steps.proofs.WaitingGroups.{grouped_stay, grouped_settled}
-use Rattle.named_steps.proofs.WaitingLines.{unchanged_quiet}
+use Rattle.named_steps.proofs.WaitingGroups.{group_stays, groups_settled}
+use Rattle.named_steps.proofs.WaitingLines.{quiet_stays}
 use Rattle.named_steps.specs.declared.grade.Grade.{Grade}
 use Rattle.named_steps.specs.declared.grade.Grade.TheVariants.{Latin, Hard}
+use Rattle.named_steps.specs.declared.stages.Stage.TheVariants.{Squares, Clues, Groups}
 use Rattle.named_steps.proofs.settling.settle_on.Goals as goal
 
 pub settle_from-requires-clause-size : goal.settle_from-requires-clause-size
 settle_from-requires-clause-size g c =
-    leads_size (g.P.Steps.struck_by c.args.p.now) Latin c.args.candidates.now c.strike_givens.new.candidates c.strike_givens.ensures.leads ∙ c.requires.size
+    leads_size (g.P.Steps.struck_by c.args.p.now) Latin c.args.candidates.now c.strike_givens-squares.new.candidates c.strike_givens-squares.ensures.leads ∙ c.requires.size
 
-pub settle_from-requires-clause-others : goal.settle_from-requires-clause-others
-settle_from-requires-clause-others g c =
+pub settle_from-requires-clause-waiting : goal.settle_from-requires-clause-waiting
+settle_from-requires-clause-waiting g c = λ stage line low.
     let Struck = g.P.Steps.struck_by c.args.p.now in
+    let Quiet = g.P.Steps.quiet_on c.args.p.now in
     let old = c.args.candidates.now in
-    let new = c.strike_givens.new.candidates in
-    let leads = c.strike_givens.ensures.leads in
-    unchanged_quiet c.changed_lines-waiting.result c.sets_of-before.result old new (leads_size Struck Latin old new leads) (leads_fewer Struck Latin old new leads)
-    (settled_quiet c.args.grade old c.requires.lines) c.sets_of-before.ensures (λ line low. (c.changed_lines-waiting.ensures line low).0)
+    let new = c.strike_givens-squares.new.candidates in
+    let leads = c.strike_givens-squares.ensures.leads in
+    let size = leads_size Struck Latin old new leads in
+    let fewer = leads_fewer Struck Latin old new leads in
+    let low_old = subst (λ (n : ℕ). line < 2 * n) size low in
+    let stays = λ (free : is_waiting new.size c.strike_givens-squares.result line ≡ false).
+    c.strike_givens-squares.ensures.others line low_old (subst (λ (n : ℕ). is_waiting n c.strike_givens-squares.result line ≡ false) size free) in
+    elim stage as (λ s. IsFree new.size (record { squares = c.strike_givens-squares.result; clues = c.all.result; groups = c.strike_givens-squares.result }) s line
+    → IsQuietFor Quiet c.args.grade s line new) [
+      | Squares ↦ λ free.
+          quiet_stays line old new size fewer (stays free)
+          (settled_quiet c.args.grade old c.requires.lines line low_old)
+      | Clues ↦ λ free.
+          let small : new.size ≤ 9 = omega (arith, size, c.size-size.ensures.valid.largest) in
+          absurd (both_ways (is_waiting new.size c.all.result line) free (c.all.ensures new.size line small low))
+      | Groups ↦ λ free past.
+          let settled : AreLinesSettled Hard old = subst (λ (grade : Grade). AreLinesSettled grade old) (past_easy_is c.args.grade past) c.requires.lines in
+          group_stays line old new size fewer (stays free) (groups_settled old line settled low_old)
+    ]
 
-pub settle_from-requires-clause-grouped : goal.settle_from-requires-clause-grouped
-settle_from-requires-clause-grouped g c = λ past.
-    let Struck = g.P.Steps.struck_by c.args.p.now in
-    let old = c.args.candidates.now in
-    let new = c.strike_givens.new.candidates in
-    let leads = c.strike_givens.ensures.leads in
-    let settled : AreLinesSettled Hard old = subst (λ (grade : Grade). AreLinesSettled grade old) (past_easy_is c.args.grade past) c.requires.lines in
-    grouped_stay c.sets_of-before.result old new (leads_size Struck Latin old new leads) (leads_fewer Struck Latin old new leads)
-    (grouped_settled c.sets_of-before.result old settled c.sets_of-before.ensures)
+pub settle_from-requires-clause-solved : goal.settle_from-requires-clause-solved
+settle_from-requires-clause-solved g c = λ one.
+    let p = c.args.p.now in
+    let Struck = g.P.Steps.struck_by p in
+    let puzzle = g.P.Rules.puzzle p in
+    let square = c.args.solution.now in
+    let sound : IsSoundFor puzzle Struck = λ d reason cell value other. g.met.P.Steps.struck_sound p d reason cell value other c.size-valid.ensures.valid in (
+      square,
+      c.requires.solves,
+      leads_within puzzle Struck sound Latin c.args.candidates.now c.strike_givens-squares.new.candidates square c.requires.size c.strike_givens-squares.ensures.leads
+          c.requires.solves c.requires.within,
+    )
 
 pub returns-clause-closure : goal.returns-clause-closure
 returns-clause-closure g c =
     let Struck = g.P.Steps.struck_by c.args.p.now in
-    let new = c.strike_givens.new.candidates in
+    let new = c.strike_givens-squares.new.candidates in
     closure_after Struck c.args.grade c.args.candidates.now new c.settle_from.new.candidates
-    (givens_lead Struck c.args.grade c.args.candidates.now new c.strike_givens.ensures.leads) c.settle_from.ensures.closure
+    (givens_lead Struck c.args.grade c.args.candidates.now new c.strike_givens-squares.ensures.leads) c.settle_from.ensures.closure
 
 pub returns-clause-earlier : goal.returns-clause-earlier
 returns-clause-earlier g c =
     let old = c.args.candidates.now in
-    let new = c.strike_givens.new.candidates in
-    earlier_trans old new c.settle_from.new.candidates (leads_earlier (g.P.Steps.struck_by c.args.p.now) Latin old new c.strike_givens.ensures.leads)
+    let new = c.strike_givens-squares.new.candidates in
+    earlier_trans old new c.settle_from.new.candidates (leads_earlier (g.P.Steps.struck_by c.args.p.now) Latin old new c.strike_givens-squares.ensures.leads)
     c.settle_from.ensures.earlier

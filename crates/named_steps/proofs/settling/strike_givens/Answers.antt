@@ -1,56 +1,59 @@
-use Rattle.std.proofs.Common.{◌≡◌, ℕ, ◌+◌, ◌*◌, ◌<◌, nat_le, ◌&&◌, inl, inr, sym, ◌∙◌, subst, arith}
-use Rattle.std.proofs.lemmas.Bool.{cases_eq}
-use Rattle.number_sets.specs.Sets.{has_number}
+use Rattle.std.proofs.Common.{◌≡◌, ℕ, ◌+◌, ◌*◌, ◌<◌, ◌||◌, false, refl, inl, inr, sym, ◌∙◌, subst, arith}
+use Rattle.std.proofs.lemmas.Bool.{cases_eq, or_parts}
 use Rattle.trail_solver.specs.Candidates.{CandidatesValue}
-use Rattle.named_steps.specs.Passes.{LeadsTo}
-use Rattle.named_steps.proofs.GivenPasses.{IsGivenQuiet, given_stays, given_taken, no_given}
+use Rattle.named_steps.specs.Passes.{StaysOn, IsGivenQuiet}
+use Rattle.named_steps.specs.Inner.WaitingLines.{is_waiting, is_through}
+use Rattle.named_steps.proofs.GivenPasses.{given_stays}
+use Rattle.named_steps.proofs.ChangedLines.{stays_off}
 use Rattle.named_steps.proofs.Takes.{leads_fewer, leads_on, leads_size}
 use Rattle.named_steps.specs.declared.grade.Grade.TheVariants.{Latin}
+use Rattle.named_steps.specs.declared.waiting.Waiting.{Waiting}
 use Rattle.named_steps.proofs.settling.strike_givens.Goals as goal
-use Rattle.named_steps.proofs.settling.strike_givens.Goals.{then-given-ne0, else-given-ne0}
+use Rattle.named_steps.proofs.settling.strike_givens.Goals.{then-strike_given, else-strike_given}
 
-pub strike-requires : goal.strike-requires
-strike-requires g c =
+pub strike_given-requires-clause-size : goal.strike_given-requires-clause-size
+strike_given-requires-clause-size g c =
+    leads_size (g.P.Steps.struck_by c.args.p.now) Latin c.args.candidates.now c.loop-cell.candidates c.loop-cell.invariant.0 ∙ c.requires
+
+pub strike_given-requires-clause-inside : goal.strike_given-requires-clause-inside
+strike_given-requires-clause-inside g c =
     let first = c.args.candidates.now in
-    let Struck = g.P.Steps.struck_by c.args.p.now in
-    let width : c.get-width.result ≡ first.size = c.get-width.ensures.value ∙ c.size-size.ensures.value in
-    let same : c.loop-cell.candidates.size ≡ first.size = leads_size Struck Latin first c.loop-cell.candidates c.loop-cell.invariant.0 in
+    let width : c.get-width.result ≡ first.size = c.get-width.ensures.value ∙ c.size.ensures.value in
+    let same : c.loop-cell.candidates.size ≡ first.size =
+    leads_size (g.P.Steps.struck_by c.args.p.now) Latin first c.loop-cell.candidates c.loop-cell.invariant.0 in
     subst (λ (n : ℕ). c.loop-cell.cell < n * n) (width ∙ sym same) c.loop-cell-test.true
 
 pub loop-cell-preserved : goal.loop-cell-preserved
 loop-cell-preserved g c =
     let first = c.args.candidates.now in
     let now = c.loop-cell.candidates in
+    let next = c.strike_given.new.candidates in
     let cell = c.loop-cell.cell in
     let Struck = g.P.Steps.struck_by c.args.p.now in
     let puzzle = g.P.Rules.puzzle c.args.p.now in
-    let width : c.get-width.result ≡ first.size = c.get-width.ensures.value ∙ c.size-size.ensures.value in
-    let same : now.size ≡ first.size = leads_size Struck Latin first now c.loop-cell.invariant.0 in
-    let inside : cell < now.size * now.size = subst (λ (n : ℕ). cell < n * n) (width ∙ sym same) c.loop-cell-test.true in
-    let AreQuiet : ℕ → CandidatesValue → Type 0 = λ n d. (j : ℕ) → j < n → IsGivenQuiet puzzle j d in
-    let P : CandidatesValue → Type 0 = λ d. LeadsTo Struck Latin first d × AreQuiet (cell + 1) d in
-    elim c.if-given-ne0.branch [
-      | then-given-ne0 w ↦
-          let next = w.strike.new.candidates in
-          let Members : ℕ → Type 0 = λ n. (j : ℕ) → has_number w.up_to.result j ≡ (nat_le 1 j && nat_le j n) in
-          let members : Members now.size = subst Members (w.get.ensures.value ∙ c.size-size.ensures.value ∙ sym same) w.up_to.ensures.members in
-          let taken = given_taken puzzle Struck (g.met.P.Steps.struck_less c.args.p.now) (g.met.P.Steps.given_struck c.args.p.now) cell w.up_to.result w.one.result
-          w.difference.result c.given-given.result now next inside c.given-given.ensures.value w.if-given-ne0.true members w.one.ensures.members
-          w.difference.ensures w.strike.ensures in
-          let quiet : AreQuiet (cell + 1) next = λ j low. elim (cases_eq j cell) [
-            | inl last ↦ subst (λ (k : ℕ). IsGivenQuiet puzzle k next) (sym last) taken.1
-            | inr other ↦ given_stays puzzle j now next (leads_size Struck Latin now next taken.0) (leads_fewer Struck Latin now next taken.0)
-                (c.loop-cell.invariant.1 j (omega (arith, low, other)))
-          ] in
-          subst P (sym w.candidates-is) (leads_on Struck Latin first now next c.loop-cell.invariant.0 taken.0, quiet)
-      | else-given-ne0 w ↦
-          let quiet : AreQuiet (cell + 1) now = λ j low. elim (cases_eq j cell) [
-            | inl last ↦ subst (λ (k : ℕ). IsGivenQuiet puzzle k now) (sym last)
-                (no_given puzzle cell c.given-given.result now c.given-given.ensures.value w.if-given-ne0.false)
-            | inr other ↦ c.loop-cell.invariant.1 j (omega (arith, low, other))
-          ] in
-          subst P (sym w.candidates-is) (c.loop-cell.invariant.0, quiet)
-    ]
+    let width : c.get-width.result ≡ first.size = c.get-width.ensures.value ∙ c.size.ensures.value in
+    let leads = c.strike_given.ensures.leads in
+    let size : now.size ≡ first.size = leads_size Struck Latin first now c.loop-cell.invariant.0 in
+    let quiet : (j : ℕ) → j < cell + 1 → IsGivenQuiet puzzle j next = λ j low. elim (cases_eq j cell) [
+      | inl last ↦ subst (λ (k : ℕ). IsGivenQuiet puzzle k next) (sym last) c.strike_given.ensures.quiet
+      | inr other ↦ given_stays puzzle j now next (leads_size Struck Latin now next leads) (leads_fewer Struck Latin now next leads)
+          (c.loop-cell.invariant.1 j (omega (arith, low, other)))
+    ] in
+    let AreOthers : Waiting → Type 0 = λ waiting. (line : ℕ) → line < 2 * first.size → is_waiting first.size waiting line ≡ false → StaysOn line first next in
+    let others : AreOthers c.if-strike_given.changed = elim c.if-strike_given.branch [
+      | then-strike_given w ↦
+          let more = w.with_square-changed.result in
+          let IsMore : ℕ → Type 0 = λ n. (line : ℕ) → is_waiting n more line ≡ (is_waiting n c.loop-cell.changed line || is_through n cell line) in
+          let is_more : IsMore first.size = subst IsMore width w.with_square-changed.ensures in
+          subst AreOthers (sym w.changed-is) (λ line low free.
+          let parts = or_parts (is_waiting first.size c.loop-cell.changed line) (is_through first.size cell line) (sym (is_more line) ∙ free) in
+          stays_off first.size line cell first now next refl low parts.1 c.strike_given.ensures.others (c.loop-cell.invariant.2 line low parts.0))
+      | else-strike_given w ↦
+          subst AreOthers (sym w.changed-is) (λ line low free.
+          subst (λ (d : CandidatesValue). StaysOn line first d) (sym (c.strike_given.ensures.none w.if-strike_given.false))
+          (c.loop-cell.invariant.2 line low free))
+    ] in
+    (leads_on Struck Latin first now next c.loop-cell.invariant.0 leads, quiet, others)
 
 pub returns-clause-settled : goal.returns-clause-settled
 returns-clause-settled g c =
@@ -58,7 +61,7 @@ returns-clause-settled g c =
     let last = c.loop-cell.candidates in
     let Struck = g.P.Steps.struck_by c.args.p.now in
     let size : last.size ≡ first.size = leads_size Struck Latin first last c.loop-cell.invariant.0 in
-    let width : c.get-width.result ≡ last.size = c.get-width.ensures.value ∙ c.size-size.ensures.value ∙ sym size in
+    let width : c.get-width.result ≡ last.size = c.get-width.ensures.value ∙ c.size.ensures.value ∙ sym size in
     λ at cell value pair h.
     let low : at < last.size * last.size = subst (λ (n : ℕ). n < last.size * last.size) h.here pair.inside in
     let end : at < c.get-width.result * c.get-width.result = subst (λ (n : ℕ). at < n * n) (sym width) low in

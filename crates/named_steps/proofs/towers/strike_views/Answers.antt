@@ -1,43 +1,76 @@
-use Rattle.std.proofs.Common.{◌≡◌, ℕ, ◌+◌, ◌*◌, ◌<◌, sym, ◌∙◌, subst, arith}
-use Rattle.trail_solver.specs.Candidates.{CandidatesValue}
+use Rattle.std.proofs.Common.{◌≡◌, ℕ, ◌+◌, ◌*◌, ◌<◌, sym, ap, ◌∙◌, subst, arith}
+use Rattle.clue_rules.specs.Views.{front_place, view_line}
+use Rattle.clue_rules.proofs.ViewSteps.{front_line}
 use Rattle.named_steps.specs.Reasons.{IsTowersStruckBy}
-use Rattle.named_steps.specs.Passes.{Passes}
-use Rattle.named_steps.specs.Inner.Rows.{IsViewQuiet, look_grade}
-use Rattle.named_steps.proofs.Takes.{leads_size, passes_next, passes_none}
-use Rattle.named_steps.proofs.ViewPasses.{view_pass, view_skip}
+use Rattle.named_steps.specs.Passes.{StaysOn}
+use Rattle.named_steps.specs.QuietLines.{IsViewQuiet}
+use Rattle.named_steps.specs.Laws.Quiet.{view_stays}
+use Rattle.named_steps.specs.Inner.Rows.{look_grade}
+use Rattle.named_steps.proofs.Takes.{leads_fewer, leads_length, leads_on, leads_size}
+use Rattle.named_steps.proofs.ViewPasses.{back_line, back_low, ends_quiet}
+use Rattle.named_steps.proofs.WaitingLines.{loses_both, stays_all, stays_first, stays_second}
 use Rattle.named_steps.proofs.towers.strike_views.Goals as goal
-use Rattle.named_steps.proofs.towers.strike_views.Goals.{then-clue-ne0, else-clue-ne0}
 
-pub strike_view-requires-clause-place : goal.strike_view-requires-clause-place
-strike_view-requires-clause-place c =
-    let same : c.loop-place.candidates.size ≡ c.args.candidates.now.size =
-    leads_size (IsTowersStruckBy c.args.p.now) (look_grade c.args.look) c.args.candidates.now c.loop-place.candidates c.loop-place.invariant.leads in
-    omega (arith, same, c.loop-place-test.true, c.get-place-end.ensures.value, c.size-size.ensures.value)
+pub strike_view-from_back-requires : goal.strike_view-from_back-requires
+strike_view-from_back-requires c =
+    let a = c.args.candidates.now in
+    let b = c.strike_view-from_front.new.candidates in
+    let line = c.args.line in
+    let size : b.size ≡ a.size = leads_size (IsTowersStruckBy c.args.p.now) (look_grade c.args.look) a b c.strike_view-from_front.ensures.leads in
+    let width : c.get-width.result ≡ a.size = c.get-width.ensures.value ∙ c.size.ensures.value in
+    let front : c.front_place-front.result ≡ front_place a.size line = c.front_place-front.ensures ∙ ap (λ (w : ℕ). front_place w line) width in
+    let place : c.front_place-front.result + c.get-width.result ≡ front_place a.size line + a.size = omega (arith, front, width) in
+    record {
+      size = size ∙ c.requires.size;
+      place = omega (arith, size, place, back_low a.size line c.requires.line);
+      line = ap (λ (w : ℕ). view_line w (c.front_place-front.result + c.get-width.result)) size ∙ ap (view_line a.size) place
+          ∙ back_line a.size line c.requires.line;
+    }
 
-pub strike_view-requires-clause-clue : goal.strike_view-requires-clause-clue
-strike_view-requires-clause-clue c =
-    let same : c.loop-place.candidates.size ≡ c.args.candidates.now.size =
-    leads_size (IsTowersStruckBy c.args.p.now) (look_grade c.args.look) c.args.candidates.now c.loop-place.candidates c.loop-place.invariant.leads in
-    omega (arith, same, c.clue-clue.ensures.within, c.requires)
+pub returns-clause-leads : goal.returns-clause-leads
+returns-clause-leads c =
+    leads_on (IsTowersStruckBy c.args.p.now) (look_grade c.args.look) c.args.candidates.now c.strike_view-from_front.new.candidates
+    c.strike_view-from_back.new.candidates c.strike_view-from_front.ensures.leads c.strike_view-from_back.ensures.leads
 
-pub loop-place-preserved : goal.loop-place-preserved
-loop-place-preserved c =
-    let first = c.args.candidates.now in
-    let now = c.loop-place.candidates in
-    let place = c.loop-place.place in
-    let v = c.args.p.now in
+pub returns-clause-loses : goal.returns-clause-loses
+returns-clause-loses c =
+    let Struck = IsTowersStruckBy c.args.p.now in
     let grade = look_grade c.args.look in
-    let same : now.size ≡ first.size = leads_size (IsTowersStruckBy v) grade first now c.loop-place.invariant.leads in
-    let low : place < 4 * now.size = omega (arith, same, c.loop-place-test.true, c.get-place-end.ensures.value, c.size-size.ensures.value) in
-    let P : CandidatesValue → Type 0 = λ d. Passes (IsTowersStruckBy v) grade (λ e. (j : ℕ) → j < place + 1 → IsViewQuiet v c.args.look j e) first d in
-    elim c.if-clue-ne0.branch [
-      | then-clue-ne0 w ↦
-          subst P (sym w.candidates-is) (passes_next (IsTowersStruckBy v) grade (IsViewQuiet v c.args.look) place first now w.strike_view.new.candidates
-          c.loop-place.invariant
-          (view_pass v c.args.look place c.clue-clue.result now w.strike_view.new.candidates (same ∙ c.requires) low c.clue-clue.ensures.value w.if-clue-ne0.true
-          w.strike_view.ensures))
-      | else-clue-ne0 w ↦
-          subst P (sym w.candidates-is) (passes_next (IsTowersStruckBy v) grade (IsViewQuiet v c.args.look) place first now now c.loop-place.invariant
-          (passes_none (IsTowersStruckBy v) grade (IsViewQuiet v c.args.look place) now
-          (view_skip v c.args.look place c.clue-clue.result now c.clue-clue.ensures.value w.if-clue-ne0.false)))
-    ]
+    let a = c.args.candidates.now in
+    let b = c.strike_view-from_front.new.candidates in
+    let d = c.strike_view-from_back.new.candidates in
+    loses_both c.args.line c.strike_view-from_front.result c.strike_view-from_back.result c.union.result a b d
+    (leads_size Struck grade a b c.strike_view-from_front.ensures.leads) (leads_length Struck grade a b c.strike_view-from_front.ensures.leads)
+    (leads_length Struck grade b d c.strike_view-from_back.ensures.leads) c.union.ensures.members c.strike_view-from_front.ensures.loses
+    c.strike_view-from_back.ensures.loses
+
+pub returns-clause-quiet : goal.returns-clause-quiet
+returns-clause-quiet c = λ none.
+    let v = c.args.p.now in
+    let look = c.args.look in
+    let line = c.args.line in
+    let Struck = IsTowersStruckBy v in
+    let grade = look_grade look in
+    let a = c.args.candidates.now in
+    let b = c.strike_view-from_front.new.candidates in
+    let d = c.strike_view-from_back.new.candidates in
+    let first = c.strike_view-from_front.ensures.leads in
+    let second = c.strike_view-from_back.ensures.leads in
+    let size : b.size ≡ a.size = leads_size Struck grade a b first in
+    let same : d.size ≡ b.size = leads_size Struck grade b d second in
+    let width : c.get-width.result ≡ a.size = c.get-width.ensures.value ∙ c.size.ensures.value in
+    let front : c.front_place-front.result ≡ front_place a.size line = c.front_place-front.ensures ∙ ap (λ (w : ℕ). front_place w line) width in
+    let stays = stays_all line c.union.result line a d none (returns-clause-loses c) in
+    let before = stays_first line a b d (leads_fewer Struck grade b d second) stays in
+    let after = stays_second line a b d size (leads_fewer Struck grade a b first) stays in
+    let low : c.front_place-front.result < 4 * b.size = omega (arith, size, front, back_low a.size line c.requires.line) in
+    let here : view_line b.size c.front_place-front.result ≡ line =
+    ap (λ (w : ℕ). view_line w c.front_place-front.result) size ∙ ap (view_line a.size) front ∙ front_line a.size line c.requires.line in
+    let at_front : IsViewQuiet v look c.front_place-front.result d =
+    view_stays v look c.front_place-front.result b d (size ∙ c.requires.size) low same (leads_fewer Struck grade b d second)
+    (subst (λ (l : ℕ). StaysOn l b d) (sym here) after) (c.strike_view-from_front.ensures.quiet before) in
+    let whole : d.size ≡ a.size = same ∙ size in
+    let Q : ℕ → Type 0 = λ n. IsViewQuiet v look n d in
+    let one : c.front_place-front.result ≡ front_place d.size line = front ∙ ap (λ (w : ℕ). front_place w line) (sym whole) in
+    let two : c.front_place-front.result + c.get-width.result ≡ front_place d.size line + d.size = omega (arith, one, width, whole) in
+    ends_quiet v look line d (subst Q one at_front) (subst Q two (c.strike_view-from_back.ensures.quiet after))

@@ -1,9 +1,13 @@
-use Rattle.std.proofs.Common.{ℕ, ◌<◌}
+use Rattle.std.proofs.Common.{ℕ, ◌<◌, ◌+◌}
+use Rattle.latin_board.specs.Lines.{line_cell}
 use Rattle.named_steps.specs.Reasons.{IsUnequalStruckBy}
-use Rattle.named_steps.specs.Passes.{Passes}
-use Rattle.named_steps.specs.Inner.SignStrikes.{AreSignsQuiet}
+use Rattle.named_steps.specs.Passes.{LeadsTo, LosesAt, StaysOn}
+use Rattle.named_steps.specs.QuietLines.{IsSignQuiet}
 use Rattle.named_steps.specs.declared.grade.Grade.TheVariants.{Easy}
 use Rattle.named_steps.proofs.unequal.strike_signs.Given as goal
 
-abbrev pub invariant-loop-line : goal.invariant-loop-line
-invariant-loop-line l = Passes (IsUnequalStruckBy l.p) Easy (λ d. (j : ℕ) → j < l.line → AreSignsQuiet l.p j d) l.fn.candidates l.candidates
+abbrev pub invariant-loop-k : goal.invariant-loop-k
+invariant-loop-k l =
+    LeadsTo (IsUnequalStruckBy l.p) Easy l.fn.candidates l.candidates × LosesAt l.line l.changed l.fn.candidates l.candidates
+    × (StaysOn l.line l.fn.candidates l.candidates → (j : ℕ) → j < l.k
+    → IsSignQuiet l.p (line_cell l.fn.candidates.size l.line j) (line_cell l.fn.candidates.size l.line (j + 1)) l.candidates)

@@ -5,13 +5,13 @@ use Rattle.step_chains.proofs.explaining.first_aim.Goals as goal
 
 pub returns-in-Some : goal.returns-in-Some
 returns-in-Some g c =
-    let d = c.settle.new.candidates in
+    let d = c.settle_knowing.new.candidates in
     let view = c.view_of-settled.ensures in
     let cell = c.in-Some.cell in (
-      subst (λ (w : ℕ). cell < w * w) (c.settle.ensures.size ∙ view.size) c.in-Some.ensures.0,
+      subst (λ (w : ℕ). cell < w * w) (c.settle_knowing.ensures.size ∙ view.size) c.in-Some.ensures.0,
       shown_by_all (g.P.Steps.struck_by c.args.p.now) (g.met.P.Steps.struck_less c.args.p.now) c.args.grade c.args.grid.now c.view_of-settled.result d
-          (OnlyValue cell 0) view c.settle.ensures ((empty_shown d cell).0 c.in-Some.ensures.1),
-      refuted_by (g.P.Steps.struck_by c.args.p.now) c.args.grade c.args.grid.now c.view_of-settled.result d cell view c.settle.ensures c.in-Some.ensures,
+          (OnlyValue cell 0) view c.settle_knowing.ensures ((empty_shown d cell).0 c.in-Some.ensures.1),
+      refuted_by (g.P.Steps.struck_by c.args.p.now) c.args.grade c.args.grid.now c.view_of-settled.result d cell view c.settle_knowing.ensures c.in-Some.ensures,
     )
 
 pub returns-in-Some-shown_goal : goal.returns-in-Some-shown_goal
@@ -20,11 +20,11 @@ returns-in-Some-shown_goal g c =
     let less = g.met.P.Steps.struck_less c.args.p.now in
     let b = c.args.grid.now in
     let view = c.view_of-settled.result in
-    let d = c.settle.new.candidates in
+    let d = c.settle_knowing.new.candidates in
     let shown = c.in-Some-shown_goal.ensures in (
       (shown.goal_of, shown.empty),
-      shown_by_all Struck less c.args.grade b view d c.in-Some-shown_goal.goal c.view_of-settled.ensures c.settle.ensures shown.shown,
-      none_refuted Struck less c.args.grade b view d c.view_of-settled.ensures c.settle.ensures c.in_default.ensures,
+      shown_by_all Struck less c.args.grade b view d c.in-Some-shown_goal.goal c.view_of-settled.ensures c.settle_knowing.ensures shown.shown,
+      none_refuted Struck less c.args.grade b view d c.view_of-settled.ensures c.settle_knowing.ensures c.in_default.ensures,
     )
 
 pub returns-in-None : goal.returns-in-None
@@ -33,7 +33,7 @@ returns-in-None g c =
     let less = g.met.P.Steps.struck_less c.args.p.now in
     let b = c.args.grid.now in
     let view = c.view_of-settled.result in
-    let d = c.settle.new.candidates in (
-      nothing_shown Struck less c.args.grade b view d c.view_of-settled.ensures c.settle.ensures c.in-None.ensures,
-      none_refuted Struck less c.args.grade b view d c.view_of-settled.ensures c.settle.ensures c.in_default.ensures,
+    let d = c.settle_knowing.new.candidates in (
+      nothing_shown Struck less c.args.grade b view d c.view_of-settled.ensures c.settle_knowing.ensures c.in-None.ensures,
+      none_refuted Struck less c.args.grade b view d c.view_of-settled.ensures c.settle_knowing.ensures c.in_default.ensures,
     )

@@ -1,10 +1,11 @@
 use Rattle.std.proofs.Common.{ℕ, List, replicate, sym, subst}
+use Rattle.named_steps.specs.declared.known_rows.TheConstants.{SLOTS}
 use Rattle.named_steps.specs.Inner.KnownRows.{AreKnown}
 use Rattle.named_steps.proofs.RowsNoted.{none_known}
 use Rattle.named_steps.proofs.known_rows.KnownRows.none.Goals as goal
 
 pub invariant_of-result : goal.invariant_of-result
 invariant_of-result c =
-    let widths : List ℕ = replicate 64 0 in
-    let Rows : ℕ → List (List ℕ) = λ n. replicate 64 (replicate 9 n) in
+    let widths : List ℕ = replicate SLOTS 0 in
+    let Rows : ℕ → List (List ℕ) = λ n. replicate SLOTS (replicate 9 n) in
     subst (λ (n : ℕ). AreKnown widths widths (Rows n) (Rows n)) (sym c.empty-nothing.ensures) none_known

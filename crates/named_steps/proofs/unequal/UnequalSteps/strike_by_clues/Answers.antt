@@ -1,20 +1,32 @@
-use Rattle.std.proofs.Common.{subst, sym, arith}
-use Rattle.named_steps.proofs.SignPasses.{latin_unequal, easy_unequal, hard_unequal}
+use Rattle.std.proofs.Common.{sym, subst}
 use Rattle.named_steps.specs.Reasons.{IsUnequalStruckBy}
-use Rattle.named_steps.specs.Passes.{Passes, AreCluesSettled}
+use Rattle.named_steps.specs.Passes.{LeadsTo}
+use Rattle.named_steps.specs.QuietLines.{are_unequal_quiet}
+use Rattle.named_steps.proofs.Followed.{hard_has}
+use Rattle.named_steps.proofs.Takes.{leads_wider}
+use Rattle.named_steps.proofs.WaitingLines.{stays_all}
+use Rattle.named_steps.specs.declared.grade.Grade.{Grade}
+use Rattle.named_steps.specs.declared.grade.Grade.TheVariants.{Easy, Hard}
 use Rattle.named_steps.proofs.unequal.UnequalSteps.strike_by_clues.Goals as goal
 
-pub returns-in-Latin : goal.returns-in-Latin
-returns-in-Latin c = subst (λ gr. Passes (IsUnequalStruckBy c.args.self.now) gr (AreCluesSettled (IsUnequalStruckBy c.args.self.now) gr) c.args.candidates.now c.args.candidates.now) (sym c.in-Latin.is) (latin_unequal c.args.self.now c.args.candidates.now)
+pub returns-in-Easy-clause-quiet : goal.returns-in-Easy-clause-quiet
+returns-in-Easy-clause-quiet c = λ none.
+    let a = c.args.candidates.now in
+    let b = c.strike_signs.new.candidates in
+    subst (λ (grade : Grade). are_unequal_quiet c.args.self.now grade c.args.line b) (sym c.in-Easy.is)
+    (c.strike_signs.ensures.quiet (stays_all c.args.line c.strike_signs.result c.args.line a b none c.strike_signs.ensures.loses))
 
-pub returns-in-Easy : goal.returns-in-Easy
-returns-in-Easy c =
-    subst (λ gr. Passes (IsUnequalStruckBy c.args.self.now) gr (AreCluesSettled (IsUnequalStruckBy c.args.self.now) gr) c.args.candidates.now c.strike_signs.new.candidates) (sym c.in-Easy.is)
-    (easy_unequal c.args.self.now c.args.candidates.now c.strike_signs.new.candidates c.size-valid.ensures.valid c.requires
-    (omega (arith, c.size-valid.ensures.valid)) c.strike_signs.ensures)
+pub returns-in-Hard-clause-leads : goal.returns-in-Hard-clause-leads
+returns-in-Hard-clause-leads c =
+    let v = c.args.self.now in
+    let a = c.args.candidates.now in
+    let b = c.strike_signs-in-Hard.new.candidates in
+    subst (λ (grade : Grade). LeadsTo (IsUnequalStruckBy v) grade a b) (sym c.in-Hard.is)
+    (leads_wider (IsUnequalStruckBy v) (IsUnequalStruckBy v) Easy Hard (λ d reason cell x s. s) hard_has a b c.strike_signs-in-Hard.ensures.leads)
 
-pub returns-in-Hard : goal.returns-in-Hard
-returns-in-Hard c =
-    subst (λ gr. Passes (IsUnequalStruckBy c.args.self.now) gr (AreCluesSettled (IsUnequalStruckBy c.args.self.now) gr) c.args.candidates.now c.strike_signs-in-Hard.new.candidates) (sym c.in-Hard.is)
-    (hard_unequal c.args.self.now c.args.candidates.now c.strike_signs-in-Hard.new.candidates c.size-valid.ensures.valid c.requires
-    (omega (arith, c.size-valid.ensures.valid)) c.strike_signs-in-Hard.ensures)
+pub returns-in-Hard-clause-quiet : goal.returns-in-Hard-clause-quiet
+returns-in-Hard-clause-quiet c = λ none.
+    let a = c.args.candidates.now in
+    let b = c.strike_signs-in-Hard.new.candidates in
+    subst (λ (grade : Grade). are_unequal_quiet c.args.self.now grade c.args.line b) (sym c.in-Hard.is)
+    (c.strike_signs-in-Hard.ensures.quiet (stays_all c.args.line c.strike_signs-in-Hard.result c.args.line a b none c.strike_signs-in-Hard.ensures.loses))

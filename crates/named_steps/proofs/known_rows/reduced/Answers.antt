@@ -1,0 +1,21 @@
+use Rattle.std.proofs.Common.{ℕ, ◌∙◌, subst, arith}
+use Rattle.std.proofs.lemmas.Grind.{get_or_default_zero}
+use Rattle.std.proofs.lemmas.List.{length-set}
+use Rattle.named_steps.specs.Inner.KnownRows.{IsReducedSet, IsWithout}
+use Rattle.named_steps.proofs.ReducedRows.{reduced_set, row_next}
+use Rattle.named_steps.proofs.known_rows.reduced.Goals as goal
+
+pub loop-k-preserved : goal.loop-k-preserved
+loop-k-preserved c =
+    let sets = c.args.sets.now in
+    let k = c.loop-k.k in
+    let lone = c.lone_numbers-lone.result in
+    let rest = c.without.result in
+    let own = get_or_default_zero sets k c.index-sets-k.result (omega (arith, c.told-sets, c.loop-k-test.true, c.requires)) in
+    let here =
+    reduced_set c.args.width sets k lone rest c.lone_numbers-lone.ensures (subst (λ (set : ℕ). IsWithout set lone rest) own c.without.ensures) in
+    record {
+      count = length-set c.loop-k.row k rest ∙ c.loop-k.invariant.count;
+      each = row_next (IsReducedSet c.args.width sets) c.loop-k.row k rest c.loop-k.invariant.count
+          (omega (arith, c.loop-k-test.true, c.requires)) here c.loop-k.invariant.each;
+    }

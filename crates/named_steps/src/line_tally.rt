@@ -1,0 +1,139 @@
+//! What is left of the squares of a row or column, counted over all of them, and what the others strike in one.
+ghost use Rattle.std.specs.Prelude.{◌≡◌, ◌≢◌, ◌↔◌, ℕ, ◌+◌, ◌*◌, ◌<◌, ◌&&◌, ◌||◌, ◌==◌, if◌then◌else◌, true, not};
+ghost use Rattle.std.specs.Bool.{OnTrue};
+ghost use Rattle.number_sets.specs.Sets.{has_number, IsSubset, IsSingle};
+ghost use Rattle.latin_board.specs.Lines.{line_cell};
+ghost use Rattle.trail_solver.specs.Candidates.{CandidatesValue, IsSetOf};
+ghost use Rattle.named_steps.specs.Inner.LineStrikes.{IsRestSet, IsRestQuiet};
+ghost use Rattle.named_steps.specs.Inner.LineTallies.{AreTallied, IsUpTo};
+
+use latin_board::line_cell;
+use number_sets::NumberSet;
+use trail_solver::Candidates;
+
+/// What is left of some squares of a line: the numbers of the size, those that are left of some square and of several, those but
+/// for which nothing is left of some square and of several, and whether nothing at all is left of one.
+#[derive(Clone, Copy, Debug)]
+pub(crate) struct Tally {
+    all: NumberSet,
+    once: NumberSet,
+    twice: NumberSet,
+    lone: NumberSet,
+    clash: NumberSet,
+    has_empty: bool,
+}
+
+impl Tally {
+    /// The tally of a line's squares.
+    pub(crate) fn of_line(candidates: &Candidates, line: u8) -> Tally
+        requires { line < 2 * candidates.now.size }
+        ensures { AreTallied candidates.now line candidates.now.size result }
+    {
+        let size = candidates.size();
+        let mut tally = Tally::none(NumberSet::up_to(size.get()));
+        for k in 0..size.get() {
+            tally = tally.with(candidates.values(line_cell(size, line, k)));
+        }
+        tally
+    }
+
+    // The tally of no squares.
+    fn none(all: NumberSet) -> Tally
+        ensures { (c : CandidatesValue) (line : ℕ) → IsUpTo c.size all → AreTallied c line 0 result }
+    {
+        let nothing = NumberSet::empty();
+        Tally {
+            all,
+            once: nothing,
+            twice: nothing,
+            lone: nothing,
+            clash: nothing,
+            has_empty: false,
+        }
+    }
+
+    // The tally with one square more, of which this set is left.
+    fn with(self, set: NumberSet) -> Tally
+        ensures { (c : CandidatesValue) (line k : ℕ) → line < 2 * c.size → k < c.size → IsSetOf c (line_cell c.size line k) set
+            → AreTallied c line k self → AreTallied c line (k + 1) result }
+    {
+        let alone = alone_in(self.all, set);
+        let again = self.once.intersection(set);
+        let clashing = self.lone.intersection(alone);
+        Tally {
+            all: self.all,
+            once: self.once.union(set),
+            twice: self.twice.union(again),
+            lone: self.lone.union(alone),
+            clash: self.clash.union(clashing),
+            has_empty: self.has_empty || set.is_empty(),
+        }
+    }
+
+    /// Whether something is left of each square, each number is left of several or alone in one, and none is both: then the squares
+    /// of the line strike nothing in one another.
+    pub(crate) fn is_still(&self) -> bool
+        ensures { OnTrue result ((c : CandidatesValue) (line : ℕ) → line < 2 * c.size → AreTallied c line c.size self.now → IsRestQuiet line c) }
+    {
+        let placed = self.lone.union(self.twice);
+        !self.has_empty && self.lone.is_disjoint(self.twice) && self.all.is_subset(placed)
+    }
+
+    /// What the others strike in a square of the line of which this set is left: the numbers that are alone in another one, and all
+    /// but one that none of the others has.
+    pub(crate) fn rest(&self, set: NumberSet) -> NumberSet
+        ensures { (c : CandidatesValue) (line k : ℕ) → line < 2 * c.size → k < c.size → IsSetOf c (line_cell c.size line k) set
+            → AreTallied c line c.size self.now → IsRestSet c line k result }
+    {
+        let left = elsewhere(self.once, self.twice, set);
+        let lone = elsewhere(self.lone, self.clash, alone_in(self.all, set));
+        lone.union(but_one(self.all, self.all.difference(left)))
+    }
+}
+
+// The numbers that other squares have, by those that some have, those that several have, and those that the square has itself.
+fn elsewhere(some: NumberSet, several: NumberSet, own: NumberSet) -> NumberSet
+    ensures { (v : ℕ) → has_number result v ≡ (has_number several v || (has_number some v && not (has_number own v))) }
+{
+    several.union(some.difference(own))
+}
+
+// The numbers but for which a set has none: all where it is empty, and else its only one.
+fn alone_in(all: NumberSet, set: NumberSet) -> NumberSet
+    ensures { IsSubset set all → (v : ℕ) → (has_number result v ≡ true)
+        ↔ ((has_number all v ≡ true) × ((u : ℕ) → has_number set u ≡ true → u ≡ v)) }
+{
+    let if_empty = NumberSet::from_bits(all.bits() * one_if_none(set.bits()));
+    if_empty.union(if_single(set))
+}
+
+// The numbers of the first set beside some number of the second.
+fn but_one(all: NumberSet, some: NumberSet) -> NumberSet
+    ensures { (v : ℕ) → (has_number result v ≡ true)
+        ↔ ((has_number all v ≡ true) × ((u : ℕ) × (has_number some u ≡ true) × (v ≢ u))) }
+{
+    let _bits = some.bits();
+    let if_any = if some.is_empty() {
+        NumberSet::empty()
+    } else {
+        all
+    };
+    if_any.difference(if_single(some))
+}
+
+// The set where it has just one number, and else none.
+fn if_single(set: NumberSet) -> NumberSet
+    ensures { (v : ℕ) → (has_number result v ≡ true) ↔ IsSingle set v }
+{
+    let bits = set.bits();
+    let rest = bits & bits.wrapping_sub(1);
+    NumberSet::from_bits(bits * one_if_none(rest))
+}
+
+// One where no bit is set, and else zero: by a sum, since a test would become a branch, which processors often guess wrong here.
+fn one_if_none(bits: u16) -> u16
+    ensures { result ≡ (if bits == 0 then 1 else 0) }
+{
+    let carry = (u32::from(bits) + 0xFFFF) >> 16;
+    1 - carry as u16
+}

@@ -1,0 +1,174 @@
+//! Looks along rows and columns, stage by stage: for each stage those lines wait of which something went since it looked at them last.
+ghost use Rattle.std.specs.Prelude.{◌≡◌, ℕ, ◌*◌, ◌<◌, ◌≤◌, true, false, length};
+ghost use Rattle.number_sets.specs.Sets.{has_number, IsEmpty};
+ghost use Rattle.named_steps.specs.Passes.{LeadsTo, LosesAt};
+ghost use Rattle.named_steps.specs.Inner.WaitingLines.{is_waiting};
+ghost use Rattle.named_steps.specs.Inner.Stages.{waiting_of, AreWaiting, IsQuietFor, IsStageOf, IsWithoutFor, IsWithChanged, AreNoMore};
+
+use crate::grade::Grade;
+use crate::group_passes::strike_groups_on;
+use crate::known_rows::KnownRows;
+use crate::line_passes::strike_line;
+use crate::steps::Steps;
+use crate::waiting::Waiting;
+use number_sets::NumberSet;
+use trail_solver::{Candidates, Rules};
+
+/// What is looked at along a row or column, the cheapest first.
+#[derive(Clone, Copy, Debug)]
+pub(crate) enum Stage {
+    /// Lone values, and the last places of values.
+    Squares,
+    /// Clues or signs.
+    Clues,
+    /// Groups of squares.
+    Groups,
+}
+
+/// The lines that wait for each stage.
+#[derive(Clone, Copy, Debug)]
+pub(crate) struct Waits {
+    pub(crate) squares: Waiting,
+    pub(crate) clues: Waiting,
+    pub(crate) groups: Waiting,
+}
+
+impl Waits {
+    /// All lines for each stage.
+    pub(crate) fn all() -> Waits
+        ensures { (w line : ℕ) (stage : Stage) → w ≤ 9 → line < 2 * w → is_waiting w (waiting_of result stage) line ≡ true }
+    {
+        Waits {
+            squares: Waiting::all(),
+            clues: Waiting::all(),
+            groups: Waiting::all(),
+        }
+    }
+
+    // Whether a line waits for a stage.
+    fn has(&self, stage: Stage, line: u8, width: u8) -> bool
+        requires width { width ≤ 9 }
+        requires line { line < 2 * width }
+        ensures { result ≡ is_waiting width (waiting_of self.now stage) line }
+    {
+        match stage {
+            Stage::Squares => self.squares.has(line, width),
+            Stage::Clues => self.clues.has(line, width),
+            Stage::Groups => self.groups.has(line, width),
+        }
+    }
+
+    // A line waits no longer for a stage.
+    fn without(self, stage: Stage, line: u8, width: u8) -> Waits
+        requires width { width ≤ 9 }
+        requires line { line < 2 * width }
+        ensures { IsWithoutFor width stage line self result }
+    {
+        match stage {
+            Stage::Squares => Waits {
+                squares: self.squares.without(line, width),
+                ..self
+            },
+            Stage::Clues => Waits {
+                clues: self.clues.without(line, width),
+                ..self
+            },
+            Stage::Groups => Waits {
+                groups: self.groups.without(line, width),
+                ..self
+            },
+        }
+    }
+
+    // The line waits for each stage, and so do those that cross it at the places.
+    fn with_changed(self, line: u8, places: NumberSet, width: u8) -> Waits
+        requires width { width ≤ 9 }
+        requires line { line < 2 * width }
+        ensures { IsWithChanged width line places self result }
+    {
+        Waits {
+            squares: self.squares.with_changed(line, places, width),
+            clues: self.clues.with_changed(line, places, width),
+            groups: self.groups.with_changed(line, places, width),
+        }
+    }
+}
+
+/// Looks once along the lines that wait for a stage, and gives those that wait then.
+pub(crate) fn look<P: Steps>(
+    p: &P,
+    grade: Grade,
+    stage: Stage,
+    candidates: &mut Candidates,
+    first: Waits,
+    known: &mut KnownRows,
+) -> Waits
+    requires size { candidates.old.size ≡ (P.puzzle p.now).size }
+    requires stage { IsStageOf grade stage }
+    requires waiting { AreWaiting (P.quiet_on p.now) grade first candidates.old }
+    ensures leads { LeadsTo (P.struck_by p.now) grade candidates.old candidates.new }
+    ensures waiting { AreWaiting (P.quiet_on p.now) grade result candidates.new }
+    ensures none { length candidates.new.trail ≡ length candidates.old.trail
+        → AreNoMore candidates.old.size stage first result }
+{
+    let size = candidates.size();
+    let mut waits = first;
+    for line in 0..2 * size.get() {
+        waits = look_along(p, grade, stage, candidates, line, waits, known);
+    }
+    waits
+}
+
+// Looks along a line, where it waits. It waits no longer where nothing is struck; else the lines wait too that cross it there.
+fn look_along<P: Steps>(
+    p: &P,
+    grade: Grade,
+    stage: Stage,
+    candidates: &mut Candidates,
+    line: u8,
+    waits: Waits,
+    known: &mut KnownRows,
+) -> Waits
+    requires size { candidates.old.size ≡ (P.puzzle p.now).size }
+    requires stage { IsStageOf grade stage }
+    requires line { line < 2 * candidates.old.size }
+    requires waiting { AreWaiting (P.quiet_on p.now) grade waits candidates.old }
+    ensures leads { LeadsTo (P.struck_by p.now) grade candidates.old candidates.new }
+    ensures waiting { AreWaiting (P.quiet_on p.now) grade result candidates.new }
+    ensures none { length candidates.new.trail ≡ length candidates.old.trail
+        → IsWithoutFor candidates.old.size stage line waits result }
+{
+    let width = candidates.size().get();
+    if !waits.has(stage, line, width) {
+        return waits;
+    }
+    let changed = strike_along(p, grade, stage, candidates, line, known);
+    if changed.is_empty() {
+        waits.without(stage, line, width)
+    } else {
+        waits.with_changed(line, changed, width)
+    }
+}
+
+// Takes away what the reasons of a stage strike along a line, and gives the places of those squares of which something went.
+fn strike_along<P: Steps>(
+    p: &P,
+    grade: Grade,
+    stage: Stage,
+    candidates: &mut Candidates,
+    line: u8,
+    known: &mut KnownRows,
+) -> NumberSet
+    requires size { candidates.old.size ≡ (P.puzzle p.now).size }
+    requires stage { IsStageOf grade stage }
+    requires line { line < 2 * candidates.old.size }
+    ensures leads { LeadsTo (P.struck_by p.now) grade candidates.old candidates.new }
+    ensures loses { LosesAt line result candidates.old candidates.new }
+    ensures quiet { IsEmpty result → IsQuietFor (P.quiet_on p.now) grade stage line candidates.new }
+{
+    match stage {
+        Stage::Squares => strike_line(candidates, line),
+        Stage::Clues => p.strike_by_clues(grade, candidates, line, known),
+        Stage::Groups => strike_groups_on(candidates, line),
+    }
+}

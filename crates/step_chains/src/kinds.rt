@@ -1,0 +1,53 @@
+//! Kinds of steps, and which of them lead on to what is sought.
+use named_steps::Grade;
+
+/// What rounds are to lead to.
+#[derive(Clone, Copy, Debug)]
+pub(crate) enum Sought {
+    /// A number of an empty square.
+    Number,
+    /// A square that is left nothing.
+    Nothing,
+}
+
+/// Kinds of steps, the cheapest first.
+#[derive(Clone, Copy, Debug)]
+pub(crate) enum Kind {
+    Peer,
+    Place,
+    Given,
+    Bound,
+    Sign,
+    Stand,
+    Clue,
+    Set,
+}
+
+/// All of them, the cheapest first.
+pub(crate) const KINDS: [Kind; 8] = [
+    Kind::Peer,
+    Kind::Place,
+    Kind::Given,
+    Kind::Bound,
+    Kind::Sign,
+    Kind::Stand,
+    Kind::Clue,
+    Kind::Set,
+];
+
+/// Whether steps of a kind may lead on, and are of the grade. What rows and columns alone strike shows a number at once, so on the way to
+/// one they strike nothing.
+pub(crate) fn is_of_use(kind: Kind, sought: Sought, grade: Grade) -> bool {
+    match (kind, sought, grade) {
+        (Kind::Peer | Kind::Place, Sought::Number, _) => false,
+        (Kind::Peer | Kind::Place | Kind::Given, _, _) => true,
+        (Kind::Bound | Kind::Sign | Kind::Stand, _, Grade::Latin) => false,
+        (Kind::Clue | Kind::Set, _, Grade::Latin | Grade::Easy) => false,
+        _ => true,
+    }
+}
+
+/// Whether the steps of a kind look at no candidates, so that there are none of them after their first round.
+pub(crate) fn is_done(kind: Kind) -> bool {
+    matches!(kind, Kind::Given | Kind::Bound)
+}
