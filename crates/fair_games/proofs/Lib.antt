@@ -4,5 +4,6 @@ pub mod Bases
 pub mod Shuffles
 pub mod Trials
 pub mod RowSteps
+pub mod FullGivens
 pub mod PruneSteps
 pub mod FairSteps

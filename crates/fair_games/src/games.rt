@@ -4,6 +4,7 @@ ghost use Rattle.std.specs.Prelude.{◌≡◌, ◌≢◌, ℕ, ◌<◌, ◌↔�
 ghost use Rattle.latin_board.specs.Squares.{GridValue};
 ghost use Rattle.trail_solver.specs.Solutions.{IsOnlySolution};
 ghost use Rattle.named_steps.specs.Following.{Follows};
+ghost use Rattle.named_steps.specs.Graded.{FollowsBy};
 ghost use Rattle.named_steps.specs.declared.grade.Grade.{Grade};
 ghost use Rattle.fair_games.specs.declared.fair_fault.FairFault.{FairFault};
 ghost use Rattle.fair_games.specs.Squares.{fair_stream};
@@ -137,6 +138,7 @@ fn find_game<P: FairGame, R: Rng>(rng: &mut R, size: Size, grade: Grade) -> Opti
 // Draws a square and an order, and prunes by the grade.
 fn draw_game<P: FairGame, R: Rng>(rng: &mut R, size: Size, grade: Grade) -> P
     ensures pruned { IsPrunedGame ⟦<P as Rules>⟧ P.struck_by grade (drawn_game (P.trial_of grade) size (P.items_of size) (R.stream rng.old)).0 result }
+    ensures follows { FollowsBy (P.puzzle result) (P.struck_by result) grade }
     ensures needed { NeedsItems ⟦<P as Rules>⟧ P.struck_by grade (P.trial_of grade) size result }
     ensures left { R.stream rng.new ≡ (drawn_game (P.trial_of grade) size (P.items_of size) (R.stream rng.old)).1 }
 {
@@ -147,13 +149,14 @@ fn draw_game<P: FairGame, R: Rng>(rng: &mut R, size: Size, grade: Grade) -> P
     pruned(&grid, order.as_slice(), grade)
 }
 
-// Whether a puzzle follows by a grade and not by the one below. That is asked first, since what was pruned by the grade follows by it.
+// Whether a puzzle that follows by a grade doesn't follow by the one below.
 fn is_of_grade<P: Steps>(puzzle: &P, grade: Grade) -> bool
+    requires { FollowsBy (P.puzzle puzzle.now) (P.struck_by puzzle.now) grade }
     ensures { IsTrue result ↔ IsOfGrade ⟦<P as Rules>⟧ P.struck_by grade puzzle.now }
 {
     match grade {
-        Grade::Latin => follows(puzzle, Grade::Latin),
-        Grade::Easy => !follows(puzzle, Grade::Latin) && follows(puzzle, Grade::Easy),
-        Grade::Hard => !follows(puzzle, Grade::Easy) && follows(puzzle, Grade::Hard),
+        Grade::Latin => true,
+        Grade::Easy => !follows(puzzle, Grade::Latin),
+        Grade::Hard => !follows(puzzle, Grade::Easy),
     }
 }

@@ -1,10 +1,12 @@
 //! The removal of items: each is tried once, and goes where the rest still follows by the grade.
 
-ghost use Rattle.std.specs.Prelude.{◌≡◌, ◌↔◌, ℕ, ◌+◌, ◌*◌, ◌<◌, ◌≤◌, length, IfSome, IsTrue, MatchOption};
+ghost use Rattle.std.specs.Prelude.{◌≡◌, ◌↔◌, ℕ, ◌+◌, ◌*◌, ◌<◌, ◌≤◌, length, slice_index, IfSome, IsTrue, MatchOption};
 ghost use Rattle.latin_board.specs.Squares.{IsLatin, number_at};
 ghost use Rattle.trail_solver.specs.Candidates.{IsEarlier, IsOnly};
 ghost use Rattle.puzzle_gen.specs.Orders.{place_in};
-ghost use Rattle.named_steps.specs.Passes.{AreLinesSettled};
+ghost use Rattle.named_steps.specs.Following.{Follows};
+ghost use Rattle.named_steps.specs.ItemLines.{HasNoItem};
+ghost use Rattle.named_steps.specs.Passes.{AreCluesSettled, AreLinesSettled};
 ghost use Rattle.fair_games.specs.Pruned.{IsTrial, IsPrunedBy};
 ghost use Rattle.fair_games.specs.Fair.{FailsBy};
 ghost use Rattle.fair_games.specs.Inner.PrunedTo.{outside, IsPrunedTo};
@@ -14,24 +16,28 @@ use latin_board::Grid;
 use named_steps::{Grade, KnownRows, Steps, settle_on};
 use trail_solver::{Candidates, Rules};
 
-/// The pruned puzzle of a Latin square, where the items are tried in this order.
+/// The pruned puzzle of a Latin square, where the items are tried in this order. It follows by the grade.
 pub(crate) fn pruned<P: Steps>(grid: &Grid, order: &[u8], grade: Grade) -> P
     requires latin { IsLatin grid.now }
     requires trial { IsTrial (P.items_of grid.now.size) order.now }
-    ensures { IsPrunedBy ⟦<P as Rules>⟧ (FailsBy P.struck_by grade grid.now) grid.now order.now result }
+    ensures pruned { IsPrunedBy ⟦<P as Rules>⟧ (FailsBy P.struck_by grade grid.now) grid.now order.now result }
+    ensures follows { Follows (P.struck_by result) grade grid.now }
 {
     let full = P::full(grid);
     let last = order.len();
     let mut left = Candidates::all(grid.size());
     let mut known = KnownRows::none();
-    match without_all(full, grid, order, 0, last, grade, &mut left, &mut known) {
+    match without_all(
+        full, grid, order, 0, last, grade, None, &mut left, &mut known,
+    ) {
         Some(fewer) => fewer,
         None => split(full, grid, order, 0, last, grade, &mut left, &mut known),
     }
 }
 
 // The puzzle without the items from one place of the order up to another, where the rest follows. From the candidates the steps of the
-// rest lead on as from all, and rows and columns strike nothing of them; and so it is with what the rest leaves of them. What is known of
+// rest lead on as from all, rows and columns strike nothing of them, and clues or signs nothing but along the lines of items that were
+// added since they were settled, where these are named; and so it is with what the rest leaves of them, along all lines. What is known of
 // rows of sets serves all tries.
 fn without_all<P: Steps>(
     puzzle: P,
@@ -40,6 +46,7 @@ fn without_all<P: Steps>(
     first: usize,
     last: usize,
     grade: Grade,
+    added: Option<&[u8]>,
     left: &mut Candidates,
     known: &mut KnownRows,
 ) -> Option<P>
@@ -50,18 +57,23 @@ fn without_all<P: Steps>(
     requires pruned { IsPrunedTo ⟦<P as Rules>⟧ (FailsBy P.struck_by grade grid.now) grid.now order.now first puzzle }
     requires base { IsBase (P.struck_by (P.cut puzzle (outside order.now first last))) grade grid.now left.old }
     requires settled { AreLinesSettled grade left.old }
+    requires items { IfSome added (λ items. (k : ℕ) → k < length items.now → slice_index items.now k < P.items_of grid.now.size) }
+    requires quiet { IfSome added (λ items. (line : ℕ) → line < 2 * grid.now.size → HasNoItem (P.item_line grid.now.size) items.now line
+        → P.quiet_on (P.cut puzzle (outside order.now first last)) grade line left.old) }
     ensures cut { IfSome result (λ fewer. fewer ≡ P.cut puzzle (outside order.now first last)) }
     ensures pruned { MatchOption result (FailsBy P.struck_by grade grid.now (P.cut puzzle (outside order.now first last)))
         (IsPrunedTo ⟦<P as Rules>⟧ (FailsBy P.struck_by grade grid.now) grid.now order.now last) }
+    ensures follows { IfSome result (λ fewer. Follows (P.struck_by fewer) grade grid.now) }
     ensures earlier { IfSome result (λ fewer. (i : ℕ) → i < P.items_of grid.now.size → place_in i order.now < first
         → P.has fewer i ≡ P.has puzzle i) }
     ensures base { IsBase (P.struck_by (P.cut puzzle (outside order.now first last))) grade grid.now left.new }
     ensures settled { AreLinesSettled grade left.new }
+    ensures clues { AreCluesSettled (P.struck_by (P.cut puzzle (outside order.now first last))) grade left.new }
     ensures later { IsEarlier left.old left.new }
 {
     let _size = grid.size();
     let fewer = without(puzzle, order, first, last);
-    settle_on(&fewer, grid, grade, left, known);
+    settle_on(&fewer, grid, grade, added, left, known);
     if are_numbers(left, grid) {
         Some(fewer)
     } else {
@@ -87,10 +99,13 @@ fn split<P: Steps>(
     requires ordered { first ≤ last }
     requires inside { last ≤ length order.now }
     requires pruned { IsPrunedTo ⟦<P as Rules>⟧ (FailsBy P.struck_by grade grid.now) grid.now order.now first puzzle }
+    requires follows { Follows (P.struck_by puzzle) grade grid.now }
     requires fails { FailsBy P.struck_by grade grid.now (P.cut puzzle (outside order.now first last)) }
     requires base { IsBase (P.struck_by (P.cut puzzle (outside order.now first last))) grade grid.now left.old }
     requires settled { AreLinesSettled grade left.old }
+    requires clues { AreCluesSettled (P.struck_by (P.cut puzzle (outside order.now first last))) grade left.old }
     ensures pruned { IsPrunedTo ⟦<P as Rules>⟧ (FailsBy P.struck_by grade grid.now) grid.now order.now last result }
+    ensures follows { Follows (P.struck_by result) grade grid.now }
     ensures earlier { (i : ℕ) → i < P.items_of grid.now.size → place_in i order.now < first → P.has result i ≡ P.has puzzle i }
     ensures later { IsEarlier left.old left.new }
 {
@@ -100,7 +115,10 @@ fn split<P: Steps>(
     }
     let middle = middle_of(first, last);
     let mark = left.mark();
-    match without_all(puzzle, grid, order, first, middle, grade, left, known) {
+    let second = Some(&order[middle..last]);
+    match without_all(
+        puzzle, grid, order, first, middle, grade, second, left, known,
+    ) {
         Some(fewer) => {
             left.give_back(mark);
             split(fewer, grid, order, middle, last, grade, left, known)
@@ -108,7 +126,8 @@ fn split<P: Steps>(
         None => {
             let half = split(puzzle, grid, order, first, middle, grade, left, known);
             left.give_back(mark);
-            match without_all(half, grid, order, middle, last, grade, left, known) {
+            let kept = Some(&order[first..middle]);
+            match without_all(half, grid, order, middle, last, grade, kept, left, known) {
                 Some(fewer) => fewer,
                 None => split(half, grid, order, middle, last, grade, left, known),
             }

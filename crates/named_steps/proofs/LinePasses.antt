@@ -1,14 +1,17 @@
 -- What is taken away along a row or column is struck by reasons, and where nothing is taken these are quiet.
 use Rattle.std.proofs.Common.{◌≡◌, ℕ, ◌*◌, ◌<◌, true, inl, inr, refl, sym, subst}
+use Rattle.std.proofs.lemmas.Bool.{both_ways, false_from_ne_true}
 use Rattle.latin_board.specs.Lines.{line_cell}
 use Rattle.latin_board.proofs.PeerLines.{line_peers}
-use Rattle.trail_solver.specs.Candidates.{CandidatesValue}
+use Rattle.trail_solver.specs.Candidates.{CandidatesValue, may_be}
 use Rattle.named_steps.specs.Reasons.{IsByLine}
 use Rattle.named_steps.specs.Grades.{has_reason, is_of_lines}
 use Rattle.named_steps.specs.Laws.Less.{peer_less, place_less, set_less}
 use Rattle.named_steps.specs.Passes.{Passes, AreLinesSettled}
 use Rattle.named_steps.specs.Inner.Takes.{Takes}
-use Rattle.named_steps.specs.Inner.LineStrikes.{IsByRest, IsRestQuiet}
+use Rattle.named_steps.specs.Inner.LineStrikes.{IsByRest, IsLeftByRest, IsRestQuiet}
+use Rattle.named_steps.specs.Inner.LineTallies.{IsVoid}
+use Rattle.named_steps.specs.Left.{IsLeft}
 use Rattle.named_steps.proofs.Antitone.{IsAntitone}
 use Rattle.named_steps.proofs.Takes.{HasStruck, passes_taken}
 use Rattle.named_steps.specs.declared.reason.Reason.{Reason}
@@ -65,15 +68,36 @@ rest_reason c line index v line_is index_is h = elim h [
   )
 ]
 
--- and a chain of these takes away what they strike along a line
+-- and a chain of these takes away what is left of that along a line
 pub rest_pass : (line : ℕ) (a b : CandidatesValue) → line < 2 * a.size
-    → Takes (λ cell v. (k : ℕ) × (k < a.size) × (cell ≡ line_cell a.size line k) × IsByRest a line k v) a b
+    → Takes (λ cell v. (k : ℕ) × (k < a.size) × (cell ≡ line_cell a.size line k) × IsLeftByRest a line k v) a b
     → Passes (IsByLine a.size) Latin (IsRestQuiet line) a b
 rest_pass line a b line_is t =
     passes_taken (IsByLine a.size) (line_less a.size) Latin (IsRestQuiet line)
-    (λ cell v. (k : ℕ) × (k < a.size) × (cell ≡ line_cell a.size line k) × IsByRest a line k v) a b t
-    (λ cell v pair h. subst (λ (n : ℕ). HasStruck (IsByLine a.size) Latin a n v) (sym h.2) (rest_reason a line h.0 v line_is h.1 h.3))
-    (λ gone k v low pair h. gone (line_cell a.size line k) v pair (k, low, refl, h))
+    (λ cell v. (k : ℕ) × (k < a.size) × (cell ≡ line_cell a.size line k) × IsLeftByRest a line k v) a b t
+    (λ cell v pair h. subst (λ (n : ℕ). HasStruck (IsByLine a.size) Latin a n v) (sym h.2) (rest_reason a line h.0 v line_is h.1 h.3.0))
+    (λ gone k v low pair h.
+    let cell = line_cell a.size line k in
+    false_from_ne_true (may_be a cell v) (λ may.
+    both_ways (may_be a cell v) (gone cell v pair (k, low, refl, (h, record { pair = pair; may = may }))) may))
+
+-- along a void line the squares strike all that is left in one another
+pub void_struck : (line k v : ℕ) (c : CandidatesValue) → IsVoid line c → k < c.size → IsLeft c (line_cell c.size line k) v → IsByRest c line k v
+void_struck line k v c void low left = elim void [
+  | inl empty ↦ inl (
+    empty.0,
+    empty.1,
+    λ same. empty.2 v (subst (λ (j : ℕ). IsLeft c (line_cell c.size line j) v) (sym same) left),
+    λ other there. absurd (empty.2 other there),
+  )
+  | inr lost ↦ inr (
+    lost.0,
+    lost.1,
+    lost.2,
+    λ same. lost.3 k low (subst (λ (n : ℕ). IsLeft c (line_cell c.size line k) n) same left),
+    λ j j_is there. absurd (lost.3 j j_is there),
+  )
+]
 
 -- a reason of the lowest grade is one of each grade
 pub latin_has : (grade : Grade) (reason : Reason) → has_reason Latin reason ≡ true → has_reason grade reason ≡ true

@@ -1,20 +1,14 @@
 -- What the other squares of a line strike in one, as sets.
-use Rattle.std.proofs.Common.{◌≡◌, ◌≢◌, ◌↔◌, ℕ, ◌-◌, ◌*◌, ◌^◌, ◌<◌, ◌==◌, if◌then◌else◌, bit_and, zero-mul, true, false, ◌&&◌, ◌||◌, not, inl, inr, sym, ap, ◌∙◌, subst, arith}
-use Rattle.std.proofs.lemmas.Bool.{both_ways, and_parts, and_from, or_cases, or_left, or_right, cases_eq, eq-eqb, ne_eqb, false_from_ne_true, not_from_false}
-use Rattle.number_sets.specs.Sets.{has_number, no_numbers, IsEmpty, IsSubset, IsSingle}
+use Rattle.std.proofs.Common.{◌≡◌, ◌≢◌, ◌↔◌, ℕ, ◌-◌, ◌*◌, ◌^◌, ◌<◌, ◌==◌, if◌then◌else◌, bit_and, zero-mul, true, false, ◌&&◌, not, inl, inr, sym, ap, ◌∙◌, subst, arith}
+use Rattle.std.proofs.lemmas.Bool.{both_ways, and_parts, and_from, cases_eq, eq-eqb, ne_eqb, false_from_ne_true, not_from_false}
+use Rattle.number_sets.specs.Sets.{has_number, no_numbers, IsEmpty, IsSingle}
 use Rattle.number_sets.proofs.Ends.{lowest_power}
 use Rattle.number_sets.proofs.Members.{has_number-none, none_from_numbers, number_of_one, power_most, some_number}
 use Rattle.number_sets.proofs.OneMore.{added_other}
-use Rattle.latin_board.specs.Lines.{line_cell}
-use Rattle.latin_board.proofs.LatinLines.{line_cell_inside}
-use Rattle.trail_solver.specs.Candidates.{CandidatesValue}
-use Rattle.named_steps.specs.Left.{IsLeft, HasNoOtherPlace}
-use Rattle.named_steps.specs.Inner.LineStrikes.{IsRestSet}
-use Rattle.named_steps.specs.Inner.LineTallies.{IsUpTo, IsAlone}
 use Rattle.named_steps.proofs.Counts.{one_less, was_other}
 
 -- what one set has and another lacks
-has_rest : (all some rest v : ℕ) → ((n : ℕ) → has_number rest n ≡ (has_number all n && not (has_number some n)))
+pub has_rest : (all some rest v : ℕ) → ((n : ℕ) → has_number rest n ≡ (has_number all n && not (has_number some n)))
     → (has_number rest v ≡ true) ↔ ((has_number all v ≡ true) × (has_number some v ≡ true → ⊥))
 has_rest all some rest v is = (
   λ has.
@@ -23,44 +17,6 @@ has_rest all some rest v is = (
   λ h. is v ∙ and_from (has_number all v) (not (has_number some v)) h.0
       (not_from_false (has_number some v) (false_from_ne_true (has_number some v) h.1)),
 )
-
--- what is alone in another square, and all beside some number that is left of none, is what the others strike
-pub rest_struck : (c : CandidatesValue) (line index all left lacking lone beside result : ℕ) → line < 2 * c.size → IsUpTo c.size all
-    → ((v : ℕ) → (has_number left v ≡ true) ↔ ((k : ℕ) × (k < c.size) × (k ≢ index) × IsLeft c (line_cell c.size line k) v))
-    → ((n : ℕ) → has_number lacking n ≡ (has_number all n && not (has_number left n)))
-    → ((v : ℕ) → (has_number lone v ≡ true) ↔ ((k : ℕ) × (k < c.size) × (k ≢ index) × IsAlone c (line_cell c.size line k) v))
-    → ((v : ℕ) → (has_number beside v ≡ true) ↔ ((has_number all v ≡ true) × ((u : ℕ) × (has_number lacking u ≡ true) × (v ≢ u))))
-    → ((n : ℕ) → has_number result n ≡ (has_number lone n || has_number beside n)) → IsRestSet c line index result
-rest_struck c line index all left lacking lone beside result line_is all_is left_is lacking_is lone_is beside_is result_is =
-    let no_place : (u : ℕ) → (has_number left u ≡ true → ⊥) → HasNoOtherPlace c line u index = λ u lacks k low there. elim (cases_eq k index) [
-      | inl same ↦ same
-      | inr other ↦ absurd (lacks ((left_is u).1 (k, low, other, there)))
-    ] in λ v. (
-      λ has. elim (or_cases (has_number lone v) (has_number beside v) (sym (result_is v) ∙ has)) [
-        | inl first ↦ let h = (lone_is v).0 first in (h.3.pair.low, h.3.pair.high, inl (h.0, h.1, h.2, h.3.alone))
-        | inr second ↦
-            let h = (beside_is v).0 second in
-            let bounds = (all_is v).0 h.0 in
-            let u = (has_rest all left lacking h.1.0 lacking_is).0 h.1.1 in
-            let u_bounds = (all_is h.1.0).0 u.0 in
-            (bounds.0, bounds.1, inr (h.1.0, u_bounds.0, u_bounds.1, h.1.2, no_place h.1.0 u.1))
-      ],
-      λ h. elim h.2 [
-        | inl alone ↦ result_is v ∙ or_left (has_number lone v) (has_number beside v) ((lone_is v).1 (
-          alone.0,
-          alone.1,
-          alone.2,
-          record {
-            pair = record { inside = line_cell_inside c.size line alone.0 line_is alone.1; low = h.0; high = h.1 };
-            alone = alone.3;
-          },
-        ))
-        | inr p ↦
-            let lacks : has_number left p.0 ≡ true → ⊥ = λ has. let there = (left_is p.0).0 has in there.2 (p.4 there.0 there.1 there.3) in
-            let u : has_number lacking p.0 ≡ true = (has_rest all left lacking p.0 lacking_is).1 ((all_is p.0).1 (p.1, p.2), lacks) in
-            result_is v ∙ or_right (has_number lone v) (has_number beside v) ((beside_is v).1 ((all_is v).1 (h.0, h.1), (p.0, u, p.3)))
-      ],
-    )
 
 -- ---- sets of at most one number
 
@@ -97,36 +53,6 @@ single_by_rest set rest flag result v small rest_is flag_is result_is =
                 (λ has. absurd (lacks result (omega (arith, result_is ∙ ap (λ (n : ℕ). set * n) zero)) has), λ h. absurd (several h))
           ]
     ]
-
--- the numbers but for which a set has none
-pub alone_by_parts : (all set flag empty single result v : ℕ) → set < 2 ^ 16 → flag ≡ (if set == 0 then 1 else 0) → empty ≡ all * flag
-    → (has_number single v ≡ true) ↔ IsSingle set v → has_number result v ≡ (has_number empty v || has_number single v) → IsSubset set all
-    → (has_number result v ≡ true) ↔ ((has_number all v ≡ true) × ((u : ℕ) → has_number set u ≡ true → u ≡ v))
-alone_by_parts all set flag empty single result v small flag_is empty_is single_is result_is sub = elim (cases_eq set 0) [
-  | inl none ↦
-      let one : flag ≡ 1 = rw (eq-eqb set 0 none) at flag_is in
-      let same : empty ≡ all = omega (arith, empty_is ∙ ap (λ (n : ℕ). all * n) one) in
-      let nothing : (u : ℕ) → has_number set u ≡ true → ⊥ = λ u has.
-      both_ways (has_number set u) (ap (λ (n : ℕ). has_number n u) none ∙ has_number-none u) has in (
-        λ has. elim (or_cases (has_number empty v) (has_number single v) (sym result_is ∙ has)) [
-          | inl here ↦ (ap (λ (n : ℕ). has_number n v) (sym same) ∙ here, λ u there. absurd (nothing u there))
-          | inr here ↦ absurd (nothing v (single_is.0 here).has)
-        ],
-        λ h. result_is ∙ or_left (has_number empty v) (has_number single v) (ap (λ (n : ℕ). has_number n v) same ∙ h.0),
-      )
-  | inr some ↦
-      let zero : flag ≡ 0 = rw (ne_eqb set 0 some) at flag_is in
-      let none : empty ≡ 0 = omega (arith, empty_is ∙ ap (λ (n : ℕ). all * n) zero) in (
-        λ has. elim (or_cases (has_number empty v) (has_number single v) (sym result_is ∙ has)) [
-          | inl here ↦ absurd (both_ways (has_number empty v) (ap (λ (n : ℕ). has_number n v) none ∙ has_number-none v) here)
-          | inr here ↦ let one = single_is.0 here in (sub v one.has, one.alone)
-        ],
-        λ h.
-            let n = some_number set some small in
-            let has : has_number set v ≡ true = subst (λ (i : ℕ). has_number set i ≡ true) (h.1 n.0 n.1) n.1 in
-            result_is ∙ or_right (has_number empty v) (has_number single v) (single_is.1 (record { has = has; alone = h.1 })),
-      )
-]
 
 -- ---- the numbers beside some number of a set
 

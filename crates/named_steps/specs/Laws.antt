@@ -1,7 +1,8 @@
--- Lemmas for the laws of the trait that both games keep: of what they share, of fewer candidates, of solutions, and of cuts.
+-- Lemmas for the laws of the trait that both games keep: of what they share, of fewer candidates, of solutions, of cuts, and of items that are added.
 pub mod Less
 pub mod Sound
 pub mod Cuts
 pub mod Shared
 pub mod Placed
 pub mod Quiet
+pub mod AddedItems

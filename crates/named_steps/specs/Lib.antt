@@ -17,6 +17,8 @@ pub mod Following
 pub mod Passes
 -- along which lines clues or signs strike nothing more
 pub mod QuietLines
+-- along which line a clue or a sign is looked at
+pub mod ItemLines
 -- which puzzles follow by a grade, and the least of them
 pub mod Graded
 -- the laws of named steps

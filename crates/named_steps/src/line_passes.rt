@@ -6,8 +6,8 @@ ghost use Rattle.named_steps.specs.Left.{IsLeft, HasNoOther};
 ghost use Rattle.named_steps.specs.Reasons.{IsByLine};
 ghost use Rattle.named_steps.specs.Passes.{LeadsTo};
 ghost use Rattle.named_steps.specs.Inner.Takes.{Strikes, Takes};
-ghost use Rattle.named_steps.specs.Inner.LineStrikes.{IsByRest, IsRestQuiet, AreLineSets};
-ghost use Rattle.named_steps.specs.Inner.LineTallies.{AreTallied};
+ghost use Rattle.named_steps.specs.Inner.LineStrikes.{IsLeftByRest, IsRestQuiet, AreLineSets};
+ghost use Rattle.named_steps.specs.Inner.LineTallies.{AreTallied, IsVoid, IsWhole};
 ghost use Rattle.named_steps.specs.Inner.WaitingLines.{AreChanged};
 ghost use Rattle.trail_solver.specs.Candidates.{IsSetOf};
 ghost use Rattle.named_steps.specs.declared.grade.Grade.TheVariants.{Latin};
@@ -29,24 +29,39 @@ pub(crate) fn strike_line(candidates: &mut Candidates, line: u8) -> NumberSet
     if tally.is_still() {
         return NumberSet::empty();
     }
+    if !tally.is_whole() {
+        return strike_all(candidates, line);
+    }
     strike_tallied(candidates, line, &tally)
 }
 
-// Takes away from each square of a line what the others strike in it, by the tally of the line, and gives the places of those of which
-// something went.
+// Takes away all that is left along a line with an empty square or a number without a place: the squares strike that in one another.
+fn strike_all(candidates: &mut Candidates, line: u8) -> NumberSet
+    requires line { line < 2 * candidates.old.size }
+    requires void { IsVoid line candidates.old }
+    ensures takes { Takes (λ cell v. (k : ℕ) × (k < candidates.old.size) × (cell ≡ line_cell candidates.old.size line k)
+        × IsLeftByRest candidates.old line k v) candidates.old candidates.new }
+    ensures changed { AreChanged line result candidates.old candidates.new }
+{
+    let sets = line_sets(candidates, line);
+    strike_row(candidates, line, &sets)
+}
+
+// Takes away from each square of a whole line what the others strike in it, by the tally of the line, and gives the places of those of
+// which something went.
 fn strike_tallied(candidates: &mut Candidates, line: u8, tally: &Tally) -> NumberSet
     requires line { line < 2 * candidates.old.size }
     requires tally { AreTallied candidates.old line candidates.old.size tally.now }
+    requires whole { IsWhole line candidates.old }
     ensures takes { Takes (λ cell v. (k : ℕ) × (k < candidates.old.size) × (cell ≡ line_cell candidates.old.size line k)
-        × IsByRest candidates.old line k v) candidates.old candidates.new }
+        × IsLeftByRest candidates.old line k v) candidates.old candidates.new }
     ensures changed { AreChanged line result candidates.old candidates.new }
 {
     let size = candidates.size();
     let mut changed = NumberSet::empty();
     for k in 0..size.get() {
         let cell = line_cell(size, line, k);
-        let set = candidates.values(cell);
-        let struck = set.intersection(tally.rest(set));
+        let struck = tally.struck(candidates.values(cell));
         candidates.remove_all(cell, struck);
         if !struck.is_empty() {
             changed = changed.union(NumberSet::one(k));

@@ -1,18 +1,18 @@
 //! What is left of the squares of a row or column, counted over all of them, and what the others strike in one.
 ghost use Rattle.std.specs.Prelude.{◌≡◌, ◌≢◌, ◌↔◌, ℕ, ◌+◌, ◌*◌, ◌<◌, ◌&&◌, ◌||◌, ◌==◌, if◌then◌else◌, true, not};
-ghost use Rattle.std.specs.Bool.{OnTrue};
-ghost use Rattle.number_sets.specs.Sets.{has_number, IsSubset, IsSingle};
+ghost use Rattle.std.specs.Bool.{OnTrue, MatchBool};
+ghost use Rattle.number_sets.specs.Sets.{has_number, IsSingle};
 ghost use Rattle.latin_board.specs.Lines.{line_cell};
 ghost use Rattle.trail_solver.specs.Candidates.{CandidatesValue, IsSetOf};
-ghost use Rattle.named_steps.specs.Inner.LineStrikes.{IsRestSet, IsRestQuiet};
-ghost use Rattle.named_steps.specs.Inner.LineTallies.{AreTallied, IsUpTo};
+ghost use Rattle.named_steps.specs.Inner.LineStrikes.{IsLeftByRest, IsRestQuiet};
+ghost use Rattle.named_steps.specs.Inner.LineTallies.{AreTallied, IsUpTo, IsVoid, IsWhole};
 
 use latin_board::line_cell;
 use number_sets::NumberSet;
 use trail_solver::Candidates;
 
-/// What is left of some squares of a line: the numbers of the size, those that are left of some square and of several, those but
-/// for which nothing is left of some square and of several, and whether nothing at all is left of one.
+/// What is left of some squares of a line: the numbers of the size, those that are left of some square and of several, those that
+/// alone are left of some square and of several, and whether nothing at all is left of one.
 #[derive(Clone, Copy, Debug)]
 pub(crate) struct Tally {
     all: NumberSet,
@@ -54,10 +54,10 @@ impl Tally {
 
     // The tally with one square more, of which this set is left.
     fn with(self, set: NumberSet) -> Tally
-        ensures { (c : CandidatesValue) (line k : ℕ) → line < 2 * c.size → k < c.size → IsSetOf c (line_cell c.size line k) set
-            → AreTallied c line k self → AreTallied c line (k + 1) result }
+        ensures { (c : CandidatesValue) (line k : ℕ) → IsSetOf c (line_cell c.size line k) set → AreTallied c line k self
+            → AreTallied c line (k + 1) result }
     {
-        let alone = alone_in(self.all, set);
+        let alone = if_single(set);
         let again = self.once.intersection(set);
         let clashing = self.lone.intersection(alone);
         Tally {
@@ -79,15 +79,24 @@ impl Tally {
         !self.has_empty && self.lone.is_disjoint(self.twice) && self.all.is_subset(placed)
     }
 
-    /// What the others strike in a square of the line of which this set is left: the numbers that are alone in another one, and all
-    /// but one that none of the others has.
-    pub(crate) fn rest(&self, set: NumberSet) -> NumberSet
-        ensures { (c : CandidatesValue) (line k : ℕ) → line < 2 * c.size → k < c.size → IsSetOf c (line_cell c.size line k) set
-            → AreTallied c line c.size self.now → IsRestSet c line k result }
+    /// Whether something is left of each square, and each number of some square.
+    pub(crate) fn is_whole(&self) -> bool
+        ensures { MatchBool result
+            ((c : CandidatesValue) (line : ℕ) → AreTallied c line c.size self.now → IsWhole line c)
+            ((c : CandidatesValue) (line : ℕ) → AreTallied c line c.size self.now → IsVoid line c) }
     {
-        let left = elsewhere(self.once, self.twice, set);
-        let lone = elsewhere(self.lone, self.clash, alone_in(self.all, set));
-        lone.union(but_one(self.all, self.all.difference(left)))
+        !self.has_empty && self.all.difference(self.once).is_empty()
+    }
+
+    /// What the others strike of a square of a whole line of which this set is left: the numbers that are alone in another one, and
+    /// all but one that no other has.
+    pub(crate) fn struck(&self, set: NumberSet) -> NumberSet
+        ensures { (c : CandidatesValue) (line k : ℕ) → line < 2 * c.size → k < c.size → IsSetOf c (line_cell c.size line k) set
+            → AreTallied c line c.size self.now → IsWhole line c → (v : ℕ) → (has_number result v ≡ true) ↔ IsLeftByRest c line k v }
+    {
+        let lone = elsewhere(self.lone, self.clash, if_single(set));
+        let beside = but_one(set, set.difference(self.twice));
+        beside.union(set.intersection(lone))
     }
 }
 
@@ -96,15 +105,6 @@ fn elsewhere(some: NumberSet, several: NumberSet, own: NumberSet) -> NumberSet
     ensures { (v : ℕ) → has_number result v ≡ (has_number several v || (has_number some v && not (has_number own v))) }
 {
     several.union(some.difference(own))
-}
-
-// The numbers but for which a set has none: all where it is empty, and else its only one.
-fn alone_in(all: NumberSet, set: NumberSet) -> NumberSet
-    ensures { IsSubset set all → (v : ℕ) → (has_number result v ≡ true)
-        ↔ ((has_number all v ≡ true) × ((u : ℕ) → has_number set u ≡ true → u ≡ v)) }
-{
-    let if_empty = NumberSet::from_bits(all.bits() * one_if_none(set.bits()));
-    if_empty.union(if_single(set))
 }
 
 // The numbers of the first set beside some number of the second.

@@ -1,11 +1,12 @@
 //! What a grade leaves of candidates.
-ghost use Rattle.std.specs.Prelude.{◌≡◌, ◌≢◌, ℕ, ◌*◌, ◌<◌, true, false, length};
+ghost use Rattle.std.specs.Prelude.{◌≡◌, ◌≢◌, ℕ, ◌*◌, ◌<◌, true, false, length, slice_index, IfSome, MatchOption};
 ghost use Rattle.std.specs.Bool.{OnTrue};
 ghost use Rattle.trail_solver.specs.Pairs.{IsPair};
 ghost use Rattle.trail_solver.specs.Candidates.{IsEarlier, IsOnly, IsWithin, may_be};
 ghost use Rattle.trail_solver.specs.Puzzles.{Solves};
 ghost use Rattle.named_steps.specs.Inner.Fills.{HasSolutionWithin};
 ghost use Rattle.named_steps.specs.Following.{IsClosure, IsSettled};
+ghost use Rattle.named_steps.specs.ItemLines.{HasNoItem};
 ghost use Rattle.named_steps.specs.Left.{IsLeft};
 ghost use Rattle.named_steps.specs.Passes.{LeadsTo, StaysOn, IsGivenQuiet, AreGivensSettled, AreLinesSettled};
 ghost use Rattle.named_steps.specs.Inner.WaitingLines.{is_waiting};
@@ -18,7 +19,7 @@ use crate::stages::{Stage, Waits, look};
 use crate::steps::Steps;
 use crate::striking::strike;
 use crate::waiting::Waiting;
-use latin_board::Grid;
+use latin_board::{Grid, Size};
 use number_sets::NumberSet;
 use trail_solver::{Candidates, Rules};
 
@@ -46,13 +47,14 @@ pub fn settle_knowing<P: Steps>(
     settle_from(p, grade, candidates, Waits::all(), false, known);
 }
 
-/// As `settle`, for who settles many candidates and knows a solution among them: rows and columns strike nothing of these, and what is
-/// known of rows of sets is used and added to. Nothing is looked at any more once the solution alone is left. What is taken away can be
-/// given back by a mark.
+/// As `settle`, for who settles many candidates and knows a solution among them: rows and columns strike nothing of these, clues or signs
+/// nothing but along the lines of some items, or of any where none are named, and what is known of rows of sets is used and added to.
+/// Nothing is looked at any more once the solution alone is left. What is taken away can be given back by a mark.
 pub fn settle_on<P: Steps>(
     p: &P,
     solution: &Grid,
     grade: Grade,
+    added: Option<&[u8]>,
     candidates: &mut Candidates,
     known: &mut KnownRows,
 )
@@ -60,6 +62,10 @@ pub fn settle_on<P: Steps>(
     requires solves { Solves (P.puzzle p.now) solution.now }
     requires within { IsWithin candidates.old solution.now }
     requires lines { AreLinesSettled grade candidates.old }
+    requires items { IfSome added (λ items. (k : ℕ) → k < length items.now
+        → slice_index items.now k < P.items_of candidates.old.size) }
+    requires quiet { IfSome added (λ items. (line : ℕ) → line < 2 * candidates.old.size
+        → HasNoItem (P.item_line candidates.old.size) items.now line → P.quiet_on p.now grade line candidates.old) }
     ensures closure { IsClosure (P.struck_by p.now) grade candidates.old candidates.new }
     ensures earlier { IsEarlier candidates.old candidates.new }
 {
@@ -67,13 +73,43 @@ pub fn settle_on<P: Steps>(
     let _solution = solution.size();
     let _valid = p.size();
     let squares = strike_givens(p, candidates);
+    let clues = lines_of_clues::<P>(&squares, added, candidates.size());
     let groups = squares;
     let waits = Waits {
         squares,
-        clues: Waiting::all(),
+        clues,
         groups,
     };
     settle_from(p, grade, candidates, waits, true, known);
+}
+
+// These lines, and those along which some items are looked at; or all lines where no items are named.
+fn lines_of_clues<P: Steps>(lines: &Waiting, added: Option<&[u8]>, size: Size) -> Waiting
+    requires { IfSome added (λ items. (k : ℕ) → k < length items.now → slice_index items.now k < P.items_of size) }
+    ensures { MatchOption added.entry ((line : ℕ) → line < 2 * size → is_waiting size result line ≡ true)
+        (λ items. (line : ℕ) → is_waiting size result line ≡ false
+        → (is_waiting size lines.now line ≡ false) × HasNoItem (P.item_line size) items.now line) }
+{
+    let _width = size.get();
+    match added {
+        None => Waiting::all(),
+        Some(items) => with_items::<P>(lines, items, size),
+    }
+}
+
+// These lines, and those along which some items are looked at.
+fn with_items<P: Steps>(lines: &Waiting, items: &[u8], size: Size) -> Waiting
+    requires { (k : ℕ) → k < length items.now → slice_index items.now k < P.items_of size }
+    ensures { (line : ℕ) → is_waiting size result line ≡ false
+        → (is_waiting size lines.now line ≡ false) × HasNoItem (P.item_line size) items.now line }
+{
+    let mut waiting = *lines;
+    for k in 0..items.len() {
+        if let Some(line) = P::line_of_item(size, items[k]) {
+            waiting = waiting.with_line(line, size.get());
+        }
+    }
+    waiting
 }
 
 // The same from candidates of which the givens strike nothing, and nothing else but along the lines that wait; and whether a solution is

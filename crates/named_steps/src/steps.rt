@@ -1,5 +1,5 @@
 //! What the steps of a game owe.
-ghost use Rattle.std.specs.Prelude.{◌≡◌, ◌≢◌, ◌↔◌, ℕ, ◌+◌, ◌*◌, ◌<◌, Bool, true, IfSome};
+ghost use Rattle.std.specs.Prelude.{◌≡◌, ◌≢◌, ◌↔◌, ℕ, ◌+◌, ◌*◌, ◌<◌, Bool, true, Option, IfSome};
 ghost use Rattle.number_sets.specs.Sets.{has_number, IsEmpty};
 ghost use Rattle.latin_board.specs.Squares.{GridValue, number_at};
 ghost use Rattle.trail_solver.specs.Pairs.{IsPair};
@@ -7,6 +7,7 @@ ghost use Rattle.trail_solver.specs.Candidates.{CandidatesValue, IsWithin};
 ghost use Rattle.trail_solver.specs.Puzzles.{Solves};
 ghost use Rattle.named_steps.specs.Left.{IsFewer};
 ghost use Rattle.named_steps.specs.Grades.{IsPlaced, is_of_clues, is_of_lines};
+ghost use Rattle.named_steps.specs.ItemLines.{AgreeAlong};
 ghost use Rattle.named_steps.specs.Reasons.{IsByGiven, IsByLine, AreStruckFrom};
 ghost use Rattle.named_steps.specs.Passes.{LeadsTo, LosesAt, StaysOn, AreCluesSettled};
 ghost use Rattle.named_steps.specs.declared.grade.Grade.{Grade};
@@ -16,6 +17,7 @@ ghost use Rattle.named_steps.specs.declared.reason.Reason.TheVariants.{Given};
 use crate::grade::Grade;
 use crate::known_rows::KnownRows;
 use crate::reason::Reason;
+use latin_board::Size;
 use number_sets::NumberSet;
 use trail_solver::{Candidates, Rules};
 
@@ -26,6 +28,9 @@ pub trait Steps: Rules {
 
     // Along a line the clues or signs strike nothing that is left, as a grade looks at them.
     ghost quiet_on: { Self → Grade → ℕ → CandidatesValue → Type 0 };
+
+    // On which line of a grid of a width an item is looked at, by its number.
+    ghost item_line: { ℕ → ℕ → Option ℕ };
 
     /// The values that a reason strikes in a square; the sizes are equal, and the square is one of the grid's. What is known of rows of
     /// sets may be used and added to.
@@ -71,6 +76,12 @@ pub trait Steps: Rules {
         ensures loses { LosesAt line result candidates.old candidates.new }
         ensures quiet { IsEmpty result → quiet_on self.now grade line candidates.new };
 
+    /// The row or column along which an item is looked at, if it is a clue or a sign; it is below the count of a puzzle of the size.
+    fn line_of_item(size: Size, item: u8) -> Option<u8>
+        requires { item < Self.Rules.items_of size }
+        ensures line { result ≡ item_line size item }
+        ensures inside { IfSome result (λ line. line < 2 * size) };
+
     // What a given strikes, and what rows and columns do, is the same in each game.
     ghost given_struck: { (p : Self) (c : CandidatesValue) (at cell value : ℕ)
         → IsByGiven (Self.Rules.puzzle p) at cell value ↔ struck_by p c (Given at) cell value };
@@ -85,6 +96,15 @@ pub trait Steps: Rules {
     // Where they strike nothing along each line they strike nothing at all.
     ghost quiet_settles: { (p : Self) (grade : Grade) (c : CandidatesValue) → Self.Rules.valid p → c.size ≡ (Self.Rules.puzzle p).size
         → ((line : ℕ) → line < 2 * c.size → quiet_on p grade line c) → AreCluesSettled (struck_by p) grade c };
+
+    // Where they strike nothing at all they do so along each line.
+    ghost settled_quiet: { (p : Self) (grade : Grade) (line : ℕ) (c : CandidatesValue) → AreCluesSettled (struck_by p) grade c
+        → quiet_on p grade line c };
+
+    // Along a line of which two cuts have the same items they strike nothing in one where they do so in the other.
+    ghost quiet_cut: { (p : Self) (a b : ℕ → Bool) (grade : Grade) (line : ℕ) (c : CandidatesValue) → Self.Rules.valid p
+        → c.size ≡ (Self.Rules.puzzle p).size → line < 2 * c.size → AgreeAlong (item_line c.size) (Self.Rules.items_of c.size) line a b
+        → quiet_on (Self.Rules.cut p a) grade line c → quiet_on (Self.Rules.cut p b) grade line c };
 
     // A clue or a sign that strikes is the grid's.
     ghost struck_placed: { (p : Self) (c : CandidatesValue) (reason : Reason) (cell value : ℕ) → Self.Rules.valid p

@@ -17,6 +17,7 @@ use crate::reason::Reason;
 use crate::steps::Steps;
 use crate::strikes::{by_any_peer, by_any_place, by_any_set, by_given};
 use clue_rules::Towers;
+use latin_board::Size;
 use number_sets::NumberSet;
 use trail_solver::{Candidates, Rules};
 
@@ -28,11 +29,15 @@ impl Steps for Towers {
     ghost use Rattle.named_steps.specs.Laws.Sound as sound;
     ghost use Rattle.named_steps.specs.Laws.Cuts as cuts;
     ghost use Rattle.named_steps.specs.Laws.Quiet as quiet;
+    ghost use Rattle.named_steps.specs.Laws.AddedItems as added;
     ghost use Rattle.named_steps.specs.QuietLines.{are_towers_quiet};
+    ghost use Rattle.named_steps.specs.ItemLines.{towers_item_line};
 
     ghost struck_by = { IsTowersStruckBy };
 
     ghost quiet_on = { are_towers_quiet };
+
+    ghost item_line = { towers_item_line };
 
     fn strikes(
         &self,
@@ -100,9 +105,22 @@ impl Steps for Towers {
         }
     }
 
+    fn line_of_item(size: Size, item: u8) -> Option<u8> {
+        let width = size.get();
+        if item < 4 * width {
+            Some(view_line(item, width))
+        } else {
+            None
+        }
+    }
+
     ghost quiet_stays = { quiet.towers_stay };
 
     ghost quiet_settles = { λ p grade c valid. quiet.towers_settle p grade c };
+
+    ghost settled_quiet = { added.towers_still };
+
+    ghost quiet_cut = { λ p a b grade line c valid size line_is. added.towers_added p a b grade line c size };
 
     ghost given_struck = { shared.towers_givens };
 
@@ -149,6 +167,24 @@ fn front_place(line: u8, width: u8) -> u8
         2 * width + line
     } else {
         line - width
+    }
+}
+
+// The line along which the clue at a place is looked at.
+fn view_line(place: u8, width: u8) -> u8
+    requires width { width ≤ 9 }
+    requires place { place < 4 * width }
+    ensures line { result ≡ view_line width place }
+    ensures inside { result < 2 * width }
+{
+    if place < width {
+        width + place
+    } else if place < 2 * width {
+        place
+    } else if place < 3 * width {
+        place - 2 * width
+    } else {
+        place - 3 * width
     }
 }
 

@@ -17,7 +17,7 @@ use crate::sign_strikes::{by_greater, by_lesser};
 use crate::steps::Steps;
 use crate::strikes::{by_any_peer, by_any_place, by_any_set, by_given};
 use clue_rules::Unequal;
-use latin_board::line_cell;
+use latin_board::{Size, line_cell};
 use number_sets::NumberSet;
 use std::cmp::Ordering;
 use trail_solver::{Candidates, Rules};
@@ -30,11 +30,15 @@ impl Steps for Unequal {
     ghost use Rattle.named_steps.specs.Laws.Sound as sound;
     ghost use Rattle.named_steps.specs.Laws.Cuts as cuts;
     ghost use Rattle.named_steps.specs.Laws.Quiet as quiet;
+    ghost use Rattle.named_steps.specs.Laws.AddedItems as added;
     ghost use Rattle.named_steps.specs.QuietLines.{are_unequal_quiet};
+    ghost use Rattle.named_steps.specs.ItemLines.{unequal_item_line};
 
     ghost struck_by = { IsUnequalStruckBy };
 
     ghost quiet_on = { are_unequal_quiet };
+
+    ghost item_line = { unequal_item_line };
 
     fn strikes(
         &self,
@@ -89,9 +93,25 @@ impl Steps for Unequal {
         }
     }
 
+    fn line_of_item(size: Size, item: u8) -> Option<u8> {
+        let width = size.get();
+        let across = width * (width - 1);
+        if item < across {
+            Some(item / (width - 1))
+        } else if item < 2 * across {
+            Some(width + (item - across) % width)
+        } else {
+            None
+        }
+    }
+
     ghost quiet_stays = { quiet.unequal_stay };
 
     ghost quiet_settles = { λ p grade c valid size. quiet.unequal_settle p grade c valid size valid.givens.smallest };
+
+    ghost settled_quiet = { added.unequal_still };
+
+    ghost quiet_cut = { λ p a b grade line c valid. added.unequal_added p a b grade line c valid.givens.smallest };
 
     ghost given_struck = { shared.unequal_givens };
 

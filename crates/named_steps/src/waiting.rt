@@ -79,6 +79,25 @@ impl Waiting {
         }
     }
 
+    /// These and a line.
+    pub(crate) fn with_line(self, line: u8, width: u8) -> Waiting
+        requires width { width ≤ 9 }
+        requires line { line < 2 * width }
+        ensures { (other : ℕ) → is_waiting width result other ≡ (is_waiting width self other || (other == line)) }
+    {
+        if line < width {
+            Waiting {
+                rows: self.rows.union(NumberSet::one(line)),
+                columns: self.columns,
+            }
+        } else {
+            Waiting {
+                rows: self.rows,
+                columns: self.columns.union(NumberSet::one(line - width)),
+            }
+        }
+    }
+
     /// These, a line, and those that cross it at some places.
     pub(crate) fn with_changed(self, line: u8, places: NumberSet, width: u8) -> Waiting
         requires width { width ≤ 9 }

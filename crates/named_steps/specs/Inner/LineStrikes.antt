@@ -1,5 +1,5 @@
 -- What the squares of a row or column strike in one another.
-use Rattle.std.specs.Prelude.{◌≡◌, ◌≢◌, ◌↔◌, ℕ, ◌<◌, ◌≤◌, ◌^◌, ◌⊎◌, true, false, List, length, slice_index, count_ones}
+use Rattle.std.specs.Prelude.{◌≡◌, ◌≢◌, ℕ, ◌<◌, ◌≤◌, ◌^◌, ◌⊎◌, true, false, List, length, slice_index, count_ones}
 use Rattle.number_sets.specs.Sets.{has_number, IsSubset}
 use Rattle.latin_board.specs.Lines.{line_cell}
 use Rattle.trail_solver.specs.Pairs.{IsPair}
@@ -12,11 +12,11 @@ IsByRest c line index v =
     ((k : ℕ) × (k < c.size) × (k ≢ index) × HasNoOther c (line_cell c.size line k) v)
     ⊎ ((u : ℕ) × (1 ≤ u) × (u ≤ c.size) × (v ≢ u) × HasNoOtherPlace c line u index)
 
--- the set is of what the other squares of the line strike in one
-abbrev pub IsRestSet : CandidatesValue → ℕ → ℕ → ℕ → Type 0
-IsRestSet c line index set = (v : ℕ) → (has_number set v ≡ true) ↔ ((1 ≤ v) × (v ≤ c.size) × IsByRest c line index v)
+-- that is left of the square
+abbrev pub IsLeftByRest : CandidatesValue → ℕ → ℕ → ℕ → Type 0
+IsLeftByRest c line index v = IsByRest c line index v × IsLeft c (line_cell c.size line index) v
 
--- none of that is left
+-- nothing of that is left
 abbrev pub IsRestQuiet : ℕ → CandidatesValue → Type 0
 IsRestQuiet line c =
     (k v : ℕ) → k < c.size → IsPair c.size (line_cell c.size line k) v → IsByRest c line k v → may_be c (line_cell c.size line k) v ≡ false

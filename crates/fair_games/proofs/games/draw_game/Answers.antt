@@ -1,7 +1,7 @@
 use Rattle.std.proofs.Common.{◌≡◌, ℕ, ◌*◌, ◌≤◌, sym, ◌∙◌, ap, subst, arith}
 use Rattle.puzzle_gen.proofs.ItemLaws.{laws_of}
 use Rattle.fair_games.specs.Pruned.{IsTried}
-use Rattle.fair_games.proofs.PruneSteps.{HasSteps}
+use Rattle.fair_games.proofs.PruneSteps.{HasSteps, cut_of}
 use Rattle.fair_games.proofs.FairSteps.{game_needs, all_items, first_given}
 use Rattle.fair_games.proofs.games.draw_game.Goals as goal
 use Rattle.fair_games.proofs.games.draw_game.Given.{Over}
@@ -24,8 +24,20 @@ returns-clause-needed g c =
     let some : size * size ≤ items =
     g.met.P.FairGame.some_items size (omega (arith, width, c.get-width.ensures.smallest)) (omega (arith, width, c.get-width.ensures.largest)) in
     game_needs g.P.Rules g.P.Steps.struck_by (steps_of g) c.args.grade (g.P.FairGame.trial_of c.args.grade) size c.draw_square-grid.result
-    c.as_slice.result.now c.pruned.result c.draw_square-grid.ensures.size c.pruned.ensures
+    c.as_slice.result.now c.pruned.result c.draw_square-grid.ensures.size c.pruned.ensures.pruned
     (λ i below low. subst (IsTried i) (sym c.as_slice.ensures.value)
     (c.draw_trial-order.ensures.tried i (all_items c.item_count.result items (c.get-width.result * c.get-width.result) (size * size) i c.item_count.ensures cells some below)
     (λ alone. first_given c.item_count.result items (c.get-width.result * c.get-width.result) (size * size) i c.item_count.ensures cells
     (low (sym c.trial.ensures ∙ alone)))))
+
+pub returns-clause-follows : goal.returns-clause-follows
+returns-clause-follows g c =
+    let square = c.draw_square-grid.result in
+    let pruned = c.pruned.ensures.pruned in
+    let p = c.pruned.result in (
+      square,
+      record {
+        solves = (cut_of g.P.Rules square p (g.P.Rules.has p) (laws_of g.met.P.Rules) pruned.is_grid pruned.is_latin pruned.is_cut).solves;
+        follows = c.pruned.ensures.follows;
+      },
+    )

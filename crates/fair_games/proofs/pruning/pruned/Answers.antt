@@ -3,7 +3,9 @@ use Rattle.puzzle_gen.proofs.ItemLaws.{laws_of, cuts_of_full}
 use Rattle.named_steps.proofs.SettledLines.{lines_of_all}
 use Rattle.fair_games.specs.Fair.{FailsBy}
 use Rattle.fair_games.specs.Inner.PrunedTo.{IsPrunedTo}
+use Rattle.named_steps.specs.Following.{Follows}
 use Rattle.fair_games.proofs.Bases.{base_all}
+use Rattle.fair_games.proofs.FullGivens.{full_follows}
 use Rattle.fair_games.proofs.PrunedItems.{pruned_none}
 use Rattle.fair_games.proofs.pruning.pruned.Goals as goal
 
@@ -23,3 +25,11 @@ without_all-requires-clause-settled g c =
     let wide : 3 ≤ c.all-left.result.size = omega (arith, c.all-left.ensures.size, c.size.ensures.value, c.size.ensures.valid.smallest) in
     let small : c.all-left.result.size ≤ 9 = omega (arith, c.all-left.ensures.size, c.size.ensures.value, c.size.ensures.valid.largest) in
     lines_of_all c.args.grade c.all-left.result wide small c.all-left.ensures.trail
+
+pub split-requires-clause-follows : goal.split-requires-clause-follows
+split-requires-clause-follows g c =
+    let square = c.args.grid.now in
+    let full = g.P.Rules.full_of square in
+    subst (λ p. Follows (g.P.Steps.struck_by p) c.args.grade square) (sym c.full-full.ensures)
+    (full_follows g.P.Rules g.P.Steps.struck_by (laws_of g.met.P.Rules) c.args.grade square (g.met.P.Steps.struck_less full)
+    (λ d at cell value. (g.met.P.Steps.given_struck full d at cell value).0) c.size.ensures.valid c.requires.latin)

@@ -1,6 +1,7 @@
 use Rattle.std.proofs.Common.{rules, sym, subst}
 use Rattle.std.proofs.lemmas.Bool.{both_ways}
 use Rattle.puzzle_gen.proofs.ItemLaws.{laws_of}
+use Rattle.named_steps.specs.Following.{Follows}
 use Rattle.named_steps.proofs.Rounds.{IsShared}
 use Rattle.fair_games.specs.Inner.PrunedTo.{IsPrunedTo}
 use Rattle.fair_games.specs.Fair.{FailsBy}
@@ -39,9 +40,12 @@ returns-then-are_numbers g c =
       cut = search rules;
       pruned = subst (IsPrunedTo g.P.Rules (FailsBy g.P.Steps.struck_by c.args.grade square) square c.args.order.now c.args.last)
           (sym c.without-fewer.ensures) (left.goes (c.are_numbers.ensures.0 c.if-are_numbers.true));
+      follows = subst (λ p. Follows (g.P.Steps.struck_by p) c.args.grade square) (sym c.without-fewer.ensures)
+          (left.follows (c.are_numbers.ensures.0 c.if-are_numbers.true));
       earlier = search rules;
       base = left.base;
       settled = left.lines;
+      clues = left.clues;
       later = search rules;
     }
 
@@ -54,8 +58,10 @@ returns-else-are_numbers g c =
     record {
       cut = search rules;
       pruned = left.fails (λ only. both_ways c.are_numbers.result c.if-are_numbers.false (c.are_numbers.ensures.1 only));
+      follows = search rules;
       earlier = search rules;
       base = left.base;
       settled = left.lines;
+      clues = left.clues;
       later = search rules;
     }

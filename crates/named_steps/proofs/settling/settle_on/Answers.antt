@@ -1,6 +1,7 @@
-use Rattle.std.proofs.Common.{◌≡◌, ℕ, ◌*◌, ◌<◌, ◌≤◌, false, ◌∙◌, subst, arith}
+use Rattle.std.proofs.Common.{◌≡◌, ℕ, ◌*◌, ◌<◌, false, length, slice_index, Option, Some, None, IfSome, MatchOption, sym, ◌∙◌, subst}
 use Rattle.std.proofs.lemmas.Bool.{both_ways}
 use Rattle.trail_solver.proofs.Earlier.{earlier_trans}
+use Rattle.named_steps.specs.ItemLines.{HasNoItem}
 use Rattle.named_steps.specs.Passes.{AreLinesSettled}
 use Rattle.named_steps.specs.Inner.WaitingLines.{is_waiting}
 use Rattle.named_steps.specs.Inner.Stages.{IsFree, IsQuietFor}
@@ -14,6 +15,19 @@ use Rattle.named_steps.specs.declared.grade.Grade.{Grade}
 use Rattle.named_steps.specs.declared.grade.Grade.TheVariants.{Latin, Hard}
 use Rattle.named_steps.specs.declared.stages.Stage.TheVariants.{Squares, Clues, Groups}
 use Rattle.named_steps.proofs.settling.settle_on.Goals as goal
+
+-- by what is so where items are named, and what where none are
+with_added : {A : Type 0} {Every : Type 0} {First Second : A → Type 0} {Goal : Type 0} (added : Option A) → MatchOption added Every Second
+    → IfSome added First → (Every → Goal) → ((x : A) → First x → Second x → Goal) → Goal
+with_added None matched named none some = none matched
+with_added (Some x) matched named none some = some x named matched
+
+pub lines_of_clues-clues-requires : goal.lines_of_clues-clues-requires
+lines_of_clues-clues-requires g c =
+    let same = c.size.ensures.value
+    ∙ leads_size (g.P.Steps.struck_by c.args.p.now) Latin c.args.candidates.now c.strike_givens-squares.new.candidates c.strike_givens-squares.ensures.leads in
+    subst (λ (n : ℕ). IfSome c.args.added (λ items. (k : ℕ) → k < length items.now → slice_index items.now k < g.P.Rules.items_of n)) (sym same)
+    c.requires.items
 
 pub settle_from-requires-clause-size : goal.settle_from-requires-clause-size
 settle_from-requires-clause-size g c =
@@ -31,14 +45,24 @@ settle_from-requires-clause-waiting g c = λ stage line low.
     let low_old = subst (λ (n : ℕ). line < 2 * n) size low in
     let stays = λ (free : is_waiting new.size c.strike_givens-squares.result line ≡ false).
     c.strike_givens-squares.ensures.others line low_old (subst (λ (n : ℕ). is_waiting n c.strike_givens-squares.result line ≡ false) size free) in
-    elim stage as (λ s. IsFree new.size (record { squares = c.strike_givens-squares.result; clues = c.all.result; groups = c.strike_givens-squares.result }) s line
+    elim stage as (λ s. IsFree new.size (record { squares = c.strike_givens-squares.result; clues = c.lines_of_clues-clues.result; groups = c.strike_givens-squares.result }) s line
     → IsQuietFor Quiet c.args.grade s line new) [
       | Squares ↦ λ free.
           quiet_stays line old new size fewer (stays free)
           (settled_quiet c.args.grade old c.requires.lines line low_old)
-      | Clues ↦ λ free.
-          let small : new.size ≤ 9 = omega (arith, size, c.size-size.ensures.valid.largest) in
-          absurd (both_ways (is_waiting new.size c.all.result line) free (c.all.ensures new.size line small low))
+      | Clues ↦ λ free past.
+          let here : c.size.result ≡ new.size = c.size.ensures.value in
+          let there : c.size.result ≡ old.size = here ∙ size in
+          let off : is_waiting c.size.result c.lines_of_clues-clues.result line ≡ false =
+          subst (λ (n : ℕ). is_waiting n c.lines_of_clues-clues.result line ≡ false) (sym here) free in
+          with_added c.args.added c.lines_of_clues-clues.ensures c.requires.quiet
+          (λ all. absurd (both_ways (is_waiting c.size.result c.lines_of_clues-clues.result line) off
+          (all line (subst (λ (n : ℕ). line < 2 * n) (sym here) low))))
+          (λ items quiet apart.
+          let h = apart line off in
+          g.met.P.Steps.quiet_stays c.args.p.now c.args.grade line old new c.requires.size low_old size fewer
+          (stays (subst (λ (n : ℕ). is_waiting n c.strike_givens-squares.result line ≡ false) here h.0))
+          (quiet line low_old (subst (λ (n : ℕ). HasNoItem (g.P.Steps.item_line n) items.now line) there h.1)))
       | Groups ↦ λ free past.
           let settled : AreLinesSettled Hard old = subst (λ (grade : Grade). AreLinesSettled grade old) (past_easy_is c.args.grade past) c.requires.lines in
           group_stays line old new size fewer (stays free) (groups_settled old line settled low_old)

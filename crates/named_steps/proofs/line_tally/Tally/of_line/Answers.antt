@@ -1,4 +1,4 @@
-use Rattle.std.proofs.Common.{◌≡◌, ℕ, ◌<◌, ap, sym, ◌∙◌, subst, arith, nat_le}
+use Rattle.std.proofs.Common.{◌≡◌, ℕ, ap, sym, ◌∙◌, subst, arith, nat_le}
 use Rattle.std.proofs.lemmas.Bool.{and_parts, and_from, leb-true, le-leb}
 use Rattle.latin_board.specs.Lines.{line_cell}
 use Rattle.trail_solver.specs.Candidates.{IsSetOf}
@@ -19,10 +19,9 @@ pub loop-k-preserved : goal.loop-k-preserved
 loop-k-preserved c =
     let now = c.args.candidates.now in
     let k = c.loop-k.k in
-    let low : k < now.size = omega (arith, c.loop-k-test.true, c.get-k-end.ensures.value, c.size-size.ensures.value) in
     let cell : c.line_cell.result ≡ line_cell now.size c.args.line k =
     c.line_cell.ensures.value ∙ ap (λ (n : ℕ). line_cell n c.args.line k) c.size-size.ensures.value in
-    c.with-tally.ensures now c.args.line k c.requires low (subst (λ (n : ℕ). IsSetOf now n c.values.result) cell c.values.ensures) c.loop-k.invariant
+    c.with-tally.ensures now c.args.line k (subst (λ (n : ℕ). IsSetOf now n c.values.result) cell c.values.ensures) c.loop-k.invariant
 
 pub returns : goal.returns
 returns c =
