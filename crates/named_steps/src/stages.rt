@@ -45,16 +45,14 @@ impl Waits {
         }
     }
 
-    // Whether a line waits for a stage.
-    fn has(&self, stage: Stage, line: u8, width: u8) -> bool
-        requires width { width ≤ 9 }
-        requires line { line < 2 * width }
-        ensures { result ≡ is_waiting width (waiting_of self.now stage) line }
+    // The lines that wait for a stage.
+    fn of(&self, stage: Stage) -> Waiting
+        ensures { result ≡ waiting_of self.now stage }
     {
         match stage {
-            Stage::Squares => self.squares.has(line, width),
-            Stage::Clues => self.clues.has(line, width),
-            Stage::Groups => self.groups.has(line, width),
+            Stage::Squares => self.squares,
+            Stage::Clues => self.clues,
+            Stage::Groups => self.groups,
         }
     }
 
@@ -111,15 +109,17 @@ pub(crate) fn look<P: Steps>(
     ensures none { length candidates.new.trail ≡ length candidates.old.trail
         → AreNoMore candidates.old.size stage first result }
 {
-    let size = candidates.size();
+    let width = candidates.size().get();
     let mut waits = first;
-    for line in 0..2 * size.get() {
+    let mut from = 0;
+    while let Some(line) = waits.of(stage).next(from, width) {
         waits = look_along(p, grade, stage, candidates, line, waits, known);
+        from = line + 1;
     }
     waits
 }
 
-// Looks along a line, where it waits. It waits no longer where nothing is struck; else the lines wait too that cross it there.
+// Looks along a line. It waits no longer where nothing is struck; else the lines wait too that cross it there.
 fn look_along<P: Steps>(
     p: &P,
     grade: Grade,
@@ -139,9 +139,6 @@ fn look_along<P: Steps>(
         → IsWithoutFor candidates.old.size stage line waits result }
 {
     let width = candidates.size().get();
-    if !waits.has(stage, line, width) {
-        return waits;
-    }
     let changed = strike_along(p, grade, stage, candidates, line, known);
     if changed.is_empty() {
         waits.without(stage, line, width)

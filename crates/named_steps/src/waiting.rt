@@ -1,7 +1,7 @@
 //! Rows and columns that wait to be looked at: those with a square of which something went.
-ghost use Rattle.std.specs.Prelude.{◌≡◌, ℕ, ◌*◌, ◌<◌, ◌≤◌, true, false, not, ◌&&◌, ◌||◌, ◌==◌};
+ghost use Rattle.std.specs.Prelude.{◌≡◌, ℕ, ◌+◌, ◌*◌, ◌<◌, ◌≤◌, true, false, not, ◌&&◌, ◌||◌, ◌==◌, MatchOption};
 ghost use Rattle.number_sets.specs.Sets.{has_number};
-ghost use Rattle.named_steps.specs.Inner.WaitingLines.{is_waiting, is_through, is_crossing};
+ghost use Rattle.named_steps.specs.Inner.WaitingLines.{is_waiting, is_through, is_crossing, IsLeastWithin, IsNextWaiting};
 
 use number_sets::NumberSet;
 
@@ -47,17 +47,31 @@ impl Waiting {
         }
     }
 
-    /// Whether a line of a grid of this width is one of them.
-    pub(crate) fn has(&self, line: u8, width: u8) -> bool
+    /// The first of them, in a grid of this width, from a line on.
+    pub(crate) fn next(self, from: u8, width: u8) -> Option<u8>
         requires width { width ≤ 9 }
-        requires line { line < 2 * width }
-        ensures { result ≡ is_waiting width self.now line }
+        requires from { from ≤ 2 * width }
+        ensures { MatchOption result ((line : ℕ) → from ≤ line → line < 2 * width → is_waiting width self line ≡ false)
+            (IsNextWaiting width self from) }
     {
-        if line < width {
-            self.rows.has(line)
-        } else {
-            self.columns.has(line - width)
+        if from >= width {
+            return self.next_column(from - width, width);
         }
+        match least_within(self.rows, from, width) {
+            Some(row) => Some(row),
+            None => self.next_column(0, width),
+        }
+    }
+
+    // The first column of them, from the column with this number on.
+    fn next_column(self, from: u8, width: u8) -> Option<u8>
+        requires width { width ≤ 9 }
+        requires from { from ≤ width }
+        ensures { MatchOption result ((line : ℕ) → width + from ≤ line → line < 2 * width → is_waiting width self line ≡ false)
+            (IsNextWaiting width self (width + from)) }
+    {
+        let column = least_within(self.columns, from, width)?;
+        Some(width + column)
     }
 
     /// These without one of them.
@@ -117,4 +131,14 @@ impl Waiting {
             }
         }
     }
+}
+
+// The least number of a set from one on, where that is below the end.
+fn least_within(set: NumberSet, from: u8, end: u8) -> Option<u8>
+    requires { from < 16 }
+    ensures { MatchOption result ((n : ℕ) → from ≤ n → n < end → has_number set n ≡ false) (IsLeastWithin set from end) }
+{
+    let rest = NumberSet::from_bits(set.bits() >> from);
+    let least = from + rest.least()?;
+    if least < end { Some(least) } else { None }
 }

@@ -1,6 +1,7 @@
-use Rattle.std.proofs.Common.{◌≡◌, ℕ, ◌≤◌, length, inl, inr, sym, ◌∙◌, subst, arith}
-use Rattle.std.proofs.lemmas.Bool.{cases_eq}
-use Rattle.named_steps.specs.Inner.Stages.{IsFree, IsWithoutFor}
+use Rattle.std.proofs.Common.{◌≡◌, ℕ, ◌<◌, ◌≤◌, length, inl, inr, sym, ◌∙◌, subst, arith}
+use Rattle.std.proofs.lemmas.Bool.{cases_eq, cases_lt}
+use Rattle.named_steps.specs.Inner.Stages.{waiting_of, IsFree, IsWithoutFor}
+use Rattle.named_steps.specs.Inner.WaitingLines.{IsNextWaiting}
 use Rattle.named_steps.proofs.Takes.{leads_on, leads_length, leads_size}
 use Rattle.named_steps.proofs.stages.look.Goals as goal
 
@@ -12,16 +13,22 @@ pub look_along-waits-requires-clause-line : goal.look_along-waits-requires-claus
 look_along-waits-requires-clause-line g c =
     let same : c.loop-line.candidates.size ≡ c.args.candidates.now.size =
     leads_size (g.P.Steps.struck_by c.args.p.now) c.args.grade c.args.candidates.now c.loop-line.candidates c.loop-line.invariant.0 in
-    omega (arith, same, c.loop-line-test.true, c.get-line-end.ensures.value, c.size-size.ensures.value)
+    omega (arith, same, c.in-Some.ensures.inside, c.get-width.ensures.value, c.size.ensures.value)
 
 pub loop-line-preserved : goal.loop-line-preserved
 loop-line-preserved g c =
     let Struck = g.P.Steps.struck_by c.args.p.now in
     let grade = c.args.grade in
+    let stage = c.args.stage in
     let first = c.args.candidates.now in
     let now = c.loop-line.candidates in
     let next = c.look_along-waits.new.candidates in
-    let line = c.loop-line.line in
+    let waits = c.loop-line.waits in
+    let from = c.loop-line.from in
+    let line = c.in-Some.line in
+    let width : c.get-width.result ≡ first.size = c.get-width.ensures.value ∙ c.size.ensures.value in
+    let is_next : IsNextWaiting c.get-width.result (waiting_of waits stage) from line =
+    subst (λ w. IsNextWaiting c.get-width.result w from line) c.of.ensures c.in-Some.ensures in
     let same : now.size ≡ first.size = leads_size Struck grade first now c.loop-line.invariant.0 in
     let step = c.look_along-waits.ensures.leads in
     let on : length first.trail ≤ length now.trail = leads_length Struck grade first now c.loop-line.invariant.0 in
@@ -31,13 +38,18 @@ loop-line-preserved g c =
       λ still.
           let not_before : length now.trail ≡ length first.trail = omega (arith, still, on, further) in
           let not_now : length next.trail ≡ length now.trail = omega (arith, still, not_before) in
-          let without : IsWithoutFor first.size c.args.stage line c.loop-line.waits c.look_along-waits.result =
-          subst (λ (w : ℕ). IsWithoutFor w c.args.stage line c.loop-line.waits c.look_along-waits.result) same (c.look_along-waits.ensures.none not_now) in
-          let before = c.loop-line.invariant.2 not_before in (
+          let without : IsWithoutFor first.size stage line waits c.look_along-waits.result =
+          subst (λ (w : ℕ). IsWithoutFor w stage line waits c.look_along-waits.result) same (c.look_along-waits.ensures.none not_now) in
+          let before = c.loop-line.invariant.2 not_before in
+          let was : (j : ℕ) → j < line → IsFree first.size waits stage j = λ j low. elim (cases_lt j from) [
+            | inl below ↦ before.0 j below
+            | inr ahead ↦ subst (λ (w : ℕ). IsFree w waits stage j) width (is_next.first j ahead low)
+          ] in (
             λ j low. elim (cases_eq j line) [
-              | inl last ↦ subst (λ (l : ℕ). IsFree first.size c.look_along-waits.result c.args.stage l) (sym last) without.this
-              | inr other ↦ without.others c.args.stage j (before.0 j (omega (arith, low, other)))
+              | inl last ↦ subst (λ (l : ℕ). IsFree first.size c.look_along-waits.result stage l) (sym last) without.this
+              | inr other ↦ without.others stage j (was j (omega (arith, low, other)))
             ],
             λ other j free. without.others other j (before.1 other j free),
           ),
+      omega (arith, is_next.inside),
     )
