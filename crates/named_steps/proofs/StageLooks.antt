@@ -94,26 +94,27 @@ record IsMore (w line places : ℕ) (old new : Waiting) : Type 0 where
   apart : (l : ℕ) → is_waiting w new l ≡ false → l ≢ line
   uncrossed : (l : ℕ) → is_waiting w new l ≡ false → is_crossing w line places l ≡ false
 
-more_from : (w line places : ℕ) (old new : Waiting)
-    → ((l : ℕ) → is_waiting w new l ≡ (is_waiting w old l || ((l == line) || is_crossing w line places l))) → IsMore w line places old new
-more_from w line places old new is =
+more_from : (w line places : ℕ) (old new more : Waiting)
+    → ((l : ℕ) → is_waiting w more l ≡ ((l == line) || is_crossing w line places l))
+    → ((l : ℕ) → is_waiting w new l ≡ (is_waiting w old l || is_waiting w more l)) → IsMore w line places old new
+more_from w line places old new more more_is is =
     let parts : (l : ℕ) → is_waiting w new l ≡ false → (is_waiting w old l ≡ false) × (((l == line) || is_crossing w line places l) ≡ false) =
-    λ l free. or_parts (is_waiting w old l) ((l == line) || is_crossing w line places l) (sym (is l) ∙ free) in
+    λ l free. let both = or_parts (is_waiting w old l) (is_waiting w more l) (sym (is l) ∙ free) in (both.0, sym (more_is l) ∙ both.1) in
     record {
       before = λ l free. (parts l free).0;
       apart = λ l free same. both_ways (l == line) (or_parts (l == line) (is_crossing w line places l) (parts l free).1).0 (eq-eqb l line same);
       uncrossed = λ l free. (or_parts (l == line) (is_crossing w line places l) (parts l free).1).1;
     }
 
-pub all_more : (w line places : ℕ) (old new : Waits)
-    → ((l : ℕ) → is_waiting w new.squares l ≡ (is_waiting w old.squares l || ((l == line) || is_crossing w line places l)))
-    → ((l : ℕ) → is_waiting w new.clues l ≡ (is_waiting w old.clues l || ((l == line) || is_crossing w line places l)))
-    → ((l : ℕ) → is_waiting w new.groups l ≡ (is_waiting w old.groups l || ((l == line) || is_crossing w line places l)))
-    → IsWithChanged w line places old new
-all_more w line places old new squares clues groups =
-    let s = more_from w line places old.squares new.squares squares in
-    let c = more_from w line places old.clues new.clues clues in
-    let g = more_from w line places old.groups new.groups groups in
+pub all_more : (w line places : ℕ) (old new : Waits) (more : Waiting)
+    → ((l : ℕ) → is_waiting w more l ≡ ((l == line) || is_crossing w line places l))
+    → ((l : ℕ) → is_waiting w new.squares l ≡ (is_waiting w old.squares l || is_waiting w more l))
+    → ((l : ℕ) → is_waiting w new.clues l ≡ (is_waiting w old.clues l || is_waiting w more l))
+    → ((l : ℕ) → is_waiting w new.groups l ≡ (is_waiting w old.groups l || is_waiting w more l)) → IsWithChanged w line places old new
+all_more w line places old new more more_is squares clues groups =
+    let s = more_from w line places old.squares new.squares more more_is squares in
+    let c = more_from w line places old.clues new.clues more more_is clues in
+    let g = more_from w line places old.groups new.groups more more_is groups in
     record {
       before = λ stage l. elim stage as (λ x. IsFree w new x l → IsFree w old x l) [ Squares ↦ s.before l | Clues ↦ c.before l | Groups ↦ g.before l ];
       apart = λ stage l. elim stage as (λ x. IsFree w new x l → l ≢ line) [ Squares ↦ s.apart l | Clues ↦ c.apart l | Groups ↦ g.apart l ];

@@ -134,7 +134,7 @@ fn settle_from<P: Steps>(
     let mut waits = first;
     loop {
         let count = candidates.trail_len();
-        waits = look_in_turn(p, grade, candidates, waits, known);
+        look_in_turn(p, grade, candidates, &mut waits, known);
         if candidates.trail_len() == count {
             return;
         }
@@ -167,31 +167,31 @@ fn has_only(candidates: &Candidates) -> bool
     true
 }
 
-// Looks along the lines that wait for the first stage, and for the next one where that struck nothing. Gives those that wait then.
+// Looks along the lines that wait for the first stage, and for the next one where that struck nothing. Says in their place which wait then.
 fn look_in_turn<P: Steps>(
     p: &P,
     grade: Grade,
     candidates: &mut Candidates,
-    first: Waits,
+    waits: &mut Waits,
     known: &mut KnownRows,
-) -> Waits
+)
     requires size { candidates.old.size ≡ (P.puzzle p.now).size }
-    requires waiting { AreWaiting (P.quiet_on p.now) grade first candidates.old }
+    requires waiting { AreWaiting (P.quiet_on p.now) grade waits.old candidates.old }
     ensures leads { LeadsTo (P.struck_by p.now) grade candidates.old candidates.new }
-    ensures waiting { AreWaiting (P.quiet_on p.now) grade result candidates.new }
+    ensures waiting { AreWaiting (P.quiet_on p.now) grade waits.new candidates.new }
     ensures none { length candidates.new.trail ≡ length candidates.old.trail
         → AreAllQuiet (P.quiet_on p.now) grade candidates.old }
 {
     let count = candidates.trail_len();
-    let squares = look(p, grade, Stage::Squares, candidates, first, known);
+    look(p, grade, Stage::Squares, candidates, waits, known);
     if candidates.trail_len() != count || !has_clues(grade) {
-        return squares;
+        return;
     }
-    let clues = look(p, grade, Stage::Clues, candidates, squares, known);
+    look(p, grade, Stage::Clues, candidates, waits, known);
     if candidates.trail_len() != count || !has_groups(grade) {
-        return clues;
+        return;
     }
-    look(p, grade, Stage::Groups, candidates, clues, known)
+    look(p, grade, Stage::Groups, candidates, waits, known);
 }
 
 // Whether a grade looks at clues or signs.

@@ -57,66 +57,54 @@ impl Waits {
     }
 
     // A line waits no longer for a stage.
-    fn without(self, stage: Stage, line: u8, width: u8) -> Waits
+    fn leave(&mut self, stage: Stage, line: u8, width: u8)
         requires width { width ≤ 9 }
         requires line { line < 2 * width }
-        ensures { IsWithoutFor width stage line self result }
+        ensures { IsWithoutFor width stage line self.old self.new }
     {
         match stage {
-            Stage::Squares => Waits {
-                squares: self.squares.without(line, width),
-                ..self
-            },
-            Stage::Clues => Waits {
-                clues: self.clues.without(line, width),
-                ..self
-            },
-            Stage::Groups => Waits {
-                groups: self.groups.without(line, width),
-                ..self
-            },
+            Stage::Squares => self.squares = self.squares.without(line, width),
+            Stage::Clues => self.clues = self.clues.without(line, width),
+            Stage::Groups => self.groups = self.groups.without(line, width),
         }
     }
 
-    // The line waits for each stage, and so do those that cross it at the places.
-    fn with_changed(self, line: u8, places: NumberSet, width: u8) -> Waits
+    // A line waits for each stage, and so do those that cross it at some places.
+    fn add(&mut self, line: u8, places: NumberSet, width: u8)
         requires width { width ≤ 9 }
         requires line { line < 2 * width }
-        ensures { IsWithChanged width line places self result }
+        ensures { IsWithChanged width line places self.old self.new }
     {
-        Waits {
-            squares: self.squares.with_changed(line, places, width),
-            clues: self.clues.with_changed(line, places, width),
-            groups: self.groups.with_changed(line, places, width),
-        }
+        let more = Waiting::crossing(line, places, width);
+        self.squares = self.squares.union(&more);
+        self.clues = self.clues.union(&more);
+        self.groups = self.groups.union(&more);
     }
 }
 
-/// Looks once along the lines that wait for a stage, and gives those that wait then.
+/// Looks once along the lines that wait for a stage, and says in their place which wait then.
 pub(crate) fn look<P: Steps>(
     p: &P,
     grade: Grade,
     stage: Stage,
     candidates: &mut Candidates,
-    first: Waits,
+    waits: &mut Waits,
     known: &mut KnownRows,
-) -> Waits
+)
     requires size { candidates.old.size ≡ (P.puzzle p.now).size }
     requires stage { IsStageOf grade stage }
-    requires waiting { AreWaiting (P.quiet_on p.now) grade first candidates.old }
+    requires waiting { AreWaiting (P.quiet_on p.now) grade waits.old candidates.old }
     ensures leads { LeadsTo (P.struck_by p.now) grade candidates.old candidates.new }
-    ensures waiting { AreWaiting (P.quiet_on p.now) grade result candidates.new }
+    ensures waiting { AreWaiting (P.quiet_on p.now) grade waits.new candidates.new }
     ensures none { length candidates.new.trail ≡ length candidates.old.trail
-        → AreNoMore candidates.old.size stage first result }
+        → AreNoMore candidates.old.size stage waits.old waits.new }
 {
     let width = candidates.size().get();
-    let mut waits = first;
     let mut from = 0;
     while let Some(line) = waits.of(stage).next(from, width) {
-        waits = look_along(p, grade, stage, candidates, line, waits, known);
+        look_along(p, grade, stage, candidates, line, waits, known);
         from = line + 1;
     }
-    waits
 }
 
 // Looks along a line. It waits no longer where nothing is struck; else the lines wait too that cross it there.
@@ -126,24 +114,24 @@ fn look_along<P: Steps>(
     stage: Stage,
     candidates: &mut Candidates,
     line: u8,
-    waits: Waits,
+    waits: &mut Waits,
     known: &mut KnownRows,
-) -> Waits
+)
     requires size { candidates.old.size ≡ (P.puzzle p.now).size }
     requires stage { IsStageOf grade stage }
     requires line { line < 2 * candidates.old.size }
-    requires waiting { AreWaiting (P.quiet_on p.now) grade waits candidates.old }
+    requires waiting { AreWaiting (P.quiet_on p.now) grade waits.old candidates.old }
     ensures leads { LeadsTo (P.struck_by p.now) grade candidates.old candidates.new }
-    ensures waiting { AreWaiting (P.quiet_on p.now) grade result candidates.new }
+    ensures waiting { AreWaiting (P.quiet_on p.now) grade waits.new candidates.new }
     ensures none { length candidates.new.trail ≡ length candidates.old.trail
-        → IsWithoutFor candidates.old.size stage line waits result }
+        → IsWithoutFor candidates.old.size stage line waits.old waits.new }
 {
     let width = candidates.size().get();
     let changed = strike_along(p, grade, stage, candidates, line, known);
     if changed.is_empty() {
-        waits.without(stage, line, width)
+        waits.leave(stage, line, width);
     } else {
-        waits.with_changed(line, changed, width)
+        waits.add(line, changed, width);
     }
 }
 

@@ -112,23 +112,32 @@ impl Waiting {
         }
     }
 
-    /// These, a line, and those that cross it at some places.
-    pub(crate) fn with_changed(self, line: u8, places: NumberSet, width: u8) -> Waiting
+    /// A line, and those that cross it at some places.
+    pub(crate) fn crossing(line: u8, places: NumberSet, width: u8) -> Waiting
         requires width { width ≤ 9 }
         requires line { line < 2 * width }
-        ensures { (other : ℕ) → is_waiting width result other
-            ≡ (is_waiting width self other || ((other == line) || is_crossing width line places other)) }
+        ensures { (other : ℕ) → is_waiting width result other ≡ ((other == line) || is_crossing width line places other) }
     {
         if line < width {
             Waiting {
-                rows: self.rows.union(NumberSet::one(line)),
-                columns: self.columns.union(places),
+                rows: NumberSet::one(line),
+                columns: places,
             }
         } else {
             Waiting {
-                rows: self.rows.union(places),
-                columns: self.columns.union(NumberSet::one(line - width)),
+                rows: places,
+                columns: NumberSet::one(line - width),
             }
+        }
+    }
+
+    /// These and others.
+    pub(crate) fn union(self, more: &Waiting) -> Waiting
+        ensures { (w line : ℕ) → is_waiting w result line ≡ (is_waiting w self line || is_waiting w more.now line) }
+    {
+        Waiting {
+            rows: self.rows.union(more.rows),
+            columns: self.columns.union(more.columns),
         }
     }
 }

@@ -9,8 +9,8 @@ use Rattle.named_steps.proofs.Takes.{leads_earlier, leads_fewer, leads_length, l
 use Rattle.named_steps.specs.declared.stages.Stage.TheVariants.{Squares, Clues, Groups}
 use Rattle.named_steps.proofs.settling.settle_from.Goals as goal
 
-pub look_in_turn-waits-requires-clause-size : goal.look_in_turn-waits-requires-clause-size
-look_in_turn-waits-requires-clause-size g c =
+pub look_in_turn-requires-clause-size : goal.look_in_turn-requires-clause-size
+look_in_turn-requires-clause-size g c =
     leads_size (g.P.Steps.struck_by c.args.p.now) c.args.grade c.args.candidates.now c.loop-grade.candidates c.loop-grade.invariant.0 ∙ c.requires.size
 
 pub returns-then-trail_len-count-clause-closure : goal.returns-then-trail_len-count-clause-closure
@@ -23,12 +23,12 @@ returns-then-trail_len-count-clause-closure g c =
     let grade = c.args.grade in
     let first = c.args.candidates.now in
     let now = c.loop-grade.candidates in
-    let next = c.look_in_turn-waits.new.candidates in
-    let step = c.look_in_turn-waits.ensures.leads in
+    let next = c.look_in_turn.new.candidates in
+    let step = c.look_in_turn.ensures.leads in
     let same : now.size ≡ first.size = leads_size Struck grade first now c.loop-grade.invariant.0 in
     let small : now.size ≤ 9 = omega (arith, same, c.size-size.ensures.valid.largest) in
     let still : length next.trail ≡ length now.trail = sym c.trail_len.ensures.value ∙ c.if-trail_len-count.true ∙ c.trail_len-count.ensures.value in
-    let quiet : AreAllQuiet Quiet grade now = c.look_in_turn-waits.ensures.none still in
+    let quiet : AreAllQuiet Quiet grade now = c.look_in_turn.ensures.none still in
     let settled : IsSettled Struck grade now = settled_all puzzle Struck shared grade now small (same ∙ c.requires.size) c.loop-grade.invariant.1
     (λ line low. quiet Squares line low)
     (clues_settled Struck grade now
@@ -43,9 +43,9 @@ returns-then-trail_len-count-clause-earlier g c =
     let Struck = g.P.Steps.struck_by c.args.p.now in
     let first = c.args.candidates.now in
     let now = c.loop-grade.candidates in
-    let next = c.look_in_turn-waits.new.candidates in
+    let next = c.look_in_turn.new.candidates in
     leads_earlier Struck c.args.grade first next
-    (leads_on Struck c.args.grade first now next c.loop-grade.invariant.0 c.look_in_turn-waits.ensures.leads)
+    (leads_on Struck c.args.grade first now next c.loop-grade.invariant.0 c.look_in_turn.ensures.leads)
 
 pub returns-then-is_filled-clause-closure : goal.returns-then-is_filled-clause-closure
 returns-then-is_filled-clause-closure g c =
@@ -55,8 +55,8 @@ returns-then-is_filled-clause-closure g c =
     let grade = c.args.grade in
     let first = c.args.candidates.now in
     let now = c.loop-grade.candidates in
-    let next = c.look_in_turn-waits.new.candidates in
-    let leads = leads_on Struck grade first now next c.loop-grade.invariant.0 c.look_in_turn-waits.ensures.leads in
+    let next = c.look_in_turn.new.candidates in
+    let leads = leads_on Struck grade first now next c.loop-grade.invariant.0 c.look_in_turn.ensures.leads in
     let size : next.size ≡ puzzle.size = leads_size Struck grade first next leads ∙ c.requires.size in
     let sound : IsSoundFor puzzle Struck = λ d reason cell value square. g.met.P.Steps.struck_sound p d reason cell value square c.size-valid.ensures.valid in
     let known = c.requires.solved c.if-is_solved.true in
@@ -68,16 +68,16 @@ returns-then-is_filled-clause-earlier g c =
     let Struck = g.P.Steps.struck_by c.args.p.now in
     let first = c.args.candidates.now in
     let now = c.loop-grade.candidates in
-    let next = c.look_in_turn-waits.new.candidates in
+    let next = c.look_in_turn.new.candidates in
     leads_earlier Struck c.args.grade first next
-    (leads_on Struck c.args.grade first now next c.loop-grade.invariant.0 c.look_in_turn-waits.ensures.leads)
+    (leads_on Struck c.args.grade first now next c.loop-grade.invariant.0 c.look_in_turn.ensures.leads)
 
 pub loop-grade-smaller : goal.loop-grade-smaller
 loop-grade-smaller g c =
     let Struck = g.P.Steps.struck_by c.args.p.now in
     let now = c.loop-grade.candidates in
-    let next = c.look_in_turn-waits.new.candidates in
-    let leads = c.look_in_turn-waits.ensures.leads in
+    let next = c.look_in_turn.new.candidates in
+    let leads = c.look_in_turn.ensures.leads in
     let more : length now.trail ≤ length next.trail = leads_length Struck c.args.grade now next leads in
     let moved : length next.trail ≡ length now.trail → ⊥ = λ e.
     c.if-trail_len-count.false (c.trail_len.ensures.value ∙ e ∙ sym c.trail_len-count.ensures.value) in
@@ -94,9 +94,9 @@ loop-grade-preserved g c =
     let puzzle = g.P.Rules.puzzle c.args.p.now in
     let first = c.args.candidates.now in
     let now = c.loop-grade.candidates in
-    let next = c.look_in_turn-waits.new.candidates in
-    let leads = c.look_in_turn-waits.ensures.leads in (
+    let next = c.look_in_turn.new.candidates in
+    let leads = c.look_in_turn.ensures.leads in (
       leads_on Struck c.args.grade first now next c.loop-grade.invariant.0 leads,
       givens_stay puzzle now next (leads_size Struck c.args.grade now next leads) (leads_fewer Struck c.args.grade now next leads) c.loop-grade.invariant.1,
-      c.look_in_turn-waits.ensures.waiting,
+      c.look_in_turn.ensures.waiting,
     )

@@ -14,9 +14,9 @@ returns-then-is_empty-clause-waiting g c =
     let none = c.if-is_empty.ensures.members in
     let width : c.get-width.result ≡ old.size = c.get-width.ensures.value ∙ c.size.ensures.value in
     waits_less (g.P.Rules.puzzle p).size (g.P.Steps.quiet_on p) (g.met.P.Steps.quiet_stays p) c.args.grade c.args.stage c.args.line c.strike_along-changed.result
-    c.args.waits c.without.result old new c.requires.size (leads_size Struck c.args.grade old new leads) (leads_fewer Struck c.args.grade old new leads) none
+    c.args.waits.now c.leave.new.self old new c.requires.size (leads_size Struck c.args.grade old new leads) (leads_fewer Struck c.args.grade old new leads) none
     c.strike_along-changed.ensures.loses (c.strike_along-changed.ensures.quiet none)
-    (subst (λ (w : ℕ). IsWithoutFor w c.args.stage c.args.line c.args.waits c.without.result) width c.without.ensures) c.requires.waiting
+    (subst (λ (w : ℕ). IsWithoutFor w c.args.stage c.args.line c.args.waits.now c.leave.new.self) width c.leave.ensures) c.requires.waiting
 
 pub returns-else-is_empty-clause-waiting : goal.returns-else-is_empty-clause-waiting
 returns-else-is_empty-clause-waiting g c =
@@ -27,10 +27,10 @@ returns-else-is_empty-clause-waiting g c =
     let leads = c.strike_along-changed.ensures.leads in
     let changed = c.strike_along-changed.result in
     let width : c.get-width.result ≡ old.size = c.get-width.ensures.value ∙ c.size.ensures.value in
-    waits_more (g.P.Rules.puzzle p).size (g.P.Steps.quiet_on p) (g.met.P.Steps.quiet_stays p) c.args.grade c.args.line changed c.args.waits c.with_changed.result
+    waits_more (g.P.Rules.puzzle p).size (g.P.Steps.quiet_on p) (g.met.P.Steps.quiet_stays p) c.args.grade c.args.line changed c.args.waits.now c.add.new.self
     old new c.requires.size c.requires.line (leads_size Struck c.args.grade old new leads) (leads_fewer Struck c.args.grade old new leads)
     c.strike_along-changed.ensures.loses
-    (subst (λ (w : ℕ). IsWithChanged w c.args.line changed c.args.waits c.with_changed.result) width c.with_changed.ensures) c.requires.waiting
+    (subst (λ (w : ℕ). IsWithChanged w c.args.line changed c.args.waits.now c.add.new.self) width c.add.ensures) c.requires.waiting
 
 pub returns-else-is_empty-clause-none : goal.returns-else-is_empty-clause-none
 returns-else-is_empty-clause-none g c = λ still.
