@@ -18,7 +18,7 @@ use crate::fair_game::FairGame;
 use crate::pruning::pruned;
 use crate::square::draw_square;
 use latin_board::Size;
-use named_steps::{Grade, Steps, follows};
+use named_steps::{Grade, KnownRows, Steps, follows_knowing};
 use rand_core::Rng;
 use trail_solver::Rules;
 
@@ -119,16 +119,17 @@ fn letter_byte<P: FairGame>(grade: Grade) -> u8
     }
 }
 
-// The puzzle of the first draw that gives one of the grade.
+// The same by a stream of random words. What is known of rows of sets serves all draws.
 fn find_game<P: FairGame, R: Rng>(rng: &mut R, size: Size, grade: Grade) -> Option<P>
     ensures needed { IfSome result (NeedsItems ⟦<P as Rules>⟧ P.struck_by grade (P.trial_of grade) size) }
     ensures fair { MatchOption result
         ((n : ℕ) → n < most_draws → IsPassedOver ⟦<P as Rules>⟧ P.struck_by grade (draw_at (P.trial_of grade) size (P.items_of size) (R.stream rng.old) n))
         (IsFair ⟦<P as Rules>⟧ P.struck_by grade (draw_at (P.trial_of grade) size (P.items_of size) (R.stream rng.old))) }
 {
+    let mut known = KnownRows::none();
     for _draw in 0..MOST_DRAWS {
-        let puzzle = draw_game(rng, size, grade);
-        if is_of_grade(&puzzle, grade) {
+        let puzzle = draw_game(rng, size, grade, &mut known);
+        if is_of_grade(&puzzle, grade, &mut known) {
             return Some(puzzle);
         }
     }
@@ -136,7 +137,7 @@ fn find_game<P: FairGame, R: Rng>(rng: &mut R, size: Size, grade: Grade) -> Opti
 }
 
 // Draws a square and an order, and prunes by the grade.
-fn draw_game<P: FairGame, R: Rng>(rng: &mut R, size: Size, grade: Grade) -> P
+fn draw_game<P: FairGame, R: Rng>(rng: &mut R, size: Size, grade: Grade, known: &mut KnownRows) -> P
     ensures pruned { IsPrunedGame ⟦<P as Rules>⟧ P.struck_by grade (drawn_game (P.trial_of grade) size (P.items_of size) (R.stream rng.old)).0 result }
     ensures follows { FollowsBy (P.puzzle result) (P.struck_by result) grade }
     ensures needed { NeedsItems ⟦<P as Rules>⟧ P.struck_by grade (P.trial_of grade) size result }
@@ -146,17 +147,17 @@ fn draw_game<P: FairGame, R: Rng>(rng: &mut R, size: Size, grade: Grade) -> P
     let cells = width * width;
     let grid = draw_square(rng, size);
     let order = draw_trial(rng, P::trial(grade), P::item_count(size) - cells, cells);
-    pruned(&grid, order.as_slice(), grade)
+    pruned(&grid, order.as_slice(), grade, known)
 }
 
 // Whether a puzzle that follows by a grade doesn't follow by the one below.
-fn is_of_grade<P: Steps>(puzzle: &P, grade: Grade) -> bool
+fn is_of_grade<P: Steps>(puzzle: &P, grade: Grade, known: &mut KnownRows) -> bool
     requires { FollowsBy (P.puzzle puzzle.now) (P.struck_by puzzle.now) grade }
     ensures { IsTrue result ↔ IsOfGrade ⟦<P as Rules>⟧ P.struck_by grade puzzle.now }
 {
     match grade {
         Grade::Latin => true,
-        Grade::Easy => !follows(puzzle, Grade::Latin),
-        Grade::Hard => !follows(puzzle, Grade::Easy),
+        Grade::Easy => !follows_knowing(puzzle, Grade::Latin, known),
+        Grade::Hard => !follows_knowing(puzzle, Grade::Easy, known),
     }
 }

@@ -17,7 +17,7 @@ use named_steps::{Grade, KnownRows, Steps, settle_on};
 use trail_solver::{Candidates, Rules};
 
 /// The pruned puzzle of a Latin square, where the items are tried in this order. It follows by the grade.
-pub(crate) fn pruned<P: Steps>(grid: &Grid, order: &[u8], grade: Grade) -> P
+pub(crate) fn pruned<P: Steps>(grid: &Grid, order: &[u8], grade: Grade, known: &mut KnownRows) -> P
     requires latin { IsLatin grid.now }
     requires trial { IsTrial (P.items_of grid.now.size) order.now }
     ensures pruned { IsPrunedBy ⟦<P as Rules>⟧ (FailsBy P.struck_by grade grid.now) grid.now order.now result }
@@ -26,12 +26,9 @@ pub(crate) fn pruned<P: Steps>(grid: &Grid, order: &[u8], grade: Grade) -> P
     let full = P::full(grid);
     let last = order.len();
     let mut left = Candidates::all(grid.size());
-    let mut known = KnownRows::none();
-    match without_all(
-        full, grid, order, 0, last, grade, None, &mut left, &mut known,
-    ) {
+    match without_all(full, grid, order, 0, last, grade, None, &mut left, known) {
         Some(fewer) => fewer,
-        None => split(full, grid, order, 0, last, grade, &mut left, &mut known),
+        None => split(full, grid, order, 0, last, grade, &mut left, known),
     }
 }
 

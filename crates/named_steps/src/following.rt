@@ -6,7 +6,8 @@ ghost use Rattle.trail_solver.specs.Inner.Squares.{IsFilled};
 ghost use Rattle.named_steps.specs.Inner.Fills.{HasOpen};
 
 use crate::grade::Grade;
-use crate::settling::settle;
+use crate::known_rows::KnownRows;
+use crate::settling::settle_knowing;
 use crate::steps::Steps;
 use latin_board::Grid;
 use trail_solver::{Candidates, Rules, solves};
@@ -16,8 +17,16 @@ pub fn solution_by<P: Steps>(p: &P, grade: Grade) -> Option<Grid>
     ensures { MatchOption result (FollowsBy (P.puzzle p.now) (P.struck_by p.now) grade → ⊥)
         (IsSolutionBy (P.puzzle p.now) (P.struck_by p.now) grade) }
 {
+    solution_knowing(p, grade, &mut KnownRows::none())
+}
+
+// The same, for who keeps what is known of rows of sets.
+fn solution_knowing<P: Steps>(p: &P, grade: Grade, known: &mut KnownRows) -> Option<Grid>
+    ensures { MatchOption result (FollowsBy (P.puzzle p.now) (P.struck_by p.now) grade → ⊥)
+        (IsSolutionBy (P.puzzle p.now) (P.struck_by p.now) grade) }
+{
     let mut candidates = Candidates::all(p.size());
-    settle(p, grade, &mut candidates);
+    settle_knowing(p, grade, &mut candidates, known);
     let Some(grid) = filled(&candidates) else {
         return None;
     };
@@ -28,20 +37,28 @@ pub fn solution_by<P: Steps>(p: &P, grade: Grade) -> Option<Grid>
 pub fn follows<P: Steps>(p: &P, grade: Grade) -> bool
     ensures { IsTrue result ↔ FollowsBy (P.puzzle p.now) (P.struck_by p.now) grade }
 {
-    solution_by(p, grade).is_some()
+    follows_knowing(p, grade, &mut KnownRows::none())
+}
+
+/// As `follows`, for who keeps what is known of rows of sets: it is used and added to.
+pub fn follows_knowing<P: Steps>(p: &P, grade: Grade, known: &mut KnownRows) -> bool
+    ensures { IsTrue result ↔ FollowsBy (P.puzzle p.now) (P.struck_by p.now) grade }
+{
+    solution_knowing(p, grade, known).is_some()
 }
 
 /// The least grade by which a puzzle follows, if it follows by any.
 pub fn grade_of<P: Steps>(p: &P) -> Option<Grade>
     ensures { IsGradeOf (P.puzzle p.now) (P.struck_by p.now) result }
 {
-    if follows(p, Grade::Latin) {
+    let mut known = KnownRows::none();
+    if follows_knowing(p, Grade::Latin, &mut known) {
         return Some(Grade::Latin);
     }
-    if follows(p, Grade::Easy) {
+    if follows_knowing(p, Grade::Easy, &mut known) {
         return Some(Grade::Easy);
     }
-    if follows(p, Grade::Hard) {
+    if follows_knowing(p, Grade::Hard, &mut known) {
         return Some(Grade::Hard);
     }
     None

@@ -4,7 +4,7 @@
 //! `strikes` tells it exactly. A `Grade` has some kinds of reasons. `settle` takes away all that the reasons of a grade strike,
 //! one after another, until they strike nothing that is left: in whatever order that is done, the same is left (`laws`).
 //! `settle_knowing` and `settle_on` do so for who settles many candidates, one after another, and `settle_on` for who knows a solution
-//! among them. A puzzle follows by a grade where its solution alone is left of all pairs (`follows`, `solution_by`), and `grade_of` is
+//! among them. A puzzle follows by a grade where its solution alone is left of all pairs (`follows`, `follows_knowing`, `solution_by`), and `grade_of` is
 //! the least such grade. Nothing here takes memory from the heap.
 //!
 //! ```
@@ -38,7 +38,7 @@ mod towers;
 mod unequal;
 mod waiting;
 
-pub use following::{follows, grade_of, solution_by};
+pub use following::{follows, follows_knowing, grade_of, solution_by};
 pub use goal::Goal;
 pub use grade::Grade;
 pub use known_rows::KnownRows;
