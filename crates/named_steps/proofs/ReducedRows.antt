@@ -1,8 +1,8 @@
 -- What stands alone in one set of a row is no filling's value in another place, so what is kept of the reduced row is kept of the row.
 use Rattle.std.proofs.Common.{◌≡◌, ◌≢◌, ◌↔◌, ℕ, ◌+◌, ◌<◌, ◌≤◌, true, inl, inr, List, length, set, take, slice_index, sym, ap, ◌∙◌, subst, arith}
-use Rattle.std.proofs.lemmas.Bool.{cases_eq, cases_lt, true_from_ne_false}
+use Rattle.std.proofs.lemmas.Bool.{both_ways, cases_eq, cases_lt, true_from_ne_false}
 use Rattle.std.proofs.lemmas.List.{get_or-take, length-take-le, get_or-set_same, get_or-set_other}
-use Rattle.number_sets.specs.Sets.{has_number, IsSingle}
+use Rattle.number_sets.specs.Sets.{has_number, IsEmpty, IsSingle}
 use Rattle.tower_lines.specs.LineFillings.{IsFilling}
 use Rattle.named_steps.specs.Inner.KnownRows.{AreKept, IsReduced, IsReducedSet, IsLone, IsWithout}
 use Rattle.named_steps.proofs.RowFillings.{HaveFillings, kept_of_both, has_taken}
@@ -21,6 +21,13 @@ never_elsewhere sets line clue k j f inside other_inside other single =
 single_taken : (width j v : ℕ) (sets : List ℕ) → j < width → IsSingle (slice_index sets j) v → IsSingle (slice_index (take width sets) j) v
 single_taken width j v sets low single = subst (λ (set : ℕ). IsSingle set v) (sym (get_or-take width sets j 0 low)) single
 
+-- what is alone in a set is in none of those that are empty
+not_past : (width j v : ℕ) (sets : List ℕ) → ((k : ℕ) → width ≤ k → IsEmpty (slice_index sets k)) → IsSingle (slice_index sets j) v → j < width
+not_past width j v sets empty single = elim (cases_lt j width) [
+  | inl low ↦ low
+  | inr past ↦ absurd (both_ways (has_number (slice_index sets j) v) (empty j past v) single.has)
+]
+
 -- where a set is left without numbers that stand alone, these stand alone elsewhere
 pub reduced_set : (width : ℕ) (sets : List ℕ) (k lone rest : ℕ) → ((n : ℕ) → (has_number lone n ≡ true) ↔ IsLone width sets n)
     → IsWithout (slice_index sets k) lone rest → IsReducedSet width sets k rest
@@ -33,20 +40,20 @@ reduced_set width sets k lone rest is without = record {
 }
 
 -- of the row without what stands alone elsewhere the same is kept
-pub kept_reduced : (width clue : ℕ) (sets row kept : List ℕ) → IsReduced width sets row → width ≤ length sets
-    → AreKept (take width row) clue kept → AreKept (take width sets) clue kept
-kept_reduced width clue sets row kept reduced small stays =
+pub kept_reduced : (width clue : ℕ) (sets row kept : List ℕ) → IsReduced 9 sets row → width ≤ 9 → length sets ≡ 9
+    → ((k : ℕ) → width ≤ k → IsEmpty (slice_index sets k)) → AreKept (take width row) clue kept → AreKept (take width sets) clue kept
+kept_reduced width clue sets row kept reduced small count empty stays =
     let first : List ℕ = take width sets in
     let rest : List ℕ = take width row in
-    let long : length first ≡ width = length-take-le width sets small in
-    let same : length rest ≡ width = length-take-le width row (omega (arith, small, reduced.count)) in
+    let long : length first ≡ width = length-take-le width sets (omega (arith, small, count)) in
+    let same : length rest ≡ width = length-take-le width row (omega (arith, small, count, reduced.count)) in
     let there : HaveFillings clue rest first = record {
       count = same ∙ sym long;
       each = λ line f k low.
           let inside : k < width = omega (arith, low, long) in
           let v = slice_index line k in
           let has = (has_taken width k v row inside).0 (f.start.candidates k (omega (arith, f.whole, same, inside))) in
-          (has_taken width k v sets inside).1 ((reduced.each k inside).fewer v has);
+          (has_taken width k v sets inside).1 ((reduced.each k (omega (arith, inside, small))).fewer v has);
     } in
     let back : HaveFillings clue first rest = record {
       count = long ∙ sym same;
@@ -55,9 +62,10 @@ kept_reduced width clue sets row kept reduced small stays =
           let v = slice_index line k in
           let has = (has_taken width k v sets inside).0 (f.start.candidates k (omega (arith, f.whole, long, inside))) in
           (has_taken width k v row inside).1 (true_from_ne_false (has_number (slice_index row k) v) (λ gone.
-          let t = (reduced.each k inside).taken v has gone in
-          never_elsewhere first line clue k t.0 f (omega (arith, long, inside)) (omega (arith, long, t.1)) t.2
-          (single_taken width t.0 v sets t.1 t.3)));
+          let t = (reduced.each k (omega (arith, inside, small))).taken v has gone in
+          let other : t.0 < width = not_past width t.0 v sets empty t.3 in
+          never_elsewhere first line clue k t.0 f (omega (arith, long, inside)) (omega (arith, long, other)) t.2
+          (single_taken width t.0 v sets other t.3)));
     } in
     kept_of_both clue rest first kept there back stays
 

@@ -1,11 +1,12 @@
 -- What is known of no rows, and of one more.
-use Rattle.std.proofs.Common.{◌≡◌, ℕ, ◌<◌, ◌≤◌, false, inl, inr, [], List, length, replicate, set, take, slice_index, slice_index_or, refl, sym, ap, ◌∙◌, subst, arith}
-use Rattle.std.proofs.lemmas.Bool.{both_ways, cases_eq, cases_lt}
+use Rattle.std.proofs.Common.{◌≡◌, ℕ, Bool, ◌<◌, ◌≤◌, ◌↔◌, true, false, inl, inr, [], List, length, replicate, set, take, slice_index, slice_index_or, refl, sym, ap, ◌∙◌, subst, arith}
+use Rattle.std.proofs.lemmas.Bool.{both_ways, true_from_ne_false, cases_eq, cases_lt}
 use Rattle.std.proofs.lemmas.List.{get_or_past, get_or-replicate, get_or-set_same, get_or-set_other, length-replicate, length-take-le}
-use Rattle.number_sets.specs.Sets.{has_number}
+use Rattle.std.specs.Bool.{MatchBool}
+use Rattle.number_sets.specs.Sets.{has_number, IsEmpty}
 use Rattle.number_sets.proofs.Members.{has_number-none}
 use Rattle.named_steps.specs.declared.known_rows.TheConstants.{SLOTS}
-use Rattle.named_steps.specs.Inner.KnownRows.{AreKept, IsBetween, IsKnown, AreKnown}
+use Rattle.named_steps.specs.Inner.KnownRows.{AreKept, AreWithin, IsBeyond, IsKnown, AreKnown}
 use Rattle.named_steps.proofs.RowFillings.{HaveFillings, kept_of_both, has_taken}
 
 nothing_has : (k value : ℕ) → has_number (slice_index (replicate 9 0) k) value ≡ false
@@ -59,29 +60,37 @@ one_known widths clues sets kept place width clue row found ws cs ss ks low know
   ];
 }
 
+-- each set is within the other where no number is beyond, and else not
+pub within_test : (result : Bool) (some all : List ℕ) (beyond : ℕ) → ((n : ℕ) → (has_number beyond n ≡ true) ↔ IsBeyond 9 some all n)
+    → MatchBool result (IsEmpty beyond) ((n : ℕ) × (has_number beyond n ≡ true)) → MatchBool result (AreWithin some all) (AreWithin some all → ⊥)
+within_test true some all beyond is none = λ k low n has. true_from_ne_false (has_number (slice_index all k) n) (λ lacks.
+    both_ways (has_number beyond n) (none n) ((is n).1 (record { place = k; inside = low; has = has; lacks = lacks })))
+within_test false some all beyond is one = λ within.
+    let b = (is one.0).0 one.1 in
+    both_ways (has_number (slice_index all b.place) one.0) b.lacks (within b.place b.inside one.0 b.has)
+
 -- of a row between what is known and what is kept of it the same is kept
 pub kept_between : (width clue : ℕ) (sets kept row : List ℕ) → IsKnown width clue sets kept → width ≤ 9 → length row ≡ 9
-    → ((k : ℕ) → k < 9 → IsBetween (slice_index kept k) (slice_index row k) (slice_index sets k))
-    → AreKept (take width row) clue kept
-kept_between width clue sets kept row known small count between =
+    → AreWithin kept row → AreWithin row sets → AreKept (take width row) clue kept
+kept_between width clue sets kept row known small count low high =
     let first : List ℕ = take width sets in
     let other : List ℕ = take width row in
     let long : length first ≡ width = length-take-le width sets known.room in
     let same : length other ≡ width = length-take-le width row (omega (arith, small, count)) in
     let there : HaveFillings clue first other = record {
       count = long ∙ sym same;
-      each = λ line f k low.
-          let below : k < width = omega (arith, low, same) in
+      each = λ line f k inside.
+          let below : k < width = omega (arith, inside, same) in
           let v = slice_index line k in
           let stays = (known.stays k v).1 (record { line = line; filling = f; inside = omega (arith, below, long); here = refl }) in
-          (has_taken width k v row below).1 ((between k (omega (arith, below, small))).low v stays);
+          (has_taken width k v row below).1 (low k (omega (arith, below, small)) v stays);
     } in
     let back : HaveFillings clue other first = record {
       count = same ∙ sym long;
-      each = λ line f k low.
-          let below : k < width = omega (arith, low, long) in
+      each = λ line f k inside.
+          let below : k < width = omega (arith, inside, long) in
           let v = slice_index line k in
           let has = (has_taken width k v row below).0 (f.start.candidates k (omega (arith, f.whole, same, below))) in
-          (has_taken width k v sets below).1 ((between k (omega (arith, below, small))).high v has);
+          (has_taken width k v sets below).1 (high k (omega (arith, below, small)) v has);
     } in
     kept_of_both clue first other kept there back known.stays

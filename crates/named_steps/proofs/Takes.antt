@@ -53,6 +53,16 @@ takes_none Which c none = record {
   gone = λ cell v pair is. absurd (none cell v is);
 }
 
+-- nothing goes where nothing of the kind is left
+pub takes_still : (Which : ℕ → ℕ → Type 0) (c : CandidatesValue) → ((cell v : ℕ) → Which cell v → IsLeft c cell v → ⊥) → Takes Which c c
+takes_still Which c still = record {
+  pairs = [];
+  size = refl;
+  trail = sym (append-nil c.trail);
+  each = λ cell v has. absurd (cc);
+  gone = λ cell v pair is. false_from_ne_true (may_be c cell v) (λ may. still cell v is (record { pair = pair; may = may }));
+}
+
 -- the same pairs under another name
 pub takes_map : (Which More : ℕ → ℕ → Type 0) (c d : CandidatesValue) → ((cell v : ℕ) → Which cell v → More cell v)
     → ((cell v : ℕ) → IsPair c.size cell v → More cell v → Which cell v) → Takes Which c d → Takes More c d

@@ -1,13 +1,16 @@
 //! What a clue strikes.
-ghost use Rattle.std.specs.Prelude.{◌≡◌, ◌↔◌, ℕ, ◌-◌, ◌*◌, ◌<◌, ◌≤◌, true, if◌then◌else◌, length, slice_index};
+ghost use Rattle.std.specs.Prelude.{◌≡◌, ◌↔◌, ℕ, ◌-◌, ◌*◌, ◌<◌, ◌≤◌, true, if◌then◌else◌, length, slice_index, MatchOption};
 ghost use Rattle.number_sets.specs.Sets.{has_number};
 ghost use Rattle.trail_solver.specs.Pairs.{IsPair};
+ghost use Rattle.trail_solver.specs.Candidates.{CandidatesValue};
 ghost use Rattle.clue_rules.specs.Views.{view_cell, view_index};
 ghost use Rattle.named_steps.specs.Fillings.{IsUnfilled};
-ghost use Rattle.named_steps.specs.Inner.Rows.{May, IsMaySet, AreMaySets, AreMissing, IsAlong};
+ghost use Rattle.named_steps.specs.Left.{IsLeft};
+ghost use Rattle.named_steps.specs.Inner.Rows.{May, AreMaySets, AreFull, AreStandingSets, AreMissing, IsAlong};
 ghost use Rattle.named_steps.specs.Reasons.{AreStruckFrom};
 
-use crate::known_rows::KnownRows;
+use crate::known_rows::{KnownRows, are_within};
+use crate::single_sets::standing_set;
 use clue_rules::view_cell;
 use number_sets::NumberSet;
 use trail_solver::Candidates;
@@ -91,60 +94,94 @@ pub(crate) fn unfilled_row(
         candidates.now.size result }
 {
     let width = candidates.size().get();
-    let sets = may_sets(candidates, look, place);
-    let kept = known.supported(&sets, width, clue);
+    let left = left_row(candidates, place);
+    let kept = known.supported(&may_row(look, &left, width), width, clue);
     missing_row(width, &kept)
+}
+
+/// As `unfilled_row`, but nothing where none of these values is left.
+pub(crate) fn striking_row(
+    candidates: &Candidates,
+    look: Look,
+    place: u8,
+    clue: u8,
+    known: &mut KnownRows,
+) -> Option<[NumberSet; 9]>
+    requires place { place < 4 * candidates.now.size }
+    requires clue { clue ≤ candidates.now.size }
+    ensures { MatchOption result
+        ((cell v : ℕ) → IsUnfilled candidates.now.size (May look candidates.now) place clue cell v → IsLeft candidates.now cell v → ⊥)
+        (AreStruckFrom candidates.now.size (IsUnfilled candidates.now.size (May look candidates.now) place clue) place
+        candidates.now.size) }
+{
+    let width = candidates.size().get();
+    let left = left_row(candidates, place);
+    let kept = known.supported(&may_row(look, &left, width), width, clue);
+    if are_within(&left, &kept) {
+        return None;
+    }
+    Some(missing_row(width, &kept))
 }
 
 // The values of the size that each set lacks.
 fn missing_row(width: u8, kept: &[NumberSet; 9]) -> [NumberSet; 9]
     requires { width ≤ 9 }
-    ensures { AreMissing width kept.now width result }
+    ensures { AreMissing width kept.now 9 result }
 {
     let all = NumberSet::up_to(width);
     let mut row = [NumberSet::empty(); 9];
-    for k in 0..width as usize {
+    for k in 0..9 {
         row[k] = all.difference(kept[k]);
     }
     row
 }
 
-// What may stand in each square from a place.
-fn may_sets(candidates: &Candidates, look: Look, place: u8) -> [NumberSet; 9]
+// What is left of each square from a place.
+fn left_row(candidates: &Candidates, place: u8) -> [NumberSet; 9]
     requires { place < 4 * candidates.now.size }
-    ensures { AreMaySets candidates.now.size (May look candidates.now) place candidates.now.size result }
+    ensures { AreMaySets candidates.now.size (IsLeft candidates.now) place candidates.now.size result }
 {
     let size = candidates.size();
-    let mut sets = [NumberSet::empty(); 9];
+    let mut row = [NumberSet::empty(); 9];
     for k in 0..size.get() as usize {
-        sets[k] = may_set(candidates, look, view_cell(size, place, k));
+        row[k] = candidates.values(view_cell(size, place, k));
     }
-    sets
+    row
 }
 
-// What may stand in a square.
-fn may_set(candidates: &Candidates, look: Look, cell: usize) -> NumberSet
-    requires { cell < candidates.now.size * candidates.now.size }
-    ensures { IsMaySet candidates.now.size (May look candidates.now) cell result }
+// What may stand in each square from a place, by what is left of it.
+fn may_row(look: Look, left: &[NumberSet; 9], width: u8) -> [NumberSet; 9]
+    requires { width ≤ 9 }
+    ensures { (c : CandidatesValue) (place : ℕ) → c.size ≡ width → place < 4 * c.size → AreMaySets c.size (IsLeft c) place c.size left.now
+        → AreMaySets c.size (May look c) place c.size result }
 {
+    let all = NumberSet::up_to(width);
     match look {
-        Look::Alone => NumberSet::up_to(candidates.size().get()),
-        Look::Stands => standing_set(candidates, cell),
-        Look::Marks => candidates.values(cell),
+        Look::Alone => full_row(all, width),
+        Look::Stands => standing_row(all, left),
+        Look::Marks => *left,
     }
 }
 
-// What stands in a square, or anything where several values are left.
-fn standing_set(candidates: &Candidates, cell: usize) -> NumberSet
-    requires { cell < candidates.now.size * candidates.now.size }
-    ensures { IsMaySet candidates.now.size (May Look.Stands candidates.now) cell result }
+// All of these values in each of the first sets of a row, so many as the width.
+fn full_row(all: NumberSet, width: u8) -> [NumberSet; 9]
+    requires { width ≤ 9 }
+    ensures { AreFull all width result }
 {
-    let values = candidates.values(cell);
-    if values.is_empty() {
-        return values;
+    let mut row = [NumberSet::empty(); 9];
+    for k in 0..width as usize {
+        row[k] = all;
     }
-    match candidates.only(cell) {
-        Some(_) => values,
-        None => NumberSet::up_to(candidates.size().get()),
+    row
+}
+
+// What stands in each square of a row, by what is left of it.
+fn standing_row(all: NumberSet, left: &[NumberSet; 9]) -> [NumberSet; 9]
+    ensures { AreStandingSets all left.now 9 result }
+{
+    let mut row = [NumberSet::empty(); 9];
+    for k in 0..9 {
+        row[k] = standing_set(all, left[k]);
     }
+    row
 }

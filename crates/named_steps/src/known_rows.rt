@@ -1,9 +1,10 @@
 //! What was found of rows of sets, so that no row is looked through twice.
 ghost use Rattle.std.specs.Prelude.{◌≡◌, ◌↔◌, ℕ, ◌<◌, ◌≤◌, true, slice_index, take, IfSome};
-ghost use Rattle.std.specs.Bool.{OnTrue};
-ghost use Rattle.number_sets.specs.Sets.{has_number};
-ghost use Rattle.named_steps.specs.Inner.KnownRows.{AreKept, IsBetween, IsKnown, IsLone, IsReduced, IsWithout};
+ghost use Rattle.std.specs.Bool.{MatchBool};
+ghost use Rattle.number_sets.specs.Sets.{has_number, IsEmpty};
+ghost use Rattle.named_steps.specs.Inner.KnownRows.{AreKept, AreWithin, IsKnown, IsLone, IsReduced, IsWithout};
 
+use crate::single_sets::if_single;
 use number_sets::NumberSet;
 use std::marker::Model;
 use tower_lines::supported;
@@ -54,16 +55,18 @@ impl KnownRows {
         }
     }
 
-    /// As `tower_lines::supported` of the first sets of a row, so many as the width. The row is known from then on.
+    /// As `tower_lines::supported` of the first sets of a row, so many as the width, where the others are empty. The row is known from
+    /// then on.
     pub(crate) fn supported(&mut self, sets: &[NumberSet; 9], width: u8, clue: u8) -> [NumberSet; 9]
         requires width { width ≤ 9 }
         requires clue { clue ≤ 9 }
+        requires rest { (k : ℕ) → width ≤ k → IsEmpty (slice_index sets.now k) }
         ensures { AreKept (take width sets.now) clue result }
     {
-        let row = reduced(sets, width);
+        let row = reduced(sets);
         let bucket = bucket_of(&row, clue);
         if let Some(kept) = self.find(bucket, &row, width, clue) {
-            return kept;
+            return *kept;
         }
         let kept = supported(&row[..width as usize], clue);
         self.note(bucket, &row, width, clue, &kept);
@@ -77,10 +80,10 @@ impl KnownRows {
         sets: &[NumberSet; 9],
         width: u8,
         clue: u8,
-    ) -> Option<[NumberSet; 9]>
+    ) -> Option<&[NumberSet; 9]>
         requires bucket { bucket < BUCKETS }
         requires width { width ≤ 9 }
-        ensures { IfSome result (AreKept (take width sets.now) clue) }
+        ensures { IfSome result (λ kept. AreKept (take width sets.now) clue kept.now) }
     {
         let first = bucket * WAYS;
         for slot in first..first + WAYS {
@@ -98,15 +101,15 @@ impl KnownRows {
         sets: &[NumberSet; 9],
         width: u8,
         clue: u8,
-    ) -> Option<[NumberSet; 9]>
+    ) -> Option<&[NumberSet; 9]>
         requires slot { slot < SLOTS }
         requires width { width ≤ 9 }
-        ensures { IfSome result (AreKept (take width sets.now) clue) }
+        ensures { IfSome result (λ kept. AreKept (take width sets.now) clue kept.now) }
     {
         if self.widths[slot] == width && self.clues[slot] == clue {
-            let (least, most) = (self.kept[slot], self.sets[slot]);
-            if are_between(&least, sets, &most) {
-                return Some(least);
+            let (kept, most) = (&self.kept[slot], &self.sets[slot]);
+            if are_within(kept, sets) && are_within(sets, most) {
+                return Some(kept);
             }
         }
         None
@@ -169,13 +172,12 @@ fn bucket_of(sets: &[NumberSet; 9], clue: u8) -> usize
 
 // The row without the numbers that stand alone elsewhere in it, which no filling has in a second square: more rows are the same then, and
 // there is less to look through.
-fn reduced(sets: &[NumberSet; 9], width: u8) -> [NumberSet; 9]
-    requires { width ≤ 9 }
-    ensures { IsReduced width sets.now result }
+fn reduced(sets: &[NumberSet; 9]) -> [NumberSet; 9]
+    ensures { IsReduced 9 sets.now result }
 {
-    let lone = lone_numbers(sets, width);
+    let lone = lone_numbers(sets);
     let mut row = *sets;
-    for k in 0..width as usize {
+    for k in 0..9 {
         row[k] = without(sets[k], lone);
     }
     row
@@ -185,43 +187,28 @@ fn reduced(sets: &[NumberSet; 9], width: u8) -> [NumberSet; 9]
 fn without(set: NumberSet, lone: NumberSet) -> NumberSet
     ensures { IsWithout set lone result }
 {
-    if set.is_single() {
-        set
-    } else {
-        set.difference(lone)
-    }
+    set.difference(lone).union(if_single(set))
 }
 
 // The numbers that are the only ones of their sets.
-fn lone_numbers(sets: &[NumberSet; 9], width: u8) -> NumberSet
-    requires { width ≤ 9 }
-    ensures { (n : ℕ) → (has_number result n ≡ true) ↔ IsLone width sets.now n }
+fn lone_numbers(sets: &[NumberSet; 9]) -> NumberSet
+    ensures { (n : ℕ) → (has_number result n ≡ true) ↔ IsLone 9 sets.now n }
 {
     let mut lone = NumberSet::empty();
-    for k in 0..width as usize {
-        if sets[k].is_single() {
-            lone = lone.union(sets[k]);
-        }
+    for k in 0..9 {
+        lone = lone.union(if_single(sets[k]));
     }
     lone
 }
 
-// Whether each set is between those of two rows: then the same is kept of it as of the greater.
-fn are_between(least: &[NumberSet; 9], sets: &[NumberSet; 9], most: &[NumberSet; 9]) -> bool
-    ensures { OnTrue result ((k : ℕ) → k < 9
-        → IsBetween (slice_index least.now k) (slice_index sets.now k) (slice_index most.now k)) }
+/// Whether each set of a row is within that of another row. The sets are compared without a branch, so that a processor takes several at
+/// once.
+pub(crate) fn are_within(some: &[NumberSet; 9], all: &[NumberSet; 9]) -> bool
+    ensures { MatchBool result (AreWithin some.now all.now) (AreWithin some.now all.now → ⊥) }
 {
+    let mut beyond = NumberSet::empty();
     for k in 0..9 {
-        if !is_between(least[k], sets[k], most[k]) {
-            return false;
-        }
+        beyond = beyond.union(some[k].difference(all[k]));
     }
-    true
-}
-
-// Whether a set has all that another has, and no more than a third.
-fn is_between(least: NumberSet, set: NumberSet, most: NumberSet) -> bool
-    ensures { OnTrue result (IsBetween least set most) }
-{
-    least.is_subset(set) && set.is_subset(most)
+    beyond.is_empty()
 }

@@ -29,6 +29,7 @@ mod reason;
 mod set_strikes;
 mod settling;
 mod sign_strikes;
+mod single_sets;
 mod stages;
 mod step_laws;
 mod steps;

@@ -1,12 +1,13 @@
 //! What is left of the squares of a row or column, counted over all of them, and what the others strike in one.
-ghost use Rattle.std.specs.Prelude.{◌≡◌, ◌≢◌, ◌↔◌, ℕ, ◌+◌, ◌*◌, ◌<◌, ◌&&◌, ◌||◌, ◌==◌, if◌then◌else◌, true, not};
+ghost use Rattle.std.specs.Prelude.{◌≡◌, ◌≢◌, ◌↔◌, ℕ, ◌+◌, ◌*◌, ◌<◌, ◌&&◌, ◌||◌, true, not};
 ghost use Rattle.std.specs.Bool.{OnTrue, MatchBool};
-ghost use Rattle.number_sets.specs.Sets.{has_number, IsSingle};
+ghost use Rattle.number_sets.specs.Sets.{has_number};
 ghost use Rattle.latin_board.specs.Lines.{line_cell};
 ghost use Rattle.trail_solver.specs.Candidates.{CandidatesValue, IsSetOf};
 ghost use Rattle.named_steps.specs.Inner.LineStrikes.{IsLeftByRest, IsRestQuiet};
 ghost use Rattle.named_steps.specs.Inner.LineTallies.{AreTallied, IsUpTo, IsVoid, IsWhole};
 
+use crate::single_sets::if_single;
 use latin_board::line_cell;
 use number_sets::NumberSet;
 use trail_solver::Candidates;
@@ -119,21 +120,4 @@ fn but_one(all: NumberSet, some: NumberSet) -> NumberSet
         all
     };
     if_any.difference(if_single(some))
-}
-
-// The set where it has just one number, and else none.
-fn if_single(set: NumberSet) -> NumberSet
-    ensures { (v : ℕ) → (has_number result v ≡ true) ↔ IsSingle set v }
-{
-    let bits = set.bits();
-    let rest = bits & bits.wrapping_sub(1);
-    NumberSet::from_bits(bits * one_if_none(rest))
-}
-
-// One where no bit is set, and else zero: by a sum, since a test would become a branch, which processors often guess wrong here.
-fn one_if_none(bits: u16) -> u16
-    ensures { result ≡ (if bits == 0 then 1 else 0) }
-{
-    let carry = (u32::from(bits) + 0xFFFF) >> 16;
-    1 - carry as u16
 }

@@ -9,7 +9,7 @@ ghost use Rattle.named_steps.specs.Passes.{LeadsTo, LosesAt, StaysOn};
 ghost use Rattle.named_steps.specs.QuietLines.{IsViewQuiet, AreViewsQuiet};
 ghost use Rattle.named_steps.specs.Inner.Rows.{May, look_grade};
 
-use crate::clue_strikes::{Look, along_line, by_clue, unfilled_row};
+use crate::clue_strikes::{Look, along_line, by_clue, striking_row, unfilled_row};
 use crate::grade::Grade;
 use crate::known_rows::KnownRows;
 use crate::line_passes::strike_row;
@@ -209,8 +209,10 @@ fn strike_view(
     if clue == 0 {
         return NumberSet::empty();
     }
-    let row = unfilled_row(candidates, look, place, clue, known);
-    strike_row(candidates, line, &along_line(&row, place, width))
+    match striking_row(candidates, look, place, clue, known) {
+        Some(row) => strike_row(candidates, line, &along_line(&row, place, width)),
+        None => NumberSet::empty(),
+    }
 }
 
 // What a clue strikes in a square.

@@ -8,10 +8,16 @@ use Rattle.named_steps.specs.declared.known_rows.TheConstants.{SLOTS}
 abbrev pub AreKept : List ℕ → ℕ → List ℕ → Type 0
 AreKept row clue kept = (place value : ℕ) → (has_number (slice_index kept place) value ≡ true) ↔ IsSupported row clue place value
 
--- the set has all that the first has, and no more than the last
-pub record IsBetween (least set most : ℕ) : Type 0 where
-  pub low : IsSubset least set
-  pub high : IsSubset set most
+-- each set of the first row is within that of the second
+abbrev pub AreWithin : List ℕ → List ℕ → Type 0
+AreWithin some all = (k : ℕ) → k < 9 → IsSubset (slice_index some k) (slice_index all k)
+
+-- the number is in one of the first n sets of the first row, and not in that of the second
+pub record IsBeyond (n : ℕ) (some all : List ℕ) (number : ℕ) : Type 0 where
+  pub place : ℕ
+  pub inside : place < n
+  pub has : has_number (slice_index some place) number ≡ true
+  pub lacks : has_number (slice_index all place) number ≡ false
 
 -- of the first sets of a row, so many as the width, these are kept
 pub record IsKnown (width clue : ℕ) (sets kept : List ℕ) : Type 0 where
@@ -23,7 +29,7 @@ pub record AreKnown (widths clues : List ℕ) (sets kept : List (List ℕ)) : Ty
   pub each : (slot : ℕ) → slot < SLOTS
       → IsKnown (slice_index widths slot) (slice_index clues slot) (slice_index_or sets slot []) (slice_index_or kept slot [])
 
--- the number is the only one of some set of the row
+-- the number is the only one of some of the row's first sets
 pub record IsLone (width : ℕ) (sets : List ℕ) (number : ℕ) : Type 0 where
   pub place : ℕ
   pub inside : place < width

@@ -11,11 +11,9 @@ loop-k-preserved c =
     let k = c.loop-k.k in
     let lone = c.lone_numbers-lone.result in
     let rest = c.without.result in
-    let own = get_or_default_zero sets k c.index-sets-k.result (omega (arith, c.told-sets, c.loop-k-test.true, c.requires)) in
-    let here =
-    reduced_set c.args.width sets k lone rest c.lone_numbers-lone.ensures (subst (λ (set : ℕ). IsWithout set lone rest) own c.without.ensures) in
+    let own = get_or_default_zero sets k c.index-sets-k.result (omega (arith, c.told-sets, c.loop-k-test.true)) in
+    let here = reduced_set 9 sets k lone rest c.lone_numbers-lone.ensures (subst (λ (set : ℕ). IsWithout set lone rest) own c.without.ensures) in
     record {
       count = length-set c.loop-k.row k rest ∙ c.loop-k.invariant.count;
-      each = row_next (IsReducedSet c.args.width sets) c.loop-k.row k rest c.loop-k.invariant.count
-          (omega (arith, c.loop-k-test.true, c.requires)) here c.loop-k.invariant.each;
+      each = row_next (IsReducedSet 9 sets) c.loop-k.row k rest c.loop-k.invariant.count c.loop-k-test.true here c.loop-k.invariant.each;
     }

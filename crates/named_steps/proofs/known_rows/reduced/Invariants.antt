@@ -3,4 +3,4 @@ use Rattle.named_steps.specs.Inner.KnownRows.{IsReducedSet}
 use Rattle.named_steps.proofs.known_rows.reduced.Given as goal
 
 abbrev pub invariant-loop-k : goal.invariant-loop-k
-invariant-loop-k l = record { count : length l.row ≡ 9; each : (j : ℕ) → j < l.k → IsReducedSet l.width l.sets j (slice_index l.row j) }
+invariant-loop-k l = record { count : length l.row ≡ 9; each : (j : ℕ) → j < l.k → IsReducedSet 9 l.sets j (slice_index l.row j) }

@@ -1,13 +1,12 @@
-use Rattle.std.proofs.Common.{arith}
 use Rattle.named_steps.proofs.ReducedRows.{kept_reduced}
 use Rattle.named_steps.proofs.known_rows.KnownRows.supported.Goals as goal
 
 pub returns : goal.returns
 returns c =
-    kept_reduced c.args.width c.args.clue c.args.sets.now c.reduced-row.result c.supported-kept.result c.reduced-row.ensures
-    (omega (arith, c.requires.width, c.told-sets)) c.supported-kept.ensures
+    kept_reduced c.args.width c.args.clue c.args.sets.now c.reduced-row.result c.supported-kept.result c.reduced-row.ensures c.requires.width c.told-sets
+    c.requires.rest c.supported-kept.ensures
 
 pub returns-in-Some : goal.returns-in-Some
 returns-in-Some c =
-    kept_reduced c.args.width c.args.clue c.args.sets.now c.reduced-row.result c.in-Some.kept c.reduced-row.ensures
-    (omega (arith, c.requires.width, c.told-sets)) c.in-Some.ensures
+    kept_reduced c.args.width c.args.clue c.args.sets.now c.reduced-row.result c.in-Some.kept.now c.reduced-row.ensures c.requires.width c.told-sets
+    c.requires.rest c.in-Some.ensures

@@ -1,6 +1,6 @@
 use Rattle.std.proofs.Common.{◌≡◌, ◌≢◌, ℕ, ◌<◌, ◌^◌, ◌+◌, ◌-◌, ◌*◌, ◌%◌, bit_and, ap, ◌∙◌, arith}
 use Rattle.named_steps.proofs.RestSets.{single_by_rest}
-use Rattle.named_steps.proofs.line_tally.if_single.Goals as goal
+use Rattle.named_steps.proofs.single_sets.if_single.Goals as goal
 
 pub returns : goal.returns
 returns c = λ v.

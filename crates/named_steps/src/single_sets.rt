@@ -1,0 +1,33 @@
+//! Sets of one number, told without a branch: processors often guess wrong which sets have just one.
+ghost use Rattle.std.specs.Prelude.{◌≡◌, ◌↔◌, ℕ, ◌==◌, if◌then◌else◌, true};
+ghost use Rattle.number_sets.specs.Sets.{has_number, IsSingle};
+ghost use Rattle.named_steps.specs.Inner.Rows.{IsStandingSet};
+
+use number_sets::NumberSet;
+
+/// What stands in a square of which this set is left: its only number, none where it is empty, and else any.
+pub(crate) fn standing_set(all: NumberSet, left: NumberSet) -> NumberSet
+    ensures { IsStandingSet all left result }
+{
+    let bits = left.bits();
+    let rest = bits & bits.wrapping_sub(1);
+    let if_few = NumberSet::from_bits(all.bits() * one_if_none(rest));
+    all.difference(if_few).union(left)
+}
+
+/// The set where it has just one number, and else none.
+pub(crate) fn if_single(set: NumberSet) -> NumberSet
+    ensures { (v : ℕ) → (has_number result v ≡ true) ↔ IsSingle set v }
+{
+    let bits = set.bits();
+    let rest = bits & bits.wrapping_sub(1);
+    NumberSet::from_bits(bits * one_if_none(rest))
+}
+
+// One where no bit is set, and else zero: by a sum, since a test would become a branch.
+fn one_if_none(bits: u16) -> u16
+    ensures { result ≡ (if bits == 0 then 1 else 0) }
+{
+    let carry = (u32::from(bits) + 0xFFFF) >> 16;
+    1 - carry as u16
+}
