@@ -1,5 +1,5 @@
 -- Values that are taken away, square by square, and the steps that this is.
-use Rattle.std.proofs.Common.{◌≡◌, ◌↔◌, ◌⊎◌, ℕ, ◌+◌, ◌*◌, ◌<◌, ◌≤◌, true, false, not, ◌&&◌, ◌||◌, ◌==◌, List, [], ◌∷◌, ◌++◌, length, inl, inr, refl, sym, ap, ◌∙◌, subst, arith, append_assoc, append-nil, length-append}
+use Rattle.std.proofs.Common.{◌≡◌, ◌≢◌, ◌↔◌, ◌⊎◌, ℕ, ◌+◌, ◌*◌, ◌<◌, ◌≤◌, true, false, not, ◌&&◌, ◌||◌, ◌==◌, List, [], ◌∷◌, ◌++◌, length, inl, inr, refl, sym, ap, ◌∙◌, subst, arith, append_assoc, append-nil, length-append}
 use Rattle.std.proofs.lemmas.Bool.{both_ways, and_parts, and_from, or_left, or_right, eq-eqb, eqb-true, cases_eq, cases_Bool, not_from_false, false_from_ne_true}
 use Rattle.std.proofs.lemmas.List.Folds.{list_any-append}
 use Rattle.std.proofs.lemmas.Nat.{zero_from_ones}
@@ -120,19 +120,38 @@ takes_struck a b cell values s =
           ]);
     }
 
+-- what is left and taken is struck
+pub strikes_whole : (a b : CandidatesValue) (cell values : ℕ) → a.size ≤ 9 → AreCandidates a cell values → b.size ≡ a.size
+    → b.trail ≡ a.trail ++ pairs_of cell values → Strikes a b cell values
+strikes_whole a b cell values small left size trail = record {
+  set = values;
+  small = small;
+  some = λ v has. has;
+  left = left;
+  all = λ v has pair may. has;
+  size = size;
+  trail = trail;
+}
+
+-- what is struck of some values is what a square's set shares with them
+pub strikes_among : (a b : CandidatesValue) (cell set values struck : ℕ) → IsSetOf a cell set
+    → ((n : ℕ) → has_number struck n ≡ (has_number set n && has_number values n)) → Strikes a b cell struck → Strikes a b cell values
+strikes_among a b cell set values struck is shared s = record {
+  set = s.set;
+  small = s.small;
+  some = λ v has. (and_parts (has_number set v) (has_number values v) (sym (shared v) ∙ s.some v has)).1;
+  left = s.left;
+  all = λ v has pair may. s.all v (shared v ∙ and_from (has_number set v) (has_number values v) ((is v).1 (pair, may)) has) pair may;
+  size = s.size;
+  trail = s.trail;
+}
+
 -- what is struck is what a square's set shares with some values
 pub strikes_shared : (a b : CandidatesValue) (cell set values struck : ℕ) → a.size ≤ 9 → IsSetOf a cell set
     → ((n : ℕ) → has_number struck n ≡ (has_number set n && has_number values n)) → AreCandidates a cell struck → b.size ≡ a.size
     → b.trail ≡ a.trail ++ pairs_of cell struck → Strikes a b cell values
-strikes_shared a b cell set values struck small is shared left size trail = record {
-  set = struck;
-  small = small;
-  some = λ v has. (and_parts (has_number set v) (has_number values v) (sym (shared v) ∙ has)).1;
-  left = left;
-  all = λ v has pair may. shared v ∙ and_from (has_number set v) (has_number values v) ((is v).1 (pair, may)) has;
-  size = size;
-  trail = trail;
-}
+strikes_shared a b cell set values struck small is shared left size trail =
+    strikes_among a b cell set values struck is shared (strikes_whole a b cell struck small left size trail)
 
 -- the trail grows where something is struck
 pub struck_moved : (a b : CandidatesValue) (cell struck : ℕ) → a.size ≤ 9 → AreCandidates a cell struck → b.trail ≡ a.trail ++ pairs_of cell struck
@@ -305,6 +324,20 @@ set_before Which line k set a b line_is t is v =
           let left = takes_stays Gone a b cell v t (record { pair = h.0; may = h.1 })
           (λ g. places_apart a.size line k g.0 line_is (λ e. omega (arith, e, g.1)) g.2) in
           (is v).1 (left.pair, left.may),
+    )
+
+-- another square's set stays as it was
+pub set_apart : (a b : CandidatesValue) (cell other values set : ℕ) → other ≢ cell → Strikes a b cell values → IsSetOf a other set → IsSetOf b other set
+set_apart a b cell other values set apart s is v =
+    let Gone : ℕ → ℕ → Type 0 = λ n u. (n ≡ cell) × (has_number values u ≡ true) in
+    let t : Takes Gone a b = takes_struck a b cell values s in
+    let whole : b ≡ without a t.pairs = λ i. record { size = t.size i; trail = t.trail i } in
+    let fewer : IsFewer a b = subst (λ (d : CandidatesValue). IsFewer a d) (sym whole) (without_fewer a t.pairs) in (
+      λ has.
+          let h = (is v).0 has in
+          let left = takes_stays Gone a b other v t (record { pair = h.0; may = h.1 }) (λ g. apart g.0) in
+          (left.pair, left.may),
+      λ h. let left = fewer other v (record { pair = h.0; may = h.1 }) in (is v).1 (left.pair, left.may),
     )
 
 -- a reason of the grade strikes the pair

@@ -8,3 +8,4 @@ pub mod WaitingLines
 pub mod Stages
 pub mod LineTallies
 pub mod Fills
+pub mod SignEnds

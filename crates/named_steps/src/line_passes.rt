@@ -9,7 +9,7 @@ ghost use Rattle.named_steps.specs.Inner.Takes.{Strikes, Takes};
 ghost use Rattle.named_steps.specs.Inner.LineStrikes.{IsLeftByRest, IsRestQuiet, AreLineSets};
 ghost use Rattle.named_steps.specs.Inner.LineTallies.{AreTallied, IsVoid, IsWhole};
 ghost use Rattle.named_steps.specs.Inner.WaitingLines.{AreChanged};
-ghost use Rattle.trail_solver.specs.Candidates.{IsSetOf};
+ghost use Rattle.trail_solver.specs.Candidates.{IsSetOf, AreCandidates};
 ghost use Rattle.named_steps.specs.declared.grade.Grade.TheVariants.{Latin};
 
 use crate::line_tally::Tally;
@@ -89,25 +89,24 @@ pub(crate) fn strike_row(candidates: &mut Candidates, line: u8, row: &[NumberSet
     changed
 }
 
-/// Takes away from a square of a line those values of a set that are left of it, and gives its place where something went.
-pub(crate) fn strike_at(
+/// Takes away values that are left of a square, and gives its place on a line where there are any.
+pub(crate) fn take_at(
     candidates: &mut Candidates,
-    line: u8,
-    k: u8,
+    place: u8,
+    cell: usize,
     values: NumberSet,
 ) -> NumberSet
-    requires line { line < 2 * candidates.old.size }
-    requires inside { k < candidates.old.size }
-    ensures strikes { Strikes candidates.old candidates.new (line_cell candidates.old.size line k) values }
-    ensures changed { AreChanged line result candidates.old candidates.new }
+    requires place { place < candidates.old.size }
+    requires left { AreCandidates candidates.old cell values }
+    ensures strikes { Strikes candidates.old candidates.new cell values }
+    ensures changed { (line : ℕ) → cell ≡ line_cell candidates.old.size line place → AreChanged line result candidates.old candidates.new }
 {
-    let count = candidates.trail_len();
-    strike(candidates, line_cell(candidates.size(), line, k), values);
-    if candidates.trail_len() == count {
-        NumberSet::empty()
-    } else {
-        NumberSet::one(k)
+    let _size = candidates.size();
+    if values.is_empty() {
+        return NumberSet::empty();
     }
+    candidates.remove_all(cell, values);
+    NumberSet::one(place)
 }
 
 /// The places of those squares of a line of which something else is left than a set says.

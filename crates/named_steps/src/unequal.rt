@@ -1,5 +1,5 @@
 //! The steps of Unequal.
-ghost use Rattle.std.specs.Prelude.{◌≡◌, ◌↔◌, ℕ, ◌+◌, ◌*◌, ◌<◌, true};
+ghost use Rattle.std.specs.Prelude.{◌≡◌, ◌↔◌, ℕ, ◌+◌, ◌*◌, ◌<◌, ◌≤◌, true};
 ghost use Rattle.number_sets.specs.Sets.{has_number};
 ghost use Rattle.trail_solver.specs.Pairs.{IsPair};
 ghost use Rattle.clue_rules.specs.Unequal.{IsGreater, IsUnequal};
@@ -7,13 +7,14 @@ ghost use Rattle.named_steps.specs.Reasons.{IsBySign, IsUnequalStruckBy};
 ghost use Rattle.latin_board.specs.Lines.{line_cell};
 ghost use Rattle.named_steps.specs.Passes.{LeadsTo, LosesAt, StaysOn};
 ghost use Rattle.named_steps.specs.QuietLines.{IsSignQuiet, AreSignsQuiet};
+ghost use Rattle.named_steps.specs.Inner.SignEnds.{IsEnd};
 ghost use Rattle.named_steps.specs.declared.grade.Grade.TheVariants.{Easy};
 
 use crate::grade::Grade;
 use crate::known_rows::KnownRows;
-use crate::line_passes::strike_at;
+use crate::line_passes::take_at;
 use crate::reason::Reason;
-use crate::sign_strikes::{by_greater, by_lesser};
+use crate::sign_strikes::{by_greater, by_lesser, from_greatest, up_to_least};
 use crate::steps::Steps;
 use crate::strikes::{by_any_peer, by_any_place, by_any_set, by_given};
 use clue_rules::Unequal;
@@ -126,6 +127,13 @@ impl Steps for Unequal {
     ghost struck_cut = { cuts.unequal_whole };
 }
 
+// An end of a sign: its place on a line, and its square.
+#[derive(Clone, Copy)]
+struct End {
+    place: u8,
+    cell: usize,
+}
+
 // Takes away what the signs along a row or column strike, and gives the places of the squares of which something went.
 fn strike_signs(p: &Unequal, candidates: &mut Candidates, line: u8) -> NumberSet
     requires size { candidates.old.size ≡ p.now.size }
@@ -135,58 +143,85 @@ fn strike_signs(p: &Unequal, candidates: &mut Candidates, line: u8) -> NumberSet
     ensures quiet { StaysOn line candidates.old candidates.new → AreSignsQuiet p.now line candidates.new }
 {
     let size = candidates.size();
+    let step = line_step(size, line);
+    let mut cell = line_cell(size, line, 0);
     let mut changed = NumberSet::empty();
     for k in 0..size.get() - 1 {
-        changed = changed.union(strike_after(p, candidates, line, k));
+        let first = End { place: k, cell };
+        let second = End {
+            place: k + 1,
+            cell: cell + step,
+        };
+        changed = changed.union(strike_between(p, candidates, line, first, second));
+        cell = second.cell;
     }
     changed
 }
 
 // The same of the sign between a square of the line and the next.
-fn strike_after(p: &Unequal, candidates: &mut Candidates, line: u8, k: u8) -> NumberSet
+#[tactic(auto, using(crate::proofs::SignPasses::end_inside))]
+fn strike_between(
+    p: &Unequal,
+    candidates: &mut Candidates,
+    line: u8,
+    first: End,
+    second: End,
+) -> NumberSet
     requires size { candidates.old.size ≡ p.now.size }
     requires line { line < 2 * candidates.old.size }
-    requires inside { k + 1 < candidates.old.size }
+    requires first { IsEnd candidates.old.size line first }
+    requires second { IsEnd candidates.old.size line second }
+    requires next { second.place ≡ first.place + 1 }
     ensures leads { LeadsTo (IsUnequalStruckBy p.now) Easy candidates.old candidates.new }
     ensures loses { LosesAt line result candidates.old candidates.new }
-    ensures quiet { StaysOn line candidates.old candidates.new
-        → IsSignQuiet p.now (line_cell candidates.old.size line k) (line_cell candidates.old.size line (k + 1)) candidates.new }
+    ensures quiet { StaysOn line candidates.old candidates.new → IsSignQuiet p.now first.cell second.cell candidates.new }
 {
-    let size = candidates.size();
-    let first = line_cell(size, line, k);
-    let second = line_cell(size, line, k + 1);
-    match p.order(first, second) {
-        Some(Ordering::Greater) => strike_sign(p, candidates, line, k, k + 1),
-        Some(Ordering::Less) => strike_sign(p, candidates, line, k + 1, k),
+    match p.order(first.cell, second.cell) {
+        Some(Ordering::Greater) => strike_sign(p, candidates, line, first, second),
+        Some(Ordering::Less) => strike_sign(p, candidates, line, second, first),
         _ => NumberSet::empty(),
     }
 }
 
-// Takes away what a sign strikes at both its ends, of which these are the places on a line.
+// Takes away what a sign strikes at both its ends, and gives the places of those of which something went.
+#[tactic(auto, using(crate::proofs::SignPasses::end_inside))]
 fn strike_sign(
     p: &Unequal,
     candidates: &mut Candidates,
     line: u8,
-    greater: u8,
-    lesser: u8,
+    greater: End,
+    lesser: End,
 ) -> NumberSet
     requires size { candidates.old.size ≡ p.now.size }
     requires line { line < 2 * candidates.old.size }
-    requires greater { greater < candidates.old.size }
-    requires lesser { lesser < candidates.old.size }
-    requires sign { IsGreater p.now (line_cell candidates.old.size line greater) (line_cell candidates.old.size line lesser) }
+    requires greater { IsEnd candidates.old.size line greater }
+    requires lesser { IsEnd candidates.old.size line lesser }
+    requires sign { IsGreater p.now greater.cell lesser.cell }
     ensures leads { LeadsTo (IsUnequalStruckBy p.now) Easy candidates.old candidates.new }
     ensures loses { LosesAt line result candidates.old candidates.new }
-    ensures quiet { StaysOn line candidates.old candidates.new
-        → IsSignQuiet p.now (line_cell candidates.old.size line greater) (line_cell candidates.old.size line lesser) candidates.new }
+    ensures quiet { StaysOn line candidates.old candidates.new → IsSignQuiet p.now greater.cell lesser.cell candidates.new }
 {
     let _valid = p.size();
-    let size = candidates.size();
-    let above = by_lesser(candidates, line_cell(size, line, lesser));
-    let below = by_greater(candidates, line_cell(size, line, greater));
-    let at_greater = strike_at(candidates, line, greater, above);
-    let at_lesser = strike_at(candidates, line, lesser, below);
+    let _size = candidates.size();
+    let above = candidates.values(greater.cell);
+    let below = candidates.values(lesser.cell);
+    let too_low = above.intersection(up_to_least(below));
+    let too_high = below.intersection(from_greatest(above));
+    let at_greater = take_at(candidates, greater.place, greater.cell, too_low);
+    let at_lesser = take_at(candidates, lesser.place, lesser.cell, too_high);
     at_greater.union(at_lesser)
+}
+
+// How far the next square of a line is.
+fn line_step(size: Size, line: u8) -> usize
+    ensures value { (place : ℕ) → line_cell size line (place + 1) ≡ line_cell size line place + result }
+    ensures bound { result ≤ size }
+{
+    if line < size.get() {
+        1
+    } else {
+        size.get() as usize
+    }
 }
 
 // What a sign strikes in a square.

@@ -1,41 +1,59 @@
-use Rattle.std.proofs.Common.{◌≡◌, ◌↔◌, ℕ, ◌≤◌, true, ap, ◌∙◌, subst}
+use Rattle.std.proofs.Common.{◌≡◌, ◌↔◌, ℕ, ◌≤◌, true, sym, ap, ◌∙◌}
 use Rattle.number_sets.specs.Sets.{has_number}
 use Rattle.latin_board.specs.Lines.{line_cell}
+use Rattle.trail_solver.specs.Candidates.{IsSetOf}
+use Rattle.trail_solver.proofs.NogoodSteps.{shared_are}
 use Rattle.named_steps.specs.Left.{IsLeft}
 use Rattle.named_steps.specs.Inner.Takes.{Strikes}
-use Rattle.named_steps.proofs.SignPasses.{sign_leads, sign_calm}
-use Rattle.named_steps.proofs.Takes.{strikes_length}
+use Rattle.named_steps.proofs.SignPasses.{end_stays, lesser_still, sign_leads, sign_calm}
+use Rattle.named_steps.proofs.SignSets.{bounds_left}
+use Rattle.named_steps.proofs.Takes.{strikes_among, strikes_length}
 use Rattle.named_steps.proofs.WaitingLines.{loses_both, loses_changed}
 use Rattle.named_steps.proofs.unequal.strike_sign.Goals as goal
+
+pub take_at-at_lesser-requires-clause-left : goal.take_at-at_lesser-requires-clause-left
+take_at-at_lesser-requires-clause-left c =
+    let b = c.take_at-at_greater.new.candidates in
+    let still : IsSetOf b c.args.lesser.cell c.values-below.result =
+    lesser_still c.args.p.now c.args.candidates.now b c.args.greater.cell c.args.lesser.cell c.intersection-too_low.result c.values-below.result
+    c.size-valid.ensures.valid c.requires.sign c.take_at-at_greater.ensures.strikes c.values-below.ensures in
+    shared_are b c.args.lesser.cell c.values-below.result c.from_greatest.result c.intersection-too_high.result still
+    c.intersection-too_high.ensures.members
 
 pub returns : goal.returns
 returns c =
     let a = c.args.candidates.now in
-    let b = c.strike_at-at_greater.new.candidates in
-    let d = c.strike_at-at_lesser.new.candidates in
+    let b = c.take_at-at_greater.new.candidates in
+    let d = c.take_at-at_lesser.new.candidates in
     let line = c.args.line in
-    let greater = line_cell a.size line c.args.greater in
-    let lesser = line_cell a.size line c.args.lesser in
-    let size : b.size ≡ a.size = c.strike_at-at_greater.ensures.strikes.size in
-    let at_lesser : c.line_cell.result ≡ lesser = c.line_cell.ensures.value ∙ ap (λ (w : ℕ). line_cell w line c.args.lesser) c.size-size.ensures.value in
-    let at_greater : c.line_cell-2.result ≡ greater =
-    c.line_cell-2.ensures.value ∙ ap (λ (w : ℕ). line_cell w line c.args.greater) c.size-size.ensures.value in
-    let Above : ℕ → Type 0 = λ n. (x : ℕ) → (has_number c.by_lesser-above.result x ≡ true) ↔ ((1 ≤ x) × (x ≤ a.size) × ((u : ℕ) → IsLeft a n u → x ≤ u)) in
-    let Below : ℕ → Type 0 = λ n. (x : ℕ) → (has_number c.by_greater-below.result x ≡ true) ↔ ((1 ≤ x) × (x ≤ a.size) × ((u : ℕ) → IsLeft a n u → u ≤ x)) in
-    let above : Above lesser = subst Above at_lesser c.by_lesser-above.ensures in
-    let below : Below greater = subst Below at_greater c.by_greater-below.ensures in
-    let second : Strikes b d lesser c.by_greater-below.result =
-    subst (λ (w : ℕ). Strikes b d (line_cell w line c.args.lesser) c.by_greater-below.result) size c.strike_at-at_lesser.ensures.strikes in
-    let first = c.strike_at-at_greater.ensures in
-    let last = c.strike_at-at_lesser.ensures in
+    let greater = c.args.greater in
+    let lesser = c.args.lesser in
+    let above = c.up_to_least.result in
+    let below = c.from_greatest.result in
+    let first = c.take_at-at_greater.ensures in
+    let last = c.take_at-at_lesser.ensures in
+    let size : b.size ≡ a.size = first.strikes.size in
+    let small = c.size-size.ensures.valid.largest in
+    let above_is : (x : ℕ) → x ≤ a.size → (has_number above x ≡ true) ↔ ((u : ℕ) → IsLeft a lesser.cell u → x ≤ u) = λ x high.
+    bounds_left a lesser.cell c.values-below.result above x (λ u. x ≤ u) small high c.values-below.ensures (c.up_to_least.ensures x) in
+    let below_is : (x : ℕ) → x ≤ a.size → (has_number below x ≡ true) ↔ ((u : ℕ) → IsLeft a greater.cell u → u ≤ x) = λ x high.
+    bounds_left a greater.cell c.values-above.result below x (λ u. u ≤ x) small high c.values-above.ensures (c.from_greatest.ensures x) in
+    let up : Strikes a b greater.cell above =
+    strikes_among a b greater.cell c.values-above.result above c.intersection-too_low.result c.values-above.ensures c.intersection-too_low.ensures.members
+    first.strikes in
+    let still : IsSetOf b lesser.cell c.values-below.result =
+    lesser_still c.args.p.now a b greater.cell lesser.cell c.intersection-too_low.result c.values-below.result c.size-valid.ensures.valid c.requires.sign
+    first.strikes c.values-below.ensures in
+    let down : Strikes b d lesser.cell below =
+    strikes_among b d lesser.cell c.values-below.result below c.intersection-too_high.result still c.intersection-too_high.ensures.members last.strikes in
+    let there : lesser.cell ≡ line_cell b.size line lesser.place = c.requires.lesser.here ∙ ap (λ (w : ℕ). line_cell w line lesser.place) (sym size) in
     record {
-      leads = sign_leads c.args.p.now greater lesser c.by_lesser-above.result c.by_greater-below.result a b d c.requires.sign above below
-          first.strikes second;
-      loses = loses_both line c.strike_at-at_greater.result c.strike_at-at_lesser.result c.union.result a b d size
+      leads = sign_leads c.args.p.now greater.cell lesser.cell above below a b d c.requires.sign above_is below_is up down;
+      loses = loses_both line c.take_at-at_greater.result c.take_at-at_lesser.result c.union.result a b d size
           (strikes_length a b _ _ first.strikes) (strikes_length b d _ _ last.strikes) c.union.ensures.members
-          (loses_changed line c.strike_at-at_greater.result a b first.changed) (loses_changed line c.strike_at-at_lesser.result b d last.changed);
+          (loses_changed line c.take_at-at_greater.result a b (first.changed line c.requires.greater.here))
+          (loses_changed line c.take_at-at_lesser.result b d (last.changed line there));
       quiet = λ stays.
-          sign_calm c.args.p.now greater lesser c.by_lesser-above.result c.by_greater-below.result a b d c.size-valid.ensures.valid c.requires.sign
-          above below first.strikes second (λ u left. stays c.args.greater u c.requires.greater left)
-          (λ u left. stays c.args.lesser u c.requires.lesser left);
+          sign_calm c.args.p.now greater.cell lesser.cell above below a b d c.size-valid.ensures.valid c.requires.sign above_is below_is up down
+          (end_stays line greater a d c.requires.greater stays) (end_stays line lesser a d c.requires.lesser stays);
     }
