@@ -1,5 +1,5 @@
 //! Sets of one number, told without a branch: processors often guess wrong which sets have just one.
-ghost use Rattle.std.specs.Prelude.{◌≡◌, ◌↔◌, ℕ, ◌==◌, if◌then◌else◌, true};
+ghost use Rattle.std.specs.Prelude.{◌≡◌, ◌↔◌, ℕ, ◌*◌, ◌==◌, if◌then◌else◌, true};
 ghost use Rattle.number_sets.specs.Sets.{has_number, IsSingle};
 ghost use Rattle.named_steps.specs.Inner.Rows.{IsStandingSet};
 
@@ -11,7 +11,7 @@ pub(crate) fn standing_set(all: NumberSet, left: NumberSet) -> NumberSet
 {
     let bits = left.bits();
     let rest = bits & bits.wrapping_sub(1);
-    let if_few = NumberSet::from_bits(all.bits() * one_if_none(rest));
+    let if_few = NumberSet::from_bits(if_none(all.bits(), rest));
     all.difference(if_few).union(left)
 }
 
@@ -21,13 +21,13 @@ pub(crate) fn if_single(set: NumberSet) -> NumberSet
 {
     let bits = set.bits();
     let rest = bits & bits.wrapping_sub(1);
-    NumberSet::from_bits(bits * one_if_none(rest))
+    NumberSet::from_bits(if_none(bits, rest))
 }
 
-// One where no bit is set, and else zero: by a sum, since a test would become a branch.
-fn one_if_none(bits: u16) -> u16
-    ensures { result ≡ (if bits == 0 then 1 else 0) }
+// The bits where the rest has none, and else none of them: by a mask, since a test would become a branch.
+fn if_none(bits: u16, rest: u16) -> u16
+    ensures { result ≡ bits * (if rest == 0 then 1 else 0) }
 {
-    let carry = (u32::from(bits) + 0xFFFF) >> 16;
-    1 - carry as u16
+    let mask = u32::from(rest).wrapping_sub(1) >> 16;
+    (u32::from(bits) & mask) as u16
 }

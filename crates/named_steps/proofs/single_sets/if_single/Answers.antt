@@ -1,4 +1,4 @@
-use Rattle.std.proofs.Common.{◌≡◌, ◌≢◌, ℕ, ◌<◌, ◌^◌, ◌+◌, ◌-◌, ◌*◌, ◌%◌, bit_and, ap, ◌∙◌, arith}
+use Rattle.std.proofs.Common.{◌≡◌, ◌≢◌, ℕ, ◌<◌, ◌^◌, ◌+◌, ◌-◌, ◌*◌, ◌%◌, ◌==◌, if◌then◌else◌, bit_and, refl, ap, ◌∙◌, arith}
 use Rattle.named_steps.proofs.RestSets.{single_by_rest}
 use Rattle.named_steps.proofs.single_sets.if_single.Goals as goal
 
@@ -11,5 +11,5 @@ returns c = λ v.
     let rest : set ≢ 0 → bit_and bits before ≡ bit_and set (set - 1) = λ some.
     let less : before ≡ set - 1 = omega (arith, c.bits-bits.ensures, small, some) in
     ap (λ (n : ℕ). bit_and n before) c.bits-bits.ensures ∙ ap (λ (n : ℕ). bit_and set n) less in
-    single_by_rest set (bit_and bits before) c.one_if_none.result c.from_bits.result v small rest c.one_if_none.ensures
-    (c.from_bits.ensures ∙ ap (λ (n : ℕ). n * c.one_if_none.result) c.bits-bits.ensures)
+    single_by_rest set (bit_and bits before) (if bit_and bits before == 0 then 1 else 0) c.from_bits.result v small rest refl
+    (c.from_bits.ensures ∙ c.if_none.ensures ∙ ap (λ (n : ℕ). n * (if bit_and bits before == 0 then 1 else 0)) c.bits-bits.ensures)

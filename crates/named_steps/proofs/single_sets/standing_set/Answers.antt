@@ -1,4 +1,4 @@
-use Rattle.std.proofs.Common.{◌≡◌, ◌≢◌, ℕ, ◌<◌, ◌^◌, ◌+◌, ◌-◌, ◌*◌, ◌%◌, ◌&&◌, ◌||◌, not, bit_and, ap, ◌∙◌, arith}
+use Rattle.std.proofs.Common.{◌≡◌, ◌≢◌, ℕ, ◌<◌, ◌^◌, ◌+◌, ◌-◌, ◌*◌, ◌%◌, ◌&&◌, ◌||◌, not, ◌==◌, if◌then◌else◌, bit_and, refl, ap, ◌∙◌, arith}
 use Rattle.std.proofs.lemmas.Nat.{and_le_l}
 use Rattle.number_sets.specs.Sets.{has_number}
 use Rattle.named_steps.proofs.RestSets.{standing_by_rest}
@@ -17,7 +17,8 @@ returns c =
     let less : before ≡ left - 1 = omega (arith, c.bits-bits.ensures, small, some) in
     ap (λ (n : ℕ). bit_and n before) c.bits-bits.ensures ∙ ap (λ (n : ℕ). bit_and left n) less in
     let none_is : left ≡ 0 → rest ≡ 0 = λ none. omega (arith, and_le_l bits before, c.bits-bits.ensures, none) in
-    let few_is : few ≡ all * c.one_if_none.result = c.from_bits-if_few.ensures ∙ ap (λ (n : ℕ). n * c.one_if_none.result) c.bits.ensures in
+    let few_is : few ≡ all * (if rest == 0 then 1 else 0) =
+    c.from_bits-if_few.ensures ∙ c.if_none.ensures ∙ ap (λ (n : ℕ). n * (if rest == 0 then 1 else 0)) c.bits.ensures in
     let members : (v : ℕ) → has_number c.union.result v ≡ ((has_number all v && not (has_number few v)) || has_number left v) = λ v.
     c.union.ensures.members v ∙ ap (λ b. b || has_number left v) (c.difference.ensures v) in
-    standing_by_rest all left rest c.one_if_none.result few c.union.result small rest_is none_is c.one_if_none.ensures few_is members
+    standing_by_rest all left rest (if rest == 0 then 1 else 0) few c.union.result small rest_is none_is refl few_is members
