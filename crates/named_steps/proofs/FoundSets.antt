@@ -1,6 +1,6 @@
 -- Sets that are found together square by square.
-use Rattle.std.proofs.Common.{◌≡◌, ◌≢◌, ◌↔◌, ℕ, ◌+◌, ◌<◌, true, not, inl, inr, ◌&&◌, ◌||◌, sym, ap, ◌∙◌, subst, arith}
-use Rattle.std.proofs.lemmas.Bool.{both_ways, cases_eq, cases_lt, cases_Bool, or_cases, and_parts, and_from, or_left, or_right, not_from_false}
+use Rattle.std.proofs.Common.{◌≡◌, ◌≢◌, ◌↔◌, ℕ, ◌+◌, ◌<◌, true, not, inl, inr, ◌&&◌, ◌||◌, ◌==◌, sym, ap, ◌∙◌, subst, arith}
+use Rattle.std.proofs.lemmas.Bool.{both_ways, eqb-true, eq-eqb, cases_eq, cases_lt, cases_Bool, or_cases, and_parts, and_from, or_left, or_right, not_from_false}
 use Rattle.number_sets.specs.Sets.{has_number}
 
 -- one square's set more
@@ -21,6 +21,43 @@ found_next P k found more next found_is more_is next_is = λ v. (
     | inl same ↦ or_right (has_number found v) (has_number more v) ((more_is v).1 (subst (λ (j : ℕ). P j v) same h.2))
     | inr other ↦ or_left (has_number found v) (has_number more v) ((found_is v).1 (h.0, omega (arith, h.1, other), h.2))
   ]),
+)
+
+-- no set more
+pub found_skip : (P : ℕ → ℕ → Type 0) (k found : ℕ) → ((v : ℕ) → (has_number found v ≡ true) ↔ ((j : ℕ) × (j < k) × P j v)) → ((v : ℕ) → P k v → ⊥)
+    → (v : ℕ) → (has_number found v ≡ true) ↔ ((j : ℕ) × (j < k + 1) × P j v)
+found_skip P k found found_is not_here = λ v. (
+  λ has. let h = (found_is v).0 has in (h.0, omega (arith, h.1), h.2),
+  λ h. elim (cases_eq h.0 k) [
+    | inl same ↦ absurd (not_here v (subst (λ (j : ℕ). P j v) same h.2))
+    | inr other ↦ (found_is v).1 (h.0, omega (arith, h.1, other), h.2)
+  ],
+)
+
+-- one place more of those of a kind
+pub places_next : (Kind : ℕ → Type 0) (k found one next : ℕ) → ((j : ℕ) → (has_number found j ≡ true) ↔ ((j < k) × Kind j)) → Kind k
+    → ((n : ℕ) → has_number one n ≡ (n == k)) → ((n : ℕ) → has_number next n ≡ (has_number found n || has_number one n))
+    → (j : ℕ) → (has_number next j ≡ true) ↔ ((j < k + 1) × Kind j)
+places_next Kind k found one next found_is here one_is next_is = λ j. (
+  λ has. elim (or_cases (has_number found j) (has_number one j) (sym (next_is j) ∙ has)) [
+    | inl before ↦ let h = (found_is j).0 before in (omega (arith, h.0), h.1)
+    | inr last ↦ let same = eqb-true j k (sym (one_is j) ∙ last) in (omega (arith, same), subst Kind (sym same) here)
+  ],
+  λ h. next_is j ∙ (elim (cases_eq j k) [
+    | inl same ↦ or_right (has_number found j) (has_number one j) (one_is j ∙ eq-eqb j k same)
+    | inr other ↦ or_left (has_number found j) (has_number one j) ((found_is j).1 (omega (arith, h.0, other), h.1))
+  ]),
+)
+
+-- no place more
+pub places_skip : (Kind : ℕ → Type 0) (k found : ℕ) → ((j : ℕ) → (has_number found j ≡ true) ↔ ((j < k) × Kind j)) → (Kind k → ⊥)
+    → (j : ℕ) → (has_number found j ≡ true) ↔ ((j < k + 1) × Kind j)
+places_skip Kind k found found_is not_here = λ j. (
+  λ has. let h = (found_is j).0 has in (omega (arith, h.0), h.1),
+  λ h. elim (cases_eq j k) [
+    | inl same ↦ absurd (not_here (subst Kind same h.1))
+    | inr other ↦ (found_is j).1 (omega (arith, h.0, other), h.1)
+  ],
 )
 
 -- what is there twice with one set more

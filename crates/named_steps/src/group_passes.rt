@@ -1,10 +1,9 @@
 //! What groups of a line's squares strike: as many values as squares are all that is left of them.
-ghost use Rattle.std.specs.Prelude.{◌≡◌, ◌↔◌, ℕ, ◌*◌, ◌<◌, ◌≤◌, true, slice_index, count_ones};
-ghost use Rattle.number_sets.specs.Sets.{has_number, IsEmpty};
+ghost use Rattle.std.specs.Prelude.{◌≡◌, ◌↔◌, ℕ, ◌+◌, ◌-◌, ◌*◌, ◌<◌, ◌≤◌, true, false, slice_index, count_ones};
+ghost use Rattle.number_sets.specs.Sets.{has_number, IsEmpty, IsShared};
 ghost use Rattle.named_steps.specs.Reasons.{IsByLine};
 ghost use Rattle.named_steps.specs.Passes.{LeadsTo, LosesAt};
-ghost use Rattle.named_steps.specs.Inner.LineStrikes.{IsUnionOf, IsBySets, IsGroupQuiet};
-ghost use Rattle.named_steps.specs.Inner.Takes.{Takes};
+ghost use Rattle.named_steps.specs.Inner.LineStrikes.{AreLineSets, IsUnionOf, IsGroupOfSets, IsGroupAmong, IsGroupQuiet};
 ghost use Rattle.named_steps.specs.declared.grade.Grade.TheVariants.{Hard};
 
 use crate::line_passes::{changed_places, line_sets};
@@ -12,8 +11,9 @@ use crate::striking::strike_elsewhere;
 use number_sets::NumberSet;
 use trail_solver::Candidates;
 
-/// Takes away what groups of a line's squares strike, and gives the places of those of which something went. Squares of which one
-/// value is left are in none of the groups: once that value is gone elsewhere in the line, a group strikes no less without such a square.
+/// Takes away what the first group of a line's squares strikes that strikes something, and gives the places of those of which something
+/// went. Squares of which one value is left are in none of the groups: once that value is gone elsewhere in the line, a group strikes
+/// no less without such a square.
 pub(crate) fn strike_groups_on(candidates: &mut Candidates, line: u8) -> NumberSet
     requires { line < 2 * candidates.old.size }
     ensures leads { LeadsTo (IsByLine candidates.old.size) Hard candidates.old candidates.new }
@@ -21,56 +21,164 @@ pub(crate) fn strike_groups_on(candidates: &mut Candidates, line: u8) -> NumberS
     ensures quiet { IsEmpty result → IsGroupQuiet line candidates.new }
 {
     let sets = line_sets(candidates, line);
-    let several = squares_of_several(&sets, candidates.size().get());
-    let none = NumberSet::empty();
-    strike_by_groups(candidates, line, &sets, several, none, none);
-    changed_places(&sets, candidates, line)
-}
-
-// The places of sets with several numbers.
-fn squares_of_several(sets: &[NumberSet; 9], width: u8) -> NumberSet
-    requires { width ≤ 9 }
-    ensures { (k : ℕ) → (has_number result k ≡ true) ↔ ((k < width) × (1 < count_ones (slice_index sets.now k))) }
-{
-    let mut several = NumberSet::empty();
-    for k in 0..width {
-        if sets[k as usize].len() > 1 {
-            several = several.union(NumberSet::one(k));
-        }
+    let group = first_group(&sets, candidates.size().get());
+    if group.is_empty() {
+        return NumberSet::empty();
     }
-    several
+    strike_group(candidates, line, &sets, group)
 }
 
-// Takes away what the groups strike that have these squares and any of the further ones, by the sets of what was left of the line.
-// The values are those of the squares. A group with more values than the squares can still become has no use.
-fn strike_by_groups(
+// Takes away what a group strikes, by the sets of what was left of the line, and gives the places of those of which something went.
+fn strike_group(
     candidates: &mut Candidates,
     line: u8,
     sets: &[NumberSet; 9],
+    group: NumberSet,
+) -> NumberSet
+    requires line { line < 2 * candidates.old.size }
+    requires sets { AreLineSets candidates.old line candidates.old.size sets.now }
+    requires group { IsGroupOfSets candidates.old.size sets.now group }
+    ensures leads { LeadsTo (IsByLine candidates.old.size) Hard candidates.old candidates.new }
+    ensures loses { LosesAt line result candidates.old candidates.new }
+    ensures some { (k : ℕ) × (has_number result k ≡ true) }
+{
+    let values = values_of(sets, candidates.size().get(), group);
+    strike_elsewhere(candidates, line, group, values);
+    changed_places(sets, candidates, line)
+}
+
+// The numbers of the sets at some places below the width.
+fn values_of(sets: &[NumberSet; 9], width: u8, places: NumberSet) -> NumberSet
+    requires width { width ≤ 9 }
+    requires places { (k : ℕ) → has_number places k ≡ true → k < width }
+    ensures { IsUnionOf sets.now places result }
+{
+    let mut values = NumberSet::empty();
+    for k in 0..width {
+        if places.has(k) {
+            values = values.union(sets[k as usize]);
+        }
+    }
+    values
+}
+
+// The first group of sets with several numbers each that strikes something in another one; empty where there is none.
+fn first_group(sets: &[NumberSet; 9], width: u8) -> NumberSet
+    requires width { width ≤ 9 }
+    ensures found { (k : ℕ) → has_number result k ≡ true → IsGroupOfSets width sets.now result }
+    ensures none { IsEmpty result → (group : ℕ) → IsGroupOfSets width sets.now group → ⊥ }
+{
+    let parts = Parts::of(sets, width);
+    let most = parts.most();
+    let none = NumberSet::empty();
+    find_group(sets, most, parts.several, none, none, parts.others)
+}
+
+// The places of sets with several numbers, the numbers of these sets, and those of the other sets.
+#[derive(Clone, Copy, Debug)]
+struct Parts {
+    several: NumberSet,
+    values: NumberSet,
+    others: NumberSet,
+}
+
+impl Parts {
+    // Those of the sets at the places below the width.
+    fn of(sets: &[NumberSet; 9], width: u8) -> Parts
+        requires { width ≤ 9 }
+        ensures several { (k : ℕ) → (has_number result.several k ≡ true) ↔ ((k < width) × (1 < count_ones (slice_index sets.now k))) }
+        ensures values { (v : ℕ) → (has_number result.values v ≡ true)
+            ↔ ((k : ℕ) × (k < width) × (1 < count_ones (slice_index sets.now k)) × (has_number (slice_index sets.now k) v ≡ true)) }
+        ensures others { (v : ℕ) → (has_number result.others v ≡ true)
+            ↔ ((k : ℕ) × (k < width) × (count_ones (slice_index sets.now k) ≤ 1) × (has_number (slice_index sets.now k) v ≡ true)) }
+    {
+        let mut several = NumberSet::empty();
+        let mut values = NumberSet::empty();
+        let mut others = NumberSet::empty();
+        for k in 0..width {
+            let set = sets[k as usize];
+            if set.len() > 1 {
+                several = several.union(NumberSet::one(k));
+                values = values.union(set);
+            } else {
+                others = others.union(set);
+            }
+        }
+        Parts {
+            several,
+            values,
+            others,
+        }
+    }
+
+    // How many squares a group can have that strikes something: where the other sets have none of the values, one of the squares is
+    // not in it.
+    fn most(&self) -> u32
+        ensures shared { IsShared self.now.values self.now.others → result ≡ count_ones self.now.several }
+        ensures apart { (IsShared self.now.values self.now.others → ⊥) → result ≡ count_ones self.now.several - 1 }
+        ensures least { count_ones self.now.several ≤ result + 1 }
+    {
+        let count = self.several.len();
+        if self.values.is_disjoint(self.others) {
+            count.saturating_sub(1)
+        } else {
+            count
+        }
+    }
+}
+
+// The first group that strikes something, of those that have these squares and any of the further ones; empty where there is none.
+// The values are those of the squares, and the others those of all that are in no such group. A group with more values than the squares
+// can still become, or than squares that any group can have, has no use.
+fn find_group(
+    sets: &[NumberSet; 9],
+    most: u32,
     further: NumberSet,
     squares: NumberSet,
     values: NumberSet,
-)
-    requires line { line < 2 * candidates.old.size }
+    others: NumberSet,
+) -> NumberSet
     requires further { (k : ℕ) → has_number further k ≡ true → k < 9 }
     requires squares { (k : ℕ) → has_number squares k ≡ true → k < 9 }
+    requires apart { (k : ℕ) → has_number further k ≡ true → has_number squares k ≡ false }
     requires values { IsUnionOf sets.now squares values }
-    ensures { Takes (IsBySets candidates.old.size line sets.now further squares) candidates.old candidates.new }
+    requires most { (group : ℕ) → IsGroupAmong sets.now further squares others group → count_ones group ≤ most }
+    ensures found { (k : ℕ) → has_number result k ≡ true → IsGroupAmong sets.now further squares others result }
+    ensures none { IsEmpty result → (group : ℕ) → IsGroupAmong sets.now further squares others group → ⊥ }
 {
     let _bits = values.bits();
-    if values.len() > squares.len() + further.len() {
-        return;
+    if values.len() > most || values.len() > squares.len() + further.len() {
+        return NumberSet::empty();
     }
     let Some(place) = further.least() else {
-        if values.len() == squares.len() {
-            strike_elsewhere(candidates, line, squares, values);
-        }
-        return;
+        return if_striking(squares, values, others);
     };
     let one = NumberSet::one(place);
     let fewer = further.difference(one);
-    strike_by_groups(candidates, line, sets, fewer, squares, values);
-    let more = squares.union(one);
-    let all = values.union(sets[place as usize]);
-    strike_by_groups(candidates, line, sets, fewer, more, all);
+    let set = sets[place as usize];
+    let group = find_group(
+        sets,
+        most,
+        fewer,
+        squares.union(one),
+        values.union(set),
+        others,
+    );
+    if !group.is_empty() {
+        return group;
+    }
+    find_group(sets, most, fewer, squares, values, others.union(set))
+}
+
+// The squares, where they have as many values and these strike something of others; none where not.
+fn if_striking(squares: NumberSet, values: NumberSet, others: NumberSet) -> NumberSet
+    ensures striking { (count_ones values ≡ count_ones squares) → IsShared values others → result ≡ squares }
+    ensures other { (k : ℕ) → has_number result k ≡ true
+        → (result ≡ squares) × (count_ones values ≡ count_ones squares) × IsShared values others }
+{
+    if values.len() == squares.len() && !values.is_disjoint(others) {
+        squares
+    } else {
+        NumberSet::empty()
+    }
 }

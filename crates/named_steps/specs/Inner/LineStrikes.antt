@@ -59,17 +59,28 @@ pub record IsUnionOf (sets : List ℕ) (squares union : ℕ) : Type 0 where
   pub all : (k v : ℕ) → has_number squares k ≡ true → has_number (slice_index sets k) v ≡ true → has_number union v ≡ true
   pub only : (v : ℕ) → has_number union v ≡ true → (k : ℕ) × (has_number squares k ≡ true) × (has_number (slice_index sets k) v ≡ true)
 
--- the square is another one of the line than those of a group, whose sets have as many numbers together as they are, and the value
--- is one of these; in the group are the squares, and beside them some of the further ones
-pub record IsBySets (w line : ℕ) (sets : List ℕ) (further squares cell value : ℕ) : Type 0 where
-  pub group : ℕ
-  pub has : IsSubset squares group
-  pub within : (k : ℕ) → has_number group k ≡ true → (has_number squares k ≡ true) ⊎ (has_number further k ≡ true)
+-- the places are of a group: each of their sets has several numbers, all together have as many as they are, and another set has one of these
+pub record IsGroupOfSets (w : ℕ) (sets : List ℕ) (group : ℕ) : Type 0 where
+  pub several : (k : ℕ) → has_number group k ≡ true → (k < w) × (1 < count_ones (slice_index sets k))
   pub union : ℕ
   pub is : IsUnionOf sets group union
   pub same : count_ones union ≡ count_ones group
   pub index : ℕ
   pub index_is : index < w
   pub outside : has_number group index ≡ false
-  pub here : cell ≡ line_cell w line index
+  pub value : ℕ
   pub one : has_number union value ≡ true
+  pub struck : has_number (slice_index sets index) value ≡ true
+
+-- the group has the squares, and beside them some of the further ones; its sets have as many numbers together as it has squares, and
+-- one of these is among some others, or in the set of a further square that it lacks
+pub record IsGroupAmong (sets : List ℕ) (further squares others group : ℕ) : Type 0 where
+  pub has : IsSubset squares group
+  pub within : (k : ℕ) → has_number group k ≡ true → (has_number squares k ≡ true) ⊎ (has_number further k ≡ true)
+  pub union : ℕ
+  pub is : IsUnionOf sets group union
+  pub same : count_ones union ≡ count_ones group
+  pub value : ℕ
+  pub one : has_number union value ≡ true
+  pub struck : (has_number others value ≡ true)
+      ⊎ ((k : ℕ) × (has_number further k ≡ true) × (has_number group k ≡ false) × (has_number (slice_index sets k) value ≡ true))
