@@ -52,6 +52,7 @@ one_is one place k is has = eqb-true k place (sym (is k) ∙ has)
 one_has : (one place : ℕ) → ((n : ℕ) → has_number one n ≡ (n == place)) → has_number one place ≡ true
 one_has one place is = is place ∙ eq-eqb place place refl
 
+-- the numbers of the sets at one place more
 pub more_united : (sets : List ℕ) (squares values place one more all : ℕ) → IsUnionOf sets squares values
     → ((n : ℕ) → has_number one n ≡ (n == place)) → ((n : ℕ) → has_number more n ≡ (has_number squares n || has_number one n))
     → ((n : ℕ) → has_number all n ≡ (has_number values n || has_number (slice_index sets place) n)) → IsUnionOf sets more all
@@ -97,7 +98,7 @@ more_low further squares place one more in_it far near one_of more_of k has = el
 -- ---- the first of the groups that strike something
 
 -- a group has no use that has more values already than squares it can get
-pub among_none : (sets : List ℕ) (further squares values others group : ℕ) → values < 2 ^ 16
+among_none : (sets : List ℕ) (further squares values others group : ℕ) → values < 2 ^ 16
     → ((k : ℕ) → has_number further k ≡ true → k < 9) → ((k : ℕ) → has_number squares k ≡ true → k < 9) → IsUnionOf sets squares values
     → count_ones squares + count_ones further < count_ones values → IsGroupAmong sets further squares others group → ⊥
 among_none sets further squares values others group small far near u many h =
@@ -108,11 +109,20 @@ among_none sets further squares values others group small far near u many h =
     omega (arith, most, least, many, h.same)
 
 -- nor one that has more than squares that any group has
-pub among_most : (sets : List ℕ) (further squares values others most group : ℕ) → values < 2 ^ 16 → IsUnionOf sets squares values → most < count_ones values
+among_most : (sets : List ℕ) (further squares values others most group : ℕ) → values < 2 ^ 16 → IsUnionOf sets squares values → most < count_ones values
     → IsGroupAmong sets further squares others group → count_ones group ≤ most → ⊥
 among_most sets further squares values others most group small u many h few =
     let part : IsSubset values h.union = λ x has. let k = u.only x has in h.is.all k.0 x (h.has k.0 k.1) k.2 in
     omega (arith, within_counts values h.union (λ x has. below_from_number values 16 x small has) part, many, few, h.same)
+
+among_useless : (sets : List ℕ) (further squares values others most group : ℕ) → values < 2 ^ 16
+    → ((k : ℕ) → has_number further k ≡ true → k < 9) → ((k : ℕ) → has_number squares k ≡ true → k < 9) → IsUnionOf sets squares values
+    → (most < count_ones values) ⊎ (count_ones squares + count_ones further < count_ones values)
+    → IsGroupAmong sets further squares others group → count_ones group ≤ most → ⊥
+among_useless sets further squares values others most group small far near u many h few = elim many [
+  | inl than_any ↦ among_most sets further squares values others most group small u than_any h few
+  | inr than_these ↦ among_none sets further squares values others group small far near u than_these h
+]
 
 -- with no further squares the group is of these
 pub among_last : (sets : List ℕ) (further squares values others group : ℕ) → IsEmpty further → IsUnionOf sets squares values
@@ -268,6 +278,27 @@ among_either sets further squares place one fewer more others rest group s rest_
         ];
       })
     ]
+
+-- none of those with the square strikes anything that has no use
+pub useless_with : (sets : List ℕ) (further squares place one fewer more values all others most group : ℕ) → AreStep further squares place one fewer more
+    → all < 2 ^ 16 → ((k : ℕ) → has_number further k ≡ true → k < 9) → ((k : ℕ) → has_number squares k ≡ true → k < 9) → IsUnionOf sets squares values
+    → ((n : ℕ) → has_number all n ≡ (has_number values n || has_number (slice_index sets place) n))
+    → (most < count_ones all) ⊎ (count_ones more + count_ones fewer < count_ones all)
+    → ((g : ℕ) → IsGroupAmong sets further squares others g → count_ones g ≤ most) → IsGroupAmong sets fewer more others group → ⊥
+useless_with sets further squares place one fewer more values all others most group s small far near u all_of many sized h =
+    among_useless sets fewer more all others most group small (λ k has. far k (still_in further one fewer k s.fewer_of has))
+    (more_low further squares place one more s.in_it far near s.one_of s.more_of) (more_united sets squares values place one more all u s.one_of s.more_of all_of)
+    many h (sized group (among_with sets further squares place one fewer more others group s h))
+
+-- nor of those without it
+pub useless_without : (sets : List ℕ) (further squares place one fewer more values others rest most group : ℕ) → AreStep further squares place one fewer more
+    → values < 2 ^ 16 → ((k : ℕ) → has_number further k ≡ true → k < 9) → ((k : ℕ) → has_number squares k ≡ true → k < 9) → IsUnionOf sets squares values
+    → ((n : ℕ) → has_number rest n ≡ (has_number others n || has_number (slice_index sets place) n))
+    → (most < count_ones values) ⊎ (count_ones squares + count_ones fewer < count_ones values)
+    → ((g : ℕ) → IsGroupAmong sets further squares others g → count_ones g ≤ most) → IsGroupAmong sets fewer squares rest group → ⊥
+useless_without sets further squares place one fewer more values others rest most group s small far near u rest_of many sized h =
+    among_useless sets fewer squares values rest most group small (λ k has. far k (still_in further one fewer k s.fewer_of has)) near u many h
+    (sized group (among_without sets further squares place one fewer more others rest group s rest_of h))
 
 -- ---- groups of a line's sets
 

@@ -1,5 +1,6 @@
 -- What the other squares of a line strike in one, as sets.
-use Rattle.std.proofs.Common.{◌≡◌, ◌≢◌, ◌↔◌, ℕ, ◌-◌, ◌*◌, ◌^◌, ◌<◌, ◌==◌, if◌then◌else◌, bit_and, zero-mul, true, false, ◌&&◌, ◌||◌, not, inl, inr, refl, sym, ap, ◌∙◌, subst, arith}
+use Rattle.std.proofs.lemmas.Nat.{and_le_r, and_mask}
+use Rattle.std.proofs.Common.{◌+◌, ◌/◌, ◌%◌, ◌≡◌, ◌≢◌, ◌↔◌, ℕ, ◌-◌, ◌*◌, ◌^◌, ◌<◌, ◌==◌, if◌then◌else◌, bit_and, zero-mul, true, false, ◌&&◌, ◌||◌, not, inl, inr, refl, sym, ap, ◌∙◌, subst, arith}
 use Rattle.std.proofs.lemmas.Bool.{both_ways, and_parts, and_from, or_cases, or_left, or_right, cases_eq, eq-eqb, ne_eqb, false_from_ne_true, not_from_false}
 use Rattle.number_sets.specs.Sets.{has_number, no_numbers, IsEmpty, IsSingle}
 use Rattle.number_sets.proofs.Ends.{lowest_power}
@@ -20,6 +21,21 @@ has_rest all some rest v is = (
 )
 
 -- ---- sets of at most one number
+
+-- the bits where the rest has none: 2^16 - 1 is a mask of all
+pub if_none_masked : (bits rest : ℕ) → bits < 65536 → rest < 65536
+    → bit_and bits ((rest + 4294967295) % 4294967296 / 65536) ≡ bits * (if rest == 0 then 1 else 0)
+if_none_masked bits rest small low =
+    let mask = (rest + 4294967295) % 4294967296 / 65536 in
+    elim (cases_eq rest 0) [
+      | inl none ↦
+          let ones : mask ≡ 2 ^ 16 - 1 = omega (arith, none) in
+          ap (λ (n : ℕ). bit_and bits n) ones ∙ and_mask bits 16 ∙ rw (eq-eqb rest 0 none) (omega (arith, small))
+      | inr some ↦
+          let zero : mask ≡ 0 = omega (arith, some, low) in
+          let nothing : bit_and bits mask ≡ 0 = omega (arith, and_le_r bits mask, zero) in
+          nothing ∙ rw (ne_eqb rest 0 some) (omega arith)
+    ]
 
 -- what has one number alone is a set of which nothing is left without its least
 pub single_by_rest : (set rest flag result v : ℕ) → set < 2 ^ 16 → (set ≢ 0 → rest ≡ bit_and set (set - 1)) → flag ≡ (if rest == 0 then 1 else 0)

@@ -79,7 +79,7 @@ standing_may c place all left row small inside members are standing = record {
 }
 
 -- what isn't kept of the numbers of the size is what is struck, in each square from a place
-pub row_struck : (w place clue : ℕ) (May : ℕ → ℕ → Type 0) (sets kept row : List ℕ) → w ≤ 9 → place < 4 * w → AreMaySets w May place w sets
+row_struck : (w place clue : ℕ) (May : ℕ → ℕ → Type 0) (sets kept row : List ℕ) → w ≤ 9 → place < 4 * w → AreMaySets w May place w sets
     → AreKept (take w sets) clue kept → AreMissing w kept 9 row → AreStruckFrom w (IsUnfilled w May place clue) place w row
 row_struck w place clue May sets kept row small inside are kept_is missing = record {
   count = missing.count;
@@ -97,6 +97,14 @@ row_struck w place clue May sets kept row small inside are kept_is missing = rec
             missing.each k v (omega (arith, low, small)) ∙ and_from (nat_le 1 v && nat_le v w) (not stays) within (not_from_false stays (here.1 h.1)),
       );
 }
+
+-- the same where the width is known by another name
+pub row_struck_at : (w width place clue : ℕ) (May : ℕ → ℕ → Type 0) (sets kept row : List ℕ) → width ≡ w → w ≤ 9 → place < 4 * w
+    → AreMaySets w May place w sets → AreKept (take width sets) clue kept → AreMissing width kept 9 row
+    → AreStruckFrom w (IsUnfilled w May place clue) place w row
+row_struck_at w width place clue May sets kept row same small inside are kept_is missing =
+    row_struck w place clue May sets kept row small inside are (subst (λ (n : ℕ). AreKept (take n sets) clue kept) same kept_is)
+    (subst (λ (n : ℕ). AreMissing n kept 9 row) same missing)
 
 -- where all that is left of each square is kept, nothing that is left is struck
 pub still_within : (c : CandidatesValue) (place clue : ℕ) (May : ℕ → ℕ → Type 0) (left sets kept : List ℕ) → c.size ≤ 9 → place < 4 * c.size

@@ -1,5 +1,6 @@
 //! What groups of a line's squares strike: as many values as squares are all that is left of them.
-ghost use Rattle.std.specs.Prelude.{◌≡◌, ◌↔◌, ℕ, ◌+◌, ◌-◌, ◌*◌, ◌<◌, ◌≤◌, true, false, slice_index, count_ones};
+ghost use Rattle.std.specs.Prelude.{◌≡◌, ◌↔◌, ℕ, ◌+◌, ◌-◌, ◌*◌, ◌^◌, ◌⊎◌, ◌<◌, ◌≤◌, true, false, slice_index, count_ones};
+ghost use Rattle.std.specs.Bool.{MatchBool};
 ghost use Rattle.number_sets.specs.Sets.{has_number, IsEmpty, IsShared};
 ghost use Rattle.named_steps.specs.Reasons.{IsByLine};
 ghost use Rattle.named_steps.specs.Passes.{LeadsTo, LosesAt};
@@ -11,7 +12,7 @@ use crate::striking::strike_elsewhere;
 use number_sets::NumberSet;
 use trail_solver::Candidates;
 
-/// Takes away what the first group of a line's squares strikes that strikes something, and gives the places of those of which something
+/// Takes away what a group of a line's squares strikes, the first that strikes anything, and gives the places of those of which something
 /// went. Squares of which one value is left are in none of the groups: once that value is gone elsewhere in the line, a group strikes
 /// no less without such a square.
 pub(crate) fn strike_groups_on(candidates: &mut Candidates, line: u8) -> NumberSet
@@ -97,7 +98,7 @@ impl Parts {
         let mut others = NumberSet::empty();
         for k in 0..width {
             let set = sets[k as usize];
-            if set.len() > 1 {
+            if has_several(set) {
                 several = several.union(NumberSet::one(k));
                 values = values.union(set);
             } else {
@@ -127,9 +128,16 @@ impl Parts {
     }
 }
 
+// Whether a set has several numbers.
+fn has_several(set: NumberSet) -> bool
+    ensures { MatchBool result (1 < count_ones set) (count_ones set ≤ 1) }
+{
+    set.len() > 1
+}
+
 // The first group that strikes something, of those that have these squares and any of the further ones; empty where there is none.
 // The values are those of the squares, and the others those of all that are in no such group. A group with more values than the squares
-// can still become, or than squares that any group can have, has no use.
+// can still become, or than squares that any group can have, has no use, and isn't gone on with.
 fn find_group(
     sets: &[NumberSet; 9],
     most: u32,
@@ -146,28 +154,36 @@ fn find_group(
     ensures found { (k : ℕ) → has_number result k ≡ true → IsGroupAmong sets.now further squares others result }
     ensures none { IsEmpty result → (group : ℕ) → IsGroupAmong sets.now further squares others group → ⊥ }
 {
-    let _bits = values.bits();
-    if values.len() > most || values.len() > squares.len() + further.len() {
-        return NumberSet::empty();
-    }
     let Some(place) = further.least() else {
         return if_striking(squares, values, others);
     };
     let one = NumberSet::one(place);
     let fewer = further.difference(one);
     let set = sets[place as usize];
-    let group = find_group(
-        sets,
-        most,
-        fewer,
-        squares.union(one),
-        values.union(set),
-        others,
-    );
-    if !group.is_empty() {
-        return group;
+    let more = squares.union(one);
+    let all = values.union(set);
+    if has_use(fewer, more, all, most) {
+        let group = find_group(sets, most, fewer, more, all, others);
+        if !group.is_empty() {
+            return group;
+        }
     }
-    find_group(sets, most, fewer, squares, values, others.union(set))
+    let rest = others.union(set);
+    if has_use(fewer, squares, values, most) {
+        find_group(sets, most, fewer, squares, values, rest)
+    } else {
+        NumberSet::empty()
+    }
+}
+
+// Whether a group of these squares and any of the further ones can have as many squares as they have values, and no more than any group.
+fn has_use(further: NumberSet, squares: NumberSet, values: NumberSet, most: u32) -> bool
+    ensures needed { MatchBool result ((count_ones values ≤ most) × (count_ones values ≤ count_ones squares + count_ones further))
+        ((most < count_ones values) ⊎ (count_ones squares + count_ones further < count_ones values)) }
+    ensures small { values < 2 ^ 16 }
+{
+    let _bits = values.bits();
+    values.len() <= most && values.len() <= squares.len() + further.len()
 }
 
 // The squares, where they have as many values and these strike something of others; none where not.

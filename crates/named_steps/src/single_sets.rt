@@ -25,6 +25,7 @@ pub(crate) fn if_single(set: NumberSet) -> NumberSet
 }
 
 // The bits where the rest has none, and else none of them: by a mask, since a test would become a branch.
+#[tactic(auto, using(crate::proofs::RestSets::if_none_masked))]
 fn if_none(bits: u16, rest: u16) -> u16
     ensures { result ≡ bits * (if rest == 0 then 1 else 0) }
 {

@@ -1,7 +1,7 @@
 use Rattle.std.proofs.Common.{ℕ, take, sym, ◌∙◌, subst, arith}
 use Rattle.named_steps.specs.Inner.KnownRows.{AreKept}
-use Rattle.named_steps.specs.Inner.Rows.{May, AreMissing}
-use Rattle.named_steps.proofs.StandingSets.{row_struck, still_within}
+use Rattle.named_steps.specs.Inner.Rows.{May}
+use Rattle.named_steps.proofs.StandingSets.{row_struck_at, still_within}
 use Rattle.named_steps.proofs.clue_strikes.striking_row.Goals as goal
 
 pub supported-kept-requires-clause-rest : goal.supported-kept-requires-clause-rest
@@ -25,10 +25,6 @@ pub returns : goal.returns
 returns c =
     let now = c.args.candidates.now in
     let width = c.get-width.ensures.value ∙ c.size.ensures.value in
-    let sets = c.may_row.result in
-    let kept = c.supported-kept.result in
-    let may = c.may_row.ensures now c.args.place (sym width) c.requires.place c.left_row-left.ensures in
-    let tested = subst (λ (n : ℕ). AreKept (take n sets) c.args.clue kept) width c.supported-kept.ensures in
-    let missing = subst (λ (n : ℕ). AreMissing n kept 9 c.missing_row.result) width c.missing_row.ensures in
-    row_struck now.size c.args.place c.args.clue (May c.args.look now) sets kept c.missing_row.result c.size.ensures.valid.largest c.requires.place may tested
-    missing
+    row_struck_at now.size c.get-width.result c.args.place c.args.clue (May c.args.look now) c.may_row.result c.supported-kept.result
+    c.missing_row.result width c.size.ensures.valid.largest c.requires.place
+    (c.may_row.ensures now c.args.place (sym width) c.requires.place c.left_row-left.ensures) c.supported-kept.ensures c.missing_row.ensures
