@@ -1,8 +1,11 @@
 //! The answers beside the commands: the board, how many solutions keep its numbers, a hint, the puzzle's grade.
 
-ghost use Rattle.std.specs.Prelude.{◌≡◌, Some, IfOk};
+ghost use Rattle.std.specs.Prelude.{◌≡◌, Option, Some, IfOk};
 ghost use Rattle.serde_json.specs.View.{view};
+ghost use Rattle.named_steps.specs.Graded.{IsGradeOf};
+ghost use Rattle.named_steps.specs.declared.grade.Grade.{Grade};
 ghost use Rattle.json_replies.specs.FurtherLines.{IsAnswer, IsFurtherLine, IsHintAnswer, answer_data};
+ghost use Rattle.json_replies.specs.HintObjects.{grade_data};
 
 use crate::board::board_value;
 use crate::further_line::FurtherLine;
@@ -56,7 +59,7 @@ fn answer_value<P: Shows>(
         }
         FurtherLine::Completable => Ok(count_value(alloc, completion(puzzle, board.grid()))?),
         FurtherLine::Hint => hint_answer(alloc, puzzle, board.grid()),
-        FurtherLine::Grade => Ok(grade_value::<P>(alloc, grade_of(puzzle))?),
+        FurtherLine::Grade => grade_answer(alloc, puzzle),
     }
 }
 
@@ -80,4 +83,13 @@ fn hint_answer<P: Shows>(alloc: Global, puzzle: &P, grid: &Grid) -> Result<Value
 {
     let told = told_hint(alloc, puzzle, grid)?;
     Ok(hint_value(alloc, puzzle, grid, &told)?)
+}
+
+// The puzzle's grade, if it has one. What it takes of the stack isn't on it while a hint is looked for.
+#[inline(never)]
+fn grade_answer<P: Shows>(alloc: Global, puzzle: &P) -> Result<Value, OutOfMemory>
+    ensures { IfOk result (λ value. (grade : Option Grade) × IsGradeOf (P.puzzle puzzle.now) (P.struck_by puzzle.now)
+        grade × (view value ≡ grade_data P.grade_letter grade)) }
+{
+    Ok(grade_value::<P>(alloc, grade_of(puzzle))?)
 }
