@@ -66,7 +66,7 @@ def test_fair(place: Place) -> None:
     """Fair games are timed, and looked at as puzzles: what is left in each, and which draw gave it, by the second implementation. The usual program may be there or not."""
     env = {'PUZZLES_JSON': place.objects}
     ended = place.run(['bench/time_fair', '--count', '3', '--seconds', '0.1', 'towers', '3de'], env=env)
-    assert re.search(r'\ntowers  3de +3( +\d+\.\d\d){3}( +\d+ +\d+\.\d\d +\d+\.\d{3})?\n$', ended.said), ended.said
+    assert re.search(r'\ntowers  3de +3 +\d+\.\d{3}( +\d+\.\d\d){2}( +\d+ +\d+\.\d\d +\d+\.\d{3})?\n$', ended.said), ended.said
     ended = place.run(['bench/judge_fair', '--count', '5', '--seconds', '0.1', '--draws', 'unequal', '4de'], env=env)
     drawn = [drawn_game('unequal', 4, 'e', seed) for seed in range(1, 6)]
     texts = [puzzle.description() for _, puzzle in drawn]
