@@ -16,6 +16,7 @@ pub record IsUsedStart (sets line : List ℕ) (used : ℕ) : Type 0 where
   pub start : IsStart sets line
   pub values : (v : ℕ) → has_number used v ≡ is_in v line
 
+-- no values are a start, of which none is used
 pub used_start_none : (sets : List ℕ) → IsUsedStart sets [] 0
 used_start_none sets = record {
   start = record {

@@ -2,3 +2,4 @@
 pub mod LineMasks
 pub mod MaskSets
 pub mod Levels
+pub mod FiveLines
