@@ -73,3 +73,41 @@ group_most (suc n) further squares group count small low within =
           ]) in
           omega (arith, most)
     ]
+
+-- a set with more numbers than another has one that the other lacks
+pub number_outside : (n many few : ℕ) → count_ones many ≡ n → count_ones few < n → ((k : ℕ) → has_number many k ≡ true → k < 16)
+    → (k : ℕ) × (has_number many k ≡ true) × (has_number few k ≡ false)
+number_outside zero many few count less small = absurd (omega (arith, less))
+number_outside (suc n) many few count less small =
+    let k = some_counted many n count small in
+    let a = one_less many k.0 k.1 in
+    elim (cases_Bool (has_number few k.0)) [
+      | inl in_both ↦
+          let b = one_less few k.0 in_both in
+          let found = number_outside n (many - 2 ^ k.0) (few - 2 ^ k.0) (omega (arith, count, added_ones a)) (omega (arith, less, added_ones b))
+          (λ j has. small j (was_other (many - 2 ^ k.0) k.0 many j a has).1) in
+          let was = was_other (many - 2 ^ k.0) k.0 many found.0 a found.1 in
+          (found.0, was.1, added_other b found.0 was.0 ∙ found.2)
+      | inr lacks ↦ (k.0, k.1, lacks)
+    ]
+
+-- a set that lacks a number of another one, and has none beside, has one fewer at least
+pub one_outside : (few many k : ℕ) → ((v : ℕ) → has_number few v ≡ true → v < 16) → IsSubset few many → has_number many k ≡ true
+    → has_number few k ≡ false → count_ones few + 1 ≤ count_ones many
+one_outside few many k low sub has lacks =
+    let a = one_less many k has in
+    let part : IsSubset few (many - 2 ^ k) = λ v there.
+    let other : v ≢ k = λ same. both_ways (has_number few k) lacks (subst (λ (i : ℕ). has_number few i ≡ true) same there) in
+    sym (added_other a v other) ∙ sub v there in
+    omega (arith, added_ones a, within_counts few (many - 2 ^ k) low part)
+
+-- a set that lacks two numbers of another one, and has none beside, has two fewer at least
+pub two_outside : (few many j k : ℕ) → ((v : ℕ) → has_number few v ≡ true → v < 16) → IsSubset few many → j ≢ k
+    → has_number many j ≡ true → has_number many k ≡ true → has_number few j ≡ false → has_number few k ≡ false → count_ones few + 2 ≤ count_ones many
+two_outside few many j k low sub apart first second no_first no_second =
+    let a = one_less many j first in
+    let there : has_number (many - 2 ^ j) k ≡ true = sym (added_other a k (λ e. apart (sym e))) ∙ second in
+    let part : IsSubset few (many - 2 ^ j) = λ v has.
+    let other : v ≢ j = λ same. both_ways (has_number few j) no_first (subst (λ (i : ℕ). has_number few i ≡ true) same has) in
+    sym (added_other a v other) ∙ sub v has in
+    omega (arith, added_ones a, one_outside few (many - 2 ^ j) k low part there no_second)

@@ -1,7 +1,8 @@
 -- Sets that are found together square by square.
-use Rattle.std.proofs.Common.{◌≡◌, ◌≢◌, ◌↔◌, ℕ, ◌+◌, ◌<◌, true, not, inl, inr, ◌&&◌, ◌||◌, ◌==◌, sym, ap, ◌∙◌, subst, arith}
+use Rattle.std.proofs.Common.{◌≡◌, ◌≢◌, ◌↔◌, ℕ, ◌+◌, ◌<◌, true, not, List, slice_index, count_ones, inl, inr, ◌&&◌, ◌||◌, ◌==◌, sym, ap, ◌∙◌, subst, arith}
 use Rattle.std.proofs.lemmas.Bool.{both_ways, eqb-true, eq-eqb, cases_eq, cases_lt, cases_Bool, or_cases, and_parts, and_from, or_left, or_right, not_from_false}
 use Rattle.number_sets.specs.Sets.{has_number}
+use Rattle.named_steps.specs.Inner.LineStrikes.{IsOfTwo}
 
 -- one square's set more
 pub found_next : (P : ℕ → ℕ → Type 0) (k found more next : ℕ) → ((v : ℕ) → (has_number found v ≡ true) ↔ ((j : ℕ) × (j < k) × P j v))
@@ -117,3 +118,25 @@ others_have P w index once twice own result inside once_is twice_is own_is resul
         ((once_is v).1 (h.0, h.1, h.3)) (not_from_false (has_number own v) lacks))
   ]),
 )
+
+-- numbers of two sets, one set more
+pub two_skip : (k : ℕ) (sets : List ℕ) (twice : ℕ) → ((v : ℕ) → has_number twice v ≡ true → IsOfTwo k sets v)
+    → (v : ℕ) → has_number twice v ≡ true → IsOfTwo (k + 1) sets v
+two_skip k sets twice two v has =
+    let at = two v has in
+    (at.0, at.1, at.2, (omega (arith, at.3.0), at.3.1, at.3.2), (omega (arith, at.4.0), at.4.1, at.4.2))
+
+-- the same, where the numbers of that set are added that one of those before has
+pub two_next : (k : ℕ) (sets : List ℕ) (values twice shared next : ℕ)
+    → ((v : ℕ) → (has_number values v ≡ true)
+    ↔ ((j : ℕ) × (j < k) × ((1 < count_ones (slice_index sets j)) × (has_number (slice_index sets j) v ≡ true)))) → ((v : ℕ) → has_number twice v ≡ true → IsOfTwo k sets v)
+    → 1 < count_ones (slice_index sets k) → ((n : ℕ) → has_number shared n ≡ (has_number values n && has_number (slice_index sets k) n))
+    → ((n : ℕ) → has_number next n ≡ (has_number twice n || has_number shared n)) → (v : ℕ) → has_number next v ≡ true → IsOfTwo (k + 1) sets v
+two_next k sets values twice shared next values_is two many shared_is next_is v has =
+    elim (or_cases (has_number twice v) (has_number shared v) (sym (next_is v) ∙ has)) [
+      | inl before ↦ two_skip k sets twice two v before
+      | inr both ↦
+          let parts = and_parts _ _ (sym (shared_is v) ∙ both) in
+          let at = (values_is v).0 parts.0 in
+          (at.0, k, at.1, (omega (arith, at.1), at.2.0, at.2.1), (omega arith, many, parts.1))
+    ]

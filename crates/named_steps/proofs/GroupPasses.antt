@@ -10,8 +10,8 @@ use Rattle.named_steps.specs.Reasons.{IsByLine}
 use Rattle.named_steps.specs.Left.{IsLeft}
 use Rattle.named_steps.specs.Passes.{LeadsTo}
 use Rattle.named_steps.specs.Inner.Takes.{Takes}
-use Rattle.named_steps.specs.Inner.LineStrikes.{AreLineSets, IsGroupQuiet, IsUnionOf, IsGroupOfSets, IsGroupAmong}
-use Rattle.named_steps.proofs.Counts.{within_counts, one_less, several_counted, group_most}
+use Rattle.named_steps.specs.Inner.LineStrikes.{AreLineSets, IsGroupQuiet, IsUnionOf, IsGroupOfSets, IsGroupAmong, IsOfSeveral, IsOfTwo}
+use Rattle.named_steps.proofs.Counts.{within_counts, number_outside, one_less, one_outside, several_counted, group_most, two_outside}
 use Rattle.named_steps.proofs.LinePasses.{line_less}
 use Rattle.named_steps.proofs.Takes.{HasStruck, leads_taken}
 use Rattle.named_steps.specs.declared.reason.Reason.TheVariants.{Set}
@@ -352,11 +352,13 @@ group_sought w sets several values none others group p empty h = record {
   ];
 }
 
--- such a group has no more squares than there are of several values; and not all of them, where the other sets have none of the values
-pub group_sized : (w : ℕ) (sets : List ℕ) (several values none others most group : ℕ) → AreParts w sets several values others → IsEmpty none → w ≤ 9
-    → (IsShared values others → most ≡ count_ones several) → count_ones several ≤ most + 1 → IsGroupAmong sets several none others group
-    → count_ones group ≤ most
-group_sized w sets several values none others most group p empty small shared least h =
+-- such a group has no more squares than there are of several values; not all of them, where the other sets have none of the values; and two
+-- fewer, where there are as many values as squares, too, and each is in two sets
+pub group_sized : (w : ℕ) (sets : List ℕ) (several values twice none others most group : ℕ) → AreParts w sets several values others
+    → ((v : ℕ) → has_number twice v ≡ true → IsOfTwo w sets v) → IsEmpty none → w ≤ 9 → (IsShared values others → most ≡ count_ones several)
+    → count_ones several ≤ most + 2 → (most + 1 < count_ones several → (count_ones several ≤ count_ones values) × IsSubset values twice)
+    → values < 2 ^ 16 → IsGroupAmong sets several none others group → count_ones group ≤ most
+group_sized w sets several values twice none others most group p two empty small shared least all_twice fits h =
     let within : IsSubset group several = λ k has. elim (h.within k has) [
       | inl old ↦ absurd (both_ways (has_number none k) (empty k) old)
       | inr new ↦ new
@@ -369,11 +371,19 @@ group_sized w sets several values none others most group p empty small shared le
           let all = shared (h.value, (p.values_is h.value).1 (k.0, here.0, here.1, k.2), there) in
           omega (arith, all, within_counts group several low within)
       | inr k ↦
-          let a = one_less several k.0 k.1 in
-          let part : IsSubset group (several - 2 ^ k.0) = λ j has.
-          let apart : j ≢ k.0 = λ same. both_ways (has_number group k.0) k.2 (subst (λ (i : ℕ). has_number group i ≡ true) same has) in
-          sym (added_other a j apart) ∙ within j has in
-          omega (arith, added_ones a, within_counts group (several - 2 ^ k.0) low part, least)
+          let one = one_outside group several k.0 low within k.1 k.2 in
+          elim (cases_lt (most + 1) (count_ones several)) [
+            | inl far ↦
+                let t = all_twice far in
+                let v = number_outside (count_ones values) values h.union refl (omega (arith, h.same, one, t.0)) (λ n has. below_from_number values 16 n fits has) in
+                let at = two v.0 (t.1 v.0 v.1) in
+                let out : (j : ℕ) → IsOfSeveral w sets j v.0 → has_number group j ≡ false = λ j of.
+                false_from_ne_true (has_number group j) (λ has. both_ways (has_number h.union v.0) v.2 (h.is.all j v.0 has of.2)) in
+                let there : (j : ℕ) → IsOfSeveral w sets j v.0 → has_number several j ≡ true = λ j of. (p.several_is j).1 (of.0, of.1) in
+                omega (arith, least, two_outside group several at.0 at.1 low within (λ e. omega (arith, at.2, e))
+                    (there at.0 at.3) (there at.1 at.4) (out at.0 at.3) (out at.1 at.4))
+            | inr near ↦ omega (arith, one, near)
+          ]
     ]
 
 -- ---- groups of what is left

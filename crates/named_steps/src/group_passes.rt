@@ -1,10 +1,10 @@
 //! What groups of a line's squares strike: as many values as squares are all that is left of them.
 ghost use Rattle.std.specs.Prelude.{◌≡◌, ◌↔◌, ℕ, ◌+◌, ◌-◌, ◌*◌, ◌^◌, ◌⊎◌, ◌<◌, ◌≤◌, true, false, slice_index, count_ones};
 ghost use Rattle.std.specs.Bool.{MatchBool};
-ghost use Rattle.number_sets.specs.Sets.{has_number, IsEmpty, IsShared};
+ghost use Rattle.number_sets.specs.Sets.{has_number, IsEmpty, IsShared, IsSubset};
 ghost use Rattle.named_steps.specs.Reasons.{IsByLine};
 ghost use Rattle.named_steps.specs.Passes.{LeadsTo, LosesAt};
-ghost use Rattle.named_steps.specs.Inner.LineStrikes.{AreLineSets, IsUnionOf, IsGroupOfSets, IsGroupAmong, IsGroupQuiet};
+ghost use Rattle.named_steps.specs.Inner.LineStrikes.{AreLineSets, IsUnionOf, IsGroupOfSets, IsGroupAmong, IsGroupQuiet, IsOfTwo};
 ghost use Rattle.named_steps.specs.declared.grade.Grade.TheVariants.{Hard};
 
 use crate::line_passes::{changed_places, line_sets};
@@ -75,11 +75,13 @@ fn first_group(sets: &[NumberSet; 9], width: u8) -> NumberSet
     find_group(sets, most, parts.several, none, none, parts.others)
 }
 
-// The places of sets with several numbers, the numbers of these sets, and those of the other sets.
+// The places of sets with several numbers, the numbers of these sets, those that two or more of these sets have, and those of the other
+// sets.
 #[derive(Clone, Copy, Debug)]
 struct Parts {
     several: NumberSet,
     values: NumberSet,
+    twice: NumberSet,
     others: NumberSet,
 }
 
@@ -90,16 +92,19 @@ impl Parts {
         ensures several { (k : ℕ) → (has_number result.several k ≡ true) ↔ ((k < width) × (1 < count_ones (slice_index sets.now k))) }
         ensures values { (v : ℕ) → (has_number result.values v ≡ true)
             ↔ ((k : ℕ) × (k < width) × (1 < count_ones (slice_index sets.now k)) × (has_number (slice_index sets.now k) v ≡ true)) }
+        ensures twice { (v : ℕ) → has_number result.twice v ≡ true → IsOfTwo width sets.now v }
         ensures others { (v : ℕ) → (has_number result.others v ≡ true)
             ↔ ((k : ℕ) × (k < width) × (count_ones (slice_index sets.now k) ≤ 1) × (has_number (slice_index sets.now k) v ≡ true)) }
     {
         let mut several = NumberSet::empty();
         let mut values = NumberSet::empty();
+        let mut twice = NumberSet::empty();
         let mut others = NumberSet::empty();
         for k in 0..width {
             let set = sets[k as usize];
             if has_several(set) {
                 several = several.union(NumberSet::one(k));
+                twice = twice.union(values.intersection(set));
                 values = values.union(set);
             } else {
                 others = others.union(set);
@@ -108,22 +113,30 @@ impl Parts {
         Parts {
             several,
             values,
+            twice,
             others,
         }
     }
 
     // How many squares a group can have that strikes something: where the other sets have none of the values, one of the squares is
-    // not in it.
+    // not in it; and where there are as many values as squares, too, and each is in two of the sets, another one isn't, since a value
+    // that the group lacks is in two of the squares.
     fn most(&self) -> u32
         ensures shared { IsShared self.now.values self.now.others → result ≡ count_ones self.now.several }
-        ensures apart { (IsShared self.now.values self.now.others → ⊥) → result ≡ count_ones self.now.several - 1 }
-        ensures least { count_ones self.now.several ≤ result + 1 }
+        ensures least { count_ones self.now.several ≤ result + 2 }
+        ensures twice { result + 1 < count_ones self.now.several
+            → (count_ones self.now.several ≤ count_ones self.now.values) × IsSubset self.now.values self.now.twice }
+        ensures fits { self.now.values < 2 ^ 16 }
     {
+        let _bits = self.values.bits();
         let count = self.several.len();
-        if self.values.is_disjoint(self.others) {
-            count.saturating_sub(1)
+        if !self.values.is_disjoint(self.others) {
+            return count;
+        }
+        if self.values.len() >= count && self.values.is_subset(self.twice) {
+            count.saturating_sub(2)
         } else {
-            count
+            count.saturating_sub(1)
         }
     }
 }

@@ -244,9 +244,12 @@ fn upper_part(values: NumberSet, most: usize) -> NumberSet
     ensures part { IsUpperPart values result }
     ensures few { count_ones result ≤ most }
 {
+    if values.len() as usize <= most {
+        return values;
+    }
     match values.greatest() {
-        Some(greatest) if values.len() as usize > most => NumberSet::one(greatest),
-        _ => values,
+        Some(greatest) => NumberSet::one(greatest),
+        None => values,
     }
 }
 

@@ -59,6 +59,14 @@ pub record IsUnionOf (sets : List ℕ) (squares union : ℕ) : Type 0 where
   pub all : (k v : ℕ) → has_number squares k ≡ true → has_number (slice_index sets k) v ≡ true → has_number union v ≡ true
   pub only : (v : ℕ) → has_number union v ≡ true → (k : ℕ) × (has_number squares k ≡ true) × (has_number (slice_index sets k) v ≡ true)
 
+-- the set at a place below the width has several numbers, and this one
+abbrev pub IsOfSeveral : ℕ → List ℕ → ℕ → ℕ → Type 0
+IsOfSeveral w sets k v = (k < w) × (1 < count_ones (slice_index sets k)) × (has_number (slice_index sets k) v ≡ true)
+
+-- two sets with several numbers have this one
+abbrev pub IsOfTwo : ℕ → List ℕ → ℕ → Type 0
+IsOfTwo w sets v = (j k : ℕ) × (j < k) × IsOfSeveral w sets j v × IsOfSeveral w sets k v
+
 -- the places are of a group: each of their sets has several numbers, all together have as many as they are, and another set has one of these
 pub record IsGroupOfSets (w : ℕ) (sets : List ℕ) (group : ℕ) : Type 0 where
   pub several : (k : ℕ) → has_number group k ≡ true → (k < w) × (1 < count_ones (slice_index sets k))

@@ -7,9 +7,10 @@ use Rattle.named_steps.proofs.group_passes.first_group.Goals as goal
 pub find_group-requires-clause-most : goal.find_group-requires-clause-most
 find_group-requires-clause-most c = λ group h.
     let parts = c.of-parts.result in
-    group_sized c.args.width c.args.sets.now parts.several parts.values c.empty-none.result parts.others c.most-most.result group
+    group_sized c.args.width c.args.sets.now parts.several parts.values parts.twice c.empty-none.result parts.others c.most-most.result group
     (record { several_is = c.of-parts.ensures.several; values_is = c.of-parts.ensures.values; others_is = c.of-parts.ensures.others })
-    (λ k. ap (λ (n : ℕ). has_number n k) c.empty-none.ensures ∙ has_number-none k) c.requires.width c.most-most.ensures.shared c.most-most.ensures.least h
+    c.of-parts.ensures.twice (λ k. ap (λ (n : ℕ). has_number n k) c.empty-none.ensures ∙ has_number-none k) c.requires.width
+    c.most-most.ensures.shared c.most-most.ensures.least c.most-most.ensures.twice c.most-most.ensures.fits h
 
 pub returns-clause-found : goal.returns-clause-found
 returns-clause-found c = λ k has.

@@ -6,5 +6,5 @@ pub returns-in-Some-clause-few : goal.returns-in-Some-clause-few
 returns-in-Some-clause-few c =
     omega (arith, c.requires, ones_of_one c.one.result c.in-Some.greatest c.in-Some.ensures.bound c.one.ensures.members)
 
-pub returns-in_default-2-clause-few : goal.returns-in_default-2-clause-few
-returns-in_default-2-clause-few c = omega (arith, ones_of_none c.args.values c.in_default.ensures.value)
+pub returns-in-None-clause-few : goal.returns-in-None-clause-few
+returns-in-None-clause-few c = omega (arith, ones_of_none c.args.values c.in-None.ensures.value)
