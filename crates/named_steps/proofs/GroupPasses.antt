@@ -380,11 +380,25 @@ group_sized w sets several values twice none others most group p two empty small
                 let out : (j : ℕ) → IsOfSeveral w sets j v.0 → has_number group j ≡ false = λ j of.
                 false_from_ne_true (has_number group j) (λ has. both_ways (has_number h.union v.0) v.2 (h.is.all j v.0 has of.2)) in
                 let there : (j : ℕ) → IsOfSeveral w sets j v.0 → has_number several j ≡ true = λ j of. (p.several_is j).1 (of.0, of.1) in
-                omega (arith, least, two_outside group several at.0 at.1 low within (λ e. omega (arith, at.2, e))
-                    (there at.0 at.3) (there at.1 at.4) (out at.0 at.3) (out at.1 at.4))
+                omega (
+                  arith,
+                  least,
+                  two_outside group several at.0 at.1 low within (λ e. omega (arith, at.2, e))
+                      (there at.0 at.3) (there at.1 at.4) (out at.0 at.3) (out at.1 at.4),
+                )
             | inr near ↦ omega (arith, one, near)
           ]
     ]
+
+-- and it has two, since each of its sets has several of the numbers
+pub group_of_two : (w : ℕ) (sets : List ℕ) (several values others group : ℕ) → AreParts w sets several values others → values < 2 ^ 16
+    → IsGroupOfSets w sets group → 1 < count_ones group
+group_of_two w sets several values others group p fits h =
+    let k = h.is.only h.value h.one in
+    let here = h.several k.0 k.1 in
+    let low : (v : ℕ) → has_number (slice_index sets k.0) v ≡ true → v < 16 = λ v has.
+    below_from_number values 16 v fits ((p.values_is v).1 (k.0, here.0, here.1, has)) in
+    omega (arith, here.1, h.same, within_counts (slice_index sets k.0) h.union low (λ v has. h.is.all k.0 v k.1 has))
 
 -- ---- groups of what is left
 

@@ -72,6 +72,10 @@ fn first_group(sets: &[NumberSet; 9], width: u8) -> NumberSet
     let parts = Parts::of(sets, width);
     let most = parts.most();
     let none = NumberSet::empty();
+    // A group has two squares at least.
+    if most < 2 {
+        return none;
+    }
     find_group(sets, most, parts.several, none, none, parts.others)
 }
 
