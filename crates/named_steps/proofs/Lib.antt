@@ -19,6 +19,7 @@ pub mod RestSets
 pub mod QuietLines
 pub mod GivenPasses
 pub mod ChangedLines
+pub mod LineBits
 pub mod WaitingLines
 pub mod LinePasses
 pub mod WaitingGroups

@@ -33,11 +33,10 @@ stage_stays w Quiet law grade Groups line c d is low size fewer stays quiet = λ
 -- nothing was struck along the line, which waits no longer
 pub waits_less : (w : ℕ) (Quiet : Grade → ℕ → CandidatesValue → Type 0) → StaysQuiet w Quiet → (grade : Grade) (stage : Stage) (line places : ℕ) (first last : Waits)
     (a b : CandidatesValue) → a.size ≡ w → b.size ≡ a.size → IsFewer a b → IsEmpty places → LosesAt line places a b
-    → IsQuietFor Quiet grade stage line b → IsWithoutFor a.size stage line first last → AreWaiting Quiet grade first a → AreWaiting Quiet grade last b
+    → IsQuietFor Quiet grade stage line b → IsWithoutFor stage line first last → AreWaiting Quiet grade first a → AreWaiting Quiet grade last b
 waits_less w Quiet law grade stage line places first last a b is size fewer none loses quiet less waiting other l low free =
     let low_a : l < 2 * a.size = omega (arith, low, size) in
-    let free_a : IsFree a.size last other l = subst (λ (n : ℕ). IsFree n last other l) size free in
-    elim (less.kept other l free_a) [
+    elim (less.kept other l free) [
       | inl before ↦ stage_stays w Quiet law grade other l a b is low_a size fewer (stays_all line places l a b none loses) (waiting other l low_a before)
       | inr this ↦
           let P : Stage → Type 0 = λ s. IsQuietFor Quiet grade s l b in
@@ -50,10 +49,9 @@ pub waits_more : (w : ℕ) (Quiet : Grade → ℕ → CandidatesValue → Type 0
     → IsWithChanged a.size line places first last → AreWaiting Quiet grade first a → AreWaiting Quiet grade last b
 waits_more w Quiet law grade line places first last a b is line_is size fewer loses more waiting stage l low free =
     let low_a : l < 2 * a.size = omega (arith, low, size) in
-    let free_a : IsFree a.size last stage l = subst (λ (n : ℕ). IsFree n last stage l) size free in
     stage_stays w Quiet law grade stage l a b is low_a size fewer
-    (stays_apart line places l a b line_is low_a (more.apart stage l free_a) (more.uncrossed stage l free_a) loses)
-    (waiting stage l low_a (more.before stage l free_a))
+    (stays_apart line places l a b line_is low_a (more.apart stage l free) (more.uncrossed stage l free) loses)
+    (waiting stage l low_a (more.before stage l free))
 
 -- ---- where no line waits any more
 
@@ -90,16 +88,16 @@ three_quiet Quiet grade c first squares clues groups one two three waiting Group
 
 -- what a line that doesn't wait is not, after some lines came to those that wait
 record IsMore (w line places : ℕ) (old new : Waiting) : Type 0 where
-  before : (l : ℕ) → is_waiting w new l ≡ false → is_waiting w old l ≡ false
-  apart : (l : ℕ) → is_waiting w new l ≡ false → l ≢ line
-  uncrossed : (l : ℕ) → is_waiting w new l ≡ false → is_crossing w line places l ≡ false
+  before : (l : ℕ) → is_waiting new l ≡ false → is_waiting old l ≡ false
+  apart : (l : ℕ) → is_waiting new l ≡ false → l ≢ line
+  uncrossed : (l : ℕ) → is_waiting new l ≡ false → is_crossing w line places l ≡ false
 
 more_from : (w line places : ℕ) (old new more : Waiting)
-    → ((l : ℕ) → is_waiting w more l ≡ ((l == line) || is_crossing w line places l))
-    → ((l : ℕ) → is_waiting w new l ≡ (is_waiting w old l || is_waiting w more l)) → IsMore w line places old new
+    → ((l : ℕ) → is_waiting more l ≡ ((l == line) || is_crossing w line places l))
+    → ((l : ℕ) → is_waiting new l ≡ (is_waiting old l || is_waiting more l)) → IsMore w line places old new
 more_from w line places old new more more_is is =
-    let parts : (l : ℕ) → is_waiting w new l ≡ false → (is_waiting w old l ≡ false) × (((l == line) || is_crossing w line places l) ≡ false) =
-    λ l free. let both = or_parts (is_waiting w old l) (is_waiting w more l) (sym (is l) ∙ free) in (both.0, sym (more_is l) ∙ both.1) in
+    let parts : (l : ℕ) → is_waiting new l ≡ false → (is_waiting old l ≡ false) × (((l == line) || is_crossing w line places l) ≡ false) =
+    λ l free. let both = or_parts (is_waiting old l) (is_waiting more l) (sym (is l) ∙ free) in (both.0, sym (more_is l) ∙ both.1) in
     record {
       before = λ l free. (parts l free).0;
       apart = λ l free same. both_ways (l == line) (or_parts (l == line) (is_crossing w line places l) (parts l free).1).0 (eq-eqb l line same);
@@ -107,18 +105,18 @@ more_from w line places old new more more_is is =
     }
 
 pub all_more : (w line places : ℕ) (old new : Waits) (more : Waiting)
-    → ((l : ℕ) → is_waiting w more l ≡ ((l == line) || is_crossing w line places l))
-    → ((l : ℕ) → is_waiting w new.squares l ≡ (is_waiting w old.squares l || is_waiting w more l))
-    → ((l : ℕ) → is_waiting w new.clues l ≡ (is_waiting w old.clues l || is_waiting w more l))
-    → ((l : ℕ) → is_waiting w new.groups l ≡ (is_waiting w old.groups l || is_waiting w more l)) → IsWithChanged w line places old new
+    → ((l : ℕ) → is_waiting more l ≡ ((l == line) || is_crossing w line places l))
+    → ((l : ℕ) → is_waiting new.squares l ≡ (is_waiting old.squares l || is_waiting more l))
+    → ((l : ℕ) → is_waiting new.clues l ≡ (is_waiting old.clues l || is_waiting more l))
+    → ((l : ℕ) → is_waiting new.groups l ≡ (is_waiting old.groups l || is_waiting more l)) → IsWithChanged w line places old new
 all_more w line places old new more more_is squares clues groups =
     let s = more_from w line places old.squares new.squares more more_is squares in
     let c = more_from w line places old.clues new.clues more more_is clues in
     let g = more_from w line places old.groups new.groups more more_is groups in
     record {
-      before = λ stage l. elim stage as (λ x. IsFree w new x l → IsFree w old x l) [ Squares ↦ s.before l | Clues ↦ c.before l | Groups ↦ g.before l ];
-      apart = λ stage l. elim stage as (λ x. IsFree w new x l → l ≢ line) [ Squares ↦ s.apart l | Clues ↦ c.apart l | Groups ↦ g.apart l ];
-      uncrossed = λ stage l. elim stage as (λ x. IsFree w new x l → is_crossing w line places l ≡ false) [
+      before = λ stage l. elim stage as (λ x. IsFree new x l → IsFree old x l) [ Squares ↦ s.before l | Clues ↦ c.before l | Groups ↦ g.before l ];
+      apart = λ stage l. elim stage as (λ x. IsFree new x l → l ≢ line) [ Squares ↦ s.apart l | Clues ↦ c.apart l | Groups ↦ g.apart l ];
+      uncrossed = λ stage l. elim stage as (λ x. IsFree new x l → is_crossing w line places l ≡ false) [
         | Squares ↦ s.uncrossed l
         | Clues ↦ c.uncrossed l
         | Groups ↦ g.uncrossed l

@@ -86,9 +86,9 @@ pub fn settle_on<P: Steps>(
 // These lines, and those along which some items are looked at; or all lines where no items are named.
 fn lines_of_clues<P: Steps>(lines: &Waiting, added: Option<&[u8]>, size: Size) -> Waiting
     requires { IfSome added (λ items. (k : ℕ) → k < length items.now → slice_index items.now k < P.items_of size) }
-    ensures { MatchOption added.entry ((line : ℕ) → line < 2 * size → is_waiting size result line ≡ true)
-        (λ items. (line : ℕ) → is_waiting size result line ≡ false
-        → (is_waiting size lines.now line ≡ false) × HasNoItem (P.item_line size) items.now line) }
+    ensures { MatchOption added.entry ((line : ℕ) → line < 2 * size → is_waiting result line ≡ true)
+        (λ items. (line : ℕ) → is_waiting result line ≡ false
+        → (is_waiting lines.now line ≡ false) × HasNoItem (P.item_line size) items.now line) }
 {
     let _width = size.get();
     match added {
@@ -100,13 +100,14 @@ fn lines_of_clues<P: Steps>(lines: &Waiting, added: Option<&[u8]>, size: Size) -
 // These lines, and those along which some items are looked at.
 fn with_items<P: Steps>(lines: &Waiting, items: &[u8], size: Size) -> Waiting
     requires { (k : ℕ) → k < length items.now → slice_index items.now k < P.items_of size }
-    ensures { (line : ℕ) → is_waiting size result line ≡ false
-        → (is_waiting size lines.now line ≡ false) × HasNoItem (P.item_line size) items.now line }
+    ensures { (line : ℕ) → is_waiting result line ≡ false
+        → (is_waiting lines.now line ≡ false) × HasNoItem (P.item_line size) items.now line }
 {
+    let _width = size.get();
     let mut waiting = *lines;
     for k in 0..items.len() {
         if let Some(line) = P::line_of_item(size, items[k]) {
-            waiting = waiting.with_line(line, size.get());
+            waiting = waiting.with_line(line);
         }
     }
     waiting
@@ -213,7 +214,7 @@ fn strike_givens<P: Steps>(p: &P, candidates: &mut Candidates) -> Waiting
     requires { candidates.old.size ≡ (P.puzzle p.now).size }
     ensures leads { LeadsTo (P.struck_by p.now) Grade.Latin candidates.old candidates.new }
     ensures settled { AreGivensSettled (P.puzzle p.now) candidates.new }
-    ensures others { (line : ℕ) → line < 2 * candidates.old.size → is_waiting candidates.old.size result line ≡ false
+    ensures others { (line : ℕ) → line < 2 * candidates.old.size → is_waiting result line ≡ false
         → StaysOn line candidates.old candidates.new }
 {
     let width = candidates.size().get() as usize;

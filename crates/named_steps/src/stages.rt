@@ -36,7 +36,7 @@ pub(crate) struct Waits {
 impl Waits {
     /// All lines for each stage.
     pub(crate) fn all() -> Waits
-        ensures { (w line : ℕ) (stage : Stage) → w ≤ 9 → line < 2 * w → is_waiting w (waiting_of result stage) line ≡ true }
+        ensures { (w line : ℕ) (stage : Stage) → w ≤ 9 → line < 2 * w → is_waiting (waiting_of result stage) line ≡ true }
     {
         Waits {
             squares: Waiting::all(),
@@ -57,15 +57,14 @@ impl Waits {
     }
 
     // A line waits no longer for a stage.
-    fn leave(&mut self, stage: Stage, line: u8, width: u8)
-        requires width { width ≤ 9 }
-        requires line { line < 2 * width }
-        ensures { IsWithoutFor width stage line self.old self.new }
+    fn leave(&mut self, stage: Stage, line: u8)
+        requires { line < 32 }
+        ensures { IsWithoutFor stage line self.old self.new }
     {
         match stage {
-            Stage::Squares => self.squares = self.squares.without(line, width),
-            Stage::Clues => self.clues = self.clues.without(line, width),
-            Stage::Groups => self.groups = self.groups.without(line, width),
+            Stage::Squares => self.squares = self.squares.without(line),
+            Stage::Clues => self.clues = self.clues.without(line),
+            Stage::Groups => self.groups = self.groups.without(line),
         }
     }
 
@@ -124,12 +123,12 @@ fn look_along<P: Steps>(
     ensures leads { LeadsTo (P.struck_by p.now) grade candidates.old candidates.new }
     ensures waiting { AreWaiting (P.quiet_on p.now) grade waits.new candidates.new }
     ensures none { length candidates.new.trail ≡ length candidates.old.trail
-        → IsWithoutFor candidates.old.size stage line waits.old waits.new }
+        → IsWithoutFor stage line waits.old waits.new }
 {
     let width = candidates.size().get();
     let changed = strike_along(p, grade, stage, candidates, line, known);
     if changed.is_empty() {
-        waits.leave(stage, line, width);
+        waits.leave(stage, line);
     } else {
         waits.add(line, changed, width);
     }

@@ -16,9 +16,9 @@ waiting_of waits Squares = waits.squares
 waiting_of waits Clues = waits.clues
 waiting_of waits Groups = waits.groups
 
--- the line waits for the stage, in a grid of this width
-abbrev pub IsFree : ℕ → Waits → Stage → ℕ → Type 0
-IsFree w waits stage line = is_waiting w (waiting_of waits stage) line ≡ false
+-- the line doesn't wait for the stage
+abbrev pub IsFree : Waits → Stage → ℕ → Type 0
+IsFree waits stage line = is_waiting (waiting_of waits stage) line ≡ false
 
 -- the grade has the stage
 abbrev pub IsStageOf : Grade → Stage → Type 0
@@ -34,25 +34,25 @@ IsQuietFor Quiet grade Groups line c = is_past_easy grade ≡ true → IsGroupQu
 
 -- so along each line that doesn't wait for it
 abbrev pub AreWaiting : (Grade → ℕ → CandidatesValue → Type 0) → Grade → Waits → CandidatesValue → Type 0
-AreWaiting Quiet grade waits c = (stage : Stage) (line : ℕ) → line < 2 * c.size → IsFree c.size waits stage line → IsQuietFor Quiet grade stage line c
+AreWaiting Quiet grade waits c = (stage : Stage) (line : ℕ) → line < 2 * c.size → IsFree waits stage line → IsQuietFor Quiet grade stage line c
 
 -- so along each line for each stage
 abbrev pub AreAllQuiet : (Grade → ℕ → CandidatesValue → Type 0) → Grade → CandidatesValue → Type 0
 AreAllQuiet Quiet grade c = (stage : Stage) (line : ℕ) → line < 2 * c.size → IsQuietFor Quiet grade stage line c
 
 -- the line waits no longer for the stage, and all other lines as before
-pub record IsWithoutFor (w : ℕ) (stage : Stage) (line : ℕ) (old new : Waits) : Type 0 where
-  pub this : IsFree w new stage line
-  pub others : (other : Stage) (l : ℕ) → IsFree w old other l → IsFree w new other l
-  pub kept : (other : Stage) (l : ℕ) → IsFree w new other l → IsFree w old other l ⊎ ((other ≡ stage) × (l ≡ line))
+pub record IsWithoutFor (stage : Stage) (line : ℕ) (old new : Waits) : Type 0 where
+  pub this : IsFree new stage line
+  pub others : (other : Stage) (l : ℕ) → IsFree old other l → IsFree new other l
+  pub kept : (other : Stage) (l : ℕ) → IsFree new other l → IsFree old other l ⊎ ((other ≡ stage) × (l ≡ line))
 
 -- a line that doesn't wait didn't before, is not this one, and doesn't cross it at one of the places
 pub record IsWithChanged (w line places : ℕ) (old new : Waits) : Type 0 where
-  pub before : (stage : Stage) (l : ℕ) → IsFree w new stage l → IsFree w old stage l
-  pub apart : (stage : Stage) (l : ℕ) → IsFree w new stage l → l ≢ line
-  pub uncrossed : (stage : Stage) (l : ℕ) → IsFree w new stage l → is_crossing w line places l ≡ false
+  pub before : (stage : Stage) (l : ℕ) → IsFree new stage l → IsFree old stage l
+  pub apart : (stage : Stage) (l : ℕ) → IsFree new stage l → l ≢ line
+  pub uncrossed : (stage : Stage) (l : ℕ) → IsFree new stage l → is_crossing w line places l ≡ false
 
 -- no line waits for the stage, and none for another for which it didn't before
 pub record AreNoMore (w : ℕ) (stage : Stage) (old new : Waits) : Type 0 where
-  pub all : (line : ℕ) → line < 2 * w → IsFree w new stage line
-  pub others : (other : Stage) (line : ℕ) → IsFree w old other line → IsFree w new other line
+  pub all : (line : ℕ) → line < 2 * w → IsFree new stage line
+  pub others : (other : Stage) (line : ℕ) → IsFree old other line → IsFree new other line

@@ -6,23 +6,16 @@ use Rattle.trail_solver.specs.Candidates.{CandidatesValue}
 use Rattle.named_steps.specs.Left.{IsLeft}
 use Rattle.named_steps.specs.declared.waiting.Waiting.{Waiting}
 
--- the line waits; the lines below the width are the rows
-abbrev pub is_waiting : ℕ → Waiting → ℕ → Bool
-is_waiting w waiting line = if nat_lt line w then has_number waiting.rows line else has_number waiting.columns (line - w)
-
--- the number is the set's least from one on, and below the end
-pub record IsLeastWithin (set from end number : ℕ) : Type 0 where
-  pub from_on : from ≤ number
-  pub inside : number < end
-  pub has : has_number set number ≡ true
-  pub least : (n : ℕ) → from ≤ n → n < number → has_number set n ≡ false
+-- the line waits; of the lines of a grid the rows come first, and then the columns
+abbrev pub is_waiting : Waiting → ℕ → Bool
+is_waiting waiting line = has_number waiting.lines line
 
 -- the line of the grid is the first that waits, from one on
 pub record IsNextWaiting (w : ℕ) (waiting : Waiting) (from line : ℕ) : Type 0 where
   pub from_on : from ≤ line
   pub inside : line < 2 * w
-  pub waits : is_waiting w waiting line ≡ true
-  pub first : (l : ℕ) → from ≤ l → l < line → is_waiting w waiting l ≡ false
+  pub waits : is_waiting waiting line ≡ true
+  pub first : (l : ℕ) → from ≤ l → l < line → is_waiting waiting l ≡ false
 
 -- the line is the square's row or column
 abbrev pub is_through : ℕ → ℕ → ℕ → Bool

@@ -16,7 +16,7 @@ settle_from-requires-clause-waiting g c = λ stage line low free.
     let new = c.strike_givens.new.candidates in
     let size = leads_size (g.P.Steps.struck_by c.args.p.now) Latin c.args.candidates.now new c.strike_givens.ensures.leads in
     let small : new.size ≤ 9 = omega (arith, size, c.size-size.ensures.valid.largest) in
-    absurd {A = IsQuietFor (g.P.Steps.quiet_on c.args.p.now) c.args.grade stage line new} (both_ways (is_waiting new.size (waiting_of c.all.result stage) line) free (c.all.ensures new.size line stage small low))
+    absurd {A = IsQuietFor (g.P.Steps.quiet_on c.args.p.now) c.args.grade stage line new} (both_ways (is_waiting (waiting_of c.all.result stage) line) free (c.all.ensures new.size line stage small low))
 
 pub returns : goal.returns
 returns g c =

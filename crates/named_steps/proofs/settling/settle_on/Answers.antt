@@ -1,4 +1,4 @@
-use Rattle.std.proofs.Common.{◌≡◌, ℕ, ◌*◌, ◌<◌, false, length, slice_index, Option, Some, None, IfSome, MatchOption, sym, ◌∙◌, subst}
+use Rattle.std.proofs.Common.{◌≡◌, ℕ, ◌*◌, ◌<◌, length, slice_index, Option, Some, None, IfSome, MatchOption, sym, ◌∙◌, subst}
 use Rattle.std.proofs.lemmas.Bool.{both_ways}
 use Rattle.trail_solver.proofs.Earlier.{earlier_trans}
 use Rattle.named_steps.specs.ItemLines.{HasNoItem}
@@ -43,9 +43,8 @@ settle_from-requires-clause-waiting g c = λ stage line low.
     let size = leads_size Struck Latin old new leads in
     let fewer = leads_fewer Struck Latin old new leads in
     let low_old = subst (λ (n : ℕ). line < 2 * n) size low in
-    let stays = λ (free : is_waiting new.size c.strike_givens-squares.result line ≡ false).
-    c.strike_givens-squares.ensures.others line low_old (subst (λ (n : ℕ). is_waiting n c.strike_givens-squares.result line ≡ false) size free) in
-    elim stage as (λ s. IsFree new.size (record { squares = c.strike_givens-squares.result; clues = c.lines_of_clues-clues.result; groups = c.strike_givens-squares.result }) s line
+    let stays = c.strike_givens-squares.ensures.others line low_old in
+    elim stage as (λ s. IsFree (record { squares = c.strike_givens-squares.result; clues = c.lines_of_clues-clues.result; groups = c.strike_givens-squares.result }) s line
     → IsQuietFor Quiet c.args.grade s line new) [
       | Squares ↦ λ free.
           quiet_stays line old new size fewer (stays free)
@@ -53,15 +52,13 @@ settle_from-requires-clause-waiting g c = λ stage line low.
       | Clues ↦ λ free past.
           let here : c.size.result ≡ new.size = c.size.ensures.value in
           let there : c.size.result ≡ old.size = here ∙ size in
-          let off : is_waiting c.size.result c.lines_of_clues-clues.result line ≡ false =
-          subst (λ (n : ℕ). is_waiting n c.lines_of_clues-clues.result line ≡ false) (sym here) free in
           with_added c.args.added c.lines_of_clues-clues.ensures c.requires.quiet
-          (λ all. absurd (both_ways (is_waiting c.size.result c.lines_of_clues-clues.result line) off
+          (λ all. absurd (both_ways (is_waiting c.lines_of_clues-clues.result line) free
           (all line (subst (λ (n : ℕ). line < 2 * n) (sym here) low))))
           (λ items quiet apart.
-          let h = apart line off in
+          let h = apart line free in
           g.met.P.Steps.quiet_stays c.args.p.now c.args.grade line old new c.requires.size low_old size fewer
-          (stays (subst (λ (n : ℕ). is_waiting n c.strike_givens-squares.result line ≡ false) here h.0))
+          (stays h.0)
           (quiet line low_old (subst (λ (n : ℕ). HasNoItem (g.P.Steps.item_line n) items.now line) there h.1)))
       | Groups ↦ λ free past.
           let settled : AreLinesSettled Hard old = subst (λ (grade : Grade). AreLinesSettled grade old) (past_easy_is c.args.grade past) c.requires.lines in

@@ -39,14 +39,14 @@ loop-cell-preserved g c =
       | inr other ↦ given_stays puzzle j now next (leads_size Struck Latin now next leads) (leads_fewer Struck Latin now next leads)
           (c.loop-cell.invariant.1 j (omega (arith, low, other)))
     ] in
-    let AreOthers : Waiting → Type 0 = λ waiting. (line : ℕ) → line < 2 * first.size → is_waiting first.size waiting line ≡ false → StaysOn line first next in
+    let AreOthers : Waiting → Type 0 = λ waiting. (line : ℕ) → line < 2 * first.size → is_waiting waiting line ≡ false → StaysOn line first next in
     let others : AreOthers c.if-strike_given.changed = elim c.if-strike_given.branch [
       | then-strike_given w ↦
           let more = w.with_square-changed.result in
-          let IsMore : ℕ → Type 0 = λ n. (line : ℕ) → is_waiting n more line ≡ (is_waiting n c.loop-cell.changed line || is_through n cell line) in
+          let IsMore : ℕ → Type 0 = λ n. (line : ℕ) → is_waiting more line ≡ (is_waiting c.loop-cell.changed line || is_through n cell line) in
           let is_more : IsMore first.size = subst IsMore width w.with_square-changed.ensures in
           subst AreOthers (sym w.changed-is) (λ line low free.
-          let parts = or_parts (is_waiting first.size c.loop-cell.changed line) (is_through first.size cell line) (sym (is_more line) ∙ free) in
+          let parts = or_parts (is_waiting c.loop-cell.changed line) (is_through first.size cell line) (sym (is_more line) ∙ free) in
           stays_off first.size line cell first now next refl low parts.1 c.strike_given.ensures.others (c.loop-cell.invariant.2 line low parts.0))
       | else-strike_given w ↦
           subst AreOthers (sym w.changed-is) (λ line low free.

@@ -8,4 +8,4 @@ abbrev pub invariant-loop-cell : goal.invariant-loop-cell
 invariant-loop-cell g l =
     LeadsTo (g.P.Steps.struck_by l.p) Latin l.fn.candidates l.candidates
     × ((j : ℕ) → j < l.cell → IsGivenQuiet (g.P.Rules.puzzle l.p) j l.candidates)
-    × ((line : ℕ) → line < 2 * l.fn.candidates.size → is_waiting l.fn.candidates.size l.changed line ≡ false → StaysOn line l.fn.candidates l.candidates)
+    × ((line : ℕ) → line < 2 * l.fn.candidates.size → is_waiting l.changed line ≡ false → StaysOn line l.fn.candidates l.candidates)

@@ -26,10 +26,8 @@ loop-line-preserved g c =
     let waits = c.loop-line.waits in
     let from = c.loop-line.from in
     let line = c.in-Some.line in
-    let width : c.get-width.result ≡ first.size = c.get-width.ensures.value ∙ c.size.ensures.value in
     let is_next : IsNextWaiting c.get-width.result (waiting_of waits stage) from line =
     subst (λ w. IsNextWaiting c.get-width.result w from line) c.of.ensures c.in-Some.ensures in
-    let same : now.size ≡ first.size = leads_size Struck grade first now c.loop-line.invariant.0 in
     let step = c.look_along.ensures.leads in
     let on : length first.trail ≤ length now.trail = leads_length Struck grade first now c.loop-line.invariant.0 in
     let further : length now.trail ≤ length next.trail = leads_length Struck grade now next step in (
@@ -38,15 +36,14 @@ loop-line-preserved g c =
       λ still.
           let not_before : length now.trail ≡ length first.trail = omega (arith, still, on, further) in
           let not_now : length next.trail ≡ length now.trail = omega (arith, still, not_before) in
-          let without : IsWithoutFor first.size stage line waits c.look_along.new.waits =
-          subst (λ (w : ℕ). IsWithoutFor w stage line waits c.look_along.new.waits) same (c.look_along.ensures.none not_now) in
+          let without : IsWithoutFor stage line waits c.look_along.new.waits = c.look_along.ensures.none not_now in
           let before = c.loop-line.invariant.2 not_before in
-          let was : (j : ℕ) → j < line → IsFree first.size waits stage j = λ j low. elim (cases_lt j from) [
+          let was : (j : ℕ) → j < line → IsFree waits stage j = λ j low. elim (cases_lt j from) [
             | inl below ↦ before.0 j below
-            | inr ahead ↦ subst (λ (w : ℕ). IsFree w waits stage j) width (is_next.first j ahead low)
+            | inr ahead ↦ is_next.first j ahead low
           ] in (
             λ j low. elim (cases_eq j line) [
-              | inl last ↦ subst (λ (l : ℕ). IsFree first.size c.look_along.new.waits stage l) (sym last) without.this
+              | inl last ↦ subst (λ (l : ℕ). IsFree c.look_along.new.waits stage l) (sym last) without.this
               | inr other ↦ without.others stage j (was j (omega (arith, low, other)))
             ],
             λ other j free. without.others other j (before.1 other j free),

@@ -8,8 +8,8 @@ abbrev pub invariant-loop-line : goal.invariant-loop-line
 invariant-loop-line g l =
     LeadsTo (g.P.Steps.struck_by l.p) l.grade l.fn.candidates l.candidates × AreWaiting (g.P.Steps.quiet_on l.p) l.grade l.waits l.candidates
     × (length l.candidates.trail ≡ length l.fn.candidates.trail
-    → ((j : ℕ) → j < l.from → IsFree l.fn.candidates.size l.waits l.stage j)
-    × ((other : Stage) (j : ℕ) → IsFree l.fn.candidates.size l.fn.waits other j → IsFree l.fn.candidates.size l.waits other j))
+    → ((j : ℕ) → j < l.from → IsFree l.waits l.stage j)
+    × ((other : Stage) (j : ℕ) → IsFree l.fn.waits other j → IsFree l.waits other j))
     × (l.from ≤ 2 * l.width)
 
 abbrev pub decreases-loop-line : goal.decreases-loop-line

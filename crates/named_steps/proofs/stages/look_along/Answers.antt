@@ -1,5 +1,5 @@
 use Rattle.std.proofs.Common.{◌≡◌, ℕ, ◌<◌, length, ◌∙◌, subst, arith}
-use Rattle.named_steps.specs.Inner.Stages.{IsWithoutFor, IsWithChanged}
+use Rattle.named_steps.specs.Inner.Stages.{IsWithChanged}
 use Rattle.named_steps.proofs.StageLooks.{waits_less, waits_more}
 use Rattle.named_steps.proofs.Takes.{leads_fewer, leads_size}
 use Rattle.named_steps.proofs.stages.look_along.Goals as goal
@@ -12,11 +12,10 @@ returns-then-is_empty-clause-waiting g c =
     let new = c.strike_along-changed.new.candidates in
     let leads = c.strike_along-changed.ensures.leads in
     let none = c.if-is_empty.ensures.members in
-    let width : c.get-width.result ≡ old.size = c.get-width.ensures.value ∙ c.size.ensures.value in
     waits_less (g.P.Rules.puzzle p).size (g.P.Steps.quiet_on p) (g.met.P.Steps.quiet_stays p) c.args.grade c.args.stage c.args.line c.strike_along-changed.result
     c.args.waits.now c.leave.new.self old new c.requires.size (leads_size Struck c.args.grade old new leads) (leads_fewer Struck c.args.grade old new leads) none
     c.strike_along-changed.ensures.loses (c.strike_along-changed.ensures.quiet none)
-    (subst (λ (w : ℕ). IsWithoutFor w c.args.stage c.args.line c.args.waits.now c.leave.new.self) width c.leave.ensures) c.requires.waiting
+    c.leave.ensures c.requires.waiting
 
 pub returns-else-is_empty-clause-waiting : goal.returns-else-is_empty-clause-waiting
 returns-else-is_empty-clause-waiting g c =

@@ -5,4 +5,4 @@ pub returns : goal.returns
 returns c =
     all_more c.args.width c.args.line c.args.places c.args.self.now
     (record { squares = c.union-self.result; clues = c.union-self-2.result; groups = c.union-self-3.result }) c.crossing-more.result c.crossing-more.ensures
-    (c.union-self.ensures c.args.width) (c.union-self-2.ensures c.args.width) (c.union-self-3.ensures c.args.width)
+    c.union-self.ensures c.union-self-2.ensures c.union-self-3.ensures
