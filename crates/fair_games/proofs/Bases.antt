@@ -52,11 +52,13 @@ base_more Less More more grade g c base = record {
 
 -- ---- what a grade leaves
 
-allowed_both : (grade : Grade) (first second : List StepValue) → AreOfGrade grade first → AreOfGrade grade second → AreOfGrade grade (first ++ second)
+-- the steps of both are of the grade
+pub allowed_both : (grade : Grade) (first second : List StepValue) → AreOfGrade grade first → AreOfGrade grade second → AreOfGrade grade (first ++ second)
 allowed_both grade [] second h k = k
 allowed_both grade (step ∷ first) second h k = (h.0, allowed_both grade first second h.1 k)
 
-chain_both : (Struck : CandidatesValue → Reason → ℕ → ℕ → Type 0) (c : CandidatesValue) (first second : List StepValue) → IsChain Struck c first
+-- a chain, and one of what it leaves, are one chain
+pub chain_both : (Struck : CandidatesValue → Reason → ℕ → ℕ → Type 0) (c : CandidatesValue) (first second : List StepValue) → IsChain Struck c first
     → IsChain Struck (left_by c first) second → IsChain Struck c (first ++ second) × (left_by c (first ++ second) ≡ left_by (left_by c first) second)
 chain_both Struck c [] second h k = (k, refl)
 chain_both Struck c (step ∷ first) second h k =

@@ -104,7 +104,7 @@ left_without {P} f Struck steps shared grade g order first last p q base left gr
     }
 
 -- the puzzle without all those items is a cut of that without the first half
-first_half : {P : Type 0} (f : Ghosts P) (Fails : P → Type 0) (g : GridValue) (order : List ℕ) (first middle last : ℕ) (p : P) → AreCuts f g
+pub first_half : {P : Type 0} (f : Ghosts P) (Fails : P → Type 0) (g : GridValue) (order : List ℕ) (first middle last : ℕ) (p : P) → AreCuts f g
     → first ≤ middle → middle ≤ last → IsPrunedTo f Fails g order first p
     → f.cut (f.cut p (outside order first middle)) (outside order middle last) ≡ f.cut p (outside order first last)
 first_half {P} f Fails g order first middle last p cuts low high so_far =

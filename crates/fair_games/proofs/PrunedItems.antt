@@ -148,7 +148,7 @@ next_is_rest f Fails g order k i p cuts here so_far =
     ])
 
 -- an item without which the test fails stays
-pruned_stays : {P : Type 0} (f : Ghosts P) (Fails : P → Type 0) (g : GridValue) (order : List ℕ) (k : ℕ) (p : P) → AreCuts f g
+pub pruned_stays : {P : Type 0} (f : Ghosts P) (Fails : P → Type 0) (g : GridValue) (order : List ℕ) (k : ℕ) (p : P) → AreCuts f g
     → IsPrunedTo f Fails g order k p → Fails (f.cut p (outside order k (k + 1))) → IsPrunedTo f Fails g order (k + 1) p
 pruned_stays {P} f Fails g order k p cuts so_far fails = record {
   is_cut = so_far.is_cut;

@@ -1,6 +1,6 @@
 //! The removal of items: each is tried once, and goes where the rest still follows by the grade.
 
-ghost use Rattle.std.specs.Prelude.{◌≡◌, ◌↔◌, ℕ, ◌+◌, ◌*◌, ◌<◌, ◌≤◌, length, slice_index, IfSome, IsTrue, MatchOption};
+ghost use Rattle.std.specs.Prelude.{◌≡◌, ◌≢◌, ◌↔◌, ℕ, ◌+◌, ◌*◌, ◌<◌, ◌≤◌, length, slice_index, IfSome, IsTrue, MatchOption};
 ghost use Rattle.latin_board.specs.Squares.{IsLatin, number_at};
 ghost use Rattle.trail_solver.specs.Candidates.{IsEarlier, IsOnly};
 ghost use Rattle.puzzle_gen.specs.Orders.{place_in};
@@ -81,6 +81,9 @@ fn without_all<P: Steps>(
 // Tries the items from one place of the order up to another, without all of which the rest doesn't follow: one half after the other.
 // Where the first half goes, the second isn't tried as a whole, since that would be all of them. What the rest strikes without all of them
 // stays struck for both halves, and what it strikes without the first half is given back for the second.
+//
+// Items that are idle at what the rest left strike nothing, whatever becomes of it, so they needn't be tried. The items are halved by
+// those that aren't idle; where that is just one, it stays, since without it the rest doesn't follow, and all others go.
 fn split<P: Steps>(
     puzzle: P,
     grid: &Grid,
@@ -110,7 +113,11 @@ fn split<P: Steps>(
     if last - first < 2 {
         return puzzle;
     }
-    let middle = middle_of(first, last);
+    let wanted = find_wanted::<P>(order, first, last, grade, left);
+    if wanted.count < 2 {
+        return without_others(puzzle, order, first, last, wanted.place);
+    }
+    let middle = middle_of::<P>(order, first, last, grade, left, wanted.count / 2);
     let mark = left.mark();
     let second = Some(&order[middle..last]);
     match without_all(
@@ -132,13 +139,82 @@ fn split<P: Steps>(
     }
 }
 
-// A place between two others.
-fn middle_of(first: usize, last: usize) -> usize
-    requires { first + 2 ≤ last }
+// How many items of some places aren't idle, and the last of their places; or the first of all places, where there are none.
+#[derive(Clone, Copy)]
+struct Wanted {
+    count: usize,
+    place: usize,
+}
+
+// Looks for the items from one place of the order up to another that aren't idle.
+fn find_wanted<P: Steps>(
+    order: &[u8],
+    first: usize,
+    last: usize,
+    grade: Grade,
+    left: &Candidates,
+) -> Wanted
+    requires trial { IsTrial (P.items_of left.now.size) order.now }
+    requires ordered { first < last }
+    requires inside { last ≤ length order.now }
+    ensures from { first ≤ result.place }
+    ensures below { result.place < last }
+    ensures idle { result.count < 2 → (k : ℕ) → first ≤ k → k < last → k ≢ result.place
+        → P.idle_at grade (slice_index order.now k) left.now }
+{
+    let _size = left.size();
+    let mut wanted = Wanted {
+        count: 0,
+        place: first,
+    };
+    for k in first..last {
+        if !P::is_idle(grade, order[k], left) {
+            wanted.count += 1;
+            wanted.place = k;
+        }
+    }
+    wanted
+}
+
+// A place between two others: the one after so many items that aren't idle, where that is before the last one.
+fn middle_of<P: Steps>(
+    order: &[u8],
+    first: usize,
+    last: usize,
+    grade: Grade,
+    left: &Candidates,
+    wanted: usize,
+) -> usize
+    requires trial { IsTrial (P.items_of left.now.size) order.now }
+    requires ordered { first + 2 ≤ last }
+    requires inside { last ≤ length order.now }
     ensures after { first < result }
     ensures before { result < last }
 {
-    first + (last - first) / 2
+    let _size = left.size();
+    let mut passed = 0;
+    for k in first..last - 1 {
+        if !P::is_idle(grade, order[k], left) {
+            passed += 1;
+            if passed == wanted {
+                return k + 1;
+            }
+        }
+    }
+    last - 1
+}
+
+// The puzzle without the items from one place of the order up to another, but with that of one of these places.
+fn without_others<P: Steps>(puzzle: P, order: &[u8], first: usize, last: usize, place: usize) -> P
+    requires trial { IsTrial (P.items_of (P.puzzle puzzle).size) order.now }
+    requires inside { last ≤ length order.now }
+    requires from { first ≤ place }
+    requires below { place < last }
+    ensures { result ≡ P.cut (P.cut puzzle (outside order.now first place)) (outside order.now (place + 1) last) }
+{
+    let _valid = puzzle.size();
+    let before = without(puzzle, order, first, place);
+    without(before, order, place + 1, last)
 }
 
 // The puzzle without the items from one place of the order up to another.

@@ -28,7 +28,8 @@ pub number_left : (p : Puzzle) (c : CandidatesValue) (g : GridValue) (cell : ℕ
     → cell < c.size * c.size → IsLeft c cell (number_at g cell)
 number_left p c g cell size s within inside = record { pair = solution_pair p g c.size cell s size inside; may = within.each cell inside }
 
-step_keeps : (p : Puzzle) (Struck : CandidatesValue → Reason → ℕ → ℕ → Type 0) → IsSoundFor p Struck → (c : CandidatesValue) (step : StepValue)
+-- a step loses no solution
+pub step_keeps : (p : Puzzle) (Struck : CandidatesValue → Reason → ℕ → ℕ → Type 0) → IsSoundFor p Struck → (c : CandidatesValue) (step : StepValue)
     (g : GridValue) → c.size ≡ p.size → IsStep Struck c step → Solves p g → IsWithin c g → IsWithin (without c step.strikes) g
 step_keeps p Struck sound c step g size h s within = record {
   each = λ cell inside.

@@ -1,4 +1,4 @@
--- Lemmas for the laws of the trait that both games keep: of what they share, of fewer candidates, of solutions, of cuts, and of items that are added.
+-- Lemmas for the laws of the trait that both games keep: of what they share, of fewer candidates, of solutions, of cuts, of items that are added, and of idle ones.
 pub mod Less
 pub mod Sound
 pub mod Cuts
@@ -6,3 +6,4 @@ pub mod Shared
 pub mod Placed
 pub mod Quiet
 pub mod AddedItems
+pub mod IdleItems

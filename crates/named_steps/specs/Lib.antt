@@ -19,6 +19,8 @@ pub mod Passes
 pub mod QuietLines
 -- along which line a clue or a sign is looked at
 pub mod ItemLines
+-- which items are idle: they strike nothing, whatever else goes
+pub mod Idle
 -- which puzzles follow by a grade, and the least of them
 pub mod Graded
 -- the laws of named steps

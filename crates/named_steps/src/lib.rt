@@ -21,6 +21,7 @@ mod following;
 mod goal;
 mod grade;
 mod group_passes;
+mod idle;
 mod known_rows;
 mod latin_strikes;
 mod line_passes;

@@ -1,12 +1,13 @@
 //! What the steps of a game owe.
-ghost use Rattle.std.specs.Prelude.{◌≡◌, ◌≢◌, ◌↔◌, ℕ, ◌+◌, ◌*◌, ◌<◌, Bool, true, Option, IfSome};
+ghost use Rattle.std.specs.Prelude.{◌≡◌, ◌≢◌, ◌↔◌, ℕ, ◌+◌, ◌*◌, ◌<◌, Bool, true, Option, IfSome, IsTrue};
 ghost use Rattle.number_sets.specs.Sets.{has_number, IsEmpty};
 ghost use Rattle.latin_board.specs.Squares.{GridValue, number_at};
 ghost use Rattle.trail_solver.specs.Pairs.{IsPair};
 ghost use Rattle.trail_solver.specs.Candidates.{CandidatesValue, IsWithin};
 ghost use Rattle.trail_solver.specs.Puzzles.{Solves};
-ghost use Rattle.named_steps.specs.Left.{IsFewer};
-ghost use Rattle.named_steps.specs.Grades.{IsPlaced, is_of_clues, is_of_lines};
+ghost use Rattle.named_steps.specs.Left.{IsFewer, IsLeft};
+ghost use Rattle.named_steps.specs.Grades.{IsPlaced, has_reason, is_of_clues, is_of_lines};
+ghost use Rattle.named_steps.specs.Idle.{AreIdleOutside};
 ghost use Rattle.named_steps.specs.ItemLines.{AgreeAlong};
 ghost use Rattle.named_steps.specs.Reasons.{IsByGiven, IsByLine, AreStruckFrom};
 ghost use Rattle.named_steps.specs.Passes.{LeadsTo, LosesAt, StaysOn, AreCluesSettled};
@@ -31,6 +32,9 @@ pub trait Steps: Rules {
 
     // On which line of a grid of a width an item is looked at, by its number.
     ghost item_line: { ℕ → ℕ → Option ℕ };
+
+    // An item, by its number, is idle at candidates: by a grade's reasons it strikes nothing of them, nor of fewer with a solution.
+    ghost idle_at: { Grade → ℕ → CandidatesValue → Type 0 };
 
     /// The values that a reason strikes in a square; the sizes are equal, and the square is one of the grid's. What is known of rows of
     /// sets may be used and added to.
@@ -82,6 +86,12 @@ pub trait Steps: Rules {
         ensures line { result ≡ item_line size item }
         ensures inside { IfSome result (λ line. line < 2 * size) };
 
+    /// Whether an item is idle at candidates: where a puzzle has it, it strikes nothing of them by a grade's reasons, nor of fewer with a
+    /// solution. It is below the count of a puzzle of the size.
+    fn is_idle(grade: Grade, item: u8, candidates: &Candidates) -> bool
+        requires { item < Self.Rules.items_of candidates.now.size }
+        ensures { IsTrue result ↔ idle_at grade item candidates.now };
+
     // What a given strikes, and what rows and columns do, is the same in each game.
     ghost given_struck: { (p : Self) (c : CandidatesValue) (at cell value : ℕ)
         → IsByGiven (Self.Rules.puzzle p) at cell value ↔ struck_by p c (Given at) cell value };
@@ -119,6 +129,14 @@ pub trait Steps: Rules {
         → c.size ≡ (Self.Rules.puzzle p).size → Solves (Self.Rules.puzzle p) g → IsWithin c g
         → cell < (Self.Rules.puzzle p).size * (Self.Rules.puzzle p).size
         → struck_by p c reason cell value → number_at g cell ≢ value };
+
+    // Without items that are idle at candidates the same is struck of what is left of these, and of what is left of fewer, where a solution
+    // is among them.
+    ghost idle_struck: { (p : Self) (keep : ℕ → Bool) (grade : Grade) (c d : CandidatesValue) (g : GridValue) (reason : Reason)
+        (cell value : ℕ) → Self.Rules.valid p → c.size ≡ (Self.Rules.puzzle p).size → d.size ≡ c.size → IsFewer c d
+        → Solves (Self.Rules.puzzle p) g → IsWithin d g
+        → AreIdleOutside (Self.Rules.items_of c.size) keep (λ item. idle_at grade item c) → has_reason grade reason ≡ true
+        → IsLeft d cell value → struck_by p d reason cell value → struck_by (Self.Rules.cut p keep) d reason cell value };
 
     // What is struck in a cut is struck in the whole puzzle.
     ghost struck_cut: { (p : Self) (keep : ℕ → Bool) (c : CandidatesValue) (reason : Reason) (cell value : ℕ)

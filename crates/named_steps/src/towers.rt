@@ -11,6 +11,7 @@ ghost use Rattle.named_steps.specs.Inner.Rows.{May, look_grade};
 
 use crate::clue_strikes::{Look, along_line, by_clue, striking_row, unfilled_row};
 use crate::grade::Grade;
+use crate::idle::is_given_idle;
 use crate::known_rows::KnownRows;
 use crate::line_passes::strike_row;
 use crate::reason::Reason;
@@ -32,12 +33,16 @@ impl Steps for Towers {
     ghost use Rattle.named_steps.specs.Laws.AddedItems as added;
     ghost use Rattle.named_steps.specs.QuietLines.{are_towers_quiet};
     ghost use Rattle.named_steps.specs.ItemLines.{towers_item_line};
+    ghost use Rattle.named_steps.specs.Laws.IdleItems as idle;
+    ghost use Rattle.named_steps.specs.Idle.{IsTowersIdle};
 
     ghost struck_by = { IsTowersStruckBy };
 
     ghost quiet_on = { are_towers_quiet };
 
     ghost item_line = { towers_item_line };
+
+    ghost idle_at = { IsTowersIdle };
 
     fn strikes(
         &self,
@@ -114,6 +119,11 @@ impl Steps for Towers {
         }
     }
 
+    fn is_idle(_grade: Grade, item: u8, candidates: &Candidates) -> bool {
+        let width = candidates.size().get();
+        item >= 4 * width && is_given_idle(candidates, (item - 4 * width) as usize)
+    }
+
     ghost quiet_stays = { quiet.towers_stay };
 
     ghost quiet_settles = { λ p grade c valid. quiet.towers_settle p grade c };
@@ -131,6 +141,8 @@ impl Steps for Towers {
     ghost struck_less = { less.towers_less };
 
     ghost struck_sound = { sound.towers_sound };
+
+    ghost idle_struck = { idle.towers_idle };
 
     ghost struck_cut = { cuts.towers_whole };
 }

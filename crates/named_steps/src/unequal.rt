@@ -11,6 +11,7 @@ ghost use Rattle.named_steps.specs.Inner.SignEnds.{IsEnd};
 ghost use Rattle.named_steps.specs.declared.grade.Grade.TheVariants.{Easy};
 
 use crate::grade::Grade;
+use crate::idle::{is_given_idle, is_sign_idle};
 use crate::known_rows::KnownRows;
 use crate::line_passes::take_at;
 use crate::reason::Reason;
@@ -34,12 +35,16 @@ impl Steps for Unequal {
     ghost use Rattle.named_steps.specs.Laws.AddedItems as added;
     ghost use Rattle.named_steps.specs.QuietLines.{are_unequal_quiet};
     ghost use Rattle.named_steps.specs.ItemLines.{unequal_item_line};
+    ghost use Rattle.named_steps.specs.Laws.IdleItems as idle;
+    ghost use Rattle.named_steps.specs.Idle.{IsUnequalIdle};
 
     ghost struck_by = { IsUnequalStruckBy };
 
     ghost quiet_on = { are_unequal_quiet };
 
     ghost item_line = { unequal_item_line };
+
+    ghost idle_at = { IsUnequalIdle };
 
     fn strikes(
         &self,
@@ -106,6 +111,20 @@ impl Steps for Unequal {
         }
     }
 
+    fn is_idle(grade: Grade, item: u8, candidates: &Candidates) -> bool {
+        let width = candidates.size().get();
+        let across = width * (width - 1);
+        if item < across {
+            let cell = item / (width - 1) * width + item % (width - 1);
+            is_sign_idle(grade, candidates, cell as usize, cell as usize + 1)
+        } else if item < 2 * across {
+            let cell = item - across;
+            is_sign_idle(grade, candidates, cell as usize, (cell + width) as usize)
+        } else {
+            is_given_idle(candidates, (item - 2 * across) as usize)
+        }
+    }
+
     ghost quiet_stays = { quiet.unequal_stay };
 
     ghost quiet_settles = { λ p grade c valid size. quiet.unequal_settle p grade c valid size valid.givens.smallest };
@@ -123,6 +142,8 @@ impl Steps for Unequal {
     ghost struck_less = { less.unequal_less };
 
     ghost struck_sound = { sound.unequal_sound };
+
+    ghost idle_struck = { idle.unequal_idle };
 
     ghost struck_cut = { cuts.unequal_whole };
 }

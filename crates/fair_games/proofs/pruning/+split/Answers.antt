@@ -1,11 +1,12 @@
 use Rattle.std.proofs.Common.{◌≡◌, rules, refl, sym, subst, arith}
 use Rattle.puzzle_gen.proofs.ItemLaws.{laws_of, cuts_of_full}
 use Rattle.named_steps.specs.Passes.{AreCluesSettled}
-use Rattle.trail_solver.proofs.Earlier.{earlier_trans}
+use Rattle.trail_solver.proofs.Earlier.{earlier_refl, earlier_trans}
 use Rattle.fair_games.specs.Inner.PrunedTo.{outside}
 use Rattle.fair_games.specs.Inner.Bases.{IsBase}
 use Rattle.fair_games.specs.Fair.{FailsBy}
 use Rattle.fair_games.proofs.PrunedItems.{pruned_single}
+use Rattle.fair_games.proofs.IdleItems.{HasIdle, others_go}
 use Rattle.fair_games.proofs.PruneSteps.{HasSteps, HasLines, first_base, second_base, first_gone, quiet_first, quiet_second}
 use Rattle.fair_games.proofs.pruning.+split.Goals as goal
 use Rattle.fair_games.proofs.pruning.+split.Given.{Over}
@@ -23,12 +24,25 @@ steps_of g = record {
 lines_of : (g : Over) → HasLines g.P.Rules g.P.Steps.struck_by g.P.Steps.quiet_on g.P.Steps.item_line
 lines_of g = record { settled = g.met.P.Steps.settled_quiet; cut = g.met.P.Steps.quiet_cut }
 
+-- and of its idle items
+idle_of : (g : Over) → HasIdle g.P.Rules g.P.Steps.struck_by g.P.Steps.idle_at
+idle_of g = record { struck = g.met.P.Steps.idle_struck }
+
 pub returns-then-last-first-lt2-clause-pruned : goal.returns-then-last-first-lt2-clause-pruned
 returns-then-last-first-lt2-clause-pruned g t c =
     let square = c.args.grid.now in
     let cuts = cuts_of_full g.P.Rules square (laws_of g.met.P.Rules) c.size-size.ensures.valid c.requires.latin in
     pruned_single g.P.Rules (FailsBy g.P.Steps.struck_by c.args.grade square) square c.args.order.now c.args.first c.args.last c.args.puzzle cuts
     c.requires.ordered (omega (arith, c.if-last-first-lt2.true, c.requires.ordered)) c.requires.pruned c.requires.fails
+
+pub returns-then-wanted-lt2 : goal.returns-then-wanted-lt2
+returns-then-wanted-lt2 g t c =
+    let wanted = c.find_wanted-wanted in
+    let done = others_go g.P.Rules g.P.Steps.struck_by g.P.Steps.idle_at (steps_of g) (idle_of g) c.args.grade c.args.grid.now c.args.order.now c.args.first
+    c.args.last wanted.result.place c.args.puzzle c.without_others.result c.args.left.now c.size-size.ensures.valid c.requires.latin c.requires.trial
+    wanted.ensures.from wanted.ensures.below c.requires.inside c.requires.pruned c.requires.follows c.requires.fails c.requires.base
+    (wanted.ensures.idle c.if-wanted-lt2.true) c.without_others.ensures in
+    record { pruned = done.pruned; follows = done.follows; earlier = done.earlier; later = earlier_refl c.args.left.now }
 
 pub without_all-requires-clause-base : goal.without_all-requires-clause-base
 without_all-requires-clause-base g t c =
