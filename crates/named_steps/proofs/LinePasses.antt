@@ -7,13 +7,13 @@ use Rattle.trail_solver.specs.Candidates.{CandidatesValue, may_be}
 use Rattle.named_steps.specs.Reasons.{IsByLine}
 use Rattle.named_steps.specs.Grades.{has_reason, is_of_lines}
 use Rattle.named_steps.specs.Laws.Less.{peer_less, place_less, set_less}
-use Rattle.named_steps.specs.Passes.{Passes, AreLinesSettled}
+use Rattle.named_steps.specs.Passes.{AreLinesSettled}
 use Rattle.named_steps.specs.Inner.Takes.{Takes}
 use Rattle.named_steps.specs.Inner.LineStrikes.{IsByRest, IsLeftByRest, IsRestQuiet}
 use Rattle.named_steps.specs.Inner.LineTallies.{IsVoid}
 use Rattle.named_steps.specs.Left.{IsLeft}
 use Rattle.named_steps.proofs.Antitone.{IsAntitone}
-use Rattle.named_steps.proofs.Takes.{HasStruck, passes_taken}
+use Rattle.named_steps.proofs.Takes.{Passes, HasStruck, passes_taken}
 use Rattle.named_steps.specs.declared.reason.Reason.{Reason}
 use Rattle.named_steps.specs.declared.grade.Grade.{Grade}
 use Rattle.named_steps.specs.declared.reason.Reason.TheVariants.{Given, Peer, Place, Bound, Stand, Clue, Sign, Set}

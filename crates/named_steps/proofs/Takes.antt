@@ -15,7 +15,7 @@ use Rattle.trail_solver.proofs.SetPairs.{has_pair-pairs_of, length-pairs_of, pai
 use Rattle.named_steps.specs.Left.{IsLeft, IsFewer, without}
 use Rattle.named_steps.specs.Grades.{has_reason}
 use Rattle.named_steps.specs.Chains.{StepValue, IsChain, AreOfGrade, left_by}
-use Rattle.named_steps.specs.Passes.{LeadsTo, Passes}
+use Rattle.named_steps.specs.Passes.{LeadsTo}
 use Rattle.named_steps.specs.Inner.Takes.{Strikes, Takes}
 use Rattle.named_steps.proofs.Antitone.{IsAntitone, left_size, left_fewer, still_left, without_fewer}
 use Rattle.named_steps.proofs.Parts.{chain_joined, left_append}
@@ -392,6 +392,12 @@ leads_taken Struck less grade Which a b t why =
     let lead = pairs_lead Struck less grade a a (λ cell v left. left) t.pairs (λ cell v has. let h = t.each cell v has in (h.0, why cell v h.0 h.1)) in
     let is : b ≡ without a t.pairs = λ i. record { size = t.size i; trail = t.trail i } in
     subst (λ d. LeadsTo Struck grade a d) (sym is) lead
+
+-- a chain of the grade's steps leads there, and where nothing went it is quiet
+pub record Passes (Struck : CandidatesValue → Reason → ℕ → ℕ → Type 0) (grade : Grade) (IsQuiet : CandidatesValue → Type 0)
+    (old new : CandidatesValue) : Type 0 where
+  pub leads : LeadsTo Struck grade old new
+  pub quiet : length new.trail ≡ length old.trail → IsQuiet old
 
 -- and that is a pass
 pub passes_taken : (Struck : CandidatesValue → Reason → ℕ → ℕ → Type 0) → IsAntitone Struck → (grade : Grade) (IsQuiet : CandidatesValue → Type 0)

@@ -15,9 +15,11 @@ use Rattle.named_steps.specs.Laws.Less.{towers_less}
 use Rattle.named_steps.specs.Passes.{LeadsTo, StaysOn}
 use Rattle.named_steps.specs.Inner.Takes.{Takes}
 use Rattle.named_steps.specs.QuietLines.{IsViewQuiet, AreViewsQuiet}
-use Rattle.named_steps.specs.Inner.Rows.{May, IsAlong, look_grade, look_reason}
+use Rattle.named_steps.specs.Inner.Rows.{May, IsAlong, look_grade}
 use Rattle.named_steps.specs.Laws.Quiet.{clue_was}
 use Rattle.named_steps.proofs.Takes.{leads_taken, takes_map}
+use Rattle.named_steps.specs.declared.reason.Reason.{Reason}
+use Rattle.named_steps.specs.declared.reason.Reason.TheVariants.{Bound, Stand, Clue}
 use Rattle.named_steps.specs.declared.clue_strikes.Look.{Look}
 use Rattle.named_steps.specs.declared.clue_strikes.Look.TheVariants.{Alone, Stands, Marks}
 
@@ -58,6 +60,12 @@ view_taken May line place clue row along a b on r is t =
     let has : has_number (slice_index row h.index) v ≡ true = (r.each h.index v h.inside).1 (there, again) in
     let set : slice_index along k ≡ slice_index row h.index = is.each k low ∙ ap (slice_index row) (view_index_twice w place h.index h.inside) in
     (k, low, sym h.here ∙ at h.index, subst (λ (n : ℕ). has_number n v ≡ true) (sym set) has)) t
+
+-- the reason by which a clue is looked at so
+abbrev look_reason : Look → ℕ → Reason
+look_reason Alone place = Bound place
+look_reason Stands place = Stand place
+look_reason Marks place = Clue place
 
 look_has : (look : Look) (place : ℕ) → has_reason (look_grade look) (look_reason look place) ≡ true
 look_has Alone place = refl

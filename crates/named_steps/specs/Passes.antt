@@ -20,12 +20,6 @@ pub record LeadsTo (Struck : CandidatesValue → Reason → ℕ → ℕ → Type
   pub allowed : AreOfGrade grade steps
   pub is : d ≡ left_by c steps
 
--- a chain of the grade's steps leads there, and where nothing went it is quiet
-pub record Passes (Struck : CandidatesValue → Reason → ℕ → ℕ → Type 0) (grade : Grade) (IsQuiet : CandidatesValue → Type 0)
-    (old new : CandidatesValue) : Type 0 where
-  pub leads : LeadsTo Struck grade old new
-  pub quiet : length new.trail ≡ length old.trail → IsQuiet old
-
 -- all that was left of the line's squares is left
 abbrev pub StaysOn : ℕ → CandidatesValue → CandidatesValue → Type 0
 StaysOn line old new = (k v : ℕ) → k < old.size → IsLeft old (line_cell old.size line k) v → IsLeft new (line_cell old.size line k) v

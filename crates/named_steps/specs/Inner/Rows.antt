@@ -6,8 +6,6 @@ use Rattle.trail_solver.specs.Candidates.{CandidatesValue}
 use Rattle.clue_rules.specs.Views.{view_cell, view_index}
 use Rattle.named_steps.specs.Left.{IsLeft}
 use Rattle.named_steps.specs.Fillings.{Anything, Standing}
-use Rattle.named_steps.specs.declared.reason.Reason.{Reason}
-use Rattle.named_steps.specs.declared.reason.Reason.TheVariants.{Bound, Stand, Clue}
 use Rattle.named_steps.specs.declared.grade.Grade.{Grade}
 use Rattle.named_steps.specs.declared.grade.Grade.TheVariants.{Easy, Hard}
 use Rattle.named_steps.specs.declared.clue_strikes.Look.{Look}
@@ -49,12 +47,6 @@ pub record AreStandingSets (all : ℕ) (left : List ℕ) (n : ℕ) (row : List �
 pub record AreMissing (w : ℕ) (kept : List ℕ) (n : ℕ) (row : List ℕ) : Type 0 where
   pub count : length row ≡ 9
   pub each : (k v : ℕ) → k < n → has_number (slice_index row k) v ≡ ((nat_le 1 v && nat_le v w) && not (has_number (slice_index kept k) v))
-
--- the reason by which a clue is looked at so
-abbrev pub look_reason : Look → ℕ → Reason
-look_reason Alone place = Bound place
-look_reason Stands place = Stand place
-look_reason Marks place = Clue place
 
 -- the least grade that has it
 abbrev pub look_grade : Look → Grade
