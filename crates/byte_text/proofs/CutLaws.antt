@@ -16,7 +16,7 @@ use Rattle.byte_text.specs.Cuts.{Lacks, before, behind}
 abbrev place : ℕ → List ℕ → ℕ
 place c bs = position_or_len (λ b. b == c) bs
 
--- where something stands behind the separator, it stands in the text
+-- where something stands after the separator, it stands in the text
 found : (c : ℕ) (bs rest : List ℕ) → behind c bs ≡ Some rest → (place c bs < length bs) × (after_first (λ b. b == c) bs ≡ rest)
 found c bs rest cut =
     let parts = cond_some (nat_lt (place c bs) (length bs)) (after_first (λ b. b == c) bs) rest cut in
@@ -44,7 +44,7 @@ cut_parts c bs rest cut =
 pub cut_whole : (c : ℕ) (bs : List ℕ) → behind c bs ≡ None → before c bs ≡ bs
 cut_whole c bs none = take_all (place c bs) bs (missing c bs none)
 
--- the place of a separator behind bytes that are none, and where there is none
+-- the place of a separator after bytes that are none, and where there is none
 place_at : (c : ℕ) (xs ys : List ℕ) → Lacks c xs → place c (xs ++ c ∷ ys) ≡ length xs
 place_at c [] ys lacks = rw (eq-eqb c c refl) refl
 place_at c (x ∷ xs) ys lacks = rw (ne_eqb x c lacks.0) (omega (arith, place_at c xs ys lacks.1))
@@ -57,7 +57,7 @@ place_none c (x ∷ xs) lacks = rw (ne_eqb x c lacks.0) (omega (arith, place_non
 pub before_at : (c : ℕ) (xs ys : List ℕ) → Lacks c xs → before c (xs ++ c ∷ ys) ≡ xs
 before_at c xs ys lacks = take_at xs (c ∷ ys) (place c (xs ++ c ∷ ys)) (sym (place_at c xs ys lacks))
 
--- what comes behind the first separator, where the text is cut there
+-- what comes after the first separator, where the text is cut there
 pub behind_at : (c : ℕ) (xs ys : List ℕ) → Lacks c xs → behind c (xs ++ c ∷ ys) ≡ Some ys
 behind_at c xs ys lacks =
     let all = xs ++ c ∷ ys in
@@ -68,7 +68,7 @@ behind_at c xs ys lacks =
 pub before_all : (c : ℕ) (xs : List ℕ) → Lacks c xs → before c xs ≡ xs
 before_all c xs lacks = take_all (place c xs) xs (omega (arith, place_none c xs lacks))
 
--- behind a separator that isn't there nothing comes
+-- after a separator that isn't there nothing comes
 pub behind_none_in : (c : ℕ) (xs : List ℕ) → Lacks c xs → behind c xs ≡ None
 behind_none_in c xs lacks = rw (le-ltb (place c xs) (length xs) (omega (arith, place_none c xs lacks))) refl
 

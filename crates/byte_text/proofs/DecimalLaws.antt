@@ -10,12 +10,12 @@ use Rattle.byte_text.specs.Bytes.{digit}
 use Rattle.byte_text.specs.Cuts.{Lacks}
 use Rattle.byte_text.specs.Decimals.{is_digit, digit_onto, number_from, has_leading_zero, decimal_value}
 
--- all bytes are digits, and the number that they stand for behind n
+-- all bytes are digits, and the number that they stand for after n
 abbrev all_digits : List ℕ → Bool
 all_digits [] = true
 all_digits (b ∷ bs) = is_digit b && all_digits bs
 
--- the value of the digits, behind digits of this value
+-- the value of the digits, after digits of this value
 abbrev value_onto : ℕ → List ℕ → ℕ
 value_onto n [] = n
 value_onto n (b ∷ bs) = value_onto (n * 10 + (b - 48)) bs

@@ -11,7 +11,7 @@ abbrev pub begins_digit : List ℕ → Bool
 begins_digit [] = false
 begins_digit (b ∷ bs) = is_digit b
 
--- n with one more digit behind it, up to the greatest number
+-- n with one more digit after it, up to the greatest number
 abbrev pub digit_onto : ℕ → ℕ → ℕ → Option ℕ
 digit_onto greatest n b =
     if is_digit b && nat_le (n * 10 + (b - digit_zero)) greatest then Some (n * 10 + (b - digit_zero)) else None

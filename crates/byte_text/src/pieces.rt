@@ -10,7 +10,7 @@ fn place_of(separator: u8, bytes: &[u8]) -> Option<usize>
     bytes.iter().position(|b| *b == separator)
 }
 
-/// The bytes before the first `separator`, and those behind it where there is one.
+/// The bytes before the first `separator`, and those after it where there is one.
 #[tactic(auto, using(crate::proofs::CutLaws::cuts))]
 pub fn cut(bytes: &[u8], separator: u8) -> (&[u8], Option<&[u8]>)
     ensures front { result.0.now ≡ before separator bytes.now }

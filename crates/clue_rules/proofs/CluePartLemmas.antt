@@ -13,7 +13,7 @@ use Rattle.clue_rules.proofs.FilledLemmas.{filled_one}
 pub field_count_by : (part : List ℕ) → length (fields part) ≡ count_by (λ b. b == slash) part + 1
 field_count_by part = length-slice_split (λ b. b == slash) part
 
--- the fields from a place in the clue part on; behind the last separator there is none
+-- the fields from a place in the clue part on; after the last separator there is none
 abbrev pub fields_left : Option (List ℕ) → List (List ℕ)
 fields_left None = []
 fields_left (Some part) = fields part
@@ -45,7 +45,7 @@ fills_step w part now front rest place clues fills step good small =
           ∙ ap (λ xs. xs ++ map clue_in (fields_left rest)) (sym one.1)));
     }
 
--- clues behind the first, each behind its separator
+-- clues after the first, each after its separator
 abbrev pub slashed : List ℕ → List ℕ
 slashed clues = flat_map (λ clue. slash ∷ clue_field clue) clues
 

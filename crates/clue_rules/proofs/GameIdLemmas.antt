@@ -67,7 +67,7 @@ params_no_separator : (letters : List ℕ) (p : Params) → LacksSeparators lett
 params_no_separator letters p lacks params =
     (digit_no_separator p.size params.largest, letter_no_separator letters p.letter lacks params.letter)
 
--- what stands behind the parameters
+-- what stands after the parameters
 abbrev Behind : Params → List ℕ → GameId (List ℕ) → Type 0
 Behind p bs (Described q desc) = (q ≡ p) × ((separator : ℕ) × (bs ≡ separator ∷ desc) × (separator ≢ hash) × (separator ≢ exclamation))
 Behind p bs (Seeded q seed) = (q ≡ p) × (seed < 2 ^ 64) × (bs ≡ exclamation ∷ decimal seed)
@@ -125,7 +125,7 @@ id_parts_taken letters has_adjacent text parts read =
     parts_text letters text steps.value parts (params_taken letters has_adjacent (params_part text) steps.value steps.gives)
     (behind_params_taken steps.value (from_separator text) parts steps.rest)
 
--- what stands behind the parameters is read behind them
+-- what stands after the parameters is read after them
 split_params : (letters : List ℕ) (has_adjacent : Bool) (p : Params) (separator : ℕ) (rest : List ℕ) → LacksSeparators letters
     → IsParams letters p → is_separator separator ≡ true
     → id_parts_at letters has_adjacent (params_text p ++ separator ∷ rest) ≡ behind_params p (separator ∷ rest)

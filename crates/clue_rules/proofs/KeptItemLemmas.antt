@@ -21,7 +21,7 @@ kept-but_one empty i d (suc k) (x ∷ xs) e =
     let other : (i == d) ≡ false = ne_eqb i d (λ same. omega arith) in
     rw (other, kept-but_one empty (i + 1) d k xs (omega arith)) refl
 
--- where the one entry lies behind a list, all of it is kept
+-- where the one entry lies after a list, all of it is kept
 pub kept-before : {X : Type 0} (empty : X) (i d : ℕ) (xs : List X) → i + length xs ≤ d → kept_items empty (λ j. not (j == d)) i xs ≡ xs
 kept-before empty i d [] h = refl
 kept-before empty i d (x ∷ xs) h =

@@ -20,7 +20,7 @@ any_from_contains : (letters : List ℕ) (letter : ℕ) → Contains letters let
 any_from_contains letters letter (place, inside, here) =
     list_any_at (λ l. l == letter) letters place letter inside (eq-eqb (slice_index_or letters place letter) letter here)
 
--- a value that was read behind the size
+-- a value that was read after the size
 abbrev Reads : List ℕ → ℕ → List ℕ → Params → Type 0
 Reads letters w bs p = (p.size ≡ w) × IfSome p.letter (λ letter. Contains letters letter) × (bs ≡ letter_part p.letter)
 

@@ -46,7 +46,7 @@ abbrev pub seeded : Params → Option ℕ → Result (GameId (List ℕ)) IdFault
 seeded p None = Err BadSeed
 seeded p (Some seed) = Ok (Seeded p seed)
 
--- the ID of what stands from the separator on, behind its parameters
+-- the ID of what stands from the separator on, after its parameters
 abbrev pub behind_params : Params → List ℕ → Result (GameId (List ℕ)) IdFault
 behind_params p [] = Err NoDescription
 behind_params p (separator ∷ bs) =

@@ -13,7 +13,7 @@ pub record IsParams (letters : List ℕ) (p : Params) : Type 0 where
   pub largest : p.size ≤ 9
   pub letter : IfSome p.letter (λ letter. Contains letters letter)
 
--- what stands behind the size: `d` and the letter, where there is one
+-- what stands after the size: `d` and the letter, where there is one
 abbrev pub letter_part : Option ℕ → List ℕ
 letter_part None = []
 letter_part (Some letter) = letter_d ∷ letter ∷ []
@@ -27,12 +27,12 @@ pub record IsParamText (letters : List ℕ) (p : Params) (text : List ℕ) : Typ
   pub params : IsParams letters p
   pub text_is : text ≡ params_text p
 
--- these parameters, where nothing stands behind them
+-- these parameters, where nothing stands after them
 abbrev pub if_no_more : Params → List ℕ → Result Params IdFault
 if_no_more p [] = Ok p
 if_no_more p (b ∷ bs) = Err BadParams
 
--- the parameters of a size by what stands behind the `d`
+-- the parameters of a size by what stands after the `d`
 abbrev pub letter_at : List ℕ → ℕ → List ℕ → Result Params IdFault
 letter_at letters w [] = Err BadLetter
 letter_at letters w (letter ∷ bs) =
@@ -42,14 +42,14 @@ letter_at letters w (letter ∷ bs) =
 abbrev pub has_adjacent_mode : List ℕ → Bool
 has_adjacent_mode title = bytes_eq title (codes "Unequal")
 
--- the parameters of a size by what stands behind it
+-- the parameters of a size by what stands after it
 abbrev pub behind_size : List ℕ → Bool → ℕ → List ℕ → Result Params IdFault
 behind_size letters has_adjacent w [] = Ok (record { size = w; letter = None })
 behind_size letters has_adjacent w (b ∷ bs) =
     if has_adjacent && (b == letter_a) then Err AdjacentMode
     else (if b == letter_d then letter_at letters w bs else Err BadParams)
 
--- the byte is a digit from 3 to 9, and no other digit stands behind it
+-- the byte is a digit from 3 to 9, and no other digit stands after it
 abbrev pub is_size : ℕ → List ℕ → Bool
 is_size b bs = nat_le (digit_zero + 3) b && (nat_le b (digit_zero + 9) && not (begins_digit bs))
 

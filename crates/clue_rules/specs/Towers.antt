@@ -51,7 +51,7 @@ towers_puzzle v = record {
   clued = λ place. nat_lt 0 (clue_of v place);
 }
 
--- how many items a puzzle of a width can have: its clues, and behind them its givens
+-- how many items a puzzle of a width can have: its clues, and after them its givens
 abbrev pub towers_items : ℕ → ℕ
 towers_items w = 4 * w + w * w
 

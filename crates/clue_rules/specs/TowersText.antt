@@ -32,13 +32,13 @@ IsSquareText w (b ∷ bs) squares =
     ⊎ ((digit_zero + 1 ≤ b) × (b ≤ digit_zero + w) × (begins_digit bs ≡ false)
     × ((more : List ℕ) × (squares ≡ (b - digit_zero) ∷ more) × IsSquareText w bs more))
 
--- The text is this front, and no square is given, or the front and behind a `,` the squares.
+-- The text is this front, and no square is given, or the front and after a `,` the squares.
 abbrev pub SaysSquares : ℕ → List ℕ → List ℕ → List ℕ → Type 0
 SaysSquares w text front squares =
     ((text ≡ front) × (squares ≡ replicate (w * w) 0))
     ⊎ ((part : List ℕ) × (text ≡ front ++ comma ∷ part) × IsSquareText w part squares)
 
--- The text describes the puzzle: the clues, and behind them the squares, if any is given.
+-- The text describes the puzzle: the clues, and after them the squares, if any is given.
 pub record IsTowersText (v : TowersValue) (text : List ℕ) : Type 0 where
   pub puzzle : IsTowers v
   pub parts : SaysSquares v.size text (clue_part v.clues) v.givens
@@ -47,12 +47,12 @@ pub record IsTowersText (v : TowersValue) (text : List ℕ) : Type 0 where
 abbrev pub blank_letters : ℕ → List ℕ
 blank_letters n = if n == 0 then [] else (replicate ((n - 1) / 26) letter_z ++ ((letter_a + (n - 1) % 26) ∷ []))
 
--- a given behind n blank squares, before which another given stands or none: `_` stands only between two givens
+-- a given after n blank squares, before which another given stands or none: `_` stands only between two givens
 abbrev pub given_written : ℕ → Bool → ℕ → List ℕ
 given_written n after_given square =
     blank_letters n ++ ((if (n == 0) && after_given then (underscore ∷ []) else []) ++ ((digit_zero + square) ∷ []))
 
--- the squares behind n blank ones, before which a given stands or none
+-- the squares after n blank ones, before which a given stands or none
 abbrev pub squares_written : ℕ → Bool → List ℕ → List ℕ
 squares_written n after_given [] = blank_letters n
 squares_written n after_given (square ∷ squares) =
@@ -100,7 +100,7 @@ abbrev pub is_square_byte : ℕ → ℕ → List ℕ → Bool
 is_square_byte w b bs =
     (b == underscore) || (is_blank_letter b || (nat_le (digit_zero + 1) b && (nat_le b (digit_zero + w) && not (begins_digit bs))))
 
--- each byte may stand before those behind it
+-- each byte may stand before those after it
 abbrev pub is_square_part : ℕ → List ℕ → Bool
 is_square_part w [] = true
 is_square_part w (b ∷ bs) = is_square_byte w b bs && is_square_part w bs
@@ -109,7 +109,7 @@ is_square_part w (b ∷ bs) = is_square_byte w b bs && is_square_part w bs
 abbrev pub squares_of : ℕ → List ℕ
 squares_of b = if is_blank_letter b then replicate (blanks_of b) 0 else (if is_digit b then ((b - digit_zero) ∷ []) else [])
 
--- the givens that the part behind the comma says at a width, or its first fault
+-- the givens that the part after the comma says at a width, or its first fault
 unfoldable pub givens_at : ℕ → List ℕ → Result (List ℕ) IdFault
 givens_at w part = if is_square_part w part then exactly (w * w) (flat_map squares_of part) else Err BadSquares
 

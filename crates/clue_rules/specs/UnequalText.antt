@@ -89,7 +89,7 @@ without_empty_last (p ∷ q ∷ ps) = p ∷ without_empty_last (q ∷ ps)
 abbrev pub pieces_of : List ℕ → List (List ℕ)
 pieces_of text = without_empty_last (slice_split (λ b. b == comma) text)
 
--- the digit from 0 to w with which the piece begins, where no other stands behind it
+-- the digit from 0 to w with which the piece begins, where no other stands after it
 abbrev pub number_in : ℕ → List ℕ → Option ℕ
 number_in w [] = None
 number_in w (b ∷ bs) =
@@ -107,7 +107,7 @@ direction_of b =
     else (if b == capital_d then Some Down
     else (if b == capital_l then Some Left else None)))
 
--- all bytes behind the digit are letters
+-- all bytes after the digit are letters
 abbrev pub has_letters : List ℕ → Bool
 has_letters piece = list_all (λ b. is_some (direction_of b)) (drop 1 piece)
 

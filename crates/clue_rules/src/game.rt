@@ -36,7 +36,7 @@ pub trait Game: Rules {
     fn name() -> &'static str
         ensures { result.now ≡ title };
 
-    /// The letters of the difficulties that may stand behind `d` in the game's parameters.
+    /// The letters of the difficulties that may stand after `d` in the game's parameters.
     fn letters() -> &'static str
         ensures { result.now ≡ letter_codes };
 

@@ -24,7 +24,7 @@ pub enum GameId<P> {
 /// The ID that the text says, of the game `P`.
 ///
 /// The refusals are, the first that applies: those of `Params::read` on what stands before the first `:`, `#` or `!`;
-/// `ForeignSeed` behind `#`; `NoDescription` where none of these stands; `BadSeed`; those of `Game::read_desc`. It takes no
+/// `ForeignSeed` after `#`; `NoDescription` where none of these stands; `BadSeed`; those of `Game::read_desc`. It takes no
 /// memory, so `OutOfMemory` is never among them.
 pub fn read_id<P: Game>(text: &[u8]) -> Result<GameId<P>, IdFault>
     ensures value { result ≡ id_at P.letter_codes (has_adjacent_mode P.title) P.desc_at text.now }

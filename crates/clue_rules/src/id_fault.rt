@@ -11,17 +11,17 @@ use thiserror::Error;
 pub enum IdFault {
     /// The run of digits at the front isn't one digit from 3 to 9.
     BadSize,
-    /// The byte behind `d` is missing or isn't a letter of the game.
+    /// The byte after `d` is missing or isn't a letter of the game.
     BadLetter,
     /// Unequal's adjacent mode, which isn't supported.
     AdjacentMode,
     /// Anything else that the parameters' grammar doesn't have.
     BadParams,
-    /// A seed of the collection's own generator, behind `#`.
+    /// A seed of the collection's own generator, after `#`.
     ForeignSeed,
     /// No separator, and so no description and no seed.
     NoDescription,
-    /// The seed behind `!` isn't a decimal number without leading zeros below 2 to the 64.
+    /// The seed after `!` isn't a decimal number without leading zeros below 2 to the 64.
     BadSeed,
     /// Towers: a clue that isn't empty or one digit from 1 to the width. Unequal: a byte that is no sign.
     BadClue,

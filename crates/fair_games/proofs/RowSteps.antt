@@ -89,7 +89,7 @@ passes_free g numbers columns chosen more k below free made none =
     (tries_free g numbers (get_or columns 0 0) (rest_of columns) chosen (get_or numbers k 0) free
     ∙ ap (first_row g numbers (rest_of columns)) (sym made) ∙ none)
 
--- a list without the number that was put behind it
+-- a list without the number that was put after it
 pub without_last : (xs ys : List ℕ) (x : ℕ) → ys ≡ xs ++ x ∷ [] → take (length ys - 1) ys ≡ xs
 without_last xs ys x made =
     let count : length ys - 1 ≡ length xs = let l = ap length made ∙ length-append xs (x ∷ []) in omega (arith, l) in

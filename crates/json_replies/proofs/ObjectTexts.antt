@@ -188,7 +188,7 @@ put_answer Completable answer game = refl
 put_answer Hint answer game = refl
 put_answer Grade answer game = refl
 
--- the object of an answer, with the session behind it
+-- the object of an answer, with the session after it
 abbrev answer_data : FurtherLine → Data → Data → Data
 answer_data which answer session = object (member (further_key which) answer (reply_members None [] session))
 

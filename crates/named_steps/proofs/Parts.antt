@@ -10,7 +10,7 @@ use Rattle.named_steps.specs.declared.reason.Reason.{Reason}
 use Rattle.named_steps.specs.declared.grade.Grade.{Grade}
 use Rattle.named_steps.specs.declared.goal.Goal.{Goal}
 
--- the last step that a part lacks: behind it the part has all
+-- the last step that a part lacks: after it the part has all
 record LacksLast (part steps : List StepValue) : Type 0 where
   front : List StepValue
   step : StepValue

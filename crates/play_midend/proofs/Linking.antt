@@ -1,4 +1,4 @@
--- A session's links still lead from board to board once the board is exchanged with the link before or behind it.
+-- A session's links still lead from board to board once the board is exchanged with the link before or after it.
 use Rattle.std.proofs.Common.{◌≡◌, ◌≢◌, ℕ, suc, ◌+◌, ◌-◌, ◌<◌, ◌≤◌, false, List, [], ◌∷◌, ◌++◌, length, get_or, set, take, drop, Ok, refl, sym, ap, ◌∙◌, subst, arith, add-one, drop-cons}
 use Rattle.std.proofs.lemmas.List.{length-set, length-append, length-map, take_at, drop_at, take-set, drop-set, drop-set-lt, map-append, length-take-le, get_or-set_same, take-map, take-append-drop}
 use Rattle.std.proofs.Math.Seq.{take-suc, map-set_same}
@@ -79,7 +79,7 @@ linked_back p links n board r q new h is at made fits back =
     at_size : (p : Puzzle) (board : BoardValue) (change : ChangeValue) (new : BoardValue) → board.size ≡ p.size → FitsBoard board change → new ≡ board_after board change → new.size ≡ p.size
     at_size p board change new size fits at = ap (λ (b : BoardValue). b.size) at ∙ size_after board change fits ∙ size
 
--- the link that stands behind the position
+-- the link that stands after the position
 pub record FirstAhead (p : Puzzle) (now : BoardValue) (r : Link) (rs : List Link) : Type 0 where
   pub next : BoardValue
   pub is_ahead : IsAhead p now r next
@@ -114,7 +114,7 @@ linked_ahead p links n board r q new h inside is at made fits back =
           (subst (λ (b : BoardValue). AreLater p b (drop (n + 1) links)) (sym e) first.later);
     }
 
--- a new link behind the past ones
+-- a new link after the past ones
 pub linked_new : (p : Puzzle) (links : List Link) (n : ℕ) (board : BoardValue) (r : Link) (next : BoardValue)
     → AreLinked p links n board → IsAhead p board r next → n + 2 ≤ MOST_STATES → (n ≡ 0 → is_restart r.made ≡ false)
     → AreLinked p (take n links ++ r ∷ []) n board

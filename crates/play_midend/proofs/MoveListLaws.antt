@@ -57,7 +57,7 @@ room_left position room =
     let test : (position == MOST_STATES) ≡ false = apart_eqb position MOST_STATES (λ full. absurd (omega arith)) in
     rw test refl
 
--- a move behind the last
+-- a move after the last
 pub played_last : {P : Type 0} (p : Puzzle) (h : History P) (ks : List Move) (m : Move) → IsOk (step p (replay p ks) m)
     → length ks + 2 ≤ MOST_STATES → (length ks ≡ 0 → is_restart m ≡ false) → played p (with_moves h ks) m ≡ Ok (with_moves h (ks ++ m ∷ []))
 played_last {P} p h ks m stepped room restart =

@@ -171,7 +171,7 @@ done_taken bs m =
           subst (λ (k : Move). IsMoveText k (capital_d ∷ bs)) e (record { writable = (x_is, y_is); spelled = ap (λ xs. capital_d ∷ xs) spelled })
     ] refl
 
--- one letter's row of the table: its move, or what the rows behind it give
+-- one letter's row of the table: its move, or what the rows after it give
 letter_taken : (b k : ℕ) (bs : List ℕ) (m : Move) (here later : Option Move) → ReadsMove here k bs m → ReadsMove later b bs m
     → ReadsMove (cond (b == k) here later) b bs m
 letter_taken b k bs m here later this others =

@@ -16,7 +16,7 @@ pub replay_from-append : (p : Puzzle) (b : BoardValue) (ms ns : List Move)
 replay_from-append p b [] ns = refl
 replay_from-append p b (m ∷ ms) ns = replay_from-append p (after_move p b m) ms ns
 
--- moves that can be made in turn, and others behind them
+-- moves that can be made in turn, and others after them
 pub ArePlayable-append : (p : Puzzle) (b : BoardValue) (ms ns : List Move) → ArePlayable p b ms → ArePlayable p (replay_from p b ms) ns
     → ArePlayable p b (ms ++ ns)
 ArePlayable-append p b [] ns h more = more
@@ -33,7 +33,7 @@ restart_first-take zero ms h = refl
 restart_first-take (suc n) [] h = refl
 restart_first-take (suc n) (m ∷ ms) h = h
 
--- a move behind a list of moves
+-- a move after a list of moves
 pub restart_first-push : (ms : List Move) (m : Move) → begins_with_restart ms ≡ false → (length ms ≡ 0 → is_restart m ≡ false)
     → begins_with_restart (ms ++ m ∷ []) ≡ false
 restart_first-push [] m h restart = restart refl

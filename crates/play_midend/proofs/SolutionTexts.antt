@@ -76,7 +76,7 @@ pub record IsSize (n w : ℕ) : Type 0 where
   pub largest : w ≤ 9
   pub count : n ≡ w * w
 
--- one row of the table: its size, or what the rows behind it give
+-- one row of the table: its size, or what the rows after it give
 row_taken : (n k v w : ℕ) (rest : Option ℕ) → IsSize k v → (rest ≡ Some w → IsSize n w) → cond (n == k) (Some v) rest ≡ Some w
     → IsSize n w
 row_taken n k v w rest here later =

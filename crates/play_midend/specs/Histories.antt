@@ -59,7 +59,7 @@ started puzzle params next_params extras = record {
   position = 1;
 }
 
--- the state behind the one that is shown: a move drops those that stood there
+-- the state after the one that is shown: a move drops those that stood there
 abbrev pub with_move : {P : Type 0} → History P → Move → History P
 with_move h m = record h { moves = past h ++ m ∷ []; position = h.position + 1 }
 
@@ -105,7 +105,7 @@ SolveGives p h exact =
 abbrev pub undone : {P : Type 0} → History P → Result (History P) PlayFault
 undone h = if h.position == 1 then Err NothingToUndo else Ok (at_position h (h.position - 1))
 
--- the state behind, which a session has where moves were undone
+-- the next state, which a session has where moves were undone
 abbrev pub redone : {P : Type 0} → History P → Result (History P) PlayFault
 redone h =
     if h.position == length h.moves + 1 then Err NothingToRedo else Ok (at_position h (h.position + 1))

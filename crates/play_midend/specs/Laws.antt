@@ -76,7 +76,7 @@ RunsStayStorable {P} puzzle of_game letters =
     IsStorable puzzle of_game letters old → AnsweredInTurn (puzzle old.puzzle) old calls new
     → IsStorable puzzle of_game letters new
 
--- the same puzzle, parameters, kept bytes, past, position and board; what stood behind the position may be gone
+-- the same puzzle, parameters, kept bytes, past, position and board; what stood after the position may be gone
 pub record IsSameBack {P : Type 0} (p : Puzzle) (old new : History P) : Type 0 where
   pub puzzle : new.puzzle ≡ old.puzzle
   pub params : new.params ≡ old.params

@@ -68,7 +68,7 @@ abbrev pub all_three : Option ℕ → Option ℕ → Option ℕ → Option (ℕ 
 all_three (Some x) (Some y) (Some n) = Some (x, y, n)
 all_three _ _ _ = None
 
--- the first of three numbers, which was read, with the two behind
+-- the first of three numbers, which was read, with the two after
 abbrev pub three_from : Option ℕ → List ℕ → Option (ℕ × ℕ × ℕ)
 three_from x rest =
     option_and_then (λ last. all_three x (decimal_value 255 (before comma rest)) (decimal_value 255 last)) (behind comma rest)
@@ -113,7 +113,7 @@ solution_of text w = option_map (λ ns. record { size = w; numbers = ns }) (digi
 abbrev pub solution_at : List ℕ → Option GridValue
 solution_at text = option_and_then (λ w. solution_of text w) (size_by_count (length text))
 
--- nothing stands behind the letter
+-- nothing stands after the letter
 abbrev pub mark_all_at : List ℕ → Option Move
 mark_all_at [] = Some MarkAll
 mark_all_at (b ∷ bs) = None

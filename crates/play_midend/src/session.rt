@@ -27,7 +27,7 @@ struct Link {
 }
 
 /// A puzzle that is played: its history, which is a list of moves and the position of the state that is shown, and its board.
-/// It does what the mid-end of the collection does (its developer guide): a move drops the states behind the position, undo
+/// It does what the mid-end of the collection does (its developer guide): a move drops the states after the position, undo
 /// and redo go along them, and a restart is a move of its own.
 ///
 /// Contracts see a session as a `History`: puzzle, parameters, kept bytes, moves and position. It has one board and beside
@@ -40,7 +40,7 @@ pub struct Session<P: Game> {
     extras: Extras,
     board: Board,
     links: Vec<Link>,
-    // How many of the links are past. Those behind them are later.
+    // How many of the links are past. Those after them are later.
     past: usize,
 }
 
@@ -80,7 +80,7 @@ fn check_room(position: usize) -> Result<(), PlayFault>
     Ok(())
 }
 
-// Puts a link behind the past ones, in place of all that stand there, which takes no memory where one does.
+// Puts a link after the past ones, in place of all that stand there, which takes no memory where one does.
 fn put(links: &mut Vec<Link>, past: usize, last: Link) -> Result<(), AllocError>
     requires { past ≤ length links.old.items }
     ensures ok { OnOk result (links.new.items ≡ take past links.old.items ++ last ∷ []) }
@@ -140,7 +140,7 @@ impl<P: Game> Session<P> {
         })
     }
 
-    /// Makes a move: the states behind the one that is shown go, and the new one is shown.
+    /// Makes a move: the states after the one that is shown go, and the new one is shown.
     ///
     /// Refused, the first that applies, with nothing changed: `NothingToRestart` for a restart at position 1; `OffGrid`,
     /// `OffRange`, `GivenSquare`, `FilledSquare` and `BadSolution` as the board has it; `HistoryFull` at position `MOST_STATES`;
@@ -205,7 +205,7 @@ impl<P: Game> Session<P> {
         Ok(())
     }
 
-    /// Shows the state behind; `NothingToRedo` at the last alone. It takes no memory.
+    /// Shows the next state; `NothingToRedo` at the last alone. It takes no memory.
     pub fn redo(&mut self) -> Result<(), PlayFault>
         ensures ok { OnOk result (redone self.old ≡ Ok self.new) }
         ensures err { OnErr result (self.new ≡ self.old) }

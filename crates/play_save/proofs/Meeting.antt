@@ -40,7 +40,7 @@ first_faultless game before k value none =
     let parts = once_taken (is_some (first_of (values_of k before))) _ none in
     (no_first (values_of k before) parts.0, parts.1)
 
--- the first values, with one more behind
+-- the first values, with one more after
 pub first_added : (before : List KeyedRecord) (k : HeaderKey) (value : List ℕ)
     → values_of k before ≡ [] → (j : HeaderKey)
     → first_of (values_of j (before ++ one (Header k) value)) ≡ with_first (λ i. first_of (values_of i before)) k value j

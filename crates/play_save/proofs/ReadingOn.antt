@@ -51,7 +51,7 @@ listing_at (suc n) rest within = (n, refl, λ e after is. let shorter = record_s
 listing_at zero [] within = let none = end_again [] tt in (zero, rw none refl, λ e after is. cc)
 listing_at zero (b ∷ bs) within = absurd (omega arith)
 
--- A place where more is needed, by what is read there: what is needed of the text, and a bound of the records behind.
+-- A place where more is needed, by what is read there: what is needed of the text, and a bound of the records after.
 record Onward {P : Type 0} (game : SavedGame P) (text : List ℕ) (m : MetValue) (read : Result (Option (Entry × List ℕ)) LoadFault)
     : Type 0 where
   before : List KeyedRecord

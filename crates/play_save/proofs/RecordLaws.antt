@@ -82,7 +82,7 @@ field_taken bs parts is =
 field_again : (front rest : List ℕ) → Lacks colon front → field_at (front ++ (colon ∷ rest)) ≡ Some (front, rest)
 field_again front rest lacks = rw (behind_at colon front rest lacks, before_at colon front rest lacks) refl
 
--- a value behind its length
+-- a value after its length
 value_taken : (n : ℕ) (bs : List ℕ) (parts : List ℕ × List ℕ)
     → value_at n bs ≡ Some parts → (length parts.0 ≡ n) × (bs ≡ parts.0 ++ parts.1)
 value_taken n bs parts is =

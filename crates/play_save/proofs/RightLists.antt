@@ -16,7 +16,7 @@ use Rattle.play_save.proofs.KeyLaws.{own_key}
 use Rattle.play_save.proofs.RecordLists.{one, values_of-append, first_at}
 use Rattle.play_save.proofs.Meeting.{first_faultless}
 
--- behind what stands before, no record has a fault, and the last is the first that completes them
+-- after what stands before, no record has a fault, and the last is the first that completes them
 abbrev pub AreRight : {P : Type 0} → SavedGame P → List KeyedRecord → List KeyedRecord → Type 0
 AreRight game before [] = is_complete (met before) ≡ true
 AreRight game before (r ∷ rs) =

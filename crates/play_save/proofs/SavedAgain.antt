@@ -99,7 +99,7 @@ go_good : {P : Type 0} (p : Puzzle) (h : History P) → IsValid p h → (which :
 go_good p h valid States = le-leb h.position (length h.moves + 1) valid.last
 go_good p h valid Position = le-leb h.position (length h.moves + 1) valid.last
 
--- a count was met before a place, or stands behind it
+-- a count was met before a place, or stands after it
 abbrev IsOnSide : {P : Type 0} → History P → WhichCount → List KeyedRecord → List KeyedRecord → Type 0
 IsOnSide h which before later =
     (values_of (Count which) before ≡ [])
@@ -124,7 +124,7 @@ params_good : {P : Type 0} (game : SavedGame P) (p : Params) (value : List ℕ)
     → IsParamText game.letters p value → saved_params_at game value ≡ Ok p
 params_good game p value is = params_again game.letters game.has_adjacent value p is
 
--- no value of a save has a fault behind the records before it
+-- no value of a save has a fault after the records before it
 head_same : {A : Type 0} (x y : A) → x ∷ [] ≡ y ∷ [] → x ≡ y
 head_same x y e = cc
 
@@ -150,7 +150,7 @@ value_good game h before later (Count which) value valid side has =
     by_other (inr some) = rw (some.0, go_good (game.puzzle h.puzzle) h valid which) refl
 value_good game h before later k value valid side has = refl
 
--- no record of a save has a fault behind those before it
+-- no record of a save has a fault after those before it
 faultless_at : {P : Type 0} (game : SavedGame P) (h : History P) (before later : List KeyedRecord) (k : Key) (value : List ℕ)
     → AreSaved game h (before ++ (one k value ++ later))
     → (is_state k ≡ true → (which : WhichCount) → values_of (Count which) later ≡ [])

@@ -87,11 +87,11 @@ same_count m n m_first m_few n_first n_few text =
     let both : count_at (decimal m) ≡ count_at (decimal n) = ap count_at text in
     cc
 
--- the records that are written behind the first, and their text
+-- the records that are written after the first, and their text
 abbrev tail_of : {P : Type 0} → SavedGame P → History P → List KeyedRecord
 tail_of game h = tail_records game.title (game.desc_of h.puzzle) h
 
--- the text behind the first record
+-- the text after the first record
 abbrev behind_first : {P : Type 0} → SavedGame P → History P → List ℕ
 behind_first game h = line_feed ∷ records_text (tail_of game h)
 

@@ -20,7 +20,7 @@ use Rattle.play_save.specs.Written.{value_written, header_records, key_records, 
 use Rattle.play_save.proofs.RecordLists.{values_of-append}
 use Rattle.play_save.proofs.WrittenRecords.{AreKnown}
 
--- the records behind the first
+-- the records after the first
 abbrev pub tail_records : {P : Type 0} → List ℕ → List ℕ → History P → List KeyedRecord
 tail_records title desc h = flat_map (key_records title desc h) (drop 1 keys) ++ map (state_record desc) h.moves
 
@@ -39,7 +39,7 @@ own_values : (k j : HeaderKey) (value : Option (List ℕ))
 own_values k j None = cond_both (same_header j k) [] [] (λ (values : List (List ℕ)). [] ≡ values) (λ is. refl) (λ is. refl)
 own_values k j (Some v) = refl
 
--- the values that are written with a key behind the first record
+-- the values that are written with a key after the first record
 abbrev pub values_behind : {P : Type 0} → List ℕ → List ℕ → History P → HeaderKey → List (List ℕ)
 values_behind title desc h SaveFile = []
 values_behind title desc h k = once_if_kept (value_written title desc h k)

@@ -9,7 +9,7 @@ use Rattle.play_save.specs.declared.key.Key.{Key}
 use Rattle.play_save.specs.KeyedRecords.{KeyedRecord}
 use Rattle.play_save.specs.Written.{record_text, records_text, state_record}
 
--- records behind others are written behind them
+-- records after others are written after them
 pub records_text-append : (xs ys : List KeyedRecord) → records_text (xs ++ ys) ≡ records_text xs ++ records_text ys
 records_text-append xs ys = flat_map-append record_text xs ys
 

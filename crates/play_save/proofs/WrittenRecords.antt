@@ -27,11 +27,11 @@ length_written n few =
     big : 99999999 < 2 ^ 64
     big = lit< tt
 
--- a record behind line breaks
+-- a record after line breaks
 abbrev pub entry_written : KeyedRecord → Entry
 entry_written r = record { key = key_name r.key; value = r.value }
 
--- the text of a record, behind line breaks, begins with that record
+-- the text of a record, after line breaks, begins with that record
 pub written_begins : (r : KeyedRecord) (breaks more : List ℕ)
     → AreBreaks breaks → is_known r.key ≡ true → length r.value ≤ 99999999
     → BeginsWith (entry_written r) (line_feed ∷ more) (breaks ++ (record_text r ++ more))

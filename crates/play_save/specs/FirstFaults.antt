@@ -113,7 +113,7 @@ state_fault AnyMove value = text_fault (move_at value)
 state_fault SolveMove value = text_fault (move_at value)
 state_fault RestartMove value = None
 
--- a state record may come only behind both counts
+-- a state record may come only after both counts
 abbrev pub behind_counts : MetValue → Option LoadFault → Option LoadFault
 behind_counts m fault = if is_some (count_met m States) && is_some (count_met m Position) then fault else Some EarlyState
 
@@ -128,13 +128,13 @@ value_fault game m PrivateDesc value = Some Unsupported
 value_fault game m (Kept k) value = None
 value_fault game m (Count which) value = count_fault which (count_at value) (count_met m (other_count which))
 
--- the fault of a record behind those that were met
+-- the fault of a record after those that were met
 abbrev pub fault_by : {P : Type 0} → SavedGame P → MetValue → Key → List ℕ → Option LoadFault
 fault_by game m (Header k) value = once (is_some (m.first k)) (value_fault game m k value)
 fault_by game m (State k) value = behind_counts m (state_fault k value)
 fault_by game m Other value = None
 
--- both counts were met, and all states behind the first
+-- both counts were met, and all states after the first
 abbrev pub has_all : Option ℕ → Option ℕ → ℕ → Bool
 has_all (Some n) (Some position) states = nat_le n (states + 1)
 has_all _ _ states = false
@@ -149,7 +149,7 @@ pub data Listing : Type 0 where
   broken : Listing
   first : KeyedRecord → Listing → Listing
 
--- the first record of a text and those behind it, by what reading it gave
+-- the first record of a text and those after it, by what reading it gave
 abbrev pub listed : (List ℕ → Listing) → Result (Option (Entry × List ℕ)) LoadFault → Listing
 listed more (Err fault) = broken
 listed more (Ok None) = nothing
@@ -169,7 +169,7 @@ abbrev pub unless : {A : Type 0} → Option LoadFault → Result A LoadFault →
 unless None more = more
 unless (Some fault) more = Err fault
 
--- the records up to the last that is needed, behind those before, or the first fault among them
+-- the records up to the last that is needed, after those before, or the first fault among them
 abbrev pub needed : {P : Type 0} → SavedGame P → List KeyedRecord → Listing → Result (List KeyedRecord) LoadFault
 needed game before nothing = if is_complete (met before) then Ok before else Err Missing
 needed game before broken = if is_complete (met before) then Ok before else Err Malformed

@@ -65,7 +65,7 @@ abbrev pub is_state : Key → Bool
 is_state (State k) = true
 is_state _ = false
 
--- behind a state record neither count follows
+-- after a state record neither count follows
 abbrev pub CountsStandFirst : List KeyedRecord → Type 0
 CountsStandFirst [] = Unit {0}
 CountsStandFirst (r ∷ rs) =

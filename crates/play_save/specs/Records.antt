@@ -58,7 +58,7 @@ abbrev pub skip_breaks : List ℕ → List ℕ
 skip_breaks [] = []
 skip_breaks (b ∷ bs) = if is_break b then skip_breaks bs else (b ∷ bs)
 
--- what stands before the first colon and behind it
+-- what stands before the first colon and after it
 abbrev pub field_at : List ℕ → Option (List ℕ × List ℕ)
 field_at bytes = option_map (λ rest. (before colon bytes, rest)) (behind colon bytes)
 
@@ -66,12 +66,12 @@ field_at bytes = option_map (λ rest. (before colon bytes, rest)) (behind colon 
 abbrev pub value_at : ℕ → List ℕ → Option (List ℕ × List ℕ)
 value_at n bytes = if nat_le n (length bytes) then Some (take n bytes, drop n bytes) else None
 
--- the value behind its length, and the rest
+-- the value after its length, and the rest
 abbrev pub value_behind : List ℕ → Option (List ℕ × List ℕ)
 value_behind bytes =
     option_and_then (λ field. option_and_then (λ n. value_at n field.1) (length_at field.0)) (field_at bytes)
 
--- a record of a key and of a value with the rest behind it
+-- a record of a key and of a value with the rest after it
 abbrev pub record_of : List ℕ → List ℕ × List ℕ → Entry × List ℕ
 record_of key parts = (record { key = unpadded key; value = parts.0 }, parts.1)
 

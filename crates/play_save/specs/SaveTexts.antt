@@ -101,7 +101,7 @@ HasValues game h PrivateDesc values = values ≡ []
 HasValues game h (Kept k) values = values ≡ once_if_kept (kept_at h.extras k)
 HasValues game h (Count which) values = values ≡ decimal (count_of h which) ∷ []
 
--- the records behind the first, up to the last that is needed
+-- the records after the first, up to the last that is needed
 pub record AreSaved {P : Type 0} (game : SavedGame P) (h : History P) (rs : List KeyedRecord) : Type 0 where
   pub values : (k : HeaderKey) → HasValues game h k (values_of k rs)
   pub states : HaveStates game h.puzzle h.moves (states_in rs)

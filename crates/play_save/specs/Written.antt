@@ -60,7 +60,7 @@ state_value desc m =
 abbrev pub state_record : List ℕ → Move → KeyedRecord
 state_record desc m = with_value (State (state_value desc m).key) (state_value desc m).value
 
--- all of them, of a game with this name: those of the table, and the states behind the first
+-- all of them, of a game with this name: those of the table, and the states after the first
 abbrev pub session_records : {P : Type 0} → List ℕ → (P → List ℕ) → History P → List KeyedRecord
 session_records title desc_of h =
     flat_map (key_records title (desc_of h.puzzle) h) keys ++ map (state_record (desc_of h.puzzle)) h.moves

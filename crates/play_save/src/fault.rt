@@ -28,7 +28,7 @@ pub enum LoadFault {
     BadParams,
     /// The description can't be read at the size of the parameters.
     BadDesc,
-    /// A count that isn't a number from 1 to `MOST_STATES`, or a position behind the last state.
+    /// A count that isn't a number from 1 to `MOST_STATES`, or a position after the last state.
     BadCount,
     /// A record that is needed isn't there.
     Missing,

@@ -72,7 +72,7 @@ pub(crate) enum HeaderKey {
 pub(crate) enum Key {
     /// What may stand once.
     Header(HeaderKey),
-    /// A state behind the first.
+    /// A state after the first.
     State(StateKey),
     /// Any other.
     Other,

@@ -34,7 +34,7 @@ pub(crate) struct StateRecord<'a> {
 pub(crate) struct Met<'a> {
     // Each of its own key.
     headers: Vec<HeaderRecord<'a>>,
-    // The state records are played once the puzzle is known, which may stand behind them.
+    // The state records are played once the puzzle is known, which may stand after them.
     pub(crate) states: Vec<StateRecord<'a>>,
     // Both counts, as their records read.
     count: Option<usize>,
@@ -162,7 +162,7 @@ impl<'a> Met<'a> {
         }
     }
 
-    /// Whether both counts were met, and all states behind the first.
+    /// Whether both counts were met, and all states after the first.
     pub(crate) fn is_complete(&self) -> bool
         ensures { result ≡ is_complete (met_of self.now) }
     {

@@ -50,7 +50,7 @@ fn name(key: &[u8]) -> &[u8]
     &key[..end]
 }
 
-// What stands before the first colon and behind it.
+// What stands before the first colon and after it.
 fn field(bytes: &[u8]) -> Option<(&[u8], &[u8])>
     ensures { option_map (λ parts. (parts.0.now, parts.1.now)) result ≡ field_at bytes.now }
 {
@@ -83,7 +83,7 @@ fn value_length(digits: &[u8]) -> Option<usize>
     Some(n as usize)
 }
 
-// A value behind its length, and the rest.
+// A value after its length, and the rest.
 fn value(bytes: &[u8]) -> Option<(&[u8], &[u8])>
     ensures { option_map (λ parts. (parts.0.now, parts.1.now)) result ≡ value_behind bytes.now }
 {

@@ -17,7 +17,7 @@ use std::alloc::{AllocError, Global};
 
 static BLANKS: [u8; 8] = [b' '; 8];
 
-// The blanks behind a name of this length, up to the eight bytes of a key.
+// The blanks after a name of this length, up to the eight bytes of a key.
 fn padding(length: usize) -> &'static [u8]
     requires { length ≤ 8 }
     ensures { result.now ≡ replicate (8 - length) space }

@@ -31,7 +31,7 @@ Consumes-none a b c xs ys n none p q =
 module _ {S : Type 0} (reply : ReplyRule S) (quit : Line → Bool) where
   -- ---- more bytes
 
-  -- more bytes behind those whose lines were answered
+  -- more bytes after those whose lines were answered
   pub Goes-bytes : (flow : Flow) (part now : Line) (xs ys : List ℕ) (old mid new : Progress S)
       → Goes reply quit More (ended_from part xs) old mid → now ≡ last_from part xs → Goes reply quit flow (ended_from now ys) mid new
       → Goes reply quit flow (ended_from part (xs ++ ys)) old new
@@ -50,7 +50,7 @@ module _ {S : Type 0} (reply : ReplyRule S) (quit : Line → Bool) where
       subst (λ l. Goes reply quit flow (ended_from part l) old new) (sym (take_more piece i 0 inside))
       (Goes-bytes flow part now (take i piece) (get_or piece i 0 ∷ []) old mid new p here q)
 
-  -- a step that stopped didn't see the bytes behind
+  -- a step that stopped didn't see the bytes after
   more_behind : (flow : Flow) (xs ys : List Line) (old new : Progress S) → (flow ≡ More → ⊥)
       → Goes reply quit flow xs old new → Goes reply quit flow (xs ++ ys) old new
   more_behind More xs ys old new stops q = absurd (stops refl)
@@ -93,7 +93,7 @@ module _ {S : Type 0} (reply : ReplyRule S) (quit : Line → Bool) where
 
   -- ---- what was read so far
 
-  -- So many bytes were read since a point: the lines that ended in them were answered, and this part of a line stands behind those.
+  -- So many bytes were read since a point: the lines that ended in them were answered, and this part of a line stands after those.
   pub record HasRead (old now : Point S) (count : ℕ) (part : Line) : Type 0 where
     pub read : List ℕ
     pub consumed : Consumes old.to_come now.to_come read

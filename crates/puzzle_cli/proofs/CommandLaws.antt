@@ -53,7 +53,7 @@ pub then_taken : {A B : Type 0} (next : A → Option B) (o : Option A) (b : B) �
 then_taken next None b h = cc
 then_taken next (Some a) b h = (a, refl, h)
 
--- what stands behind a front stands there
+-- what stands after a front stands there
 pub behind_taken : (front line text : List ℕ) → rest_behind front line ≡ Some text → line ≡ front ++ text
 behind_taken front line text h =
     elim (bytes_eq (take (length front) line) front) as (λ t. bytes_eq (take (length front) line) front ≡ t

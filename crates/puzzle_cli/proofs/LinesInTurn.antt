@@ -81,7 +81,7 @@ module _ {S : Type 0} (reply : ReplyRule S) (quit : Line → Bool) where
     front = k.front;
   }
 
-  -- what stands behind the line whose reply didn't go out makes no difference
+  -- what stands after the line whose reply didn't go out makes no difference
   Breaks-more : (xs ys : List Line) (old new : Progress S) → Breaks reply quit xs old new → Breaks reply quit (xs ++ ys) old new
   Breaks-more xs ys old new k = record {
     earlier = k.earlier;

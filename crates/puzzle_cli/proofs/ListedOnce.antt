@@ -38,7 +38,7 @@ rising_rest x xs h = λ i j d less inside. h (suc i) (suc j) d (omega arith) (om
 contained : (P : GridValue → Type 0) (xs : List GridValue) (g : GridValue) → All P xs → Contains xs g → P g
 contained P xs g all (k, inside, is) = subst P is (all k g inside)
 
--- what is first behind the first
+-- what is first after the first
 first_rest : (A : GridValue → Type 0) (limit : ℕ) (x : GridValue) (xs : List GridValue) → AreFirst A limit (x ∷ xs)
     → AreFirst (λ g. A g × IsBelow x g) (limit - 1) xs
 first_rest A limit x xs f = record {

@@ -15,7 +15,7 @@ pub range_more : (a m n j : ℕ) → n ≡ m + 1 → a + m ≡ j → range_with_
 range_more a m n j e h =
     ap (λ k. range_with_len a k) (e ∙ add-one m) ∙ range_snoc a m ∙ ap (λ k. range_with_len a m ++ k ∷ []) h
 
--- behind a front, the lists of a function along a range, then one more
+-- after a front, the lists of a function along a range, then one more
 pub flat_map_onto : {X : Type 0} (f : ℕ → List X) (front xs ys : List X) (a m n j : ℕ) → n ≡ m + 1 → a + m ≡ j
     → xs ≡ front ++ flat_map f (range_with_len a m) → ys ≡ xs ++ f j → ys ≡ front ++ flat_map f (range_with_len a n)
 flat_map_onto f front xs ys a m n j e h old more =
@@ -45,7 +45,7 @@ filter_dropped f p xs ys a m n j e h fails old more =
     let none : filter p (j ∷ []) ≡ [] = rw fails in
     more ∙ (rw (old, range_more a m n j e h, filter-append p (range_with_len a m) (j ∷ []), none, append-nil))
 
--- the same behind a front of two parts
+-- the same after a front of two parts
 pub flat_map_behind : {X : Type 0} (f : ℕ → List X) (before front xs ys : List X) (a m n j : ℕ) → n ≡ m + 1 → a + m ≡ j
     → xs ≡ before ++ (front ++ flat_map f (range_with_len a m)) → ys ≡ xs ++ f j
     → ys ≡ before ++ (front ++ flat_map f (range_with_len a n))

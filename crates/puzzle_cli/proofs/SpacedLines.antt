@@ -8,7 +8,7 @@ join_more : (c : ℕ) (x : List ℕ) (xs : List (List ℕ)) (y : List ℕ)
 join_more c x [] y = refl
 join_more c x (z ∷ zs) y = ap (λ bs. x ++ (c ∷ bs)) (join_more c z zs y) ∙ sym (append_assoc x (c ∷ join_with_byte c (z ∷ zs)) (c ∷ y))
 
--- after the first i symbols the next one: alone, or behind the byte
+-- after the first i symbols the next one: alone, or after the byte
 pub joined_first : (c : ℕ) (symbols : List ℕ) (i : ℕ) (before now next : List ℕ) → i < length symbols → i ≤ 0
     → now ≡ before ++ join_with_byte c (map (λ symbol. symbol ∷ []) (take i symbols))
     → next ≡ now ++ get_or symbols i 0 ∷ []

@@ -17,7 +17,7 @@ abbrev pub onto : ℕ → List (List ℕ) → List (List ℕ)
 onto b [] = (b ∷ []) ∷ []
 onto b (segment ∷ rest) = (b ∷ segment) ∷ rest
 
--- what LF separates: the last segment is what stands behind the last LF
+-- what LF separates: the last segment is what stands after the last LF
 abbrev pub segments : List ℕ → List (List ℕ)
 segments [] = [] ∷ []
 segments (b ∷ bs) = if b == line_feed then [] ∷ segments bs else onto b (segments bs)
@@ -34,7 +34,7 @@ without_cr bytes = if slice_index bytes (length bytes - 1) == carriage_return th
 abbrev pub as_line : Line → Line
 as_line come = option_map without_cr come
 
--- the lines of an input that is at its end: behind the last LF stands the last one
+-- the lines of an input that is at its end: after the last LF stands the last one
 abbrev pub all_lines : List ℕ → List Line
 all_lines bytes = map (λ segment. as_line (unless_long segment)) (segments bytes)
 

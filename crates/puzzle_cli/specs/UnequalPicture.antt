@@ -16,7 +16,7 @@ abbrev pub sign_above : UnequalValue → ℕ → ℕ
 sign_above v lower =
     if is_greater v lower (lower - v.size) then 94 else (if is_greater v (lower - v.size) lower then 118 else dash)
 
--- the row of squares that begins with a square, each but the first behind its sign
+-- the row of squares that begins with a square, each but the first after its sign
 abbrev pub squares_line : UnequalValue → BoardValue → ℕ → List ℕ
 squares_line v b first =
     square_at b first

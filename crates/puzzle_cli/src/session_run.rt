@@ -23,7 +23,7 @@ use std::alloc::Global;
 ///
 /// `Finished` where the input is at its end or a line was `quit`. `ReadFault` where a read fails, or 1,000,000,000 bytes were
 /// read and neither had come: a line that has not ended then has no reply. `WriteFault` where a write or a flush fails, or a
-/// write takes no byte: the session is the one behind the command whose reply failed.
+/// write takes no byte: the session is the one after the command whose reply failed.
 ///
 /// Where the session can be stored, or there is none, so it is at the end. Where all that the sink had taken was flushed before,
 /// so it is at the end, `WriteFault` apart.

@@ -6,7 +6,7 @@ use Rattle.safe_save.specs.Changes.{image_of, ChangesGoOn}
 use Rattle.safe_save.specs.declared.changes.FolderChange.{FolderChange}
 
 module _ (old : List FolderChange) (change : FolderChange) where
-  -- the changes with one more behind
+  -- the changes with one more after
   abbrev grown : List FolderChange
   grown = old ++ change ∷ []
 

@@ -121,7 +121,7 @@ refutation_where Struck grade g steps cell inside = (
       },
 )
 
--- all steps are all without the one behind the last
+-- all steps are all without the one after the last
 pub all_steps : (steps : List Step) → remove (steps_of steps) (length steps) ≡ steps_of steps
 all_steps steps = none_removed (steps_of steps) (length steps) (omega (arith, length-map steps step_value))
 

@@ -169,7 +169,7 @@ none_removed [] (suc place) high = refl
 none_removed (step ∷ steps) zero high = absurd (omega (arith, high))
 none_removed (step ∷ steps) (suc place) high = ap (λ xs. step ∷ xs) (none_removed steps place (omega (arith, high)))
 
--- the steps before one and those behind it
+-- the steps before one and those after it
 pub two_pieces : (steps : List Step) (place : ℕ)
     → steps_of (take place steps) ++ steps_of (take (length steps - (place + 1)) (drop (place + 1) steps)) ≡ remove (steps_of steps) place
 two_pieces steps place =

@@ -93,7 +93,7 @@ shows_alike Struck less grade c d steps goal size fewer h =
 
 -- ---- one pass from the last step to the first
 
--- a step that can be left out goes, and what was tight behind it stays so
+-- a step that can be left out goes, and what was tight after it stays so
 pub tight_without : (Struck : CandidatesValue → Reason → ℕ → ℕ → Type 0) → IsAntitone Struck → (grade : Grade) (c : CandidatesValue)
     (steps : List StepValue) (place : ℕ) (goal : Goal) → place < length steps → Shows Struck grade c steps goal
     → IsTightFrom (place + 1) Struck grade c steps goal → IsTightFrom place Struck grade c (remove steps place) goal

@@ -156,7 +156,7 @@ above_bit_has k m few small = ap not (below_bit_has k m few small) ∙ not_below
 
 -- ---- a set from its words
 
--- behind its last word a set has no mask
+-- after its last word a set has no mask
 pub has_mask-past : (words : List ℕ) (m : ℕ) → 64 * length words ≤ m → has_mask words m ≡ false
 has_mask-past words m h =
     let past : length words ≤ m / 64 = omega arith in

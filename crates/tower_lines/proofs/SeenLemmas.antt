@@ -15,7 +15,7 @@ seen_after-append b (x ∷ p) s =
     let g = rw f at e in
     omega (arith, g)
 
--- of a list in two parts, what is seen of the first, and behind it of the second
+-- of a list in two parts, what is seen of the first, and after it of the second
 pub seen-append : (p s : List ℕ) → seen (p ++ s) ≡ seen p + seen_after p s
 seen-append p s = seen_after-append [] p s
 

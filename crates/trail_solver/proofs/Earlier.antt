@@ -12,7 +12,7 @@ use Rattle.trail_solver.specs.Candidates.{CandidatesValue, IsEarlier, IsOnly, Is
 pub prefix_refl : (ps : List (ℕ × ℕ)) → IsPrefix ps ps
 prefix_refl ps = record { is = take_all (length ps) ps (omega arith) }
 
--- a list is the beginning of itself with more behind
+-- a list is the beginning of itself with more after
 pub prefix-append : (ps qs : List (ℕ × ℕ)) → IsPrefix ps (ps ++ qs)
 prefix-append ps qs = record { is = take_at ps qs (length ps) refl }
 

@@ -27,7 +27,7 @@ no_pair_turned : (a b c d : ℕ) → (eqb a b && eqb c d) ≡ false → (eqb b a
 no_pair_turned a b c d h =
     false_from_ne_true (eqb b a && eqb d c) (λ e. let p = pair_from_test b a d c e in both_ways (eqb a b && eqb c d) h (test_from_pair a b c d (sym p.0) (sym p.1)))
 
--- a list with a pair more behind has what it had, and that pair
+-- a list with a pair more after has what it had, and that pair
 pub has_pair-push : (ps : List (ℕ × ℕ)) (p : ℕ × ℕ) (cell value : ℕ)
     → has_pair (ps ++ p ∷ []) cell value ≡ (has_pair ps cell value || same_pair cell value p)
 has_pair-push [] p cell value = or-false (same_pair cell value p)

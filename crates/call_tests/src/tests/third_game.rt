@@ -236,7 +236,7 @@ const STEPS: &[Step] = &[
     Step(Call::Status, Ok("playing 2/2")),
     Step(Call::Memory(INPUT, 0), Ok(RUN)),
     Step(Call::Memory("quit\nshow", 1), Ok("")),
-    // The second flush fails, behind the move: its session comes back.
+    // The second flush fails, after the move: its session comes back.
     Step(
         Call::Memory("new 3:123200000\nmove P1,1,3\nmarks", 4),
         Err("WriteFault"),

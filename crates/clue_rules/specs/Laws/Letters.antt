@@ -96,7 +96,7 @@ among_letters (x ∷ ds) d e = elim (or_cases (letter_of x == letter_of d) (list
 
 -- the pieces as texts
 
--- what is written behind the number of a square is the letters of its directions
+-- what is written after the number of a square is the letters of its directions
 pub letters_at : (pieces : List Piece) (cell : ℕ)
     → drop 1 (piece_at (map piece_text pieces) cell) ≡ map letter_of (directions_at pieces cell)
 letters_at [] cell = refl

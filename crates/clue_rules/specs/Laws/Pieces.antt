@@ -15,7 +15,7 @@ abbrev pub pieces_left : Option (List ℕ) → List (List ℕ)
 pieces_left None = []
 pieces_left (Some rest) = comma_pieces rest
 
--- the pieces of a text are what comes before its first comma, and those of what comes behind
+-- the pieces of a text are what comes before its first comma, and those of what comes after
 pub split_once : (bs : List ℕ) → comma_pieces bs ≡ before comma bs ∷ pieces_left (behind comma bs)
 split_once bs = elim (behind comma bs) as (λ o. behind comma bs ≡ o → comma_pieces bs ≡ before comma bs ∷ pieces_left o) [
   | None ↦ λ e. pieces_last comma bs e ∙ ap (λ xs. xs ∷ []) (sym (cut_whole comma bs e))

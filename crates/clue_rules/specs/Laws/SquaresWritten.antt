@@ -66,7 +66,7 @@ letters_begin : (n : ℕ) (bs : List ℕ) → n ≢ 0 → begins_digit (blank_le
 letters_begin n bs some =
     rw (blank_letters_some n some) (letters_begin_at ((n - 1) / 26) ((n - 1) % 26) bs)
 
--- a given as it is written, and what stands behind it
+-- a given as it is written, and what stands after it
 given_whole : (n : ℕ) (after_given : Bool) (s : ℕ) (bs : List ℕ)
     → blank_letters n ++ ((if (n == 0) && after_given then (underscore ∷ []) else []) ++ ((digit_zero + s) ∷ bs))
     ≡ given_written n after_given s ++ bs

@@ -146,7 +146,7 @@ fn fill_givens(size: Size, part: &[u8]) -> Result<Grid, IdFault>
     Ok(givens)
 }
 
-// Puts the squares of a byte from `cell` on, and gives the cell behind them; `None` where they don't fit.
+// Puts the squares of a byte from `cell` on, and gives the cell after them; `None` where they don't fit.
 #[tactic(auto, using(crate::proofs::GivensFilled::digit_filled, crate::proofs::GivensFilled::letter_filled, crate::proofs::GivensFilled::letter_taken))]
 fn put_squares(givens: &mut Grid, cell: usize, byte: u8) -> Option<usize>
     requires filled { IsFilledTo 0 (givens.old.size * givens.old.size) cell givens.old.numbers }
@@ -178,7 +178,7 @@ fn put_squares(givens: &mut Grid, cell: usize, byte: u8) -> Option<usize>
     }
 }
 
-// The longest text that is written: 36 clues with 35 slashes, a comma, and 81 squares, each a given behind `_`.
+// The longest text that is written: 36 clues with 35 slashes, a comma, and 81 squares, each a given after `_`.
 const LONGEST: usize = 36 + 35 + 1 + 2 * 81;
 
 /// The written form of a puzzle's description.
@@ -254,7 +254,7 @@ fn push_squares(text: &mut Vec<u8>, givens: &Grid) -> Result<(), AllocError>
     push_blanks(text, blanks)
 }
 
-// Writes a given behind its run of blank squares, or behind another given.
+// Writes a given after its run of blank squares, or after another given.
 fn push_given(
     text: &mut Vec<u8>,
     blanks: usize,

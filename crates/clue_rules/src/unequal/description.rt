@@ -23,7 +23,7 @@ use trail_solver::Rules;
 /// missing.
 ///
 /// The refusals are, over the whole text and in this order: `TooFew` or `TooMany` pieces; `BadSquares`, where a piece
-/// doesn't begin with one digit from 0 to the width; `BadClue`, where a byte behind it is none of the letters;
+/// doesn't begin with one digit from 0 to the width; `BadClue`, where a byte after it is none of the letters;
 /// `OffGrid`, where a letter points out of the grid; `Contradiction`, where two squares are each said to be the greater.
 #[tactic(auto, unfolding(crate::specs::UnequalText::unequal_at))]
 pub(crate) fn read_unequal(size: Size, text: &[u8]) -> Result<Unequal, IdFault>

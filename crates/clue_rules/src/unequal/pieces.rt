@@ -60,7 +60,7 @@ fn split_at_commas(text: &[u8], wanted: usize) -> Result<Pieces<'_>, IdFault>
     Ok(pieces)
 }
 
-/// The digit from 0 to the width that begins a piece, unless another digit stands behind it.
+/// The digit from 0 to the width that begins a piece, unless another digit stands after it.
 pub(super) fn number_in(size: Size, piece: &[u8]) -> Option<u8>
     ensures { result ≡ number_in size piece.now }
 {
@@ -73,7 +73,7 @@ pub(super) fn number_in(size: Size, piece: &[u8]) -> Option<u8>
     }
 }
 
-// What stands behind the digit.
+// What stands after the digit.
 fn letters(piece: &[u8]) -> &[u8]
     ensures { result.now ≡ drop 1 piece.now }
 {
@@ -83,7 +83,7 @@ fn letters(piece: &[u8]) -> &[u8]
     }
 }
 
-/// Whether all bytes behind the digit are letters of directions.
+/// Whether all bytes after the digit are letters of directions.
 pub(super) fn has_letters(piece: &[u8]) -> bool
     ensures { result ≡ has_letters piece.now }
 {

@@ -15,7 +15,7 @@ abbrev pub words_of : List ℕ → List ℕ → List ℕ → Option (FairWords (
 words_of size grade seed =
     if is_word size && is_word grade && is_word seed then Some (record { size = size; grade = grade; seed = seed }) else None
 
--- the second and the third behind a first
+-- the second and the third after a first
 abbrev pub two_at : List ℕ → List ℕ → Option (FairWords (List ℕ))
 two_at size rest = option_and_then (λ seed. words_of size (before space rest) seed) (behind space rest)
 

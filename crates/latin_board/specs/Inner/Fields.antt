@@ -10,7 +10,7 @@ pub record IsPadded (w : ℕ) (places : List ℕ) : Type 0 where
   pub count : length places ≡ CELLS
   pub rest : drop (w * w) places ≡ replicate (CELLS - w * w) 0
 
--- the places of a grid of the width: numbers of it first, and blanks behind its squares
+-- the places of a grid of the width: numbers of it first, and blanks after its squares
 pub record KeepsNumbers (w : ℕ) (places : List ℕ) : Type 0 where
   pub smallest : 3 ≤ w
   pub largest : w ≤ 9

@@ -11,7 +11,7 @@ use Rattle.puzzle_cli.specs.declared.command.line_fault.LineFault.TheVariants.{L
 use Rattle.puzzle_cli.specs.Lines.{Line}
 use Rattle.puzzle_cli.specs.Commands.{Reading, words}
 
--- what stands behind a front
+-- what stands after a front
 abbrev pub rest_behind : List ℕ → List ℕ → Option (List ℕ)
 rest_behind front line = if bytes_eq (take (length front) line) front then Some (drop (length front) line) else None
 

@@ -9,12 +9,12 @@ abbrev pub pushed : Line → ℕ → Line
 pushed None b = None
 pushed (Some bytes) b = if nat_lt (length bytes) LINE_BYTES then Some (bytes ++ b ∷ []) else None
 
--- the lines that LF ends, behind the part
+-- the lines that LF ends, after the part
 abbrev pub ended_from : Line → List ℕ → List Line
 ended_from part [] = []
 ended_from part (b ∷ bs) = if b == line_feed then as_line part ∷ ended_from (Some []) bs else ended_from (pushed part b) bs
 
--- the part behind the last LF
+-- the part after the last LF
 abbrev pub last_from : Line → List ℕ → Line
 last_from part [] = part
 last_from part (b ∷ bs) = if b == line_feed then last_from (Some []) bs else last_from (pushed part b) bs

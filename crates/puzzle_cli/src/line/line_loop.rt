@@ -91,7 +91,7 @@ fn read_piece<R: Source>(
     source.read(&mut piece[..room])
 }
 
-/// Answers the lines that end in a piece, and keeps what stands behind them.
+/// Answers the lines that end in a piece, and keeps what stands after them.
 fn take_piece<M: Machine, W: Sink>(
     alloc: Global,
     piece: &[u8],

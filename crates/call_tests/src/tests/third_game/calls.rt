@@ -206,7 +206,7 @@ pub(crate) fn changed(alloc: Global, session: &Session<Latin>, text: &str) -> Sa
     }
 }
 
-// The key, the value and what follows, each with a bar behind it.
+// The key, the value and what follows, each with a bar after it.
 pub(crate) fn first_record(alloc: Global, text: &str) -> Said<Vec<u8>> {
     match next_record(text.as_bytes()) {
         Ok(Some((record, rest))) => {
@@ -257,7 +257,7 @@ pub(crate) fn made(alloc: Global, session: &Session<Latin>, i: usize) -> Said<Ve
     }
 }
 
-// One more part, with a bar behind it.
+// One more part, with a bar after it.
 fn add(text: &mut Vec<u8>, part: &[u8]) -> Said<()> {
     if text.extend_from_slice(part).is_err() || text.push(b'|').is_err() {
         return Err(MEMORY);

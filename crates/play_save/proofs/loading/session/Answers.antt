@@ -1,4 +1,4 @@
--- The last state is behind the position.
+-- The last state is after the position.
 use Rattle.std.proofs.Common.{length, map, ap, arith}
 use Rattle.play_save.specs.SaveTexts.{saves_of}
 use Rattle.play_save.specs.Inner.Taking.{state_of}

@@ -1,4 +1,4 @@
--- One byte more: a name ends behind the last byte that is no blank.
+-- One byte more: a name ends after the last byte that is no blank.
 use Rattle.std.proofs.Common.{◌≡◌, ◌+◌, ◌∷◌, [], ◌++◌, get_or, take, arith}
 use Rattle.std.proofs.lemmas.List.{take_more}
 use Rattle.std.proofs.lemmas.Bool.Decides.{nat_tests}

@@ -1,4 +1,4 @@
--- The records of the headers, and behind them the states.
+-- The records of the headers, and after them the states.
 use Rattle.std.proofs.Common.{◌≡◌, ◌++◌, map, ap, ◌∙◌}
 use Rattle.std.specs.List.{flat_map}
 use Rattle.play_save.specs.Keys.{keys}

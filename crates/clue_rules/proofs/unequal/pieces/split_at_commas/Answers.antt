@@ -4,7 +4,7 @@ use Rattle.clue_rules.specs.Inner.UnequalPieces.{texts_of}
 use Rattle.clue_rules.proofs.PieceLemmas.{pieces_shorter, pieces_step, pieces_over}
 use Rattle.clue_rules.proofs.unequal.pieces.split_at_commas.Goals as goal
 
--- the text that is left, behind its loan
+-- the text that is left, after its loan
 abbrev text_left : Option (Bor (List ℕ)) → Option (List ℕ)
 text_left rest = option_map (λ r. r.now) rest
 
