@@ -28,7 +28,7 @@ def scripts(*commands: str) -> List[str]:
 
 
 def first_line(path: Path) -> str:
-    """What stands behind `#!` in the first line, without options."""
+    """What stands after `#!` in the first line, without options."""
     with open(path, 'rb') as file:
         line = file.readline().decode(errors='replace')
     return ' '.join(word for word in line[2:].split() if not word.startswith('-')) if line.startswith('#!') else ''

@@ -1,6 +1,6 @@
 """Memory is refused to the calls of crates/trial_runs, one call a run.
 
-What a run writes begins with the answer and with how the session is behind it.
+What a run writes begins with the answer and with how the session is after it.
 """
 
 from typing import Iterator, List, NamedTuple, Tuple
@@ -15,7 +15,7 @@ class Answer(NamedTuple):
 
     @property
     def lines(self) -> List[bytes]:
-        """The answer, and how the session is behind it."""
+        """The answer, and how the session is after it."""
         return (self.output.splitlines() + [b'', b''])[:2]
 
 
@@ -35,7 +35,7 @@ class Calls:
         return list(map(str.split, run([self.program, 'calls'], self.room).output.decode().splitlines()))
 
     def refuse(self, game: str, call: str) -> None:
-        """The Nth request is refused, and then all from the Nth on, until the call is behind it."""
+        """The Nth request is refused, and then all from the Nth on, until the call is over."""
         ample = self.answer(game, call, 0, False)
         assert ample.status == 0, f'{game} {call}, with ample memory'
         is_full = call.startswith('full-')
@@ -56,7 +56,7 @@ class Calls:
             assert refusals, f'{game} {call}'
 
     def answers(self, game: str, call: str, first: int, is_on: bool) -> Iterator[Tuple[int, Answer]]:
-        """The answers, as long as there is such a request and the call is not yet behind it."""
+        """The answers, as long as there is such a request and the call is not yet over."""
         at = first
         while True:
             found = self.answer(game, call, at, is_on)

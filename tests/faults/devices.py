@@ -35,7 +35,7 @@ def wrong_after(found: Round) -> List[str]:
     """What is wrong where a fault had to end the run before the save."""
     wrong = found.wrong_left()
     if found.met.later:
-        wrong.append(f'{found.met.later} reads and writes come behind')
+        wrong.append(f'{found.met.later} reads and writes come after')
     if not found.stands:
         wrong.append('the save file has changed')
     return wrong

@@ -9,7 +9,7 @@ from tests.objects.reading import Unread, without_own
 
 FOLDER = Path(__file__).resolve().parent / 'games'
 
-#: Stands behind each command: a command that is none. Its reply takes no memory, so it shows where the one before it ends.
+#: Stands after each command: a command that is none. Its reply takes no memory, so it shows where the one before it ends.
 MARK, MARK_REPLY = b'##\n', b'refused: BadCommand\n'
 
 #: Commands that take no memory.

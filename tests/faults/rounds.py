@@ -87,7 +87,7 @@ class Rounds:
             raise Skip('the program asks for memory past the library')
 
     def run(self, call: str = 'none', at: int = 0, error: str = 'EIO', most_bytes: Optional[int] = None, ignored: Sequence[signal.Signals] = (), **how: Any) -> Round:
-        """One run, in which no file may have more bytes. The words behind these are those of `FaultLibrary.env`."""
+        """One run, in which no file may have more bytes. The words after these are those of `FaultLibrary.env`."""
         self._furnish()
         before = self._state(self._file())
         env = self._library.env(call, at, error, **how)

@@ -101,7 +101,7 @@ def wrong_round(failed: Round, whole: Round, save: Save, call: str, error: str) 
     if must_pass(save, call, error):
         wrong.append('it is no failure')
     if failed.met.later and not in_place:
-        wrong.append(f'{failed.met.later} reads and writes come behind')
+        wrong.append(f'{failed.met.later} reads and writes come after')
     return wrong + wrong_where_told(failed, whole, call, in_place)
 
 

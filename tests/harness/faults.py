@@ -12,7 +12,7 @@ SOURCE = Path(__file__).resolve().parent.parent / 'faults' / 'faults.c'
 
 
 class Met(NamedTuple):
-    """What a run met: how many of the calls that were asked for, and how many calls that matter behind the first failure."""
+    """What a run met: how many of the calls that were asked for, and how many calls that matter after the first failure."""
 
     calls: int
     later: int

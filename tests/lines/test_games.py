@@ -23,7 +23,7 @@ GAMES = [
     Run('a command without a session', ['unequal'], b'undo\n', output=b'refused: NoGame\n'),
     Run('a last line without its end', ['towers', '--id', ID], b'status', output=b'playing 1/1\n'),
     Run('quit in the middle', ['towers', '--id', ID], b'status\nquit\nshow\n', output=b'playing 1/1\n'),
-    Run('an ID behind an equals sign, ahead of the game', [f'--id={ID}', 'towers'], b'id\n', output=ID.encode() + b'\n'),
+    Run('an ID after an equals sign, ahead of the game', [f'--id={ID}', 'towers'], b'id\n', output=ID.encode() + b'\n'),
     Run(
         'an ID of Unequal',
         ['unequal', '--id', '3:0,0L,0L,0U,0,0,0U,0,0'],

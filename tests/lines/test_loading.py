@@ -45,7 +45,7 @@ REFUSED = [
 LENGTHENED = [
     (Run('a file of zeros, as large as a save may be', LOAD, status=3, error=b'refused: NotASave\n'), b'', MOST_BYTES),
     (Run('a file that is one byte too large', LOAD, status=3, error=b'refused: TooLarge\n'), b'', MOST_BYTES + 1),
-    (Run('a save with much behind its last record', LOAD, b'status\n', output=b'playing 2/3\n'), UNDONE, MOST_BYTES),
+    (Run('a save with much after its last record', LOAD, b'status\n', output=b'playing 2/3\n'), UNDONE, MOST_BYTES),
     (Run('the same and one byte more', LOAD, status=3, error=b'refused: TooLarge\n'), UNDONE, MOST_BYTES + 1),
 ]
 

@@ -120,7 +120,7 @@ def saves(draw: st.DrawFn, game: str) -> bytes:
 
 @st.composite
 def scripts(draw: st.DrawFn) -> Script:
-    """Behind each line the session is asked for, and behind some the board."""
+    """After each line the session is asked for, and after some the board."""
     game = draw(st.sampled_from(['towers', 'unequal']))
     save, words = b'', [game]
     begun = draw(st.sampled_from(['file', 'small', 'small', 'small', 'stored', 'nothing']))

@@ -40,7 +40,7 @@ def expect_worked(room: Room, program: str, worked: Worked) -> None:
     assert ended.error == b'', 'standard error'
     found = ended.output.decode(errors='replace').split('\n')
     assert len(found) - 1 == len(worked.objects), 'how many lines there are'
-    assert found[-1] == '', 'what stands behind the last'
+    assert found[-1] == '', 'what stands after the last'
     for told, wanted in zip(found, worked.objects):
         assert told == wanted, f'{told} and not {wanted}'
 

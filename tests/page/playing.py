@@ -13,7 +13,7 @@ from tests.page.serving import Served
 LAPTOP, PHONE, SMALL = (1366, 768), (360, 740), (320, 568)
 
 
-#: Until the page has its answers, since what is asked behind them has its turn, and has painted what comes of them.
+#: Until the page has its answers, since what is asked after them has its turn, and has painted what comes of them.
 SETTLED = """(async () => {
   const {ask} = await import(new URL('talk.js', document.querySelector('script').src))
   await ask(() => '')

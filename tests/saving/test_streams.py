@@ -1,4 +1,4 @@
-"""6. A save to a stream that is open for writing goes behind what was written there, whatever the path is called."""
+"""6. A save to a stream that is open for writing goes after what was written there, whatever the path is called."""
 
 import contextlib
 import os
@@ -52,7 +52,7 @@ def named(path: str, room: Room, fd: Optional[int] = None) -> str:
 
 @pytest.mark.parametrize(('path', 'kind'), OUTPUTS)
 def test_output(saver: Saver, path: str, kind: str) -> None:
-    """The save stands behind the replies, and these behind what was there."""
+    """The save stands after the replies, and these after what was there."""
     room = furnish(saver.room)
     room.link('link to out', 'out')
     before = b'a line\n' if 'line' in kind else b''
@@ -72,7 +72,7 @@ def test_output(saver: Saver, path: str, kind: str) -> None:
 
 @contextlib.contextmanager
 def open_output(room: Room, kind: str, before: bytes) -> Iterator[Tuple[int, int]]:
-    """Where to read what goes out, and where it goes. The file is called `out`; behind a pipe it is another one."""
+    """Where to read what goes out, and where it goes. The file is called `out`; of a pipe it is the other end."""
     room.put('out', before)
     if kind == 'a pipe':
         reading, writing = os.pipe()

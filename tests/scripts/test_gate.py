@@ -159,7 +159,7 @@ def expect_last(ended: Ended, line: str, status: int) -> None:
 
 
 def test_both_fail(place: Place, scripts: List[str]) -> None:
-    """What fails in the tests is counted, and so is the gate behind them."""
+    """What fails in the tests is counted, and so is the gate after them."""
     put_part(place, 'tests/run', ('1 passed, 2 failed', 1))
     # The gate runs the tests four times more.
     expect(place, Gate('the tests fail, and then the gate', counts=(6, 10, 0), status=1), len(scripts), ['.ci/run'])

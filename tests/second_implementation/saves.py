@@ -28,7 +28,7 @@ RECORD_HEAD = re.compile(rb'[\r\n]*([^:\r\n][^:]{7}):([0-9]{1,8}):')
 class Record:
     name: str
     value: bytes
-    #: Where the text goes on behind the value.
+    #: Where the text goes on after the value.
     end: int
 
 

@@ -14,7 +14,7 @@ from trusting.definitions import imports
 #: The last name of a module, and a name in it.
 Name = Tuple[str, str]
 
-#: A module that gets another name, or none: what it has is named behind that.
+#: A module that gets another name, or none: what it has is named after that.
 WHOLE = re.compile(r'^\s*(?:ghost |pub )*use (Rattle\.[\w.]+)(?: as \w+)?;?$', re.MULTILINE)
 
 #: A lemma that the search is told of beside a function.
