@@ -67,7 +67,7 @@ DESTDIR ?=
 # Prints the folder of the programs that are of the sources here, and builds them where there are none.
 WHERE = RT='$(RT)' tools/programs where
 
-# Tries them; folders of tests/ may stand behind it.
+# Tries them; folders of tests/ may stand after it.
 TESTS = programs=$$($(WHERE)) && tests/run "$$programs/puzzles" "$$programs/puzzles-json"
 
 all:

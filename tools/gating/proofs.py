@@ -12,13 +12,14 @@ from base64 import b64decode, b64encode
 from pathlib import Path
 from typing import Dict, Iterator, Mapping, Sequence
 
+from bodies.edits import WRONG_BODIES
 from gating.counts import counted
 from gating.in_turn import Said, Turns
 from gating.kept import Store
 
-#: The files and folders that `rt ci` reads, but what it makes itself.
+#: The files and folders that `rt ci` reads, but in a crate what it makes itself, and wrong bodies that others try.
 READ = ['crates.txt', 'HANDLES', 'crates']
-MADE = 'out'
+UNREAD = ['out', WRONG_BODIES]
 
 #: What `rt ci` leaves of each crate for those above it, and a file that says of which sources these are. By their dates nobody knows: those that
 #: an earlier run has kept come back with the dates of then.
@@ -113,5 +114,5 @@ def sources(top: Path) -> Iterator[str]:
         for folder, folders, names in os.walk(top / read):
             way = os.path.relpath(folder, top)
             is_crate = os.path.dirname(way) == read
-            folders[:] = sorted(name for name in folders if not (is_crate and name == MADE))
+            folders[:] = sorted(name for name in folders if not (is_crate and name in UNREAD))
             yield from (os.path.join(way, name) for name in sorted(names) if os.path.isfile(os.path.join(folder, name)))
