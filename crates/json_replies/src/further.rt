@@ -2,6 +2,9 @@
 
 ghost use Rattle.std.specs.Prelude.{◌≡◌, Option, Some, IfOk};
 ghost use Rattle.serde_json.specs.View.{view};
+ghost use Rattle.trail_solver.specs.Answers.{Fits};
+ghost use Rattle.trail_solver.specs.Completions.{Completes};
+ghost use Rattle.trail_solver.specs.declared.answer.Answer.{Answer};
 ghost use Rattle.named_steps.specs.Graded.{IsGradeOf};
 ghost use Rattle.named_steps.specs.declared.grade.Grade.{Grade};
 ghost use Rattle.json_replies.specs.FurtherLines.{IsAnswer, IsFurtherLine, IsHintAnswer, answer_data};
@@ -57,10 +60,21 @@ fn answer_value<P: Shows>(
             let signs = puzzle.tell_signs(alloc, board, &errors)?;
             Ok(board_value(alloc, puzzle, board, &errors, clues, signs)?)
         }
-        FurtherLine::Completable => Ok(count_value(alloc, completion(puzzle, board.grid()))?),
+        FurtherLine::Completable => count_answer(alloc, puzzle, board.grid()),
         FurtherLine::Hint => hint_answer(alloc, puzzle, board.grid()),
         FurtherLine::Grade => grade_answer(alloc, puzzle),
     }
+}
+
+// How many solutions keep the numbers of a grid of the puzzle's size. What it takes of the stack isn't on it while a hint is
+// looked for.
+#[inline(never)]
+fn count_answer<P: Shows>(alloc: Global, puzzle: &P, grid: &Grid) -> Result<Value, OutOfMemory>
+    requires { grid.now.size ≡ (P.puzzle puzzle.now).size }
+    ensures { IfOk result (λ value. (found : Answer) × Fits (Completes (P.puzzle puzzle.now) grid.now) found
+        × (view value ≡ answer_data found)) }
+{
+    Ok(count_value(alloc, completion(puzzle, grid))?)
 }
 
 // How many solutions keep the numbers, as a word.
