@@ -16,6 +16,11 @@ from tests.second_implementation.grades import LETTERS
 
 STACK = 64 * 1024
 
+#: So often what takes most of it is tried: a system lets the stack begin up to 8 KB lower, each time elsewhere, and after an environment, here one
+#: as large as on many machines.
+TIMES = 60
+ENVIRONMENT = {'EVERYTHING_ELSE': 2000 * '.'}
+
 #: Each command, on the puzzle itself and on a board with all its marks, and then on a seeded game.
 COMMANDS = Path(__file__).with_name('commands.txt').read_bytes()
 
@@ -75,3 +80,12 @@ def test_fair(objects: str, room: Room, game: str, letter: str) -> None:
     wanted = run(words, room, input=script)
     assert run(words, room, input=script, limits={resource.RLIMIT_STACK: STACK}) == wanted
     assert wanted.status == 0
+
+
+def test_where_the_stack_begins(objects: str, room: Room) -> None:
+    """Hints of hard Towers, wherever the system lets the stack begin."""
+    words = [objects, 'towers']
+    script = b''.join(b'fair 9 h %d\nhint\n' % seed for seed in range(1, 6))
+    wanted = run(words, room, input=script)
+    for _ in range(TIMES):
+        assert run(words, room, input=script, env=ENVIRONMENT, limits={resource.RLIMIT_STACK: STACK}) == wanted
