@@ -152,9 +152,9 @@ def test_libraries(words: Words) -> None:
     note = put('build/libraries', sum_of_sources(KIT, Path(words.place.path)).encode(), 0o644)
     words.expect(['4 passed, 0 failed'], ANEW='1')
     # A wrong body is none of them.
-    put('crates/letters/wrong-bodies/others.edit', b'', 0o644)
+    others = put('crates/letters/wrong-bodies/others.edit', b'', 0o644)
     words.expect(['4 passed, 0 failed'], ANEW='1')
-    os.remove(put('crates/letters/wrong-bodies/others.edit', b'', 0o644))
+    os.remove(others)
     put('crates/letters/src/lib.rt', b'more letters\n', 0o644)
     words.expect(lacks, 1, ANEW='1')
     put('crates/letters/src/lib.rt', b'other letters\n', 0o644)
