@@ -1,28 +1,37 @@
+# To play: make play, make page and make sheet; make install makes commands of them, puzzles-play, puzzles-page and puzzles-sheet.
 # make play       the board on the terminal, where the last game goes on; GAME=towers or GAME=unequal, ID= an ID or a save file; in a pipe
 #                 a game by the commands that come in, as echo show | make play
-# make page       the board in a browser, which it opens where there is a screen, and where the last game goes on, that of make play too; GAME= and
-#                 ID= as above, and WORDS=--no-browser prints the link alone
+# make page       the board in a browser: opens programs/web/puzzles.html, a page in one file, which needs no server and no network; WORDS=--path prints
+#                 where it lies
 # make sheet      puzzles on paper, as build/sheet.html, which is shown where there is a browser: GAME=towers or GAME=unequal, IDS= a list of IDs in
 #                 their place, and WORDS= what else puzzles-sheet takes, as WORDS='--size 4-6 --seed 7'
+# make install    the programs, the board, the page, its entry in menus, manual pages, documents and completions below PREFIX=/usr/local, or where
+#                 bindir, gamesdir, datadir, mandir, docdir, bashcompdir, zshcompdir and fishcompdir say, all below DESTDIR; make uninstall takes them away
+# To change the programs:
 # make            has both programs ready: those in programs/linux-amd64, where programs/RECORD says that they are of the sources here, so that nothing
 #                 is to be done; else it says that they aren't, and does as make build. All that tries or installs programs takes the same ones
-# make build      proves and builds both programs from the sources here, crates side by side, and leaves them as build/puzzles and build/puzzles-json; where
-#                 nothing has changed it says nothing
+# make build      proves and builds both programs from the sources here, crates side by side, and leaves them as build/puzzles and build/puzzles-json, the
+#                 same program; where nothing has changed it says nothing
 # make programs   does that, and stores them in programs/linux-amd64 with their record, as far as they aren't there yet
-# make test       all that tries the programs from outside: commands, saves, objects, the board, installing, texts, scripts; SKIPS_ALLOWED=1 lets it
-#                 pass where something can't be tried
-# make gate       every proof from nothing, wrong bodies, tests, stored runs, the programs from outside and under fire, and whether those in the tree are
-#                 the same bytes; SKIPS_ALLOWED=1 as above
-# make test-faults a part of it: memory, reads and writes that fail in turn
-# make test-saving a part of it: how the program saves, wherever the file lies and whoever shares it
-# make test-json  a part of it: the objects that puzzles-json writes
-# make test-tools parts of it: the board, the page, installing, the texts for users, the scripts in another place; and of the gate: how they
+# make web        builds the module of the page where the one in programs/web is of other sources than those here, makes the page of it and of page/, and
+#                 stores both with their record; the page alone needs no kit
+# make site       puts the page into build/site, or SITE=, a folder for any web server, from which browsers can install it
+# make test       tries the programs from outside: commands, saves, objects, the board, the page, sheets; what can't be tried here is told at the end, and
+#                 fails it with SKIPS_FAIL=1 alone
+# make gate       every proof from nothing, wrong bodies, tests, stored runs, the programs from outside and under fire, whether those in the tree are the
+#                 same bytes, and how our own scripts and texts are written and installed; what can't be tried fails it, but with SKIPS_FAIL=0
+# make test-faults a part of the gate: memory, reads and writes that fail in turn
+# make test-saving a part of make test: how the program saves, wherever the file lies and whoever shares it
+# make test-json  a part of make test: the objects that puzzles-json writes
+# make test-module a part of the gate: the module of the page, by the tests of puzzles-json
+# make test-tools parts of both: the board, the page, installing, the texts for users, the scripts in another place, and how they
 #                 are written
-# make test-reference what saves and seeds are answered, by a second implementation
+# make test-reference a part of the gate: what saves and seeds are answered, by a second implementation
 # make test-twins  the twins of the wrong bodies, which mean what the right bodies mean, are proved; CRATES=.. for some crates
 # make test-bodies all wrong bodies are refused and all twins proved, tried together, of which the gate tries three to six of each crate; CRATES=.. for some crates;
 #                 what passed before is not tried again where nothing has changed, but with ANEW=1
-# make trust      how many lines have to be read to believe the promises, by file, and whether docs/TRUST.md lists them
+# make trust      how many lines have to be read to believe each promise, and whether docs/TRUST.md and README say so; with PROMISE=solve, or
+#                 another name that it tells, all of them in reading order
 # make exchange   saves, IDs and fair games against the usual programs, of Debian's package sgt-puzzles; no part of the gate
 # make bench      how long the solver, the generator, saves, checks of boards and their objects take, class by class, the solver beside the usual
 #                 program's, where its source package is there (bench/usual/fetch), and fair games beside those of sgt-puzzles, where that is there;
@@ -34,8 +43,6 @@
 # make must-fail  CRATE=clue_rules: tries the wrong bodies in its must-fail/, one by one
 # make fmt        lays out all files; FMT='rt tidy' also drops unused imports of proved crates
 # make dist       packs the last commit as build/puzzles-VERSION.tar.gz, and its programs as build/puzzles-VERSION-linux-amd64.tar.gz
-# make install    the programs, the board, the page, manual pages, documents and completions below PREFIX=/usr/local, or where bindir, gamesdir, datadir,
-#                 mandir, docdir, bashcompdir, zshcompdir and fishcompdir say, all below DESTDIR; make uninstall takes them away again
 # make installcheck plays with what is installed
 # make clean      takes build/ away; what the checks keep stays
 # make help       this list
@@ -48,8 +55,10 @@ WORDS ?=
 SEED ?= 1
 COUNT ?= 22000
 MINUTES ?= 3
+SITE ?= build/site
 CRATE ?=
 CRATES ?=
+PROMISE ?=
 FMT ?= '$(RT)' fmt
 PREFIX ?= /usr/local
 bindir ?= $(PREFIX)/bin
@@ -62,7 +71,7 @@ zshcompdir ?= $(datadir)/zsh/site-functions
 fishcompdir ?= $(datadir)/fish/vendor_completions.d
 DESTDIR ?=
 
-.PHONY: all build programs play page sheet test gate trust test-twins test-bodies test-faults test-saving test-json test-tools test-reference exchange bench hard climb check try must-fail fmt dist install uninstall installcheck clean help crate
+.PHONY: all build programs web site play page sheet test gate trust test-twins test-bodies test-faults test-saving test-json test-module test-tools test-reference exchange bench hard climb check try must-fail fmt dist install uninstall installcheck clean help crate
 
 # Prints the folder of the programs that are of the sources here, and builds them where there are none.
 WHERE = RT='$(RT)' tools/programs where
@@ -79,6 +88,14 @@ build:
 programs:
 	@RT='$(RT)' tools/programs store
 
+web:
+	@RT='$(RT)' tools/web store
+
+site: export SITE := $(SITE)
+site:
+	@RT='$(RT)' tools/web where > /dev/null
+	@tools/web site "$$SITE"
+
 # The board is for a terminal; in a pipe the program plays by itself. The words go by the environment, since there may be any letter in them.
 play: export GAME := $(GAME)
 play: export ID := $(ID)
@@ -88,12 +105,9 @@ play:
 	if [ -t 0 ] && [ -t 1 ]; then PUZZLES_JSON="$${PUZZLES_JSON:-$$programs/puzzles-json}" exec board/puzzles-play "$${GAME:-$${ID:+towers}}" "$$ID"; \
 	else exec tools/play_in_pipe "$$programs/puzzles" "$$GAME" "$$ID"; fi
 
-page: export GAME := $(GAME)
-page: export ID := $(ID)
 page:
-	@case "$$GAME" in ''|towers|unequal) ;; *) echo 'make: GAME is towers or unequal' >&2; exit 2 ;; esac
-	@programs=$$($(WHERE)) || exit; \
-	PUZZLES_JSON="$${PUZZLES_JSON:-$$programs/puzzles-json}" exec page/puzzles-page $(WORDS) "$${GAME:-$${ID:+towers}}" "$$ID"
+	@RT='$(RT)' tools/web where > /dev/null
+	@page/puzzles-page $(WORDS)
 
 sheet: export GAME := $(GAME)
 sheet: export IDS := $(IDS)
@@ -126,14 +140,17 @@ test-saving:
 test-json:
 	@$(TESTS) tests/objects
 
+test-module:
+	@programs=$$($(WHERE)) && tests/module/run "$$programs/puzzles"
+
 test-tools:
-	@$(TESTS) tests/board tests/page tests/installing tests/texts tests/scripts tests/code
+	@$(TESTS) --gate tests/board tests/page tests/installing tests/texts tests/scripts tests/code
 
 test-reference:
 	@$(TESTS) tests/second_implementation
 
 trust:
-	@tools/trust
+	@tools/trust $(PROMISE)
 
 exchange:
 	@$(TESTS) tests/exchange

@@ -47,22 +47,40 @@ _puzzles() {
     _puzzles_offer "$word" "${offered[@]}"
 }
 
+# The grades of a game at a size, where that was named; those of games with a number, where one was named.
+_puzzles_grades() { # GAME SIZE NUMBER
+    local kinds='easy hard extreme unreasonable'
+    [[ $1 == towers ]] || kinds='trivial easy tricky extreme recursive'
+    if [[ $2 == 3 ]]; then kinds=${kinds/hard /} kinds=${kinds/tricky /}; fi
+    if [[ $2 == 9 ]]; then kinds=${kinds% unreasonable} kinds=${kinds% recursive}; fi
+    if [[ $3 ]]; then kinds=${kinds% extreme*}; fi
+    printf '%s\n' "${kinds// /$'\n'}"
+}
+
 _puzzles_play() {
-    local word=${COMP_WORDS[COMP_CWORD]} used kind kinds=() offered=()
+    local word=${COMP_WORDS[COMP_CWORD]} at each before='' used game='' size='' kind='' number='' offered=()
     used=$(_puzzles_used)
     COMPREPLY=()
     if [[ ${COMP_WORDS[COMP_CWORD - 1]} == number ]]; then return; fi
-    case $used in
-        *' towers '*) kinds=(easy hard extreme unreasonable) ;;
-        *' unequal '*) kinds=(trivial easy tricky extreme recursive) ;;
-        *) offered+=(towers unequal) ;;
-    esac
-    for kind in "${kinds[@]}"; do
-        if [[ $used == *" $kind "* ]]; then kinds=(); fi
+    for ((at = 1; at < ${#COMP_WORDS[@]}; at++)); do
+        if ((at == COMP_CWORD)); then continue; fi
+        each=${COMP_WORDS[at]}
+        case $before/$each in
+            # The number of a game is no size.
+            number/*) ;;
+            */towers | */unequal) game=$each ;;
+            */[3-9]) size=$each ;;
+            */number | */today) number=$each ;;
+            */trivial | */easy | */tricky | */hard | */extreme | */unreasonable | */recursive) kind=$each ;;
+        esac
+        before=$each
     done
-    offered+=("${kinds[@]}")
-    if [[ $used == *' towers '* || $used == *' unequal '* ]]; then
-        [[ $used == *' number '* || $used == *' today '* ]] || offered+=(number today)
+    if [[ $game ]]; then
+        [[ $size ]] || offered+=(3 4 5 6 7 8 9)
+        [[ $kind ]] || mapfile -t -O "${#offered[@]}" offered < <(_puzzles_grades "$game" "$size" "$number")
+        [[ $number ]] || offered+=(number today)
+    else
+        offered+=(towers unequal)
     fi
     [[ $used == *' --lines '* || $used == *' --ids '* ]] || offered+=(--lines --ids)
     [[ $used == *' --help '* || $used == *' -h '* ]] || offered+=(--help)
@@ -73,20 +91,15 @@ _puzzles_play() {
     COMPREPLY=("${words[@]}" "${COMPREPLY[@]}")
 }
 
-# As of the board, but for its lines of text and its IDs.
+# One word is all that it takes.
 _puzzles_page() {
-    local word=${COMP_WORDS[COMP_CWORD]} each offered=()
-    [[ $(_puzzles_used) == *' --no-browser '* || --no-browser != "$word"* ]] || offered+=(--no-browser)
-    _puzzles_play
-    for each in "${COMPREPLY[@]}"; do
-        [[ $each == --lines || $each == --ids ]] || offered+=("$each")
-    done
-    COMPREPLY=("${offered[@]}")
+    COMPREPLY=()
+    ((COMP_CWORD != 1)) || _puzzles_offer "${COMP_WORDS[1]}" --path --help --version
 }
 
 _puzzles_sheet() {
     local word=${COMP_WORDS[COMP_CWORD]} before=${COMP_WORDS[COMP_CWORD - 1]} prefix='' used option offered=()
-    used=$(_puzzles_used --size --grade --seed --count --ids --per-page --answers --title --paper --output)
+    used=$(_puzzles_used --size --grade --seed --count --ids --per-page --answers --title --paper --output --pdf --browser)
     COMPREPLY=()
     if [[ $before == = ]]; then
         before=${COMP_WORDS[COMP_CWORD - 2]}
@@ -96,15 +109,22 @@ _puzzles_sheet() {
         before=${word%%=*} prefix=${word%%=*}= word=${word#*=}
     fi
     case $before in
-        --ids | --output) _puzzles_offer_files "$word" "$prefix"; return ;;
-        --grade) _puzzles_offer "$word" trivial easy tricky hard; return ;;
-        --per-page) _puzzles_offer "$word" 1 2 4 6 12; return ;;
+        --ids | --output | --pdf | --browser) _puzzles_offer_files "$word" "$prefix"; return ;;
+        --size) _puzzles_offer "$word" 3 4 5 6 7 8 9; return ;;
+        --grade)
+            case $used in
+                *' towers '*) _puzzles_offer "$word" easy hard ;;
+                *' unequal '*) _puzzles_offer "$word" trivial easy tricky ;;
+                *) _puzzles_offer "$word" trivial easy tricky hard ;;
+            esac
+            return ;;
+        --per-page) _puzzles_offer "$word" 1 2 3 4 6 9 12; return ;;
         --answers) _puzzles_offer "$word" end none only; return ;;
         --paper) _puzzles_offer "$word" a4 letter; return ;;
-        --size | --seed | --count | --title) return ;;
+        --seed | --count | --title) return ;;
     esac
     [[ $used == *' towers '* || $used == *' unequal '* ]] || offered+=(towers unequal)
-    for option in --size --grade --seed --count --ids --per-page --answers --steps --title --paper --large --output --help --version; do
+    for option in --size --grade --seed --count --ids --per-page --answers --steps --example --title --ids-below --words --paper --large --output --pdf --browser --help --version; do
         [[ $used == *" $option "* ]] || offered+=("$option")
     done
     _puzzles_offer "$word" "${offered[@]}"

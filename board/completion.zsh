@@ -7,8 +7,22 @@ _puzzles_game_or_file() {
 
 _puzzles_kind_or_file() {
     local -A grades=(towers 'easy hard extreme unreasonable' unequal 'trivial easy tricky extreme recursive')
-    local game=${words[(r)towers|unequal]}
-    _alternative "kinds:size or grade:(3 4 5 6 7 8 9 ${grades[$game]} number today)" 'files:save file:_files'
+    local game=${words[(r)towers|unequal]} size=${words[(r)[3-9]]} number=${words[(r)number|today]}
+    local offered=${grades[$game]}
+    if [[ $size == 3 ]]; then offered=${${offered/hard /}/tricky /}; fi
+    if [[ $size == 9 ]]; then offered=${${offered% unreasonable}% recursive}; fi
+    if [[ -n $number ]]; then offered=${offered% extreme*}; fi
+    if [[ -z $size ]]; then offered="3 4 5 6 7 8 9 $offered"; fi
+    if [[ -z $number ]]; then offered="$offered number today"; fi
+    _alternative "kinds:size or grade:($offered)" 'files:save file:_files'
+}
+
+_puzzles_sheet_grade() {
+    case ${words[(r)towers|unequal]} in
+        towers) _values 'grade' easy hard ;;
+        unequal) _values 'grade' trivial easy tricky ;;
+        *) _values 'grade' trivial easy tricky hard ;;
+    esac
 }
 
 case $service in
@@ -22,25 +36,29 @@ case $service in
             '*:ID, size or grade, or save file:_puzzles_kind_or_file' ;;
     puzzles-page)
         _arguments -S \
-            '--no-browser[print the link alone]' \
+            '(- *)--path[print where the page lies]' \
             '(- *)'{-h,--help}'[show a help text]' \
             '(- *)'{-V,--version}'[show the version]' \
-            '1:game or save file:_puzzles_game_or_file' \
-            '*:ID, size or grade, or save file:_puzzles_kind_or_file' ;;
+            ;;
     puzzles-sheet)
         _arguments -S \
-            '--size=[the sizes of the puzzles]:size, as 5-7:' \
-            '--grade=[their grades]:grade:(trivial easy tricky hard)' \
+            '--size=[the sizes of the puzzles]:size, as 5-7:(3 4 5 6 7 8 9)' \
+            '--grade=[their grades]:grade:_puzzles_sheet_grade' \
             '--seed=[other puzzles for each number]:number:' \
             '--count=[how many there are]:number:' \
             '--ids=[the puzzles of a list]:list of IDs:_files' \
-            '--per-page=[how many a page has at most]:number:(1 2 4 6 12)' \
+            '--per-page=[how many a page has at most]:number:(1 2 3 4 6 9 12)' \
             '--answers=[where the answers are]:where:(end none only)' \
             '--steps[tell how each answer goes on]' \
+            '--example[a small puzzle with its answer comes first]' \
             '--title=[stands above]:title:' \
+            '--ids-below[each puzzle has its ID below it]' \
+            '--words[the foot has the words that make the sheet]' \
             '--paper=[the size of the paper]:paper:(a4 letter)' \
             '--large[one on a page]' \
             '--output=[where the page goes]:page:_files' \
+            '--pdf=[print it to this file]:PDF:_files' \
+            '--browser=[the Chromium that prints]:browser:_command_names -e' \
             '(- *)'{-h,--help}'[show a help text]' \
             '(- *)'{-V,--version}'[show the version]' \
             '1:game:(towers unequal)' ;;

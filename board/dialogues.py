@@ -3,12 +3,12 @@
 from __future__ import annotations
 
 import textwrap
-from typing import Callable, List, Optional, Sequence
+from typing import Callable, List, NamedTuple, Optional, Sequence
 
 from board.file_names import completed
 from board.picture import Piece, Style, wrapped
 from board.screen import Key, Screen
-from board.typed import is_number
+from playing.typed import is_number
 
 #: The board under a question; called anew when the window has another size.
 Background = Callable[[], List[Piece]]
@@ -17,10 +17,23 @@ Background = Callable[[], List[Piece]]
 LEAVING = ('escape', '\x03', '\x07')
 MOST_LINES = 5
 
+#: The lines of a list's title and foot, and those that are free between.
+LIST_LINES = 5
+
+#: Keys that go to the next row of a list, or to the one before.
+WAYS = {'down': 1, 'j': 1, 'up': -1, 'k': -1}
+
 #: How far something moves while the program is at work.
 WAY = 8
 
 SCROLLING = {'down': 1, 'j': 1, 'enter': 1, 'up': -1, 'k': -1, ' ': 0, 'page down': 0, 'page up': 0}
+
+
+class Chosen(NamedTuple):
+    """A row of a list, and whether what it names is to be deleted."""
+
+    at: int
+    is_deleted: bool = False
 
 
 class Dialogues:
@@ -90,27 +103,35 @@ class Dialogues:
             elif name != 'resize':
                 return key
 
-    def choose(self, title: str, rows: Sequence[str]) -> Optional[int]:
-        """Which of the rows; nothing where it was left. What does nothing here is no key for the board either."""
-        at = 0
+    def choose(self, title: str, rows: Sequence[str], at: int = 0) -> Optional[Chosen]:
+        """Which of the rows, from one on; nothing where it was left. What does nothing here is no key for the board either."""
         while True:
-            height = self._screen.size[0]
-            room = max(1, height - 5)
-            first = max(0, at - room + 1)
-            pieces = [Piece(0, 1, title, Style.TITLE), Piece(height - 1, 1, 'arrows and Enter, or a number, choose; Escape or q goes back', Style.GRID)]
-            for line, row in enumerate(rows[first : first + room], 2):
-                number = first + line - 2
-                pieces.append(Piece(line, 1, f'{number if number < 10 else " "} {row}', is_cursor=number == at))
-            self._screen.paint(pieces)
+            self._screen.paint(self._rows(title, rows, at))
             name = self._screen.key().name
-            if name in ('down', 'j', 'up', 'k'):
-                at = (at + (1 if name in ('down', 'j') else -1)) % len(rows)
+            room = max(1, self._screen.size[0] - LIST_LINES)
+            if name in WAYS:
+                at = (at + WAYS[name]) % len(rows)
+            elif name in ('page down', 'page up'):
+                at = min(max(0, at + (room if name == 'page down' else -room)), len(rows) - 1)
             elif name in ('enter', ' '):
-                return at
+                return Chosen(at)
+            elif name == 'x':
+                return Chosen(at, is_deleted=True)
             elif is_number(name) and int(name) < len(rows):
-                return int(name)
+                return Chosen(int(name))
             elif name == 'q' or name in LEAVING:
                 return None
+
+    def _rows(self, title: str, rows: Sequence[str], at: int) -> List[Piece]:
+        """As many rows as the screen has room for, the chosen one among them."""
+        height = self._screen.size[0]
+        room = max(1, height - LIST_LINES)
+        first = max(0, at - room + 1)
+        foot = 'arrows and Enter, or a number, choose; x deletes; Escape or q goes back'
+        pieces = [Piece(0, 1, title, Style.TITLE), Piece(height - 1, 1, foot, Style.GRID)]
+        for number, row in enumerate(rows[first : first + room], first):
+            pieces.append(Piece(number - first + 2, 1, f'{number if number < 10 else " "} {row}', is_cursor=number == at))
+        return pieces
 
     def _show(self, lines: Sequence[str], at: Optional[int] = None) -> None:
         """Lines right below the board and what stands beside it, or over its last ones; where the terminal's own cursor is in the last of them."""

@@ -5,7 +5,7 @@ from __future__ import annotations
 import os
 from typing import List, Tuple
 
-from board import files, saves
+from playing import files, saves
 
 
 def file_name(text: str) -> str:

@@ -8,48 +8,67 @@ from functools import partial
 from typing import Callable, Dict, List, Optional
 
 from board import keys, manual
-from board.board import GAMES, Place
-from board.choices import Choice
 from board.dialogues import Dialogues, moving
 from board.file_names import file_name, offered, question
 from board.layout import Layout, fit
-from board.lessons import Told
+from board.menu import Menu
 from board.picture import Look, Piece, grade, has_room, name, picture, too_small
 from board.screen import Key, Screen
-from board.menu import Menu
-from board.state import Home, State
-from board.steps import Shown, sentences
-from board.table import Table
-from board.texts import BY_KEYS
-from board.typed import is_number
+from playing.board import GAMES
+from playing.choices import Choice
+from playing.game import Game
+from playing.games import GRADES
+from playing.hint_walk import HintPart, HintWalk, Press
+from playing.naming import Place
+from playing.state import Home, SavedGame, State
+from playing.steps import Shown
+from playing.texts import BY_KEYS, STAYS, last_moves, of_wrong
+from playing.typed import is_number
 
 
 class FullScreen:
-    """A table with a cursor."""
+    """A game with a cursor."""
 
     def __init__(self, screen: Screen, path: str, state: State) -> None:
         self._screen = screen
-        self.table = Table(path, state, BY_KEYS, self)
+        self.game = Game(path, state, BY_KEYS, self)
         self._dialogues = Dialogues(screen, self._pieces)
         self._cursor: Place = (0, 0)
         self._is_pencil = False
         self._key = Key('')
-        play = self.table.play
-        actions: Dict[str, Callable[[], object]] = {
+        actions = self._all_actions()
+        #: What each key does, but those that move or walk.
+        self._actions = {key: actions[name] for key, name in {**keys.ACTIONS, **keys.TERMINAL}.items()}
+        self._file = ''
+        self._shown = Shown()
+        #: Which step of a hint is shown, while the arrows walk along them, and what keys do then.
+        self._step: Optional[int] = None
+        self._way = ''
+        self._is_over = False
+        #: Whether the player goes on in lines of text.
+        self.wants_lines = False
+
+    def _all_actions(self) -> Dict[str, Callable[[], object]]:
+        """By the names that `keys` has."""
+        play = self.game.play
+        return {
             'enter': self._enter,
             'pencil': self._pencil,
             'clear': self._clear,
             'all marks': partial(play, 'move M'),
-            'tidy': self.table.toggle_marks,
+            'possible': self.game.set_possible_marks,
+            'next square': self._next_square,
+            'square before': partial(self._next_square, -1),
+            'tidy': self.game.toggle_marks,
             'undo': partial(play, 'undo'),
             'redo': partial(play, 'redo'),
             'done mark': self._done_mark,
-            'restart': self.table.restart,
+            'restart': self.game.restart,
             'hint': self._hint,
             'why': self._why,
-            'check': self.table.check,
-            'back': self.table.back,
-            'solve': self.table.solve,
+            'check': self.game.check,
+            'back': self.game.back,
+            'solve': self.game.solve,
             'new': self._new,
             'open': self._open,
             'save as': self._save_as,
@@ -58,22 +77,13 @@ class FullScreen:
             'command': self._command,
             'quit': self._quit,
             'lines': self._lines,
-            'suspend': screen.suspend,
-            'redraw': screen.redraw,
+            'suspend': self._screen.suspend,
+            'redraw': self._screen.redraw,
             'mouse': self._mouse,
             'resize': lambda: None,
         }
-        #: What each key does, but those that move or walk.
-        self._actions = {key: actions[name] for key, name in {**keys.ACTIONS, **keys.TERMINAL}.items()}
-        self._file = ''
-        self._shown = Shown()
-        #: Which step of a hint is shown, while the arrows walk along them.
-        self._step: Optional[int] = None
-        self._is_over = False
-        #: Whether the player goes on in lines of text.
-        self.wants_lines = False
 
-    # --- the table's front end ---
+    # --- the game's front end ---
 
     def confirm(self, question: str) -> bool:
         return self._dialogues.confirm(question)
@@ -89,8 +99,8 @@ class FullScreen:
         if choice:
             self._begin(choice)
         else:
-            self.table.start(game, what)
-        return '' if self.table.has_game else self.table.message
+            self.game.start(game, what)
+        return '' if self.game.has_game else self.game.message
 
     def run(self) -> None:
         """Until the player leaves."""
@@ -98,16 +108,16 @@ class FullScreen:
             self._draw()
             self._key = self._screen.key()
             self._answer(self._key.name)
-        self.table.leave()
+        self.game.leave()
 
     def _answer(self, key: str) -> None:
         if self._layout() is None and key not in keys.WITHOUT_BOARD:
             return
         if key != 'resize':
-            self.table.message = ''
+            self.game.message = ''
             self._shown = Shown()
-        if self._step is not None and key in keys.ALONG:
-            self._walk(self._step + keys.ALONG[key])
+            self._way = ''
+        if self._walk_by(key):
             return
         if key != 'resize':
             self._step = None
@@ -118,29 +128,29 @@ class FullScreen:
         elif key in self._actions:
             self._actions[key]()
         else:
-            self.table.message = 'That key does nothing: ? shows those that do.'
+            self.game.message = 'That key does nothing: ? shows those that do.'
 
     def _layout(self) -> Optional[Layout]:
-        board = self.table.board
+        board = self.game.board
         return fit(board.size, board.session.game == 'towers', *self._screen.size)
 
     def _look(self) -> Look:
-        table = self.table
-        return Look(self._cursor, self._is_pencil, table.message, table.trouble, self._screen.has_lines, table.hints, self._shown, table.grade)
+        game = self.game
+        return Look(self._cursor, self._is_pencil, game.message, game.trouble, self._screen.has_lines, game.hints, self._shown, game.grade, self._way)
 
     def _pieces(self) -> List[Piece]:
-        if not self.table.has_game:
+        if not self.game.has_game:
             return []
         layout = self._layout()
         if layout is None:
-            return too_small(self.table.board, *self._screen.size)
-        return picture(self.table.board, layout, self._look())
+            return too_small(self.game.board, *self._screen.size)
+        return picture(self.game.board, layout, self._look())
 
     def _draw(self) -> None:
         layout, look = self._layout(), self._look()
-        if layout and look.message and not has_room(look.message, self.table.board, layout, look):
-            self._page(name(self.table.board), [look.message])
-            self.table.message = ''
+        if layout and look.message and not look.way and not has_room(look.message, self.game.board, layout, look):
+            self._page(name(self.game.board), [look.message])
+            self.game.message = ''
         self._screen.paint(self._pieces())
 
     def _page(self, title: str, lines: List[str]) -> None:
@@ -153,8 +163,8 @@ class FullScreen:
 
     def _move(self, across: int, down: int) -> None:
         x, y = self._cursor
-        clues = self.table.board.clues
-        size = self.table.board.size
+        clues = self.game.board.clues
+        size = self.game.board.size
         # From a clue the next one of its edge; into the grid; or from a square at the edge onto a clue.
         if (y in (-1, size) and across) or (x in (-1, size) and down):
             places = [(x + across * step, y + down * step) for step in range(1, size)]
@@ -164,13 +174,23 @@ class FullScreen:
         if place in clues or (0 <= place[0] < size and 0 <= place[1] < size):
             self._cursor = place
 
+    def _next_square(self, step: int = 1) -> None:
+        """The next empty square in reading order, or the one before; after the last one comes the first."""
+        board = self.game.board
+        squares = [place for place in board.squares if place not in board.numbers or place == self._cursor]
+        if self._cursor not in squares:
+            # From a clue.
+            self._cursor = next(iter(squares), self._cursor)
+        else:
+            self._cursor = squares[(squares.index(self._cursor) + step) % len(squares)]
+
     def _is_on_clue(self) -> bool:
-        return self._cursor in self.table.board.clues
+        return self._cursor in self.game.board.clues
 
     def _mouse(self) -> None:
         layout = self._layout()
         place = layout.place_at(self._key.line, self._key.column) if layout else None
-        board = self.table.board
+        board = self.game.board
         if place is None or (place not in board.clues and place not in board.squares):
             return
         if self._key.button == 3:
@@ -184,20 +204,20 @@ class FullScreen:
     def _number(self, number: int) -> None:
         x, y = self._cursor
         if self._is_on_clue():
-            self.table.message = 'That is a clue: d marks it as done.'
+            self.game.message = 'That is a clue: d marks it as done.'
         elif self._is_pencil:
-            self.table.play(f'move P{x},{y},{number}')
-        elif self.table.board.numbers.get(self._cursor) != number or self._cursor in self.table.board.givens:
-            self.table.play(f'move R{x},{y},{number}')
+            self.game.play(f'move P{x},{y},{number}')
+        elif self.game.board.numbers.get(self._cursor) != number or self._cursor in self.game.board.givens:
+            self.game.play(f'move R{x},{y},{number}')
 
     def _clear(self) -> None:
-        board = self.table.board
+        board = self.game.board
         if self._is_on_clue():
-            self.table.message = 'That is a clue: d marks it as done.'
+            self.game.message = 'That is a clue: d marks it as done.'
         elif self._cursor in board.numbers or self._cursor in board.marks:
-            self.table.play(f'move R{self._cursor[0]},{self._cursor[1]},0')
+            self.game.play(f'move R{self._cursor[0]},{self._cursor[1]},0')
         else:
-            self.table.message = 'There is nothing to clear.'
+            self.game.message = 'There is nothing to clear.'
 
     def _enter(self) -> None:
         if self._is_on_clue():
@@ -210,42 +230,74 @@ class FullScreen:
 
     def _done_mark(self) -> None:
         if self._is_on_clue():
-            self.table.play(f'move D{self._cursor[0]},{self._cursor[1]}')
+            self.game.play(f'move D{self._cursor[0]},{self._cursor[1]}')
         else:
-            self.table.message = 'd marks a clue at the edge as done: go there first.'
+            self.game.message = 'd marks a clue at the edge as done: go there first.'
 
     # --- questions to the program ---
 
     def _hint(self) -> None:
-        told = self.table.hint()
-        if told is not None:
-            self._show(told)
-            self.table.message = told.text and f'{told.text} h again: more.'
-        elif self.table.refutation:
-            self.table.message += ' H: why.'
+        """Where to look; pressed again, the steps; pressed again, the number."""
+        walk = self.game.hint_walk()
+        if walk is None:
+            return
+        press = walk.press()
+        if press is Press.END:
+            self._end_hint(walk)
+        elif press is Press.STEPS:
+            self._walk(walk, 0)
+        elif walk.is_refutation:
+            self.game.message = f'{of_wrong(walk.moves, BY_KEYS)} h again: why.'
+        else:
+            self._show(walk.look())
+            self.game.message += f' h again: {walk.what_follows}.'
 
-    def _show(self, told: Told) -> None:
-        """Points at what a part of a hint speaks of."""
-        self._cursor = told.place
-        self._shown = told.shown
+    def _show(self, part: HintPart) -> None:
+        """Shows a part of a hint, and points at what it speaks of."""
+        self._cursor = part.place or self._cursor
+        self._shown = part.shown
+        self.game.message = part.text
 
     def _why(self) -> None:
-        """All steps of a hint as a page; after that the arrows walk along those to a number on the board."""
-        lesson = self.table.lesson()
-        if lesson:
-            self._page('Why', lesson.whole(self.table.board))
-            self._walk(0)
-        elif self.table.refutation:
-            self._page('Why', sentences(self.table.refutation.text))
+        """All steps of a hint as a page; after that the arrows walk along those on the board."""
+        walk = self.game.hint_walk()
+        if walk:
+            walk.skip_to_steps()
+            self._page('Why', walk.whole())
+            self._walk(walk, 0)
 
-    def _walk(self, at: int) -> None:
-        lesson = self.table.lesson()
+    def _walk(self, walk: HintWalk, at: int) -> None:
+        """Shows a step of a hint, or its end."""
+        self._step = min(max(0, at), walk.length - 1)
+        self._show(walk.part(self._step))
+        is_last = self._step == walk.length - 1
+        if not walk.is_refutation:
+            keys = 'Enter puts it in' if is_last else 'arrows walk  h the number'
+        elif walk.moves:
+            keys = f'{"Enter" if is_last else "arrows walk  b"} takes {last_moves(walk.moves)} back'
+        else:
+            keys = 'arrows walk'
+        self._way = f'{self._step + 1} of {walk.length}  {keys}'
+
+    def _walk_by(self, key: str) -> bool:
+        """Whether a key walks along the steps that are shown, or leaves them."""
+        walk = self.game.hint_walk() if self._step is not None else None
+        if walk is None or self._step is None or key not in {*keys.ALONG, 'enter', 'escape'}:
+            return False
+        if key in keys.ALONG:
+            self._walk(walk, self._step + keys.ALONG[key])
+        elif key == 'escape':
+            self._step = None
+        elif self._step < walk.length - 1:
+            self._walk(walk, self._step + 1)
+        else:
+            self._end_hint(walk)
+        return True
+
+    def _end_hint(self, walk: HintWalk) -> None:
         self._step = None
-        if lesson:
-            self._step = at % lesson.length()
-            told = lesson.part(self._step, self.table.board)
-            self._show(told)
-            self.table.message = f'{told.text} {self._step + 1} of {lesson.length()}: arrows walk on.'
+        self._cursor = walk.place or self._cursor
+        self.game.end_hint()
 
     def _command(self) -> None:
         text = self._dialogues.read(':')
@@ -256,31 +308,38 @@ class FullScreen:
         elif text in ('help', '?'):
             self._help()
         elif text.startswith('fair '):
-            if self.table.begin_fair(self.table.game, [text]):
+            if self.game.begin_fair(self.game.kind, [text]):
                 self._at_start()
         elif text.startswith('new '):
-            self._begin(Choice(self.table.game, self.table.board.size, id=text[4:].strip()))
+            self._begin(Choice(self.game.kind, self.game.board.size, id=text[4:].strip()))
         else:
-            reply = self.table.play(text)
+            reply = self.game.play(text)
             lines = reply.lines if reply else []
             if len(lines) > 1 or (lines and len(lines[0]) > 60):
                 self._page(text, lines)
             elif lines and lines != ['ok']:
-                self.table.message = lines[0]
+                self.game.message = lines[0]
 
     # --- games ---
 
     def _new(self) -> None:
-        board = self.table.board
-        choice = Menu(self._screen, self.table.state, Choice(self.table.game, board.size, grade(board))).run()
-        if choice:
-            self._begin(choice)
+        """The menu, until a game begins or it is left: what is refused is said there."""
+        board = self.game.board
+        name = grade(board) or GRADES[self.game.kind].get(self.game.grade, '')
+        menu = Menu(self._screen, self.game.state, Choice(self.game.kind, board.size, name))
+        choice = menu.run()
+        while choice and not self._begin(choice) and self.game.message != STAYS:
+            choice = menu.run(self.game.message)
+            self.game.message = ''
 
-    def _begin(self, choice: Choice) -> None:
-        if self.table.begin_new(choice):
+    def _begin(self, choice: Choice) -> bool:
+        """Whether it has begun."""
+        has_begun = self.game.begin_new(choice)
+        if has_begun:
             self._at_start()
-            if self.table.told_number:
-                self.table.message = f'{self.table.message} {self.table.told_number} That number is always this game.'.strip()
+            if self.game.told_number:
+                self.game.message = f'{self.game.message} {self.game.told_number} That number is always this game.'.strip()
+        return has_begun
 
     def _at_start(self) -> None:
         self._cursor = (0, 0)
@@ -288,48 +347,61 @@ class FullScreen:
         self._file = ''
 
     def _open(self) -> None:
-        saved = self.table.saved_games(os.path.dirname(self._file))
-        # A file that is to be named stands before those of the folder: its number is the same whatever lies there.
-        own = sum(game.home is not Home.FOLDER for game in saved)
-        rows = [self.table.told_of(game) for game in saved]
-        at = self._dialogues.choose('Go on with', [*rows[:own], 'a file ..', *rows[own:]])
-        if at is None:
-            self.table.message = self.table.state.old_trouble()
-            return
-        if at == own:
+        """Lists what can be continued until one is chosen; the list is shown again where one was deleted."""
+        at = 0
+        while True:
+            saved = self.game.saved_games(os.path.dirname(self._file))
+            # A file that is to be named stands before those of the folder.
+            own = sum(game.home is not Home.FOLDER for game in saved)
+            rows = self.game.told_of(saved)
+            chosen = self._dialogues.choose(self.game.message or 'Go on with', [*rows[:own], 'a file ..', *rows[own:]], min(at, len(saved)))
+            self.game.message = ''
+            if chosen is None:
+                self.game.message = self.game.state.old_trouble()
+                return
+            at = chosen.at
+            game = None if at == own else saved[at if at < own else at - 1]
+            if not chosen.is_deleted:
+                self._go_on_with(game)
+                return
+            if game:
+                self.game.delete(game)
+
+    def _go_on_with(self, saved: Optional[SavedGame]) -> None:
+        """Goes on with a game of the list, or with a file that is to be named."""
+        if saved is None:
             file = file_name(self._dialogues.read('open the file:', is_file=True) or '')
-            done = bool(file) and self.table.open(self.table.game, file)
+            done = bool(file) and self.game.open(self.game.kind, file)
         else:
-            game = saved[at if at < own else at - 1]
-            file = game.path if game.home is Home.FOLDER else ''
-            done = self.table.go_on_with(game)
+            file = saved.path if saved.home is Home.FOLDER else ''
+            done = self.game.go_on_with(saved)
         if done:
             self._at_start()
             self._file = file
 
     def _save_as(self) -> None:
-        board = self.table.board
-        name_offered = self._file or offered(self.table.game, board.size, grade(board))
+        board = self.game.board
+        name_offered = self._file or offered(self.game.kind, board.size, grade(board))
         file = file_name(self._dialogues.read('save as:', name_offered, is_file=True) or '')
         if not file:
             return
         asked = '' if file == self._file else question(file)
         if asked and not self.confirm(asked):
-            self.table.message = 'Nothing was saved.'
+            self.game.message = 'Nothing was saved.'
             return
-        if self.table.save_as(file):
+        if self.game.save_as(file):
             self._file = file
 
     def _show_id(self) -> None:
-        board = self.table.board
-        lines = [board.session.id, '', 'To play it again: n, by an ID; or on the command line', '', f"puzzles-play {self.table.game} '{board.session.id}'"]
-        chosen = self.table.chosen
+        board = self.game.board
+        lines = [board.session.id, '', 'To play it again: n, by an ID; or on the command line', '', f"puzzles-play {self.game.kind} '{board.session.id}'"]
+        chosen = self.game.chosen
         if chosen:
             lines += ['', chosen.told, '', f'puzzles-play {chosen.game} {chosen.words}']
         self._page(f'The ID of this puzzle, {name(board)} {grade(board)}', lines)
 
     def _help(self) -> None:
-        self._page('Keys', [*manual.KEYS, '', GAMES[self.table.game], *manual.RULES[self.table.game]])
+        self._page('Keys', [*manual.KEYS, '', GAMES[self.game.kind], *manual.RULES[self.game.kind], *manual.LOOKS[self.game.kind]])
 
     # --- the screen, and the end ---
 
@@ -341,4 +413,4 @@ class FullScreen:
         self._is_over = self._may_leave()
 
     def _may_leave(self) -> bool:
-        return not self.table.trouble or self.confirm(f'The game is not kept ({self.table.trouble}). Quit and lose it?')
+        return not self.game.trouble or self.confirm(f'The game is not kept ({self.game.trouble}). Quit and lose it?')

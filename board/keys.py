@@ -10,12 +10,6 @@ STEPS: Dict[str, Tuple[int, int]] = {
     'right': (1, 0),
     'up': (0, -1),
     'down': (0, 1),
-    'L': (1, 0),
-    'K': (0, -1),
-    'J': (0, 1),
-    'l': (1, 0),
-    'k': (0, -1),
-    'j': (0, 1),
 }
 
 #: What each key does, by the name of an action that a front end has.
@@ -27,6 +21,7 @@ ACTIONS: Dict[str, str] = {
     'backspace': 'clear',
     'delete': 'clear',
     'm': 'all marks',
+    'P': 'possible',
     'M': 'tidy',
     'u': 'undo',
     '\x1a': 'undo',
@@ -50,7 +45,15 @@ ACTIONS: Dict[str, str] = {
 }
 
 #: The same for keys of a terminal alone.
-TERMINAL: Dict[str, str] = {'T': 'lines', 'Z': 'suspend', '\x0c': 'redraw', 'mouse': 'mouse', 'resize': 'resize'}
+TERMINAL: Dict[str, str] = {
+    '\t': 'next square',
+    'shift tab': 'square before',
+    'T': 'lines',
+    'Z': 'suspend',
+    '\x0c': 'redraw',
+    'mouse': 'mouse',
+    'resize': 'resize',
+}
 
 #: Keys that walk along the steps of a hint.
 ALONG: Dict[str, int] = {'left': -1, 'up': -1, 'right': 1, 'down': 1}

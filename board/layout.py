@@ -4,7 +4,7 @@ from __future__ import annotations
 
 from typing import Iterator, NamedTuple, Optional, Tuple
 
-from board.board import Place
+from playing.naming import Place
 
 #: A screen has at least so many columns, for sentences.
 FEWEST_COLUMNS = 36

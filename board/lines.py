@@ -2,26 +2,24 @@
 
 from __future__ import annotations
 
-import re
 import shutil
 import sys
 import textwrap
-from typing import Callable, Dict, List, Optional, Tuple
+from typing import Callable, Dict, Optional
 
-from board import hints, manual, speech, step_texts
-from board.board import GAMES, Board
-from board.choices import Choice, Unknown, choice_of, remembered
+from board import manual, speech
 from board.file_names import file_name, question
-from board.games import GRADES
-from board.printable import printable
-from board.prompt import Prompt
-from board.state import State
-from board.table import Table
-from board.texts import BY_LINES
-from board.typed import is_number
-
-NUMBER = r'(-?[0-9]+)'
-BETWEEN = '[ ,]+'
+from board.prompt import Asking, asking
+from board.typed_moves import Kind, OutOfGrid, TypedMove, typed_move
+from playing.board import GAMES, Board
+from playing.choices import Choice, Unknown, choice_of, remembered
+from playing.game import Game
+from playing.games import GRADES
+from playing.hint_walk import HintWalk, Press
+from playing.printable import printable
+from playing.state import State
+from playing.texts import BY_LINES, of_solved, of_wrong
+from playing.typed import is_number
 
 #: What is typed for a command.
 SHORT: Dict[str, str] = {
@@ -40,20 +38,13 @@ SHORT: Dict[str, str] = {
     's': 'show',
 }
 
-#: Numbers that are typed, and the program's line.
-MOVES: List[Tuple[str, str]] = [
-    (f'{NUMBER}{BETWEEN}{NUMBER}{BETWEEN}{NUMBER}', 'move R{0},{1},{2}'),
-    (f'[pP]{BETWEEN}{NUMBER}{BETWEEN}{NUMBER}{BETWEEN}{NUMBER}', 'move P{0},{1},{2}'),
-    (f'[dD]{BETWEEN}{NUMBER}{BETWEEN}{NUMBER}', 'move D{0},{1}'),
-]
-
 
 class LineMode:
-    """A table at a prompt."""
+    """A game at a prompt."""
 
     def __init__(self, path: str, state: State) -> None:
-        self._prompt = Prompt()
-        self._table = Table(path, state, BY_LINES, self)
+        self._prompt: Asking = asking()
+        self._game = Game(path, state, BY_LINES, self)
         self._is_told = False
         self._is_over = False
         #: Whether it was told that the program is at work, since something was typed.
@@ -67,30 +58,35 @@ class LineMode:
             'save': self._save,
             'load': self._load,
             'open': self._open,
+            'delete': self._delete,
             'row': lambda text: self._line(text, 'row', speech.row),
             'column': lambda text: self._line(text, 'column', speech.column),
-            'clues': lambda _: say(*speech.clues(self._table.board)),
+            'clues': lambda _: say(*speech.clues(self._game.board)),
+            'marks': lambda _: say(*speech.marks(self._game.board)),
+            'done': lambda _: say(*speech.done(self._game.board)),
+            'possible': self._possible,
             'hint': self._hint,
             'why': self._why,
             'check': self._check,
-            'tidy': lambda _: self._table.toggle_marks(),
+            'solve': self._solve,
+            'tidy': lambda _: self._game.toggle_marks(),
             'back': self._back,
             'show': lambda _: self._show(),
-            'status': lambda _: say(f'{self._table.board.session.status} {self._position()}'),
+            'status': lambda _: say(f'{self._game.board.session.status} {self._position()}'),
             'quit': self._quit,
         }
 
-    # --- the table's front end ---
+    # --- the game's front end ---
 
     def confirm(self, question: str) -> bool:
         answer = self._prompt.read(f'{question} y/N ')
         return answer in ('y', 'Y', 'yes')
 
     def waiting(self, may_stop: bool) -> bool:
-        if not self._has_told:
+        if self._prompt.is_typed and not self._has_told:
             say('The program is at work: Ctrl-C stops it.')
             self._has_told = True
-        return self._prompt.is_stopped
+        return self._prompt.stopped()
 
     # --- the run ---
 
@@ -98,32 +94,32 @@ class LineMode:
         """Until the player leaves; the status is 3 where the ID or the file is refused."""
         if choice:
             self._begin(choice)
-        elif self._table.start(game, what):
+        elif self._game.start(game, what):
             self._begun()
-        if not self._table.has_game:
-            say(self._table.message)
+        if not self._game.has_game:
+            say(self._game.message)
             return 3
-        say(f'Type column, row and number, as 0 0 {self._table.board.size}; help lists the rest.')
+        say(f'Type a square and a number, as r1c2 {self._game.board.size}; hint helps on, help lists the rest.')
         while not self._is_over:
-            line = self._prompt.read(f'{self._table.game} {self._position()}> ')
+            line = self._prompt.read(f'{self._game.kind} {self._position()}> ')
             if line is None:
                 line = 'quit'
             self._has_told = False
             if line:
                 self._answer(line)
                 self._say_message()
-        self._table.leave()
+        self._game.leave()
         return 0
 
     def _answer(self, line: str) -> None:
-        for pattern, command in MOVES:
-            match = re.fullmatch(pattern, line)
-            if match:
-                self._play(command.format(*match.groups()))
-                return
-        pair = re.fullmatch(f'{NUMBER}{BETWEEN}{NUMBER}', line)
-        if pair:
-            say(speech.square(self._table.board, (int(pair[1]), int(pair[2]))))
+        size = self._game.board.size
+        try:
+            move = typed_move(line, size)
+        except OutOfGrid:
+            say(f'Rows and columns count from 1 to {size}.')
+            return
+        if move:
+            self._move(move)
             return
         line = SHORT.get(line.lower(), line)
         word, _, rest = line.partition(' ')
@@ -132,19 +128,24 @@ class LineMode:
         else:
             self._play(line.lower() if ' ' not in line else line)
 
+    def _move(self, move: TypedMove) -> None:
+        board = self._game.board
+        if move.kind is Kind.LOOK:
+            say(speech.square(board, move.place) if move.place in board.squares else speech.clue(board, move.place))
+        else:
+            self._play(move.line)
+
     def _play(self, line: str) -> None:
         """Has the program do that, and says what came of it."""
-        before = self._table.board
-        reply = self._table.play(line)
+        before = self._game.board
+        reply = self._game.play(line)
         if reply is None:
             return
-        after = self._table.board
+        after = self._game.board
         if line == 'restart':
             self._is_told = False
         if reply.lines == ['ok']:
             say(speech.change(before, after))
-        elif line == 'solve' and after.session.position > before.session.position:
-            self._show()
         else:
             say(*reply.lines)
         self._say_state(after, speech.faults(before))
@@ -156,97 +157,138 @@ class LineMode:
             say(faults)
         if board.is_full and faults and faults != known:
             say('Full, but not right yet.')
-        if board.is_solved and board.session.status == 'solved' and not self._is_told:
+        if board.is_solved and not self._is_told:
             self._is_told = True
-            say(f'Solved, {hints.told(self._table.hints)}.' if self._table.hints else 'Solved!')
+            say(of_solved(board.session.status, self._game.hints))
 
     def _say_message(self) -> None:
-        say(*filter(None, [self._table.message]))
-        self._table.message = ''
-        if self._table.trouble and self._table.trouble != self._trouble:
-            say(f'The game is not kept: {self._table.trouble}.')
-        self._trouble = self._table.trouble
+        say(*filter(None, [self._game.message]))
+        self._game.message = ''
+        if self._game.trouble and self._game.trouble != self._trouble:
+            say(f'The game is not kept: {self._game.trouble}.')
+        self._trouble = self._game.trouble
 
     def _position(self) -> str:
-        session = self._table.board.session
+        session = self._game.board.session
         return f'{session.position}/{session.states}'
 
     # --- what is shown ---
 
     def _begun(self) -> None:
         self._say_message()
-        self._is_told = self._table.board.is_solved
+        self._is_told = self._game.board.is_solved
         self._show()
-        board = self._table.board
-        for y in sorted({place[1] for place in board.marks}):
-            say('marks  ' + '  '.join(f'{x},{y}:{"".join(map(str, board.marks[x, y]))}' for x in range(board.size) if (x, y) in board.marks))
-        self._say_state(board)
+        board = self._game.board
+        if board.marks:
+            say('Pencil marks:', *speech.marks(board))
 
     def _show(self) -> None:
         """The program's picture, with the numbers of the columns and rows."""
-        reply = self._table.ask('show')
-        size, is_towers = self._table.board.size, self._table.game == 'towers'
+        reply = self._game.ask('show')
+        size, is_towers = self._game.board.size, self._game.kind == 'towers'
         border, step = (1, 1) if is_towers else (0, 2)
-        say(' ' * (1 + 2 * border) + ''.join(f' {x}' for x in range(size)))
+        say(' ' * (1 + 2 * border) + ''.join(f' {x + 1}' for x in range(size)))
         for at, line in enumerate(reply.lines if reply else []):
             y = at - border
-            say(f'{y // step if 0 <= y < size * step and y % step == 0 else " "} {line}')
+            say(f'{y // step + 1 if 0 <= y < size * step and y % step == 0 else " "} {line}')
 
     def _line(self, text: str, kind: str, sentence: Callable[[Board, int], str]) -> None:
-        size = self._table.board.size
-        if is_number(text) and int(text) < size:
-            say(sentence(self._table.board, int(text)))
+        size = self._game.board.size
+        if is_number(text) and 1 <= int(text) <= size:
+            say(sentence(self._game.board, int(text) - 1))
         else:
-            say(f"'{kind} 0' tells what is there: a number from 0 to {size - 1}.")
+            say(f"'{kind} 1' tells what is there: a number from 1 to {size}.")
 
     def _help(self, _: str) -> None:
         say(*manual.LINES)
 
     def _rules(self, _: str) -> None:
-        say(*manual.RULES[self._table.game])
+        say(*manual.RULES[self._game.kind])
 
     def _hint(self, _: str) -> None:
-        before = self._table.board
-        told = self._table.hint()
-        if told is None:
-            if self._table.refutation:
-                self._table.message += " 'why' tells the steps."
+        walk = self._game.hint_walk()
+        if walk is None:
             return
-        if told.spoken:
-            say(f"{told.spoken} 'hint' again tells more.")
+        press = walk.press()
+        if press is Press.LOOK and walk.is_refutation:
+            say(f"{of_wrong(walk.moves, BY_LINES)} 'hint' again tells why.")
+        elif press is Press.LOOK:
+            say(f"{walk.look().text} 'hint' again tells {walk.what_follows}.")
+        elif press is Press.STEPS:
+            self._steps(walk)
         else:
-            say(speech.change(before, self._table.board))
-            self._say_state(self._table.board, speech.faults(before))
+            self._end_hint(walk)
 
-    def _why(self, _: str) -> None:
-        lesson = self._table.lesson()
-        if lesson:
-            say(*(lesson.part(at, self._table.board).spoken for at in range(lesson.length())))
-        elif self._table.refutation:
-            say(*step_texts.spoken_refutation(self._table.refutation, self._table.board))
+    def _steps(self, walk: HintWalk) -> None:
+        """All steps, and the last sentence where that says no number."""
+        sentences = walk.whole()
+        say(*(sentences if walk.is_refutation else sentences[:-1]))
+        say(f"'hint' again {'takes the moves back' if walk.is_refutation else 'puts the number in'}. 'why 1' tells what is left before step 1.")
+
+    def _end_hint(self, walk: HintWalk) -> None:
+        before = self._game.board
+        if not walk.is_refutation:
+            say(walk.part(len(walk.steps)).text)
+        self._game.end_hint()
+        after = self._game.board
+        if after is not before:
+            say(speech.change(before, after))
+            self._say_state(after, speech.faults(before))
+
+    def _why(self, text: str) -> None:
+        """All sentences of the hint; or those of one step, with what is left before it in the squares that it speaks of."""
+        walk = self._game.hint_walk()
+        if walk is None:
+            return
+        walk.skip_to_steps()
+        if not text:
+            say(*walk.whole())
+        elif is_number(text) and 1 <= int(text) <= walk.length:
+            self._one_step(walk, int(text) - 1)
+        else:
+            say(f"'why 1' tells a step: a number from 1 to {walk.length}.")
+
+    def _one_step(self, walk: HintWalk, at: int) -> None:
+        board, part = self._game.board, walk.part(at)
+        if part.shown.left is not None:
+            squares = [place for place in board.squares if place in part.shown.left and (place in part.shown.rests_on or place in part.shown.struck)]
+            say(f'Left before it: {speech.left(part.shown.left, squares)}.')
+        say(part.text)
 
     def _check(self, _: str) -> None:
-        self._table.check()
+        self._game.check()
+
+    def _possible(self, _: str) -> None:
+        before = self._game.board
+        if self._game.set_possible_marks():
+            say(speech.change(before, self._game.board))
+
+    def _solve(self, _: str) -> None:
+        before = self._game.board
+        self._game.solve()
+        if self._game.board.session.position > before.session.position:
+            self._show()
+            self._say_state(self._game.board)
 
     def _back(self, _: str) -> None:
-        before = self._table.board
-        self._table.back()
-        if self._table.board is not before:
+        before = self._game.board
+        self._game.back()
+        if self._game.board is not before:
             self._show()
 
     # --- games ---
 
     def _new(self, text: str) -> None:
         """A game, a size, a grade and a number in any order, or an ID."""
-        board = self._table.board
+        board = self._game.board
         # `hard 9, number 7` as it is told; the commas of an ID stay.
         words = (text if set(text) & set(':!#') else text.replace(',', ' ')).split()
-        game = next((word.lower() for word in words if word.lower() in GAMES), self._table.game)
+        game = next((word.lower() for word in words if word.lower() in GAMES), self._game.kind)
         words = [word for word in words if word.lower() not in GAMES]
         present = Choice(game, board.size, GRADES[game].get(board.session.letter, ''))
         try:
             if all(word.isdecimal() or word.isalpha() for word in words):
-                choice = choice_of(words, remembered(self._table.state, game) or present)
+                choice = choice_of(words, remembered(self._game.state, game) or present)
             else:
                 choice = present._replace(id=words[-1])
         except Unknown as unknown:
@@ -255,19 +297,19 @@ class LineMode:
         self._begin(choice)
 
     def _begin(self, choice: Choice) -> None:
-        if self._table.begin_new(choice):
+        if self._game.begin_new(choice):
             self._begun()
-            chosen = self._table.chosen
+            chosen = self._game.chosen
             if chosen:
                 say(chosen.told, 'To play it again:')
                 say_whole(f'new {chosen.words}')
             elif not choice.id:
                 say('To play it again:')
-                say_whole(f'new {self._table.board.session.id}')
+                say_whole(f'new {self._game.board.session.id}')
 
     def _fair(self, text: str) -> None:
         """A game by the words of the program's own line."""
-        if self._table.begin_fair(self._table.game, [f'fair {text}']):
+        if self._game.begin_fair(self._game.kind, [f'fair {text}']):
             self._begun()
 
     def _save(self, text: str) -> None:
@@ -279,28 +321,35 @@ class LineMode:
         if asked and not self.confirm(asked):
             say('Nothing was saved.')
         else:
-            self._table.save_as(file)
+            self._game.save_as(file)
 
     def _load(self, text: str) -> None:
         file = file_name(text)
         if not file:
             say("'load FILE' needs the name of a file.")
-        elif self._table.open(self._table.game, file):
+        elif self._game.open(self._game.kind, file):
             self._begun()
 
     def _open(self, text: str) -> None:
-        saved = self._table.saved_games('')
+        saved = self._game.saved_games('')
         if is_number(text) and int(text) < len(saved):
-            if self._table.go_on_with(saved[int(text)]):
+            if self._game.go_on_with(saved[int(text)]):
                 self._begun()
             return
-        for at, game in enumerate(saved):
-            say(f'{at}  {self._table.told_of(game)}')
-        trouble = self._table.state.old_trouble()
-        say("'open 0' goes on with number 0." if saved else trouble or 'No game was put away yet.')
+        for at, line in enumerate(self._game.told_of(saved)):
+            say(f'{at}  {line}')
+        trouble = self._game.state.old_trouble()
+        say("'open 0' goes on with number 0, 'delete 0' deletes it." if saved else trouble or 'No game was put away yet.')
+
+    def _delete(self, text: str) -> None:
+        saved = self._game.saved_games('')
+        if is_number(text) and int(text) < len(saved):
+            self._game.delete(saved[int(text)])
+        else:
+            say("'delete 0' deletes number 0 of what 'open' lists.")
 
     def _quit(self, _: str) -> None:
-        trouble = self._table.trouble
+        trouble = self._game.trouble
         self._is_over = not trouble or not sys.stdin.isatty() or self.confirm(f'The game is not kept ({trouble}). Quit and lose it?')
 
 
@@ -311,7 +360,7 @@ def say_whole(line: str) -> None:
 
 def say(*lines: str) -> None:
     """Prints lines; one that is too long for the terminal is broken between two words."""
-    columns = shutil.get_terminal_size().columns
+    columns = shutil.get_terminal_size().columns if sys.stdout.isatty() else 0
     for line in map(printable, lines):
         parts = textwrap.wrap(line, max(columns - 1, 20), subsequent_indent='  ', break_long_words=False, break_on_hyphens=False)
-        print('\n'.join(parts) if len(line) >= columns else line, flush=True)
+        print('\n'.join(parts) if 0 < columns <= len(line) else line, flush=True)

@@ -3,17 +3,18 @@
 from __future__ import annotations
 
 import os
+import signal
 import sys
 from functools import partial
 from typing import List, NamedTuple, Optional, Sequence, Tuple
 
-from board.board import GAMES
-from board.choices import Choice, are_words, choice_of, first, ids, unread, without_number
-from board.command import complain, me, refuse, tells_of_itself, with_program
-from board.printable import printable
-from board.state import State
-from board.table import is_there
-from board.typed import is_number
+from playing.board import GAMES
+from playing.choices import Choice, are_words, choice_of, first, ids, unread, without_number
+from playing.command import SIGNALLED, complain, me, refuse, told_of_itself, unwritten, with_program, written
+from playing.game import is_there
+from playing.printable import printable
+from playing.state import State
+from playing.typed import is_number
 
 USAGE = """\
 usage: {me} [--lines] [GAME] [ID or FILE]
@@ -24,7 +25,7 @@ usage: {me} [--lines] [GAME] [ID or FILE]
 GAME is towers or unequal. Without an ID or a save file the last game goes on,
 and a new one begins where there is none. ? shows the keys. With --lines, or
 where the terminal has no screen, games are played by lines of text, which
-'help' lists. For scripts and pipes use the program itself: puzzles GAME.
+'help' lists; in a pipe, too. For scripts there is puzzles-json GAME.
 
 A SIZE from 3 to 9 or a GRADE begins a new game: easy, hard, extreme and
 unreasonable in Towers, trivial, easy, tricky, extreme and recursive in
@@ -50,14 +51,21 @@ class Words(NamedTuple):
 
 def main(words: List[str], here: str) -> int:
     """Plays; `here` is the folder of the command. The status is 0 to 3, as the program's own, or 128 and the number of a signal."""
-    if tells_of_itself(words, USAGE, here):
-        return 0
+    status = told_of_itself(words, USAGE, here)
+    if status is not None:
+        return status
     asked = read(words)
     if asked is None:
         return refuse(fault(words), usage(USAGE, words))
-    if not (asked.ids or (sys.stdin.isatty() and sys.stdout.isatty())):
-        return refuse(f'the board is for a terminal; in a pipe use the program itself, puzzles {asked.game or "GAME"}')
-    return with_program(here, partial(play, asked=asked))
+    if not (asked.ids or asked.is_lines or (sys.stdin.isatty() and sys.stdout.isatty())):
+        return refuse(f'the board is for a terminal; in a pipe use --lines, or the program itself, puzzles {asked.game or "GAME"}')
+    try:
+        return with_program(here, partial(play, asked=asked))
+    except BrokenPipeError as error:
+        # Nobody reads on. The game is kept.
+        return unwritten(error)
+    except KeyboardInterrupt:
+        return SIGNALLED + signal.SIGINT
 
 
 def read(words: List[str]) -> Optional[Words]:
@@ -124,8 +132,7 @@ def play(path: str, asked: Words) -> int:
     game = asked.game or state.last(GAMES) or 'towers'
     choice = choice_of(asked.kind, first(state, game)) if asked.kind or asked.ids else None
     if choice and asked.ids:
-        print('\n'.join(ids(path, choice, asked.ids)))
-        return 0
+        return written(''.join(f'{id}\n' for id in ids(path, choice, asked.ids)))
     if not asked.is_lines:
         status = on_screen(path, state, game, asked.what, choice)
         if status is not None:
@@ -158,4 +165,4 @@ def on_screen(path: str, state: State, game: str, what: str, choice: Optional[Ch
         return 0
     from board.lines import LineMode
 
-    return LineMode(path, state).run(front.table.game, '')
+    return LineMode(path, state).run(front.game.kind, '')

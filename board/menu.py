@@ -4,14 +4,14 @@ from __future__ import annotations
 
 from typing import List, NamedTuple, Optional
 
-from board import fair, games
-from board.board import GAMES
-from board.choices import Choice, remembered
 from board.dialogues import LEAVING, Dialogues
 from board.picture import Piece, Style, wrapped
 from board.screen import Screen
-from board.state import State
-from board.typed import is_number
+from playing import fair, games
+from playing.board import GAMES
+from playing.choices import WRONG_NUMBER, Choice, remembered
+from playing.state import State
+from playing.typed import is_number
 
 BY_ID = 'by an ID or a seed'
 
@@ -35,20 +35,25 @@ class Menu:
     """Up and down go through the lines, left and right change what one says, Enter begins the game. Digits are a size, or a number in its line."""
 
     def __init__(self, screen: Screen, state: State, present: Choice) -> None:
-        """What was chosen last of the present game is chosen at first; where nothing was, a game as this."""
+        """A game as the present one is chosen at first."""
         self._screen = screen
         self._state = state
         self._line = 2
         self._number = BY_CHANCE
         #: The digits of a number that is typed.
         self._digits = ''
-        self._take(remembered(state, present.game) or present)
+        #: Why what was chosen last doesn't begin.
+        self._sentence = ''
+        self._take(present)
 
-    def run(self) -> Optional[Choice]:
-        """What was chosen; nothing where another key went back."""
+    def run(self, sentence: str = '') -> Optional[Choice]:
+        """What was chosen; nothing where another key went back. It may be run again, with a sentence on why that didn't begin."""
+        self._sentence = sentence
         while True:
             self._screen.paint(self._pieces())
             name = self._screen.key().name
+            if name != 'resize':
+                self._sentence = ''
             if name in ('up', 'k', 'down', 'j'):
                 self._line = (self._line + (1 if name in ('down', 'j') else -1)) % len(self._rows())
             elif name in ('left', 'h', 'right', 'l', ' '):
@@ -97,6 +102,8 @@ class Menu:
         digits = self._digits[:-1] if not is_number(key) else key if self._digits in ('', '0') else self._digits + key
         if not digits or fair.seed_of(digits) is not None:
             self._digits, self._number = digits, TYPED
+        else:
+            self._sentence = WRONG_NUMBER
 
     def _choice(self) -> Optional[Choice]:
         if self._kind != BY_ID:
@@ -104,6 +111,7 @@ class Menu:
             if not self._has_number() or self._number == BY_CHANCE:
                 return choice
             if self._number == TYPED and not self._digits:
+                self._sentence = 'Type the number: digits.'
                 return None
             return choice._replace(number=fair.today() if self._number == TODAYS else int(self._digits))
         text = Dialogues(self._screen, self._pieces).read('ID, or a number as the seed:')
@@ -137,6 +145,10 @@ class Menu:
                 pieces.append(Piece(line, column, text, Style.GIVEN if is_chosen else Style.PLAIN, is_chosen and at == self._line))
                 column += len(text)
             line += 1 if lines < LOW else 2
+        if self._sentence:
+            for part in wrapped(self._sentence, columns - 2):
+                pieces.append(Piece(line, 1, part, Style.TITLE))
+                line += 1
         for text in [self._note(), games.bank_trouble(self._game), 'Enter begins it; the present game is put away.', 'Arrows choose, Escape or q goes back.']:
             for part in wrapped(text, columns - 2) or ['']:
                 pieces.append(Piece(line, 1, part))

@@ -2,15 +2,18 @@
 
 from __future__ import annotations
 
+import re
 import textwrap
 from enum import Enum
-from typing import Iterator, List, NamedTuple, Optional
+from typing import Iterator, List, NamedTuple, Optional, Tuple
 
-from board.board import GAMES, Board, Place
-from board.games import GRADES
-from board.hints import told as hints_told
-from board.steps import Shown
 from board.layout import Layout, wanted
+from playing.beside import hints_told
+from playing.board import GAMES, Board
+from playing.games import GRADES
+from playing.naming import Place
+from playing.steps import Shown
+from playing.texts import of_solved
 
 
 class Style(Enum):
@@ -26,6 +29,9 @@ class Style(Enum):
     DONE = 'done'
     WRONG = 'wrong'
     SHOWN = 'shown'
+    #: What is left in a square while a hint is told, and what the step rules out.
+    LEFT = 'left'
+    STRUCK = 'struck'
 
 
 class Piece(NamedTuple):
@@ -35,6 +41,8 @@ class Piece(NamedTuple):
     style: Style = Style.PLAIN
     #: Whether the cursor is there.
     is_cursor: bool = False
+    #: Whether a hint rests on what is there.
+    is_tinted: bool = False
 
 
 class Look(NamedTuple):
@@ -53,24 +61,30 @@ class Look(NamedTuple):
     shown: Shown = Shown()
     #: The letter of the puzzle's grade, by the program's own steps.
     grade: str = ''
+    #: What keys do while one walks along the steps of a hint; nothing otherwise.
+    way: str = ''
 
 
 #: The corners and crossings of the grid by rows, then the line across and the one down.
 LINES = ('┌┬┐', '├┼┤', '└┴┘', '─', '│', '·')
 PLAIN_LINES = ('+++', '+++', '+++', '-', '|', '.')
 
+#: What a sentence says of a square, a row or a column.
+NAMED = re.compile(r'\br[1-9]c[1-9]|\b(row|column) [1-9]', re.IGNORECASE)
+
 KEYS_BELOW = [
     '1-9 number  p pencil  0 clear  u undo  r redo  h hint  n new  q quit  ? keys',
     'p pencil u undo h hint n new q quit ?',
 ]
-#: So many lines of a message have room at the side, where the window is tall enough.
-MESSAGE_LINES = 6
+#: So many lines of a message have room at the side, where the window is tall enough; and so many below the board.
+MESSAGE_LINES, MESSAGE_BELOW = 6, 3
 KEYS_ASIDE = ['1-9 number  p pencil', '0 clear     m all marks', 'u undo      r redo', 'h hint      H why', 'c check     n new', '? all keys  q quit']
 
 
 def picture(board: Board, layout: Layout, look: Look) -> List[Piece]:
     """The whole screen."""
-    pieces = [*_grid(layout, look), *_squares(board, layout, look), *_shown(board, layout, look), *_signs(board, layout), *_clues(board, layout, look)]
+    pieces = [*_grid(layout, look), *_edge(layout, look), *_squares(board, layout, look), *_shown(board, layout, look)]
+    pieces += [*_signs(board, layout), *_clues(board, layout, look), *_left(board, layout)]
     return pieces + list(_texts_below(board, layout, look) if layout.side is None else _texts_aside(board, layout, look, layout.side))
 
 
@@ -106,7 +120,7 @@ def grades(board: Board, own: str) -> str:
 def state(board: Board) -> str:
     """Whether it is solved, by what is on the board: the program's own word stays when a solved board is changed."""
     if board.session.status == 'helped':
-        return 'solved with help' if board.is_solved else 'helped'
+        return 'filled in' if board.is_solved else 'helped'
     if board.is_solved:
         return 'solved'
     return 'was solved' if board.session.status == 'solved' else ''
@@ -127,7 +141,7 @@ def told(board: Board, look: Look, layout: Layout) -> str:
 def told_of_full(board: Board, hints: int) -> str:
     """What there is to say of a full board, after so many hints; nothing of another one."""
     if board.is_solved:
-        return f'Solved, {hints_told(hints)}.' if hints else 'Solved!'
+        return of_solved(board.session.status, hints)
     return 'Full, but not right yet: ! shows what contradicts.' if board.is_full else ''
 
 
@@ -150,15 +164,52 @@ class Room(NamedTuple):
 def room_of(board: Board, layout: Layout, look: Look) -> Room:
     """At the side below the title; or right below the board, where the last line is the keys' unless there is one other alone."""
     if layout.side is None:
-        return Room(layout.below, 1, max(2, layout.lines - 1 - layout.below), layout.columns - 2)
+        lines = layout.lines - 1 - layout.below - (1 if left_line(board, layout) is not None else 0)
+        return Room(layout.below, 1, max(2, lines), layout.columns - 2)
     line = len(_side_title(board, look)) + 2
-    return Room(line, layout.side, max(1, _keys_line(board, layout, look) - 1 - line), layout.columns - layout.side)
+    return Room(line, layout.side, max(1, _keys_line(board, layout, look, layout.side) - 1 - line), layout.columns - layout.side)
 
 
 def has_room(text: str, board: Board, layout: Layout, look: Look) -> bool:
     """Whether a message fits where messages stand."""
     room = room_of(board, layout, look)
     return len(wrapped(text, room.columns)) <= room.lines
+
+
+def left_text(board: Board) -> str:
+    """How many of each number are left to be put in."""
+    numbers = list(board.numbers.values())
+    counts = ((number, max(0, board.size - numbers.count(number))) for number in range(1, board.size + 1))
+    return 'left  ' + '  '.join(f'{number}:{count}' for number, count in counts)
+
+
+def left_line(board: Board, layout: Layout) -> Optional[int]:
+    """The line below the board where that stands; nothing where there is no room for it, or nothing is left."""
+    text = left_text(board)
+    if board.is_full:
+        return None
+    if layout.side is None:
+        has_line = layout.lines - 1 - layout.below > MESSAGE_BELOW
+        return layout.lines - 2 if has_line and len(text) <= layout.columns - 2 else None
+    return layout.below if layout.below < layout.lines and len(text) <= layout.side - 2 else None
+
+
+def _left(board: Board, layout: Layout) -> Iterator[Piece]:
+    line = left_line(board, layout)
+    if line is not None:
+        yield Piece(line, 1, left_text(board), Style.GRID)
+
+
+def preview_text(left: List[int], struck: List[int], size: int, room: int) -> Tuple[str, str]:
+    """What is left in a square on one line, and after an x what the step rules out; that alone where there is no room for both."""
+    kept = [number for number in left if number not in struck]
+    if not struck:
+        return marks_text(kept, size, room), ''
+    gone = 'x' + ''.join(map(str, struck))
+    digits = ''.join(map(str, kept))
+    if len(digits) + len(gone) <= room:
+        return digits, gone
+    return '', gone if len(gone) <= room else gone[: room - 1] + '+'
 
 
 def marks_text(marks: List[int], size: int, room: int) -> str:
@@ -184,34 +235,81 @@ def _grid(layout: Layout, look: Look) -> Iterator[Piece]:
                 yield Piece(line + 1 + at, layout.left, inside, Style.GRID)
 
 
+def _edge(layout: Layout, look: Look) -> Iterator[Piece]:
+    """The numbers of columns and rows on the frame, where a sentence names some."""
+    if NAMED.search(look.message):
+        for at in range(layout.size):
+            yield Piece(layout.top, layout.centre((at, 0))[1], str(at + 1), Style.SHOWN)
+            yield Piece(layout.centre((0, at))[0], layout.left, str(at + 1), Style.SHOWN)
+
+
 def _squares(board: Board, layout: Layout, look: Look) -> Iterator[Piece]:
+    left = look.shown.left
     for place in board.squares:
-        is_cursor = place == look.cursor
+        is_cursor, is_tinted = place == look.cursor, place in look.shown.rests_on
         line, column = layout.corner(place)
-        if is_cursor:
+        if is_cursor or is_tinted:
             for at in range(layout.deep):
-                yield Piece(line + at, column, ' ' * layout.wide, is_cursor=True)
-        number = board.numbers.get(place)
-        if number is not None:
-            is_wrong = place in board.wrong
-            style = Style.WRONG if is_wrong else Style.GIVEN if place in board.givens else Style.OWN
-            yield Piece(*layout.centre(place), f'{number}!' if is_wrong else str(number), style, is_cursor)
-            continue
-        marks = board.marks.get(place, [])
-        if layout.deep > 1:
-            down, across = (layout.deep - 1) // 2, (layout.wide - 3) // 2
-            for mark in marks:
-                yield Piece(line + (mark - 1) // 3 * down, column + 1 + (mark - 1) % 3 * across, str(mark), Style.MARKS, is_cursor)
-        elif marks:
-            indent = 1 if layout.wide > 3 else 0
-            yield Piece(line, column + indent, marks_text(marks, board.size, layout.wide - indent), Style.MARKS, is_cursor)
+                yield Piece(line + at, column, ' ' * layout.wide, Style.PLAIN, is_cursor, is_tinted)
+        for piece in _inside(board, layout, place, look) if left is None or place in board.numbers else _preview(board, layout, place, look):
+            yield piece._replace(is_cursor=is_cursor, is_tinted=is_tinted)
+
+
+def _inside(board: Board, layout: Layout, place: Place, look: Look) -> Iterator[Piece]:
+    """The number of a square, or the player's marks."""
+    number = board.numbers.get(place)
+    if number is not None:
+        is_wrong = place in board.wrong
+        style = Style.WRONG if is_wrong else Style.GIVEN if place in board.givens else Style.OWN
+        yield Piece(*layout.centre(place), f'{number}!' if is_wrong else str(number), style)
+        return
+    marks = board.marks.get(place, [])
+    if layout.deep > 1:
+        yield from (Piece(*_mark_at(layout, place, mark), str(mark), Style.MARKS) for mark in marks)
+    elif marks:
+        line, column, room = _one_line(layout, place)
+        yield Piece(line, column, marks_text(marks, board.size, room), Style.MARKS)
+
+
+def _preview(board: Board, layout: Layout, place: Place, look: Look) -> Iterator[Piece]:
+    """What is left in an empty square before a step of a hint, in place of the player's marks; what the step rules out has an x."""
+    left, struck = (look.shown.left or {}).get(place, []), look.shown.struck.get(place, [])
+    if not left:
+        yield Piece(*layout.centre(place), '!', Style.WRONG)
+    elif layout.deep > 1:
+        for number in left:
+            is_struck = number in struck
+            yield Piece(*_mark_at(layout, place, number), f'{number}x' if is_struck else str(number), Style.STRUCK if is_struck else Style.LEFT)
+    else:
+        line, column, room = _one_line(layout, place)
+        if struck and len(left) >= room:
+            # The x and all numbers need the whole square.
+            column, room = layout.corner(place)[1], layout.wide
+        kept, gone = preview_text(left, struck, board.size, room)
+        yield Piece(line, column, kept, Style.LEFT)
+        yield Piece(line, column + len(kept), gone, Style.STRUCK)
+
+
+def _mark_at(layout: Layout, place: Place, mark: int) -> Tuple[int, int]:
+    """Three in a row, each number at a place of its own."""
+    line, column = layout.corner(place)
+    down, across = (layout.deep - 1) // 2, (layout.wide - 3) // 2
+    return line + (mark - 1) // 3 * down, column + 1 + (mark - 1) % 3 * across
+
+
+def _one_line(layout: Layout, place: Place) -> Tuple[int, int, int]:
+    """Where marks begin in a square of one line, and how many there is room for."""
+    line, column = layout.corner(place)
+    indent = 1 if layout.wide > 3 else 0
+    return line, column + indent, layout.wide - indent
 
 
 def _shown(board: Board, layout: Layout, look: Look) -> Iterator[Piece]:
-    """A sign in the corner of each square that a hint points at: - where a number is ruled out, * where that rests on."""
+    """A sign in the corner of each square that a hint rests on, and of each where it rules numbers out; on one line these have an x."""
     for place in board.squares:
-        if place in look.shown.struck or place in look.shown.rests_on:
-            yield Piece(*layout.corner(place), '-' if place in look.shown.struck else '*', Style.SHOWN, place == look.cursor)
+        is_tinted, is_struck = place in look.shown.rests_on, place in look.shown.struck
+        if (is_tinted and not is_struck) or (is_struck and layout.deep > 1):
+            yield Piece(*layout.corner(place), '-' if is_struck else '*', Style.SHOWN, place == look.cursor, is_tinted)
 
 
 def _signs(board: Board, layout: Layout) -> Iterator[Piece]:
@@ -239,7 +337,9 @@ def _clues(board: Board, layout: Layout, look: Look) -> Iterator[Piece]:
 
 def _message(board: Board, layout: Layout, look: Look) -> List[Piece]:
     room = room_of(board, layout, look)
-    lines = wrapped(told(board, look, layout), room.columns)[: room.lines]
+    lines = wrapped(told(board, look, layout), room.columns)
+    if len(lines) > room.lines:
+        lines = [*lines[: room.lines - 1], lines[room.lines - 1][: room.columns - 2] + '..']
     return [Piece(room.line + at, room.column, text, Style.TITLE) for at, text in enumerate(lines)]
 
 
@@ -251,7 +351,7 @@ def _texts_below(board: Board, layout: Layout, look: Look) -> Iterator[Piece]:
     ]
     titles = [gap.join(filter(None, words)) for words in told for gap in ('   ', '  ', ' ')]
     title = next((title for title in titles if len(title) < layout.columns), titles[-1])
-    keys = next((keys for keys in KEYS_BELOW if len(keys) < layout.columns - 1), '? keys')
+    keys = next((keys for keys in filter(None, [look.way, *KEYS_BELOW]) if len(keys) < layout.columns - 1), '? keys')
     message = _message(board, layout, look)
     yield from message
     if message and message[-1].line == layout.lines - 1:
@@ -266,7 +366,7 @@ def _texts_aside(board: Board, layout: Layout, look: Look, side: int) -> Iterato
     for at, text in enumerate(_side_title(board, look), 1):
         yield Piece(at, side, text, Style.TITLE)
     yield from _message(board, layout, look)
-    for at, text in enumerate(KEYS_ASIDE, _keys_line(board, layout, look)):
+    for at, text in enumerate(_keys_aside(layout, look, side), _keys_line(board, layout, look, side)):
         yield Piece(at, side, text, Style.GRID)
 
 
@@ -275,7 +375,12 @@ def _side_title(board: Board, look: Look) -> List[str]:
     return [word for word in words if word]
 
 
-def _keys_line(board: Board, layout: Layout, look: Look) -> int:
+def _keys_aside(layout: Layout, look: Look, side: int) -> List[str]:
+    """What keys do; while one walks along the steps of a hint what they do then, which leaves more room for its sentences."""
+    return wrapped(look.way, layout.columns - side) if look.way else KEYS_ASIDE
+
+
+def _keys_line(board: Board, layout: Layout, look: Look, side: int) -> int:
     """The first line of the keys at the side: they end with the board, but leave room for a message."""
     last = len(_side_title(board, look)) + MESSAGE_LINES + len(KEYS_ASIDE) + 3
-    return min(layout.lines, max(layout.below, last)) - len(KEYS_ASIDE)
+    return min(layout.lines, max(layout.below, last)) - len(_keys_aside(layout, look, side))

@@ -5,11 +5,12 @@ from __future__ import annotations
 import contextlib
 import os
 import signal
+import sys
 import termios
-from typing import Optional
+from typing import Optional, Protocol
 
 from board.file_names import names_after
-from board.printable import printable
+from playing.printable import printable
 
 try:
     import readline
@@ -25,11 +26,41 @@ FILE_COMMANDS = ('load', 'save')
 NO_KEY = b'\0'
 
 
+class Asking(Protocol):
+    """Where lines come from."""
+
+    #: Whether somebody types them.
+    is_typed: bool
+
+    def stopped(self) -> bool:
+        """Whether the player has said since this was asked last that nobody waits any longer."""
+
+    def read(self, text: str) -> Optional[str]:
+        """A line, after this text; nothing at the end of the input."""
+
+
+class Pipe:
+    """Lines of a file or of another program: there is no prompt, and a question is a line."""
+
+    is_typed = False
+
+    def stopped(self) -> bool:
+        return False
+
+    def read(self, text: str) -> Optional[str]:
+        if text.endswith('y/N '):
+            print(printable(text.rstrip()), flush=True)
+        line = sys.stdin.buffer.readline()
+        return line.decode('utf-8', 'surrogateescape').strip() if line else None
+
+
 class Prompt:
-    """Ctrl-C drops what is typed; while nothing is typed it is noted in `is_stopped`. Ctrl-Z leaves the terminal as it was at first."""
+    """Ctrl-C drops what is typed; while nothing is typed it is noted for `stopped`. Ctrl-Z leaves the terminal as it was at first."""
+
+    is_typed = True
 
     def __init__(self) -> None:
-        self.is_stopped = False
+        self._is_stopped = False
         self._terminal = termios.tcgetattr(0)
         self._text = ''
         self._is_reading = False
@@ -61,8 +92,12 @@ class Prompt:
             except UnicodeDecodeError:
                 print('That is no text.')
             finally:
-                self._is_reading = self.is_stopped = False
+                self._is_reading = self._is_stopped = False
                 self.restore()
+
+    def stopped(self) -> bool:
+        was, self._is_stopped = self._is_stopped, False
+        return was
 
     def restore(self) -> None:
         """The terminal is as it was at first."""
@@ -86,7 +121,7 @@ class Prompt:
     def _interrupted(self, *_: object) -> None:
         if self._is_reading:
             raise KeyboardInterrupt
-        self.is_stopped = True
+        self._is_stopped = True
 
     def _ended(self, number: int, _: object) -> None:
         self.restore()
@@ -102,3 +137,10 @@ class Prompt:
             termios.tcsetattr(0, termios.TCSADRAIN, mode)
         if self._is_reading:
             print(self._text + (readline.get_line_buffer() if HAS_READLINE else ''), end='', flush=True)
+
+
+def asking() -> Asking:
+    """A prompt on a terminal; elsewhere lines as they come."""
+    if sys.stdin.isatty() and sys.stdout.isatty():
+        return Prompt()
+    return Pipe()

@@ -15,7 +15,7 @@ from typing import Deque, Dict, List, Mapping, NamedTuple, Optional, Tuple, Unio
 from collections import deque
 
 from board.picture import Piece, Style
-from board.printable import printable
+from playing.printable import printable
 
 #: The keys that are no characters, by the names that `keys` knows.
 NAMES: Dict[int, str] = {
@@ -28,16 +28,35 @@ NAMES: Dict[int, str] = {
     curses.KEY_ENTER: 'enter',
     curses.KEY_NPAGE: 'page down',
     curses.KEY_PPAGE: 'page up',
+    curses.KEY_BTAB: 'shift tab',
     curses.KEY_MOUSE: 'mouse',
     curses.KEY_RESIZE: 'resize',
 }
 CHARACTERS = {'\r': 'enter', '\n': 'enter', '\x7f': 'backspace', '\b': 'backspace', '\x1b': 'escape'}
 
 #: What terminals send for some keys, after an Escape.
-SEQUENCES = {'[A': 'up', '[B': 'down', '[C': 'right', '[D': 'left', '[3~': 'delete', '[5~': 'page up', '[6~': 'page down'}
+SEQUENCES = {'[A': 'up', '[B': 'down', '[C': 'right', '[D': 'left', '[3~': 'delete', '[5~': 'page up', '[6~': 'page down', '[Z': 'shift tab'}
 
 #: Colours of 8, and of 256 where there are so many.
-COLOURS = {Style.WRONG: (curses.COLOR_RED, 9), Style.OWN: (curses.COLOR_GREEN, 34), Style.MARKS: (curses.COLOR_BLUE, 33), Style.SHOWN: (curses.COLOR_YELLOW, 178)}
+COLOURS = {
+    Style.WRONG: (curses.COLOR_RED, 9),
+    Style.OWN: (curses.COLOR_GREEN, 34),
+    Style.MARKS: (curses.COLOR_BLUE, 33),
+    Style.SHOWN: (curses.COLOR_YELLOW, 178),
+    Style.LEFT: (curses.COLOR_CYAN, 37),
+    Style.STRUCK: (curses.COLOR_MAGENTA, 170),
+}
+
+#: The ground of what a hint rests on, and dark colours to write on it.
+TINT = (curses.COLOR_YELLOW, 229)
+ON_TINT = {
+    Style.WRONG: (curses.COLOR_RED, 124),
+    Style.OWN: (curses.COLOR_BLACK, 22),
+    Style.MARKS: (curses.COLOR_BLUE, 19),
+    Style.LEFT: (curses.COLOR_BLUE, 24),
+    Style.STRUCK: (curses.COLOR_RED, 89),
+}
+DARK = (curses.COLOR_BLACK, 16)
 
 #: How a piece looks besides, and without colours.
 ATTRIBUTES = {
@@ -48,6 +67,7 @@ ATTRIBUTES = {
     Style.DONE: curses.A_DIM,
     Style.WRONG: curses.A_BOLD,
     Style.SHOWN: curses.A_BOLD,
+    Style.STRUCK: curses.A_BOLD,
 }
 
 ENDING = (signal.SIGHUP, signal.SIGTERM, signal.SIGINT)
@@ -113,6 +133,9 @@ class Screen:
         locale.setlocale(locale.LC_ALL, '')
         self.has_lines = has_lines(first_environment())
         self._attributes: Dict[Style, int] = dict(ATTRIBUTES)
+        #: The same on the ground of what a hint rests on; nothing where there are no colours.
+        self._tinted: Dict[Style, int] = {}
+        self._pairs = 0
         self._keys: Deque[Key] = deque()
         self._ended = 0
         self._wake, self._waker = os.pipe()
@@ -165,7 +188,7 @@ class Screen:
         self._window.erase()
         for piece in pieces:
             if 0 <= piece.line < lines and 0 <= piece.column < columns:
-                attribute = self._attributes.get(piece.style, 0) | (curses.A_REVERSE if piece.is_cursor else 0)
+                attribute = self._attribute(piece) | (curses.A_REVERSE if piece.is_cursor else 0)
                 # Nothing can be written to the last place of a screen without an error, and it is written nevertheless.
                 with contextlib.suppress(curses.error):
                     self._window.addnstr(piece.line, piece.column, self._shown(piece.text), columns - piece.column, attribute)
@@ -173,6 +196,11 @@ class Screen:
         with contextlib.suppress(curses.error):
             self._window.move(*(cursor or (lines - 1, columns - 1)))
         self._window.refresh()
+
+    def _attribute(self, piece: Piece) -> int:
+        """How a piece looks, but for the cursor."""
+        plain = self._attributes.get(piece.style, 0)
+        return self._tinted.get(piece.style, plain) if piece.is_tinted else plain
 
     def redraw(self) -> None:
         """What is shown next is written anew, whatever is there."""
@@ -251,12 +279,20 @@ class Screen:
         if not is_coloured:
             self._attributes[Style.MARKS] = curses.A_UNDERLINE
             return
-        for number, (style, (few, many)) in enumerate(COLOURS.items(), 1):
-            try:
-                curses.init_pair(number, many if curses.COLORS >= 256 else few, -1)
-            except (curses.error, ValueError):
-                curses.init_pair(number, few, curses.COLOR_BLACK)
-            self._attributes[style] = self._attributes.get(style, 0) | curses.color_pair(number)
+        for style, colour in COLOURS.items():
+            self._attributes[style] = self._attributes.get(style, 0) | self._pair(colour, None)
+        for style in Style:
+            self._tinted[style] = ATTRIBUTES.get(style, 0) | self._pair(ON_TINT.get(style, DARK), TINT)
+
+    def _pair(self, colour: Tuple[int, int], ground: Optional[Tuple[int, int]]) -> int:
+        """A new pair of colours, each of 8 or of 256; without a ground on the terminal's own."""
+        self._pairs += 1
+        try:
+            many = curses.COLORS >= 256
+            curses.init_pair(self._pairs, colour[many], ground[many] if ground else -1)
+        except (curses.error, ValueError):
+            curses.init_pair(self._pairs, colour[0], ground[0] if ground else curses.COLOR_BLACK)
+        return curses.color_pair(self._pairs)
 
     def _show_cursor(self, is_shown: bool) -> None:
         with contextlib.suppress(curses.error):

@@ -1,65 +1,63 @@
-"""A board in sentences, for those who can't see it. Columns and rows count from 0, as in what is typed."""
+"""A board in sentences, for those who can't see it. Squares, rows and columns are called as in what is typed, and as in the hints of the program."""
 
 from __future__ import annotations
 
-from typing import List, Sequence, Tuple
+from typing import List, Mapping, Sequence, Tuple
 
-from board.board import Board, Place
-
-
-def listed(words: Sequence[object], last: str = 'and') -> str:
-    """`1, 2 and 3`."""
-    texts = [str(word) for word in words]
-    return f'{", ".join(texts[:-1])} {last} {texts[-1]}' if len(texts) > 1 else ''.join(texts)
-
-
-def at(place: Place) -> str:
-    return f'row {place[1]}, column {place[0]}'
+from playing.board import Board, Sign
+from playing.naming import Place, clue_name, listed, name
 
 
 def row(board: Board, y: int) -> str:
-    return _line(board, f'row {y}', board.row(y), [(-1, y, 'left'), (board.size, y, 'right')])
+    return _line(board, f'row {y + 1}', board.row(y), [(-1, y, 'left'), (board.size, y, 'right')])
 
 
 def column(board: Board, x: int) -> str:
-    return _line(board, f'column {x}', board.column(x), [(x, -1, 'upper'), (x, board.size, 'lower')])
+    return _line(board, f'column {x + 1}', board.column(x), [(x, -1, 'upper'), (x, board.size, 'lower')])
 
 
 def square(board: Board, place: Place) -> str:
-    """What there is to say of a square, or of a clue at the edge."""
-    if place in board.clues:
-        return clue(board, place)
-    if place not in board.squares:
-        return f'There is no square and no clue at {at(place)}.'
+    """What there is to say of a square."""
     return f'{_content(board, place)}; {_lacks(board, "row", place)}; {_lacks(board, "column", place)}'
 
 
 def clue(board: Board, place: Place) -> str:
-    found = board.clues[place]
+    """What there is to say of a place at the edge."""
+    found = board.clues.get(place)
+    if found is None:
+        return 'There is no clue there.'
     words = ['done' if found.is_done else '', 'contradicted' if found.is_wrong else '']
-    return ', '.join([f'the clue {found.number} {side(board, place)}', *filter(None, words)])
-
-
-def side(board: Board, place: Place) -> str:
-    """Where a clue is."""
-    x, y = place
-    if y in (-1, board.size):
-        return f'{"above" if y < 0 else "below"} column {x}'
-    return f'{"left" if x < 0 else "right"} of row {y}'
+    return ', '.join([clue_name(place, found.number, board.size), *filter(None, words)])
 
 
 def clues(board: Board) -> List[str]:
     """All clues or signs, a sentence for each."""
     found = [clue(board, place) for place in board.clues]
-    found += [f'{at(sign.greater)} is greater than {at(sign.less)}' + (', contradicted' if sign.is_wrong else '') for sign in board.signs]
+    found += [_sign(sign) + (', contradicted' if sign.is_wrong else '') for sign in board.signs]
     return found or ['There are no clues.']
+
+
+def done(board: Board) -> List[str]:
+    """The clues that are marked as done."""
+    return [clue(board, place) for place in board.clues if board.clues[place].is_done] or ['No clue is marked as done.']
+
+
+def marks(board: Board) -> List[str]:
+    """The pencil marks, a line for each row that has some."""
+    rows = [_all_marks(board.marks, [place for place in board.row(y) if place in board.marks]) for y in range(board.size)]
+    return [text for text in rows if text] or ['There are no pencil marks.']
+
+
+def left(numbers: Mapping[Place, Sequence[int]], places: Sequence[Place]) -> str:
+    """What is left in some squares."""
+    return '; '.join(f'{name(place)} {listed(numbers[place], "or") or "nothing"}' for place in places if place in numbers)
 
 
 def faults(board: Board) -> str:
     """What is red on the board; nothing where nothing is."""
-    found = [at(place) for place in sorted(board.wrong, key=lambda place: place[::-1])]
-    found += [f'the clue {clue.number} {side(board, place)}' for place, clue in board.clues.items() if clue.is_wrong]
-    found += [f'the sign between {at(sign.greater)} and {at(sign.less)}' for sign in board.signs if sign.is_wrong]
+    found = [name(place) for place in sorted(board.wrong, key=lambda place: place[::-1])]
+    found += [clue_name(place, clue.number, board.size) for place, clue in board.clues.items() if clue.is_wrong]
+    found += [f'the sign between {name(sign.greater)} and {name(sign.less)}' for sign in board.signs if sign.is_wrong]
     return f'Contradicted: {"; ".join(found)}.' if found else ''
 
 
@@ -86,8 +84,12 @@ def change(before: Board, after: Board) -> str:
 def _content(board: Board, place: Place) -> str:
     number, marks = board.numbers.get(place), board.marks.get(place, [])
     if number is not None:
-        return f'{at(place)} is {number}' + (', given' if place in board.givens else '') + (', contradicted' if place in board.wrong else '')
-    return f'{at(place)} is empty' + (f', marked {listed(marks)}' if marks else '')
+        return f'{name(place)} is {number}' + (', given' if place in board.givens else '') + (', contradicted' if place in board.wrong else '')
+    return f'{name(place)} is empty' + (f', marked {listed(marks)}' if marks else '')
+
+
+def _all_marks(marks: Mapping[Place, List[int]], places: Sequence[Place]) -> str:
+    return '; '.join(f'{name(place)} {listed(marks[place])}' for place in places)
 
 
 def _lacks(board: Board, kind: str, place: Place) -> str:
@@ -95,12 +97,16 @@ def _lacks(board: Board, kind: str, place: Place) -> str:
     x, y = place
     numbers = [board.numbers.get(square) for square in (board.row(y) if kind == 'row' else board.column(x))]
     lacking = [number for number in range(1, board.size + 1) if number not in numbers]
-    return f'{kind} {y if kind == "row" else x} lacks {listed(lacking) or "nothing"}'
+    return f'{kind} {(y if kind == "row" else x) + 1} lacks {listed(lacking) or "nothing"}'
 
 
-def _line(board: Board, name: str, squares: List[Place], ends: List[Tuple[int, int, str]]) -> str:
+def _line(board: Board, title: str, squares: List[Place], ends: List[Tuple[int, int, str]]) -> str:
     texts = [str(board.numbers.get(place) or 'empty') for place in squares]
-    parts = [f'{name}: {", ".join(texts)}', _lacks(board, name.split()[0], squares[0])]
+    parts = [f'{title}: {", ".join(texts)}', _lacks(board, title.split()[0], squares[0])]
     parts += [f'the {word} clue is {board.clues[x, y].number}' for x, y, word in ends if (x, y) in board.clues]
-    parts += [f'{at(sign.greater)} is greater than {at(sign.less)}' for sign in board.signs if sign.greater in squares and sign.less in squares]
+    parts += [_sign(sign) for sign in board.signs if sign.greater in squares and sign.less in squares]
     return '; '.join(parts)
+
+
+def _sign(sign: Sign) -> str:
+    return f'{name(sign.greater)} is greater than {name(sign.less)}'

@@ -1,10 +1,11 @@
 """Puzzles on paper: the command puzzles-sheet, which makes a page in HTML for print.
 
-main, words, writing        the words of the command line, what is told, where the page goes
+main, words, writing, pdf   the words of the command line, what is told, where the page goes, and how it is printed
 choice, likeness            which puzzles come onto the sheet, and whether two solutions are one, turned over
 lists, seeds                where they come from: IDs and save files, or fair games by size, grade and seed
 puzzles, steps              a puzzle with its only answer, and how that goes on, as the program says
 pages, answers, listing     the page in HTML: puzzles, answers and steps
+examples                    a small puzzle for a first lesson
 layout                      how many puzzles a page can have, and how large their squares are
 measures, style, markup     lengths, the style sheet, and text that becomes HTML
 drawing                     a board as a picture, also one that is played

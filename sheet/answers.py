@@ -10,9 +10,6 @@ from sheet.layout import Numbered, Paper
 from sheet.markup import Markup, fill, joined
 from sheet.measures import length
 
-#: How many stand side by side: as many as leave their squares large enough.
-COLUMNS, LARGE_COLUMNS = (5, 4, 3), (2,)
-
 #: Below a row.
 ROW_GAP = 400
 
@@ -36,12 +33,32 @@ class Row(NamedTuple):
         return [drawing.extent(game, size, drawing.small_pen(game, side)) for (game, size), side in zip(games, self.sides)]
 
 
-def sections(paper: Paper, puzzles: Sequence[Numbered], is_large: bool) -> Iterator[Markup]:
-    """What stands between head and foot, for each sheet of paper."""
-    room = paper.height - paper.print.head - paper.print.foot
+class Squares(NamedTuple):
+    """How answers are printed: how many may stand side by side, and the most and the least side of their squares."""
+
+    columns: Sequence[int]
+    most: int
+    least: int
+
+
+LARGE = Squares((2,), measures.LARGE_ANSWER_SIDE, measures.LEAST_ANSWER_SIDE)
+ROOMY = Squares((5, 4, 3, 2), measures.ANSWER_SIDE, measures.ANSWER_SIDE - 5)
+SMALL = Squares((5, 4, 3), measures.SMALL_ANSWER_SIDE, measures.LEAST_ANSWER_SIDE)
+
+
+def sections(paper: Paper, puzzles: Sequence[Numbered], is_large: bool) -> List[Markup]:
+    """What stands between head and foot, for each sheet of paper: with large digits where that takes no more sheets."""
+    if is_large:
+        return list(_sections(paper, puzzles, LARGE))
+    small, roomy = list(_sections(paper, puzzles, SMALL)), list(_sections(paper, puzzles, ROOMY))
+    return roomy if len(roomy) <= len(small) else small
+
+
+def _sections(paper: Paper, puzzles: Sequence[Numbered], squares: Squares) -> Iterator[Markup]:
+    room = paper.height - paper.head - paper.print.foot
     placed: List[Markup] = []
     used = 0
-    for row in rows(paper, puzzles, is_large):
+    for row in rows(paper, puzzles, squares):
         height = max(row.pictures) + paper.print.answer_head
         if used + height > room:
             yield joined(placed)
@@ -51,27 +68,26 @@ def sections(paper: Paper, puzzles: Sequence[Numbered], is_large: bool) -> Itera
     yield joined(placed)
 
 
-def _next_row(paper: Paper, left: Sequence[Numbered], is_large: bool) -> Row:
-    return next(row for row in _ways(paper, left, is_large) if row)
-
-
-def rows(paper: Paper, puzzles: Sequence[Numbered], is_large: bool) -> Iterator[Row]:
+def rows(paper: Paper, puzzles: Sequence[Numbered], squares: Squares) -> Iterator[Row]:
     left = list(puzzles)
     while left:
-        row = _next_row(paper, left, is_large)
-        del left[: len(row.some)]
+        row = _next_row(paper, left, squares)
         yield row
+        del left[: len(row.some)]
 
 
-def _ways(paper: Paper, left: Sequence[Numbered], is_large: bool) -> Iterator[Row]:
+def _next_row(paper: Paper, left: Sequence[Numbered], squares: Squares) -> Row:
+    """With as many answers as leave their squares large enough."""
+    return next(_ways(paper, left, squares))
+
+
+def _ways(paper: Paper, left: Sequence[Numbered], squares: Squares) -> Iterator[Row]:
     """The next row, first with as many answers as might be; the last way always is one."""
-    ways = LARGE_COLUMNS if is_large else COLUMNS
-    most = measures.LARGE_ANSWER_SIDE if is_large else measures.ANSWER_SIDE
-    for columns in ways:
+    for columns in squares.columns:
         width = (paper.width - paper.print.answer_gap * (columns - 1)) // columns
         some = list(left[:columns])
-        sides = [min(most, (width - LINES) * 100 // drawing.parts(each.puzzle.game, each.puzzle.size)) for each in some]
-        if min(sides) >= measures.LEAST_ANSWER_SIDE or columns == ways[-1]:
+        sides = [min(squares.most, (width - LINES) * 100 // drawing.parts(each.puzzle.game, each.puzzle.size)) for each in some]
+        if min(sides) >= squares.least or columns == squares.columns[-1]:
             yield Row(some, width, sides)
 
 

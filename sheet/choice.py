@@ -2,7 +2,8 @@
 
 from __future__ import annotations
 
-from typing import Callable, Dict, Iterator, List, NamedTuple, Optional, Sequence, Set, Tuple
+import itertools
+from typing import Dict, Iterator, List, NamedTuple, Optional, Protocol, Sequence, Set, Tuple
 
 from sheet.likeness import Form, form
 from sheet.lists import Line, puzzle_of
@@ -15,8 +16,14 @@ MOST = 200
 #: After so many puzzles of a kind in a row whose solution is on the sheet the first of them that isn't there itself is taken.
 ALIKE = 60
 
-#: Called with the number of puzzles that there are, as one more is there.
-Progress = Callable[[int], None]
+class Progress(Protocol):
+    """Called with the number of puzzles that there are, as one more is there."""
+
+    #: How many there are to be, where that is known.
+    count: Optional[int]
+
+    def __call__(self, number: int) -> None:
+        ...
 
 
 class Choice(NamedTuple):
@@ -93,29 +100,34 @@ class Entry(NamedTuple):
     like: int
 
 
-def of_list(programs: Programs, lines: Sequence[Line], game: Optional[str], count: Optional[int], progress: Progress) -> Choice:
-    """So many puzzles of a list, or all. Raises `Unfit` where those are too many, and `WrongLines`."""
-    if count is None and len(lines) > MOST:
-        raise Unfit(f'There are {len(lines)} puzzles, and a sheet has {MOST} at most: --count {MOST} takes the first ones.')
+def of_list(programs: Programs, lines: Iterator[Line], game: Optional[str], count: Optional[int], progress: Progress) -> Choice:
+    """So many puzzles of a list, or all. Raises `Unfit` where those are too many, and `WrongLines`. No more lines are read than are needed."""
+    if count is None:
+        every = list(itertools.islice(lines, MOST + 1))
+        if len(every) > MOST:
+            raise Unfit(f'There are more than {MOST} puzzles, and a sheet has {MOST} at most: --count {MOST} takes the first ones.')
+        lines, count = iter(every), len(every)
+        progress.count = count
     new: List[Entry] = []
     alike: List[Entry] = []
     first: Dict[Form, int] = {}
     wrong: List[str] = []
     for line, puzzle in _readable(programs, lines, game, wrong):
         like = first.setdefault(form(puzzle.answer), line.number)
-        (new if like == line.number else alike).append(Entry(line.number, puzzle, like))
+        if like == line.number or len(alike) < count:
+            (new if like == line.number else alike).append(Entry(line.number, puzzle, like))
         progress(len(new))
         if len(new) == count:
             break
     if wrong:
         raise WrongLines(wrong)
     # Those that are alike fill up what is lacking.
-    kept = alike[: (count or len(lines)) - len(new)]
+    kept = alike[: count - len(new)]
     told = [f'line {entry.line}: it has the solution of line {entry.like}, perhaps turned over' for entry in kept]
     return Choice([entry.puzzle for entry in sorted(new + kept, key=lambda entry: entry.line)], told)
 
 
-def _readable(programs: Programs, lines: Sequence[Line], game: Optional[str], wrong: List[str]) -> Iterator[Tuple[Line, Puzzle]]:
+def _readable(programs: Programs, lines: Iterator[Line], game: Optional[str], wrong: List[str]) -> Iterator[Tuple[Line, Puzzle]]:
     """The lines with their puzzles, and what there is to say of the others."""
     for line in lines:
         try:

@@ -10,7 +10,8 @@ from typing import Collection, Iterable, Iterator, List, Mapping, NamedTuple, Op
 from xml.etree import ElementTree
 from xml.etree.ElementTree import Element, SubElement
 
-from board.board import GAMES, Board, Place, Sign
+from playing.board import GAMES, Board, Sign
+from playing.naming import Place
 
 #: In per cent of a square's side: the room for clues outside of Towers, and that between two squares of Unequal.
 OUTSIDE, BETWEEN = 52, 34

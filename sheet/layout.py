@@ -6,9 +6,9 @@ import itertools
 import re
 import textwrap
 from functools import lru_cache
-from typing import Iterator, List, NamedTuple, Optional, Sequence
+from typing import Iterator, List, Mapping, NamedTuple, Optional, Sequence
 
-from board.board import GAMES
+from playing.board import GAMES
 from sheet import drawing, measures
 from sheet.markup import shortened, width
 from sheet.measures import Density, Print
@@ -55,8 +55,6 @@ class Page(NamedTuple):
     #: How many lines the puzzles' own captions have.
     notes: int
     row_gap: int
-    #: How many puzzles it would have if it could have more.
-    wanted: int = 0
 
     @property
     def games(self) -> List[str]:
@@ -68,22 +66,33 @@ class Page(NamedTuple):
         return str(sizes.pop()) if len(sizes) == 1 else ANY_SIZE
 
 
-class Paper:
-    """A kind of paper, and how it is printed on."""
+class TooMany(Exception):
+    """So many puzzles don't come onto a page. The text says how many do."""
 
-    def __init__(self, name: str, is_large: bool) -> None:
+
+class Paper:
+    """A kind of paper, and how it is printed on: with a title of one line or of two, and with IDs or without."""
+
+    def __init__(self, name: str, is_large: bool, title: str = '', has_ids: bool = True) -> None:
         self.size = measures.PAPERS[name]
         self.width = self.size.width - 2 * measures.SIDE
         self.height = self.size.height - 2 * measures.TOP - measures.SPARE
         self.print: Print = measures.LARGE if is_large else measures.USUAL
         self.densities: Sequence[Density] = measures.LARGE_DENSITIES if is_large else measures.DENSITIES
+        self.has_ids = has_ids
+        self.title_letters = letters(self.width - self.print.name_width, self.print.title)
+        self.title_lines = 1 if width(title) <= self.title_letters else 2
+        #: The side of an example's squares.
+        self.example_side = 1600 if is_large else 1300
+        #: What the head takes.
+        self.head = self.print.head + (self.title_lines - 1) * self.print.title * 6 // 5
 
     def rules_height(self, games: Sequence[str]) -> int:
         return sum(60 + lines(rules(game, ANY_SIZE), self.width, self.print.rules) * self.print.rules * 5 // 4 for game in games)
 
     def room(self, games: Sequence[str]) -> int:
         """The height that is left for puzzles, below the rules of these games."""
-        return self.height - self.print.head - self.print.foot - self.rules_height(games) - measures.HEAD_GAP
+        return self.height - self.head - self.print.foot - self.rules_height(games) - measures.HEAD_GAP
 
 
 def rules(game: str, last: str) -> str:
@@ -142,10 +151,10 @@ class Fit(NamedTuple):
 
 
 class Plan:
-    """A page that some puzzles could be on."""
+    """A page that some puzzles could be on, with squares of a least side by their size."""
 
-    def __init__(self, paper: Paper, density: Density, some: Sequence[Numbered]) -> None:
-        self._density, self._some, self._strength = density, some, paper.print.strength
+    def __init__(self, paper: Paper, density: Density, some: Sequence[Numbered], least_side: Mapping[int, int]) -> None:
+        self._density, self._some, self._strength, self._least_side, self._has_ids = density, some, paper.print.strength, least_side, paper.has_ids
         self._room = paper.room(games_of(some))
         self._width = (paper.width - measures.COLUMN_GAP * (density.columns - 1)) // density.columns
         self._height = (self._room - measures.ROW_GAP * (density.rows - 1)) // density.rows
@@ -177,7 +186,7 @@ class Plan:
     def _fit(self, game: str, size: int, least_height: int) -> Optional[Fit]:
         """The greatest square at which the picture, and the caption with the longest of the IDs, come into their place."""
         ids = [each.puzzle.id for each in self._some if (each.puzzle.game, each.puzzle.size) == (game, size)]
-        for width, side in itertools.product(self._widths, range(self._density.most_side, measures.LEAST_SIDE[size] - 1, -5)):
+        for width, side in itertools.product(self._widths, range(self._density.most_side, self._least_side[size] - 1, -5)):
             full = drawing.extent(game, size, drawing.pen(game, side, self._strength))
             caption_width = max(full, width)
             caption_height = max(least_height, *(self._caption_height(id, caption_width) for id in ids))
@@ -187,21 +196,58 @@ class Plan:
 
     def _caption_height(self, id: str, caption_width: int) -> int:
         density = self._density
-        of_id = id_lines(id, id_letters(caption_width, density.id))
+        of_id = id_lines(id, id_letters(caption_width, density.id)) if self._has_ids else 0
         return density.number_line + density.note_line * self._notes + density.id_line * of_id
 
 
-def _next_page(paper: Paper, densities: Sequence[Density], left: Sequence[Numbered]) -> Page:
-    return next(filter(None, (Plan(paper, density, left[: density.puzzles]).page() for density in densities)))
-
-
-def pages(paper: Paper, puzzles: Sequence[Numbered], per_page: int) -> Iterator[Page]:
-    """No page is fuller than is asked for, or than is needed, and no square smaller than may be."""
-    allowed = [density for density in paper.densities if density.puzzles <= per_page] or paper.densities[-1:]
+def pages(paper: Paper, puzzles: Sequence[Numbered]) -> Iterator[Page]:
+    """As many puzzles on a page as their squares allow that are large, and no more than are usual or needed."""
+    allowed = [density for density in paper.densities if density.puzzles <= measures.PER_PAGE]
     enough = [density for density in allowed if density.puzzles >= len(puzzles)]
     densities = allowed[allowed.index(enough[-1]) :] if enough else allowed
     left = list(puzzles)
     while left:
         page = _next_page(paper, densities, left)
-        yield page._replace(wanted=min(densities[0].puzzles, len(left)))
+        yield page
         del left[: len(page.figures)]
+
+
+def _next_page(paper: Paper, densities: Sequence[Density], left: Sequence[Numbered]) -> Page:
+    """The densest one that is possible."""
+    plans = (Plan(paper, density, left[: density.puzzles], measures.LEAST_SIDE) for density in densities)
+    return next(filter(None, (plan.page() for plan in plans)))
+
+
+def asked_pages(paper: Paper, puzzles: Sequence[Numbered], per_page: int) -> List[Page]:
+    """So many puzzles on each page. Raises `TooMany` where their squares would be too small."""
+    for number in range(per_page, 0, -1):
+        found = _pages_of(paper, puzzles, number)
+        if found and number == per_page:
+            return found
+        if found:
+            least = measures.LEAST_ASKED // 100
+            raise TooMany(f"--per-page {per_page}: the squares would be smaller than {least} mm; {number} on a page are not")
+    raise TooMany(f'--per-page {per_page}: not even one puzzle comes onto a page')
+
+
+def _pages_of(paper: Paper, puzzles: Sequence[Numbered], number: int) -> List[Page]:
+    """The pages; none where a square would be too small."""
+    found: List[Page] = []
+    for first in range(0, len(puzzles), number):
+        page = _largest(paper, puzzles[first : first + number], min(number, len(puzzles)))
+        if page is None:
+            return []
+        found.append(page)
+    return found
+
+
+def _largest(paper: Paper, some: Sequence[Numbered], number: int) -> Optional[Page]:
+    """The page with the largest squares, of those that have room for this number of puzzles."""
+    least = {size: measures.LEAST_ASKED for size in measures.LEAST_SIDE}
+    planned = [Plan(paper, density, some, least).page() for density in measures.grids(number)]
+    fitting = [page for page in planned if page]
+    return max(fitting, key=_least_side) if fitting else None
+
+
+def _least_side(page: Page) -> int:
+    return min(figure.side for figure in page.figures)

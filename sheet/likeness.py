@@ -4,7 +4,7 @@ from __future__ import annotations
 
 from typing import Iterator, List, Tuple
 
-from board.board import Board
+from playing.board import Board
 
 Form = Tuple[str, Tuple[Tuple[int, ...], ...]]
 Rows = List[Tuple[int, ...]]

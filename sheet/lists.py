@@ -2,19 +2,24 @@
 
 from __future__ import annotations
 
+import contextlib
+import itertools
 import sys
-from typing import BinaryIO, List, NamedTuple, Optional
+from typing import BinaryIO, ContextManager, Iterable, Iterator, List, NamedTuple, Optional
 
-from board import files, saves, texts
-from board.board import GAMES
-from board.printable import printable
-from board.program import Gone, Refused, started_with
-from board.table import is_there
+from playing import files, saves, texts
+from playing.board import GAMES
+from playing.game import is_there
+from playing.printable import printable
+from playing.program import Gone, Refused, started_with
 from sheet.markup import plain
 from sheet.puzzles import Programs, Puzzle, Unfit, proved
 
 #: The file that is standard input.
 STANDARD_INPUT = '-'
+
+#: What a list may begin with that is no text, and how many bytes are read at once.
+BOM, PIECE = b'\xef\xbb\xbf', 1 << 16
 
 
 class Line(NamedTuple):
@@ -25,35 +30,64 @@ class Line(NamedTuple):
     save: bytes = b''
 
 
-def lines_of(file: str) -> List[Line]:
-    """The lines of a list that say something. Raises `Unfit` where it can't be read, or says nothing."""
-    content = _content(file)
-    if content.startswith(saves.BEGINS):
-        return [Line(1, '', content)]
-    # A list of another system may have a mark at its beginning, and CR at the ends of lines.
-    lines = [Line(number, plain(text)) for number, text in enumerate(content.decode('utf-8-sig', 'replace').split('\n'), 1)]
-    found = [line for line in lines if line.text]
-    if not found:
-        raise Unfit(f'{_called(file)} has no puzzles')
-    return found
-
-
-def _content(file: str) -> bytes:
-    """Raises `Unfit`."""
+def lines_of(file: str) -> Iterator[Line]:
+    """The lines of a list that say something, as they come. Raises `Unfit` where it can't be read, or says nothing."""
+    is_empty = True
     try:
-        if file == STANDARD_INPUT:
-            return _bounded(sys.stdin.buffer, file)
-        with open(file, 'rb') as stream:
-            return _bounded(stream, file)
+        with _opened(file) as stream:
+            content = stream.read(len(saves.BEGINS))
+            if content.startswith(saves.BEGINS):
+                yield Line(1, '', content + b''.join(_pieces(stream, file)))
+                return
+            # A list of another system may have a mark at its beginning, and CR at the ends of lines.
+            content = content[len(BOM) :] if content.startswith(BOM) else content
+            for line in _lines(itertools.chain([content], _pieces(stream, file))):
+                is_empty = False
+                yield line
     except (OSError, ValueError) as error:
         raise Unfit(f"{_called(file)} can't be read ({files.why(error)})") from error
+    if is_empty:
+        raise Unfit(f'{_called(file)} has no puzzles')
 
 
-def _bounded(stream: BinaryIO, file: str) -> bytes:
-    content = stream.read(files.MOST_BYTES + 1)
-    if len(content) > files.MOST_BYTES:
-        raise Unfit(f'{_called(file)} has more than {files.MOST_BYTES:,} bytes')
-    return content
+def _opened(file: str) -> ContextManager[BinaryIO]:
+    if file == STANDARD_INPUT:
+        return contextlib.nullcontext(sys.stdin.buffer)
+    return open(file, 'rb')
+
+
+def _pieces(stream: BinaryIO, file: str) -> Iterator[bytes]:
+    """What comes, piece by piece. Raises `Unfit` where it is too much."""
+    left = files.MOST_BYTES
+    while True:
+        piece = stream.read(PIECE)
+        if not piece:
+            return
+        left -= len(piece)
+        if left < 0:
+            raise Unfit(f'{_called(file)} has more than {files.MOST_BYTES:,} bytes')
+        yield piece
+
+
+def _lines(pieces: Iterable[bytes]) -> Iterator[Line]:
+    """The lines in some pieces that say something; pieces of line ends alone take no time."""
+    number, begun = 1, [b'']
+    for piece in pieces:
+        if not any(begun) and not piece.strip():
+            number += piece.count(b'\n')
+            continue
+        first, *others = piece.split(b'\n')
+        begun.append(first)
+        for text in others:
+            yield from _line(number, b''.join(begun))
+            number, begun = number + 1, [text]
+    yield from _line(number, b''.join(begun))
+
+
+def _line(number: int, content: bytes) -> Iterator[Line]:
+    text = plain(content.decode('utf-8', 'replace'))
+    if text:
+        yield Line(number, text)
 
 
 def _called(file: str) -> str:

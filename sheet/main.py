@@ -2,16 +2,19 @@
 
 from __future__ import annotations
 
+import os
 import signal
 import sys
 from functools import partial
-from typing import Iterable, List
+from typing import Iterable, List, Optional
 
-from board import files
-from board.command import SIGNALLED, complain, end_by_signals, me, refuse, tells_of_itself, with_program
-from sheet import choice, lists, seeds, steps
+from playing import files
+from playing.command import SIGNALLED, complain, end_by_signals, me, refuse, told_of_itself, with_program
+from sheet import choice, examples, lists, pdf, seeds, steps
 from sheet.choice import Choice, WrongLines
+from sheet.layout import TooMany
 from sheet.pages import Sheet
+from sheet.pdf import NoPdf
 from sheet.puzzles import Programs, Unfit
 from sheet.words import USAGE, Asked, Wrong, read
 from sheet.writing import write
@@ -19,35 +22,46 @@ from sheet.writing import write
 
 def main(words: List[str], here: str) -> int:
     """Makes a sheet; `here` is the folder of the command. The status is 0 to 3, as USAGE says, or 128 and the number of a signal."""
-    if tells_of_itself(words, USAGE, here):
-        return 0
+    status = told_of_itself(words, USAGE, here)
+    if status is not None:
+        return status
     try:
         asked = read(words)
     except Wrong as wrong:
         return refuse(str(wrong), f"'{me()} --help' tells all words.\n")
     try:
         return with_program(here, partial(make, asked=asked))
+    except TooMany as many:
+        return refuse(str(many))
+    except NoPdf as lacks:
+        complain(f'{me()}: {lacks}')
     except OSError as error:
-        complain(f'{me()}: {asked.output or "standard output"}: {files.why(error)}')
+        complain(f'{me()}: {asked.output or asked.pdf or "standard output"}: {files.why(error)}')
     except KeyboardInterrupt:
         return SIGNALLED + signal.SIGINT
     return 1
 
 
 def make(path: str, asked: Asked) -> int:
-    """Raises `Gone`, or `OSError` where the page can't be written. What has been begun is taken away where a signal ends it."""
+    """Raises `Gone`, `TooMany` or `NoPdf`, or `OSError` where the page can't be written. What has been begun is taken away where a signal ends it."""
     end_by_signals()
+    browser = pdf.found(asked.browser) if asked.pdf else ''
     try:
         with Programs(path) as programs, Progress() as progress:
             chosen = chosen_by(programs, asked, progress)
             explained = [steps.told(programs, puzzle) for puzzle in chosen.puzzles] if asked.form.has_steps else []
+            games = dict.fromkeys(puzzle.game for puzzle in chosen.puzzles) if asked.form.has_example else {}
+            example = [examples.example(programs, game) for game in games]
     except WrongLines as wrong:
         return unfit(wrong.told)
     except Unfit as reason:
         return unfit([str(reason)])
-    sheet = Sheet(chosen.puzzles, asked, explained)
-    write(asked.output, sheet.html().encode())
-    for text in [*chosen.told, *sheet.told()]:
+    page = Sheet(chosen.puzzles, asked, explained, example).html().encode()
+    if asked.pdf:
+        write(asked.pdf, pdf.printed(browser, page, os.path.dirname(asked.pdf)))
+    if asked.output or not asked.pdf:
+        write(asked.output, page)
+    for text in chosen.told:
         complain(text)
     return 0
 
@@ -62,10 +76,9 @@ def unfit(told: Iterable[str]) -> int:
 def chosen_by(programs: Programs, asked: Asked, progress: Progress) -> Choice:
     """Raises `Unfit` or `WrongLines`."""
     if asked.ids is not None:
-        lines = lists.lines_of(asked.ids)
-        progress.count = min(asked.how_many or len(lines), len(lines))
-        return choice.of_list(programs, lines, asked.game, asked.how_many, progress)
-    assert asked.game and asked.how_many, 'without a list both are asked for'
+        progress.count = asked.how_many
+        return choice.of_list(programs, lists.lines_of(asked.ids), asked.game, asked.how_many, progress)
+    assert asked.game and asked.how_many and asked.seed is not None, 'without a list these are asked for'
     progress.count = asked.how_many
     wanted = seeds.shared(seeds.kinds(asked.game, asked.sizes, asked.letters), asked.how_many)
     return choice.of_seeds(seeds.Seeds(programs, asked.seed), wanted, progress)
@@ -75,7 +88,8 @@ class Progress:
     """A line on the terminal that tells how many puzzles there are; nothing elsewhere."""
 
     def __init__(self) -> None:
-        self.count = 0
+        #: How many there are to be, where that is known.
+        self.count: Optional[int] = None
         self._is_shown = sys.stderr.isatty()
 
     def __enter__(self) -> Progress:
@@ -85,7 +99,7 @@ class Progress:
         self._show('')
 
     def __call__(self, number: int) -> None:
-        self._show(f'{number} of {self.count}')
+        self._show(f'{number} of {self.count}' if self.count else f'{number} puzzles')
 
     def _show(self, text: str) -> None:
         if self._is_shown:

@@ -2,7 +2,8 @@
 
 from __future__ import annotations
 
-from typing import Dict, NamedTuple
+import itertools
+from typing import Dict, List, NamedTuple
 
 
 class Paper(NamedTuple):
@@ -24,11 +25,12 @@ COLUMN_GAP, ROW_GAP, MOST_ROW_GAP, HEAD_GAP = 400, 200, 1000, 300
 #: How wide a letter of a text is on the whole, and one of an ID, in per cent of its font, rounded up over the fonts that a page may get.
 LETTER, ID_LETTER = 56, 61
 
-#: The side of a square is never less, by the size: there is to be room for pencil marks.
-LEAST_SIDE = {3: 600, 4: 600, 5: 600, 6: 600, 7: 800, 8: 850, 9: 900}
+#: The side of a square isn't less, by the size: there is to be room for pencil marks. Where it is asked how many come onto a page this is the least.
+LEAST_SIDE = {3: 600, 4: 600, 5: 600, 6: 600, 7: 800, 8: 850, 9: 850}
+LEAST_ASKED = 700
 
-#: The squares of answers: so large, and never smaller than that.
-ANSWER_SIDE, LEAST_ANSWER_SIDE, LARGE_ANSWER_SIDE = 440, 420, 1100
+#: The squares of answers: so large that a digit has 9 points, where no more paper is needed for that; otherwise smaller, and never smaller than that.
+ANSWER_SIDE, SMALL_ANSWER_SIDE, LEAST_ANSWER_SIDE, LARGE_ANSWER_SIDE = 550, 440, 420, 1100
 
 
 class Print(NamedTuple):
@@ -38,7 +40,9 @@ class Print(NamedTuple):
     foot: int
     title: int
     rules: int
+    #: Of the line for a name, and what it takes of the width.
     name: int
+    name_width: int
     footer: int
     #: The command in the foot.
     command: int
@@ -59,6 +63,7 @@ USUAL = Print(
     title=529,
     rules=300,
     name=318,
+    name_width=6400,
     footer=247,
     command=198,
     answer_number=300,
@@ -74,6 +79,7 @@ LARGE = Print(
     title=917,
     rules=564,
     name=564,
+    name_width=7200,
     footer=423,
     command=282,
     answer_number=635,
@@ -106,14 +112,30 @@ class Density(NamedTuple):
         return self.columns * self.rows
 
 
+def grids(puzzles: int) -> List[Density]:
+    """The ways to have so many puzzles on a page, without an empty column or row."""
+    found = []
+    for columns, rows in itertools.product(range(1, MOST_COLUMNS + 1), range(1, MOST_ROWS + 1)):
+        has_room, is_sparse = columns * rows >= puzzles, puzzles <= max((columns - 1) * rows, columns * (rows - 1))
+        if has_room and not is_sparse:
+            like = [density for density in DENSITIES if density.puzzles >= columns * rows][-1]
+            found.append(like._replace(columns=columns, rows=rows))
+    return found
+
+
 ONE = Density(columns=1, rows=1, most_side=1800, number=423, note=247, id=229, number_line=590, note_line=310, id_line=255)
 TWO = ONE._replace(rows=2, most_side=1600)
 FOUR = TWO._replace(columns=2, most_side=1400)
 SIX = FOUR._replace(rows=3, most_side=1300, number=388, id=212, number_line=550, id_line=235)
 TWELVE = SIX._replace(columns=3, rows=4, most_side=1200, number=353, id=194, number_line=510, id_line=215)
 
-#: The densest first.
+#: How puzzles are printed on a page that has no more of them than this, the densest first; and the most columns and rows.
 DENSITIES = [TWELVE, SIX, FOUR, TWO, ONE]
+MOST_COLUMNS, MOST_ROWS = TWELVE.columns, TWELVE.rows
+
+#: How many come onto a page where it isn't asked.
+PER_PAGE = 6
+
 LARGE_DENSITIES = [Density(columns=1, rows=1, most_side=2600, number=847, note=494, id=423, number_line=1110, note_line=620, id_line=520)]
 
 #: Below this font an ID is bold: a copier eats the strokes of small letters.

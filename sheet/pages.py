@@ -3,16 +3,16 @@
 from __future__ import annotations
 
 import hashlib
-from itertools import groupby
 from string import Template
 from typing import Iterator, List, NamedTuple, Sequence
 
-from board.board import GAMES
-from sheet import answers, drawing, layout, listing
+from playing.board import GAMES
+from sheet import answers, drawing, examples, layout, listing
+from sheet.examples import Told
 from sheet.layout import Figure, Numbered, Page, Paper
 from sheet.listing import Explained
 from sheet.markup import Markup, fill, joined, plain, safe, shortened
-from sheet.measures import BOLD_BELOW, CAPTION_TOP, length
+from sheet.measures import BOLD_BELOW, CAPTION_TOP, Density, length
 from sheet.puzzles import Puzzle
 from sheet.steps import Move
 from sheet.style import style
@@ -31,7 +31,7 @@ $sections</body></html>
 SECTION = Template("""\
 <section>
 <header><h1 dir="auto">$kind<bdi>$title</bdi></h1><p class="name">$right</p></header>
-$body<footer><span>Sheet $code</span><code>$again</code><span>$number</span></footer>
+$body<footer><span>$sheet</span><code>$again</code><span>$number</span></footer>
 </section>
 """)
 NAME = Markup('Name <u></u>')
@@ -41,11 +41,15 @@ PUZZLES = Template('<div class="puzzles columns$columns" style="row-gap:$gap">\n
 FIGURE = Template("""\
 <figure style="height:$height">$picture<figcaption style="width:$width;height:$caption">
 <p class="line" style="height:$line;font-size:$number_font"><b>$number</b><span>$grade</span><i style="font-size:$note_font">$game $size × $size · $code-$number</i></p>
-$note<code$bold style="font-size:$id_font;line-height:$id_line">$id</code></figcaption></figure>
+$note$id</figcaption></figure>
 """)
+ID = Template('<code$bold style="font-size:$font;line-height:$line">$id</code>')
 NOTE = Template('<p class="note" dir="auto" style="font-size:$font;max-height:$height;-webkit-line-clamp:$lines">$text</p>\n')
 BREAK = Markup('<wbr>')
 BOLD = Markup(' class="small"')
+
+#: The longest word that stands before a title.
+LONGEST_KIND = 'Answers: '
 
 
 class Section(NamedTuple):
@@ -59,32 +63,39 @@ class Section(NamedTuple):
 class Sheet:
     """Some puzzles, and how they are printed."""
 
-    def __init__(self, puzzles: Sequence[Puzzle], asked: Asked, explained: Sequence[List[Move]] = ()) -> None:
+    def __init__(self, puzzles: Sequence[Puzzle], asked: Asked, explained: Sequence[List[Move]] = (), example: Sequence[Told] = ()) -> None:
+        """With the moves of each puzzle, and solved puzzles to begin with, where such are asked for. Raises `TooMany`."""
         self._form = asked.form
-        self._paper = Paper(asked.form.paper, asked.form.is_large)
         self._puzzles = [Numbered(number, puzzle) for number, puzzle in enumerate(puzzles, 1)]
         self._explained = [Explained(numbered, moves) for numbered, moves in zip(self._puzzles, explained)]
-        self._title = plain(asked.form.title or '') or ' and '.join(GAMES[game] for game in layout.games_of(self._puzzles))
-        #: By this who has cut out a puzzle finds its answer.
+        self._example = example
+        title = plain(asked.form.title or '') or ' and '.join(GAMES[game] for game in layout.games_of(self._puzzles))
+        self._paper = Paper(asked.form.paper, asked.form.is_large, LONGEST_KIND + title, asked.form.has_ids)
+        self._title = title
+        #: By this the answer of a puzzle that was cut out is found; by the number the same puzzles can be made again.
         self._code = hashlib.sha256('\n'.join(puzzle.id for puzzle in puzzles).encode()).hexdigest()[:4].upper()
-        room = layout.id_letters(self._paper.width * 4 // 5, self._paper.print.command)
-        self._again = shortened(plain(asked.titled if len(asked.titled) <= room else asked.again), room)
-        self._pages = list(layout.pages(self._paper, self._puzzles, asked.form.per_page)) if asked.form.answers != 'only' else []
+        self._sheet = f'Sheet {self._code}' + ('' if asked.seed is None else f', number {asked.seed}')
+        self._again = self._words(asked) if asked.form.has_words else ''
+        self._pages = [] if asked.form.answers == 'only' else self._planned()
+
+    def _words(self, asked: Asked) -> str:
+        """The words that make the sheet again, with its title where there is room."""
+        room = layout.id_letters(self._paper.width * 3 // 4, self._paper.print.command)
+        return shortened(plain(asked.titled if len(asked.titled) <= room else asked.again), room)
+
+    def _planned(self) -> List[Page]:
+        """Raises `TooMany`."""
+        if self._form.per_page is None or self._form.is_large:
+            return list(layout.pages(self._paper, self._puzzles))
+        return layout.asked_pages(self._paper, self._puzzles, self._form.per_page)
 
     def html(self) -> str:
         sections = list(self._sections())
         every = (self._section(section, f'{number} / {len(sections)}') for number, section in enumerate(sections, 1))
         return fill(WHOLE, title=self._title, style=Markup(style(self._paper)), sections=joined(every))
 
-    def told(self) -> Iterator[str]:
-        """What there is to say of pages that have fewer puzzles than was asked for."""
-        fewer = ((number, len(page.figures), page.wanted) for number, page in enumerate(self._pages, 1) if len(page.figures) < page.wanted)
-        for (count, wanted), group in groupby(fewer, key=lambda row: row[1:]):
-            numbers = [number for number, *_ in group]
-            which = f'pages {numbers[0]} to {numbers[-1]} have' if len(numbers) > 1 else f'page {numbers[0]} has'
-            yield f'{which} {count} puzzle{"s" if count > 1 else ""}, not {wanted}: more would make the squares too small'
-
     def _sections(self) -> Iterator[Section]:
+        yield from (Section('Example: ', examples.body(self._paper, told)) for told in self._example)
         for page in self._pages:
             yield Section('', self._body(page), has_name=True)
         if self._form.answers != 'none':
@@ -94,8 +105,9 @@ class Sheet:
 
     def _section(self, section: Section, number: str) -> Markup:
         right = NAME if section.has_name else f'Sheet {self._code}'
-        parts = {'kind': section.kind, 'title': self._title, 'right': right, 'body': section.body}
-        return fill(SECTION, code=self._code, again=self._again, number=number, **parts)
+        title = shortened(self._title, self._paper.title_letters * self._paper.title_lines - len(section.kind))
+        parts = {'kind': section.kind, 'title': title, 'right': right, 'body': section.body}
+        return fill(SECTION, sheet=self._sheet, again=self._again, number=number, **parts)
 
     def _body(self, page: Page) -> Markup:
         rules = (fill(RULES, game=GAMES[game], text=layout.RULES[game].format(last=page.last(game))) for game in page.games)
@@ -108,7 +120,7 @@ class Sheet:
         svg = drawing.picture(puzzle.board, drawing.pen(puzzle.game, figure.side, self._paper.print.strength), name)
         line = density.number_line - CAPTION_TOP
         lengths = {'height': page.height, 'width': figure.caption_width, 'caption': page.caption_height, 'line': line}
-        fonts = {'number_font': density.number, 'note_font': density.note, 'id_font': density.id, 'id_line': density.id_line}
+        fonts = {'number_font': density.number, 'note_font': density.note}
         return fill(
             FIGURE,
             picture=Markup(drawing.text_of(svg)),
@@ -118,10 +130,15 @@ class Sheet:
             size=puzzle.size,
             code=self._code,
             note=self._note(page, figure),
-            bold=BOLD if density.id < BOLD_BELOW else Markup(''),
-            id=joined(map(safe, layout.id_pieces(puzzle.id)), BREAK),
+            id=self._id(density, puzzle) if self._form.has_ids else Markup(''),
             **{name: length(value) for name, value in {**lengths, **fonts}.items()},
         )
+
+    def _id(self, density: Density, puzzle: Puzzle) -> Markup:
+        """Broken into lines where it may be."""
+        bold = BOLD if density.id < BOLD_BELOW else Markup('')
+        pieces = joined(map(safe, layout.id_pieces(puzzle.id)), BREAK)
+        return fill(ID, bold=bold, font=length(density.id), line=length(density.id_line), id=pieces)
 
     def _note(self, page: Page, figure: Figure) -> Markup:
         """The puzzle's own caption, where it has one."""

@@ -4,9 +4,9 @@ from __future__ import annotations
 
 from typing import Dict, NamedTuple
 
-from board.board import Board, Reply
-from board.games import GRADES
-from board.program import Gone, Program
+from playing.board import Board, Reply
+from playing.games import GRADES
+from playing.program import Gone, Program
 
 #: What there is to say of a puzzle that isn't printed, by how many solutions there are.
 NOT_ONE = {'none': 'no solution', 'several': 'several solutions'}

@@ -4,9 +4,9 @@ from __future__ import annotations
 
 from typing import Dict, Iterator, List, NamedTuple, Sequence
 
-from board import fair
-from board.board import GAMES, Reply
-from board.games import GRADES
+from playing import fair
+from playing.board import GAMES, Reply
+from playing.games import GRADES
 from sheet.puzzles import Programs, Puzzle, Unfit, proved
 
 #: After so many seeds in a row of which the program makes no game no more are tried.

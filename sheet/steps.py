@@ -4,8 +4,8 @@ from __future__ import annotations
 
 from typing import List, NamedTuple
 
-from board.games import GRADES
-from board.steps import sentences
+from playing.games import GRADES
+from playing.steps import sentences
 from sheet.puzzles import Programs, Puzzle
 
 #: How many moves are told from the beginning; the hardest one is told, too.
@@ -31,7 +31,7 @@ def told(programs: Programs, puzzle: Puzzle) -> List[Move]:
     moves: List[Move] = []
     while True:
         hint = programs.ask(puzzle.game, 'hint').hint
-        # A number may follow by other deductions alone, which no sentence tells.
+        # Where no number follows by steps there is no sentence.
         square = hint.square(puzzle.size) if hint and hint.text else None
         if hint is None or square is None:
             break

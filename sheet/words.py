@@ -7,9 +7,9 @@ import re
 import shlex
 from typing import Callable, List, NamedTuple, NoReturn, Optional, Sequence
 
-from board.board import GAMES
-from board.fair import OFFERED, SEEDS, SIZES
-from board.games import GRADES
+from playing.board import GAMES
+from playing.fair import OFFERED, SEEDS, SIZES
+from playing.games import GRADES
 from sheet.choice import MOST
 from sheet.measures import PAPERS
 
@@ -22,22 +22,27 @@ Makes a page in HTML with puzzles for print, and their answers. A browser shows
 and prints it. GAME is towers or unequal.
 
 Which puzzles:
-  --size W         3 to 9; several as 5-7 or 3,5; else 5
+  --size W         3 to 9; several as 5-7 or 3,5; otherwise 5
   --grade GRADE    of towers easy or hard; of unequal trivial, easy or tricky;
-                   several as easy,hard; else easy
-  --seed N         other puzzles for each number; else 1
-  --count N        how many, up to 200; else 12, or all of FILE
+                   several as easy,hard; otherwise easy
+  --seed N         other puzzles for each number; otherwise 1
+  --count N        how many, up to 200; otherwise 12, or all of FILE
   --ids FILE       the puzzles of a file, or of standard input where it is -:
                    an ID or the name of a save on each line, then a caption
 
 FORM, how they are printed:
-  --per-page N     so many at most, up to 12; else 6
-  --answers WHERE  end, none or only; else end
+  --per-page N     so many, up to 12; otherwise up to 6, as squares allow
+  --answers WHERE  end, none or only; otherwise end
   --steps          tell how each answer goes on
+  --example        a small puzzle comes first, with its answer and three steps
   --title TEXT     stands above
-  --paper PAPER    a4 or letter; else a4
+  --ids-below      each puzzle has its ID below it
+  --words          the foot has the words that make the sheet again
+  --paper PAPER    a4 or letter; otherwise a4
   --large          one on a page, for those who see badly
   --output FILE    where the page goes, if not to standard output
+  --pdf FILE       print it to this file, by a Chromium that is there
+  --browser NAME   the Chromium for that
 
 Exit status:
   0  the page was written
@@ -47,7 +52,7 @@ Exit status:
 """
 
 #: What is asked for where nothing is said.
-SIZE, GRADE, SEED, COUNT, PER_PAGE, PAPER = [5], 'easy', 1, 12, 6, 'a4'
+SIZE, GRADE, SEED, COUNT, PAPER = [5], 'easy', 1, 12, 'a4'
 MOST_PER_PAGE = 12
 
 #: Where answers are.
@@ -64,10 +69,14 @@ class Wrong(Exception):
 class Form(NamedTuple):
     """How a sheet is printed."""
 
-    per_page: int
+    #: Nothing where it is as many as come onto a page with large squares.
+    per_page: Optional[int]
     answers: str
     has_steps: bool
+    has_example: bool
     title: Optional[str]
+    has_ids: bool
+    has_words: bool
     paper: str
     is_large: bool
 
@@ -77,13 +86,16 @@ class Asked(NamedTuple):
     sizes: List[int]
     #: The letters of grades.
     letters: List[str]
-    seed: int
+    #: Nothing where the puzzles are those of a list.
+    seed: Optional[int]
     #: Nothing where all of a list are meant.
     how_many: Optional[int]
     #: The list of IDs.
     ids: Optional[str]
     form: Form
     output: Optional[str]
+    pdf: Optional[str]
+    browser: Optional[str]
     #: The words that make the sheet again, and with its title, too.
     again: str
     titled: str
@@ -104,6 +116,13 @@ def read(words: Sequence[str]) -> Asked:
     found.game = found.games[0] if found.games else None
     if found.ids is not None and any(value is not None for value in (found.size, found.grade, found.seed)):
         raise Wrong('--ids goes without --size, --grade and --seed: the puzzles are there')
+    for name in ('ids', 'output', 'pdf', 'browser'):
+        if getattr(found, name) == '':
+            raise Wrong(f'argument --{name}: the name of a file')
+    if found.large and (found.per_page or 1) > 1:
+        raise Wrong('--large has one puzzle on a page')
+    if found.browser and not found.pdf:
+        raise Wrong('--browser goes with --pdf')
     if found.steps and found.answers == 'none':
         raise Wrong('--steps goes with answers')
     letters: List[str] = []
@@ -111,11 +130,14 @@ def read(words: Sequence[str]) -> Asked:
         found.size, found.grade = found.size or SIZE, found.grade or GRADE
         found.seed = SEED if found.seed is None else found.seed
         found.count = found.count or COUNT
-        letters = _letters(found.game, found.grade)
-    form = Form(found.per_page, found.answers, found.steps, found.title, found.paper, found.large)
+        letters = _letters(found.games[0], found.grade)
+    form = Form(
+        found.per_page, found.answers, found.steps, found.example, found.title, found.ids_below, found.words, found.paper, found.large
+    )
     again = _again(found)
     titled = f'{again} --title {shlex.quote(found.title)}' if found.title else again
-    return Asked(found.game, found.size or [], letters, found.seed or 0, found.count, found.ids, form, found.output, again, titled)
+    files = (found.output, found.pdf, found.browser)
+    return Asked(found.game, found.size or [], letters, found.seed, found.count, found.ids, form, *files, again, titled)
 
 
 def _parser() -> Parser:
@@ -126,13 +148,18 @@ def _parser() -> Parser:
     parser.add_argument('--seed', type=_number(0, SEEDS - 1))
     parser.add_argument('--count', type=_number(1, MOST))
     parser.add_argument('--ids')
-    parser.add_argument('--per-page', type=_number(1, MOST_PER_PAGE), default=PER_PAGE)
+    parser.add_argument('--per-page', type=_number(1, MOST_PER_PAGE))
     parser.add_argument('--answers', choices=ANSWERS, default=ANSWERS[0])
     parser.add_argument('--steps', action='store_true')
+    parser.add_argument('--example', action='store_true')
+    parser.add_argument('--ids-below', action='store_true')
+    parser.add_argument('--words', action='store_true')
     parser.add_argument('--title')
     parser.add_argument('--paper', choices=list(PAPERS), default=PAPER)
     parser.add_argument('--large', action='store_true')
     parser.add_argument('--output')
+    parser.add_argument('--pdf')
+    parser.add_argument('--browser')
     return parser
 
 
@@ -173,8 +200,8 @@ def _again(found: argparse.Namespace) -> str:
     for name in ('size', 'grade', 'seed', 'ids', 'count'):
         value = getattr(found, name)
         given += [f'--{name}', ','.join(map(str, value)) if isinstance(value, list) else str(value)] if value is not None else []
-    given += ['--per-page', str(found.per_page)] if found.per_page != PER_PAGE else []
+    given += ['--per-page', str(found.per_page)] if found.per_page else []
     given += ['--answers', found.answers] if found.answers != ANSWERS[0] else []
     given += ['--paper', found.paper] if found.paper != PAPER else []
-    given += [f'--{name}' for name in ('steps', 'large') if getattr(found, name)]
+    given += [f'--{name}' for name in ('steps', 'example', 'ids-below', 'words', 'large') if getattr(found, name.replace('-', '_'))]
     return ' '.join(['puzzles-sheet', *map(shlex.quote, given)])

@@ -6,7 +6,7 @@ import os
 import stat
 from typing import Optional
 
-from board import files
+from playing import files
 
 STANDARD_OUTPUT = 1
 

@@ -14,12 +14,14 @@ for name in ('board', 'faults', 'harness', 'objects', 'page', 'sheet'):
 
 from building.ready import NotReady, ready
 from building.record import BUILT
+from gating.counts import SKIPS_FAIL, skips_fail
 from tests.harness.browser import Browser
-from tests.harness.builds import TOP, copy
+from tests.harness.builds import TOP, copy_both
 from tests.harness.bytecode import compile_scripts
 from tests.harness.faults import FaultLibrary
 from tests.harness.mounts import own_mounts
 from tests.harness.room import Room
+from tests.harness.skips import told
 from tests.harness.turns import InTurn, turn
 
 
@@ -52,27 +54,24 @@ def pytest_configure(config: pytest.Config) -> None:
 
 
 def pytest_sessionfinish(session: pytest.Session) -> None:
-    """A skip is no pass."""
-    if session.exitstatus == 0 and counts(session.config)[2] and not skips_allowed():
+    if session.exitstatus == 0 and reports(session.config, 'skipped') and skips_fail(by_itself=False):
         session.exitstatus = 1
 
 
 def pytest_unconfigure(config: pytest.Config) -> None:
     if config.pluginmanager.has_plugin('terminalreporter') and not hasattr(config, 'workerinput') and not config.option.collectonly:
-        passed, failed, skipped = counts(config)
-        if skipped and not skips_allowed():
-            print('What was skipped was not tried, so this has failed; SKIPS_ALLOWED=1 lets it pass.')
-        print(f'{passed} passed, {failed} failed' + (f', {skipped} skipped' if skipped else ''), flush=True)
+        passed, failed, skipped = (reports(config, *kinds) for kinds in (['passed'], ['failed', 'error'], ['skipped']))
+        if skipped:
+            print("What can't be tried here, and how many cases:", *told(skipped), sep='\n')
+        if skipped and skips_fail(by_itself=False):
+            print(f'What is skipped is not tried, so this has failed; {SKIPS_FAIL}=0 lets it pass.')
+        print(f'{len(passed)} passed, {len(failed)} failed, {len(skipped)} skipped', flush=True)
 
 
-def counts(config: pytest.Config) -> List[int]:
+def reports(config: pytest.Config, *kinds: str) -> List[Any]:
+    """The reports of the cases that ended so."""
     reporter = config.pluginmanager.get_plugin('terminalreporter')
-    stats = reporter.stats if reporter else {}
-    return [sum(len(stats.get(kind, [])) for kind in kinds) for kinds in (['passed'], ['failed', 'error'], ['skipped'])]
-
-
-def skips_allowed() -> bool:
-    return os.environ.get('SKIPS_ALLOWED') == '1'
+    return [report for kind in kinds for report in reporter.stats.get(kind, [])] if reporter else []
 
 
 @pytest.fixture(scope='session')
@@ -82,8 +81,8 @@ def programs(request: pytest.FixtureRequest) -> Iterator[Programs]:
     except NotReady:
         folder = BUILT.folder
     with Room() as room:
-        paths = [copy(room, request.config.getoption(f'--{name}') or str(TOP / folder / name), name) for name in ('puzzles', 'puzzles-json')]
-        yield Programs(*paths)
+        paths = [request.config.getoption(f'--{name}') or str(TOP / folder / name) for name in ('puzzles', 'puzzles-json')]
+        yield Programs(*copy_both(room, *paths))
 
 
 @pytest.fixture

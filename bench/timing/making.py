@@ -9,7 +9,7 @@ import sys
 import tempfile
 from typing import Any, Dict, List, NamedTuple, Optional, Sequence, Tuple
 
-from board import fair
+from playing import fair
 from timing.answering import TOP, processor_time
 
 #: Debian has the usual programs in the last folder.

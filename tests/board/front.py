@@ -6,8 +6,8 @@ import os
 import shutil
 from typing import Dict, List, NamedTuple, Optional, Sequence, Set, Tuple
 
-from board.board import Place
-from board.program import Program
+from playing.naming import Place
+from playing.program import Program
 from tests.harness import Room, User
 from tests.harness.builds import TOP, copy
 from tests.harness.bytecode import bytecode
@@ -43,7 +43,8 @@ class BoardFront:
 
     def of(self, user: Optional[User]) -> BoardFront:
         """A copy of the front in the room, over a copy of the program: for another user, who may not go where it lies, where one is named."""
-        shutil.copytree(TOP / 'board', os.path.join(self.room.path, 'board'), ignore=shutil.ignore_patterns('__pycache__'))
+        for package in ('board', 'playing'):
+            shutil.copytree(TOP / package, os.path.join(self.room.path, package), ignore=shutil.ignore_patterns('__pycache__'))
         path = os.path.join(self.room.path, 'board', 'puzzles-play')
         return BoardFront(path, copy(self.room, self.program, 'puzzles-json'), self.room, user)
 

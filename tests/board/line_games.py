@@ -2,7 +2,7 @@
 
 from __future__ import annotations
 
-from typing import List
+from typing import List, Tuple
 
 from tests.board.playing import Game, Refused, Step
 from tests.harness.game import ID, save_text
@@ -12,24 +12,32 @@ from tests.second_implementation.fair import fair
 REFUSED = [
     Refused('no game', [], 2),
     Refused('another game', ['chess'], 2),
-    Refused('no terminal', ['towers'], 2, 'the board is for a terminal'),
+    Refused('no terminal', ['towers'], 2, 'the board is for a terminal; in a pipe use --lines'),
+]
+
+#: Lines that come through a pipe, and all that is written then. A question is answered by the next line; at the end of the input the game is kept.
+PIPED: List[Tuple[str, str]] = [
+    ('r1c1 1\n1 2 2\nstatus\n', 'r1c1 is 1; row 1 lacks 2 and 3\nr1c2 is 2; row 1 lacks 3\nplaying 3/3\n'),
+    ('solve\nn\nstatus', 'Fill in the solution? u takes it back. y/N\nplaying 1/1\n'),
+    ('\n  id\r\nquit\nid\n', f'{ID}\n'),
+    ('\xff\n', "No such command: 'help' lists them all.\n"),
 ]
 
 BOARD = """\
-    0 1 2
+    1 2 3
   + 3 - - +
-0 3 . . . -
-1 - . . . -
+1 3 . . . -
 2 - . . . -
+3 - . . . -
   + - - - +"""
 
 UNEQUAL_BOARD = """\
-  0 1 2
-0 .<.<.
+  1 2 3
+1 .<.<.
   ^ - -
-1 . . .
+2 . . .
   ^ - -
-2 . . ."""
+3 . . ."""
 
 #: The game of Towers of size 7 that is easy and has the number 7.
 FAIR = f'7de:{fair("towers", 7, "e", 7).description()}'
@@ -39,61 +47,83 @@ GAMES: List[Game] = [
         'numbers and marks',
         ['towers', ID],
         [
-            Step(['p 0 0 1', 'P 0 0 2'], ['row 0, column 0 is empty, marked 1 and 2']),
-            Step(['p 2 1 3', '0 0'], ['row 0, column 0 is empty, marked 1 and 2; row 0 lacks 1, 2 and 3; column 0 lacks 1, 2 and 3']),
-            Step(['0 0 3'], ['row 0, column 0 is 3; row 0 lacks 1 and 2', 'Contradicted: the clue 3 above column 0; the clue 3 left of row 0.']),
-            Step(['show'], ['0 3 3 . . -']),
-            Step(['marks'], ['2,1:3'], hides=['0,0:12']),
-            Step(['u', 'marks'], ['0,0:12']),
-            Step(['0, 0, 1'], ['row 0, column 0 is 1; row 0 lacks 2 and 3'], hides=['Contradicted']),
-            Step(['d 0 -1'], ['the clue 3 above column 0, done']),
-            Step(['done'], ['0,-1']),
-            Step(['clues'], ['the clue 3 above column 0, done\nthe clue 3 left of row 0']),
-            Step(['0 -1'], ['the clue 3 above column 0, done']),
-            Step(['row 0'], ['row 0: 1, empty, empty; row 0 lacks 2 and 3; the left clue is 3']),
-            Step(['column 0'], ['column 0: 1, empty, empty; column 0 lacks 2 and 3; the upper clue is 3']),
+            Step(['p 1 1 1', 'P r1c1 2'], ['r1c1 is empty, marked 1 and 2']),
+            Step(['p r2c3 3', 'r1c1'], ['r1c1 is empty, marked 1 and 2; row 1 lacks 1, 2 and 3; column 1 lacks 1, 2 and 3']),
+            Step(['r1c1 3'], ['r1c1 is 3; row 1 lacks 1 and 2', 'Contradicted: clue 3 above column 1; clue 3 left of row 1.']),
+            Step(['show'], ['1 3 3 . . -']),
+            Step(['marks'], ['r2c3 3'], hides=['r1c1 1 and 2']),
+            Step(['u', 'marks'], ['r1c1 1 and 2\nr2c3 3']),
+            Step(['1, 1, 1'], ['r1c1 is 1; row 1 lacks 2 and 3'], hides=['Contradicted']),
+            Step(['done'], ['No clue is marked as done.']),
+            Step(['d above 1'], ['clue 3 above column 1, done']),
+            Step(['done'], ['clue 3 above column 1, done']),
+            Step(['clues'], ['clue 3 above column 1, done\nclue 3 left of row 1']),
+            Step(['above 1'], ['clue 3 above column 1, done']),
+            Step(['left of row 1'], ['clue 3 left of row 1']),
+            Step(['below 3'], ['There is no clue there.']),
+            Step(['row 1'], ['row 1: 1, empty, empty; row 1 lacks 2 and 3; the left clue is 3']),
+            Step(['column 1'], ['column 1: 1, empty, empty; column 1 lacks 2 and 3; the upper clue is 3']),
             Step(['status'], ['playing 6/6']),
             Step(['restart'], ['towers 7/7> ']),
-            Step(['move R2,2,2', 'show'], ['2 - . . 2 -']),
+            Step(['r3c3 2', 'show'], ['3 - . . 2 -']),
             Step(['m'], ['8 squares have other pencil marks']),
-            Step(['hint'], ["Look at the clue 3 left of row 0. 'hint' again tells more."]),
-            Step(['hint'], ['The clue 3 left of row 0, by itself: row 0, column 2 is not 1.']),
-            Step(['why'], ['So row 0, column 2 is 3: no other number is left there.']),
-            Step(['check'], ['These numbers can still be completed, in one way.']),
-            Step(['0 0 3', 'hint'], ["These numbers contradict one another: undo some. 'why' tells the steps."]),
-            Step(['why'], ['The clue 3 above column 0, by itself: row 0, column 0 is not 3.', 'So no number is left for row 0, column 0.']),
+            Step(['possible'], ['4 squares have other pencil marks']),
+            Step(['marks'], ['r1c1 1, 2 and 3; r1c2 1, 2 and 3; r1c3 1 and 3\nr2c1 1, 2 and 3; r2c2 1, 2 and 3; r2c3 1 and 3\nr3c1 1 and 3; r3c2 1 and 3\n']),
+            Step(['possible'], ['These marks are there already.']),
+            Step(['undo', 'marks'], ['r3c1 1, 2 and 3; r3c2 1, 2 and 3\n']),
         ],
         first=[BOARD],
+    ),
+    Game(
+        'hints',
+        ['towers', ID],
+        [
+            Step(['hint'], ["Look at clue 3 above column 1. 'hint' again tells the steps."]),
+            Step(['hint'], ['1. Clue 3 above column 1', "'hint' again puts the number in. 'why 1' tells what is left before step 1."], hides=['So r']),
+            Step(['why 1'], ['Left before it: r1c1 1, 2 or 3; r2c1 1, 2 or 3; r3c1 1, 2 or 3.\nClue 3 above column 1']),
+            Step(['why 9'], ["'why 1' tells a step: a number from 1 to 2."]),
+            Step(['why'], ['1. Clue 3 above column 1', 'So r1c1 is 1']),
+            Step(['hint'], ['So r1c1 is 1', 'r1c1 is 1; row 1 lacks 2 and 3', 'towers 2/2> ']),
+            Step(['check'], ['These numbers can still be completed, in one way.']),
+            Step(['1 1 3', 'hint'], ["These numbers can't be completed since the last move: 'back' takes it back. 'hint' again tells why."]),
+            Step(['hint'], ['1. Clue 3 above column 1', "'hint' again takes the moves back."]),
+            Step(['hint'], ['One move back', 'towers 2/3> ']),
+        ],
     ),
     Game(
         'sentences',
         ['towers', '3:///////////,1c3c2'],
         [
-            Step(['3 0 1'], ['Columns and rows count from 0 to 2.']),
-            Step(['1 0 4'], ['Numbers go from 1 to 3, and 0 clears a square.']),
-            Step(['0 0 2'], ['was given with the puzzle']),
-            Step(['1 0 2', 'p 1 0 3'], ["There is a number: 'x y 0' clears it"]),
+            Step(['1 4 1'], ['Rows and columns count from 1 to 3.']),
+            Step(['0 0 1'], ['Rows and columns count from 1 to 3.']),
+            Step(['r4c1'], ['Rows and columns count from 1 to 3.']),
+            Step(['d left 4'], ['Rows and columns count from 1 to 3.']),
+            Step(['move R3,0,1'], ['Columns and rows count from 0 to 2.']),
+            Step(['1 2 4'], ['Numbers go from 1 to 3, and 0 clears a square.']),
+            Step(['1 1 2'], ['was given with the puzzle']),
+            Step(['1 2 2', 'p 1 2 3'], ["There is a number: 'r1c2 0' clears it"]),
             Step(['undo', 'undo'], ['nothing to undo']),
             Step(['restart'], ['at its start already']),
             Step(['redo', 'r'], ['nothing to redo']),
-            Step(['d 0 -1'], ['A done mark is for a clue: column or row -1 or 3']),
+            Step(['d above 1'], ["A done mark is for a clue at the edge, as 'd above 1'"]),
             Step(['move S111111111'], ['no solution of this puzzle']),
             Step(['move H'], ['Hints and spent signs']),
-            Step(['1 0 02'], ["column, row, number: '2 0 3'"]),
+            Step(['1 2 02'], ["row, column, number: 'r1c2 3'"]),
             Step(['sing'], ["'help' lists them all"]),
+            Step(['d 0 -1'], ["'help' lists them all"]),
             Step(['list 0'], ['a number from 1 to 100']),
-            Step(['row 7'], ["'row 0' tells what is there: a number from 0 to 2."]),
-            Step(['7 7'], ['There is no square and no clue']),
+            Step(['row 7'], ["'row 1' tells what is there: a number from 1 to 3."]),
+            Step(['column 0'], ["'column 1' tells what is there: a number from 1 to 3."]),
             Step(['new 5#7'], ["usual program's: copy its game ID"]),
             Step(['new 5!007'], ['A seed is a number from 0 to 18446744073709551615']),
             Step(['new 10'], ['Sizes go from 3 to 9']),
             Step(['new ²'], ['An ID begins with the size']),
             Step(['new 99999999999999999999'], ['Sizes go from 3 to 9']),
-            Step(['row ²'], ['a number from 0 to 2']),
+            Step(['row ²'], ['a number from 1 to 3']),
             Step(['open ²'], ["No game was put away yet."]),
             Step(['save'], ["'save FILE' needs the name of a file."]),
             Step(['id'], ['3:///////////,1c3c2']),
-            Step(['?'], ['Columns and rows count from 0']),
+            Step(['?'], ['its row and its column, which count from 1']),
             Step(['rules'], ['many towers are seen from there']),
         ],
     ),
@@ -101,13 +131,15 @@ GAMES: List[Game] = [
         'solved once',
         ['towers', ID],
         [
-            Step(['0 0 1', '1 0 2', '2 0 3', '0 1 2', '1 1 3', '2 1 1', '0 2 3', '1 2 1'], hides=['Solved!']),
-            Step(['2 2 1'], ['row 2, column 2 is 1, contradicted', 'Full, but not right yet.'], hides=['Solved!']),
-            Step(['2 2 2'], ['Solved!']),
+            Step(['1 1 1', '1 2 2', '1 3 3', '2 1 2', '2 2 3', '2 3 1', '3 1 3', '3 2 1'], hides=['Solved!']),
+            Step(['3 3 1'], ['r3c3 is 1, contradicted', 'Full, but not right yet.'], hides=['Solved!']),
+            Step(['3 3 2'], ['Solved!']),
             Step(['undo', 'redo'], hides=['Solved!']),
-            Step(['restart', 'solve'], ['0 3 1 2 3 -'], hides=['Solved!']),
+            Step(['restart', 'solve'], ['Fill in the solution? u takes it back. y/N ']),
+            Step(['n'], ['towers 12/12> ']),
+            Step(['solve', 'y'], ['1 3 1 2 3 -', 'Filled in by the program.'], hides=['Solved!']),
             Step(['status'], ['helped 13/13']),
-            Step(['new 3:3///3////////', 'solve'], ['No solution exists for this puzzle']),
+            Step(['new 3:3///3////////', 'solve', 'y'], ['No solution exists for this puzzle']),
             Step(['new 3:3///////////', 'list 5'], ['123231312\n132213321']),
         ],
     ),
@@ -115,10 +147,10 @@ GAMES: List[Game] = [
         'signs of Unequal',
         ['unequal', '3:0,0L,0L,0U,0,0,0U,0,0,'],
         [
-            Step(['2 0 3', 'show'], ['0 .<.<3']),
-            Step(['row 0'], ['row 0: empty, empty, 3; row 0 lacks 1 and 2; row 0, column 1 is greater than row 0, column 0;']),
-            Step(['2 0 1'], ['Contradicted: the sign between row 0, column 2 and row 0, column 1.']),
-            Step(['d 0 -1'], ['Unequal has none.']),
+            Step(['1 3 3', 'show'], ['1 .<.<3']),
+            Step(['row 1'], ['row 1: empty, empty, 3; row 1 lacks 1 and 2; r1c2 is greater than r1c1;']),
+            Step(['1 3 1'], ['Contradicted: the sign between r1c3 and r1c2.']),
+            Step(['d above 1'], ['Unequal has none.']),
         ],
         first=[UNEQUAL_BOARD],
     ),
@@ -155,9 +187,9 @@ GAMES: List[Game] = [
         ['towers', ID],
         [
             # Ctrl-C drops what is typed, and a backspace the last letter of it; two times up is the last line but one.
-            Step(['0 0 9\x030 0 1', 'show'], ['0 3 1 . . -'], hides=['Numbers go from']),
-            Step(['0 0 19\b\b2'], ['row 0, column 0 is 2']),
-            Step(['undo', '\x1b[A\x1b[A'], ['row 0, column 0 is 2']),
+            Step(['1 1 9\x031 1 1', 'show'], ['1 3 1 . . -'], hides=['Numbers go from']),
+            Step(['1 1 19\b\b2'], ['r1c1 is 2']),
+            Step(['undo', '\x1b[A\x1b[A'], ['r1c1 is 2']),
             Step(['  status  '], ['playing 3/3']),
             Step([''], ['towers 3/3> ']),
         ],
@@ -173,7 +205,7 @@ GAMES: List[Game] = [
             Step(['status\x16\r'], ['playing 1/1']),
             Step(['id'], [ID], hides=['playing 1/1\n']),
             Step(['save\x16\r'], ["'save FILE' needs the name of a file."], hides=['SAVEFILE']),
-            Step(['0 0 1\x16\r\x16\r'], ['row 0, column 0 is 1; row 0 lacks 2 and 3']),
+            Step(['1 1 1\x16\r\x16\r'], ['r1c1 is 1; row 1 lacks 2 and 3']),
         ],
         last='quit\x16\r',
     ),
@@ -188,28 +220,31 @@ SAVES: List[Game] = [
         'a game that is saved',
         ['towers', ID],
         [
-            Step(['0 0 1', '1 0 2', 'undo', 'save FOLDER/a game.sav'], ['Saved in FOLDER/a game.sav', 'towers 2/3> ']),
-            Step(['redo'], ['row 0, column 1 is 2; row 0 lacks 3']),
+            Step(['1 1 1', '1 2 2', 'undo', 'save FOLDER/a game.sav'], ['Saved in FOLDER/a game.sav', 'towers 2/3> ']),
+            Step(['redo'], ['r1c2 is 2; row 1 lacks 3']),
             Step(['save FOLDER/a game.sav'], ['a game.sav is there. Write over it? y/N ']),
             Step(['no'], ['Nothing was saved.', 'towers 3/3> ']),
-            Step(['load FOLDER/a game.sav'], ['0 3 1 . . -', 'towers 2/3> ']),
-            Step(['open'], ['0  ', 'Towers 3x3, 2 of 9']),
-            Step(['open 0'], ['0 3 1 2 . -']),
+            Step(['load FOLDER/a game.sav'], ['1 3 1 . . -', 'towers 2/3> ']),
+            Step(['open'], ['0  Towers 3x3, ID 3:3//////3/////, 2 of 9, ']),
+            Step(['delete'], ["'delete 0' deletes number 0"]),
+            Step(['delete 0'], ['Delete Towers 3x3, ID 3:3//////3/////, 2 of 9, ', '? y/N ']),
+            Step(['n'], ['Nothing was deleted.']),
+            Step(['open 0'], ['1 3 1 2 . -']),
             Step(['load FOLDER/nothing.sav'], ["There is no file 'FOLDER/nothing.sav'."]),
             Step(['save FOLDER/nothing/game.sav'], ["There is no folder 'FOLDER/nothing'.", 'towers 3/3> ']),
         ],
         saved=save_text(2, 2),
     ),
-    Game('a game that is loaded', ['towers', 'FOLDER/a game.sav'], [], first=['0 3 1 . . -']),
+    Game('a game that is loaded', ['towers', 'FOLDER/a game.sav'], [], first=['1 3 1 . . -']),
     Game(
         'no HOME',
         ['towers', ID],
         [
             Step(['load FOLDER/a game.sav'], ['towers 2/3> ']),
-            Step(['0 0 1', 'undo', "save FOLDER/it's.sav"], ["Saved in FOLDER/it's.sav"]),
+            Step(['1 1 1', 'undo', "save FOLDER/it's.sav"], ["Saved in FOLDER/it's.sav"]),
         ],
         has_home=False,
     ),
-    Game('a save of the other game', ['unequal', 'FOLDER/a game.sav'], [], first=['0 3 1 . . -', 'towers 2/3> ']),
-    Game('the last game goes on', [], [], first=['0 3 1 . . -', 'towers 2/3> ']),
+    Game('a save of the other game', ['unequal', 'FOLDER/a game.sav'], [], first=['1 3 1 . . -', 'towers 2/3> ']),
+    Game('the last game goes on', [], [], first=['1 3 1 . . -', 'towers 2/3> ']),
 ]

@@ -6,8 +6,8 @@ from pathlib import Path
 
 import pytest
 
-from board import fair
-from board.games import GRADES, SIZES, bank_path, letters, stored
+from playing import fair
+from playing.games import GRADES, SIZES, bank_path, letters, stored
 from tests.harness import Room, run
 
 #: One run takes so many.

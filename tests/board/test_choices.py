@@ -83,7 +83,7 @@ def test_words(front: BoardFront, room: Room) -> None:
         (['unequal', '6', 'extreme'], ['Unequal 6x6', 'extreme', '0 of ']),
         (['towers', '4', 'Hard'], ['Towers 4x4', 'hard', '0 of ', 'Hard 4, number ']),
         (['7'], ['Towers 7x7', 'hard', '0 of ']),
-        (['towers', 'today'], ['Towers 5x5', f'Easy 5, number {TODAY}. That number is always this game.']),
+        (['towers', 'today'], ['Towers 7x7', f'Hard 7, number {TODAY}. That number is always this game.']),
     ]:
         with front.window(words) as window:
             window.look('', shows)
@@ -91,21 +91,21 @@ def test_words(front: BoardFront, room: Room) -> None:
     with front.window([]) as window:
         window.look('n', ['[Towers]', '[7]', '[hard]', '[by chance]'])
         window.look('<up><up><right>', ['[Unequal]', '[6]', '[extreme]', '200 puzzles, 199 of them new to you'])
-        window.look('q', ['Towers 5x5'], ['A new game'])
+        window.look('q', ['Towers 7x7'], ['A new game'])
         window.press('q')
         window.status()
     for path in [path for path in room.paths() if path.endswith('.sav')]:
         room.remove(path)
     for words, shows in [(['unequal'], ['Unequal 6x6', 'extreme']), (['towers'], ['Towers 7x7', 'hard', 'Hard 7, number '])]:
         with front.window(words) as window:
-            window.look('', [*shows, 'A new game; ? shows the keys.'])
+            window.look('', [*shows, 'A new game. Arrows move, 1-9 put a number in. h: a hint, ?: all keys.'])
             window.leave('q')
 
 
 def test_first(front: BoardFront) -> None:
     """On a machine where nothing was played yet."""
     with front.window([]) as window:
-        window.look('', ['Towers 5x5', 'easy', 'Easy 5, number ', 'A new game; ? shows the keys.'])
+        window.look('', ['Towers 5x5', 'easy', 'Easy 5, number ', 'A new game. Arrows move, 1-9 put a number in. h: a hint, ?: all keys.'])
         window.leave('q')
 
 
@@ -114,7 +114,7 @@ def test_words_in_lines(front: BoardFront, room: Room) -> None:
         window.look('', ['To play it again:', 'new 4 trivial number ', 'unequal 1/1>'])
         window.look('id<enter>', ['4dt:'])
         window.look('new 3<enter>', ['To play it again:', 'new 3 trivial number '])
-        window.look('new today<enter>', [f'new 5 easy number {TODAY}'])
+        window.look('new today<enter>', [f'new 3 trivial number {TODAY}'])
         window.look('new 9 recursive<enter>', ['Of size 9 there are puzzles of the grades trivial, easy, tricky and extreme.'])
         window.look('new 8<enter>', ['new 8 trivial number '])
         window.leave('q<enter>')

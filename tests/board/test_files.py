@@ -5,16 +5,20 @@ from __future__ import annotations
 import os
 import re
 import time
+from pathlib import Path
 from typing import List, Set, Tuple
 
-from board import games
-from board.state import OLD_GAMES, State
+from playing import games
+from playing.state import SOLVED_GAMES, State
 from tests.board.front import BoardFront
 from tests.harness import Room
 from tests.harness.game import ID, save_text
 from tests.second_implementation.fair import fair
 
 SAVE = save_text(2)
+
+#: What is kept where one game of Towers goes on.
+LEFT = ['choices', 'towers.lock', 'towers.sav', 'unequal.lock']
 
 #: Edits of a save, and the sentence by which it is refused.
 SAVES: List[Tuple[bytes, bytes, str]] = [
@@ -33,7 +37,7 @@ SAVES: List[Tuple[bytes, bytes, str]] = [
 
 
 def test_put_away(front: BoardFront, room: Room) -> None:
-    """The present game goes to the last ten, and comes back from there."""
+    """The present game is put away, and comes back from there."""
     with front.window(['towers', ID]) as window:
         window.look('1', ['1 of 9'])
         window.look('n', ['A new game', '[easy]', '[by chance]'])
@@ -42,7 +46,7 @@ def test_put_away(front: BoardFront, room: Room) -> None:
         window.look('n', ['50 puzzles, 49 of them new to you'])
         window.look('<up><up><right><down>5<down>', ['[Unequal]', '[5]', '[extreme]'])
         window.look('<right>4<enter>', ['Unequal 4x4   recursive'])
-        window.look('o', ['Towers 3x3, 1 of 9', 'a file ..'])
+        window.look('o', ['0 Towers 3x3, ID 3:3//////3/////, 1 of 9, ', 'a file ..'])
         window.look('0', ['Towers 3x3', '1 of 9', 'move 1/1'])
         window.look('o', ['0 a file ..'])
         window.leave('qq')
@@ -78,6 +82,20 @@ def test_number(front: BoardFront, room: Room) -> None:
         window.leave('xq')
 
 
+def test_menu(front: BoardFront) -> None:
+    """The game on the board is offered, and not what was chosen last; what is refused stays in the menu, with a sentence."""
+    with front.window(['towers', '6', 'hard']) as window:
+        window.look(':new 4de:////2///////////2,c2b4i<enter>', ['Towers 4x4'])
+        window.look('n', ['[Towers]', '[4]', '[easy]', '[by chance]'])
+        window.look('<down><right><right><enter>', ['A new game', 'Type the number: digits.'])
+        window.look('99999999999999999999', ['[typed: 9999999999999999999]', 'A number goes from 0 to 18446744073709551615'])
+        window.look('<up><right><right><right><right><enter>', ['ID, or a number as the seed:'])
+        window.look('7#7<enter>', ['A new game', "usual program's: copy its game ID"])
+        window.look('<up><right>', ['[5]'], ['copy its game ID'])
+        window.look('q', ['Towers 4x4', '0 of 14'])
+        window.leave('q')
+
+
 def test_typed_line(front: BoardFront) -> None:
     """The program's own line begins a game, too, and what it refuses is told."""
     with front.window(['towers', ID]) as window:
@@ -85,7 +103,7 @@ def test_typed_line(front: BoardFront) -> None:
         window.look(':fair 5 e 7<enter>', ['Towers 5x5   easy', '0 of '])
         window.look('i', ['puzzles-play towers 5 easy number 7'])
         window.look('x', ['Towers 5x5'])
-        window.look('o', ['Towers 3x3, 1 of 9'])
+        window.look('o', ['Towers 3x3, ID 3:3//////3/////, 1 of 9'])
         window.look('q:fair 3 h 7<enter>', ["The grades of such games are 'e' and 'h', 'h' from size 4 on."])
         window.look(':fair<enter>', ["'fair 5 e 20261126' begins a game"])
         window.leave('q')
@@ -125,12 +143,13 @@ def test_listed(front: BoardFront, room: Room) -> None:
         window.leave('q')
     with front.window(['towers', ID]) as window:
         window.look('1', ['1 of 9'])
-        shows = ['Unequal 3x3, 1 of 7, not put away', '1 a file ..', 'mine.sav: Towers 3x3, 3 of 9', 'other.sav: Keen, not played here', "bad.sav: save, can't be read"]
+        shows = ['0 Unequal 3x3, ID 3:', ', 1 of 7, not put away, ', '1 a file ..', 'mine.sav: Towers 3x3, ID 3:3//////3/////, 3 of 9']
+        shows += ['other.sav: Keen, not played here', "bad.sav: save, can't be read"]
         window.look('o', shows, ['notes.txt'])
-        window.look('7m9x', shows)
+        window.look('7m9', shows)
         window.look('q', ['Towers 3x3', '1 of 9', 'move 1/1'])
         window.look('o0', ['Unequal 3x3', '1 of 7'])
-        window.look('o', ['0', 'Towers 3x3, 1 of 9, not put away', 'mine.sav'])
+        window.look('o', ['0', 'Towers 3x3, ID 3:3//////3/////, 1 of 9, not put away', 'mine.sav'])
         window.look('<down><down><enter>', ['Towers 3x3', '3 of 9'], ['Go on'])
         window.look('<right>w', ['save as: mine.sav'])
         window.leave('<escape>q')
@@ -172,15 +191,52 @@ def test_refused_saves(front: BoardFront, room: Room) -> None:
         window.look('o0FOLDER/edited.sav<enter>', ['That is a save of Chess, which is not played here.'])
 
 
-def test_last_ten(front: BoardFront, room: Room) -> None:
+def test_kept(front: BoardFront, room: Room) -> None:
+    """A game that isn't solved stays, however many come after it; of solved ones the last hundred do."""
     state = State(front.env())
-    for at in range(OLD_GAMES + 3):
-        state.put_away('towers', b'%d' % at)
-    found = []
-    for old in state.old_games():
-        with open(old.path, 'rb') as file:
-            found.append(int(file.read()))
-    assert found == list(range(OLD_GAMES + 2, 2, -1)), 'the last ones, the last first'
+    state.put_away('towers', b'not solved')
+    for at in range(SOLVED_GAMES + 3):
+        state.put_away('towers', b'%d' % at, b'beside', is_solved=True)
+    state.put_away('unequal', b'nor this')
+    found = [Path(old.path).read_bytes() for old in state.old_games()]
+    assert found == [b'nor this', *(b'%d' % at for at in range(SOLVED_GAMES + 2, 2, -1)), b'not solved'], 'the last one first'
+    assert sum(path.endswith('.hints') for path in room.paths()) == SOLVED_GAMES, 'what is beside them goes with them'
+
+
+def test_unfinished_stays(front: BoardFront, room: Room) -> None:
+    """Five moves in a large game outlast eleven small games, solved or not, and the list has them all, no two lines alike."""
+    with front.window(['towers', '9', 'hard', 'number', '1']) as window:
+        window.look('m1u', ['move 1/2'])
+        for seed in range(11):
+            window.look(f':fair 3 e {seed}<enter>', ['Towers 3x3'])
+            window.look('Sy' if seed % 2 else 'm', ['Filled in by the program.' if seed % 2 else 'move 1/1'])
+        window.look(':new 3:3//////3/////<enter>', ['0 of 9'])
+        window.look('o', ['Towers 9x9 hard, number 1, ', 'Towers 3x3 easy, number 10, ', 'Towers 3x3 easy, number 9, solved, '])
+        rows = [line for line in window.screen.text() if 'Towers' in line]
+        assert len(set(line[3:] for line in rows)) == len(rows) == 12, rows
+        window.look('<up><up>', ['a file'])
+        window.look('<enter>', ['Towers 9x9', 'move 1/2'])
+        window.look('i', ['puzzles-play towers 9 hard number 1'])
+        window.leave('xq')
+
+
+def test_deleted(front: BoardFront, room: Room) -> None:
+    """A game of the list is deleted after a question, with what is kept beside it; a file of the player's isn't."""
+    room.put('mine.sav', SAVE)
+    with front.window(['unequal', '3!7']) as window:
+        window.look('1', ['1 of 7'])
+        window.leave('q')
+    with front.window(['towers', '3', 'number', '7']) as window:
+        window.look('m', ['move 1/1'])
+        window.look(f':new {ID}<enter>', ['0 of 9'])
+        window.look('o', ['0 Unequal 3x3', '1 Towers 3x3 easy, number 7', 'x deletes'])
+        window.look('<down>x', ['Delete Towers 3x3 easy, number 7, 0 of 9, ', '? y/N'])
+        window.look('n', ['Nothing was deleted.', '1 Towers 3x3 easy, number 7'])
+        window.look('xy', ['It is deleted.', '1 a file ..'], ['number 7'])
+        window.look('<down>x', ['mine.sav is a file of yours'])
+        window.look('<up><up>xy', ['It is deleted.', '0 a file ..'], ['Unequal'])
+        window.leave('qq')
+    assert room.paths() == ['mine.sav', *(f'state/puzzles/{name}' for name in LEFT)], 'what lies there'
 
 
 def test_stored(front: BoardFront, room: Room) -> None:

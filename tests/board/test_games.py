@@ -56,7 +56,7 @@ GAMES: List[BoardGame] = [
             Look('<left>2', ['was given with the puzzle']),
             Look('S', ['Fill in the solution? u takes it back. y/N']),
             Look('x', ['move 0/1'], ['y/N']),
-            Look('Sy', ['Solved!', 'solved with help']),
+            Look('Sy', ['Filled in by the program.', 'filled in']),
         ],
     ),
     BoardGame(
@@ -122,30 +122,91 @@ GAMES: List[BoardGame] = [
         'hints',
         ['towers', ID],
         [
-            Look('H', ['Why', '1. Clue 3 above column 1: all towers are seen, so they rise: r1c1 is not 2 or 3.', 'So r1c1 is 1: 2 and 3 are ruled out above.']),
-            Look('<right>', ['So r1c1 is 1: 2 and 3 are ruled out above.', '2 of 2: arrows walk on.']),
-            Look('<left>', ['r1c1 is not 2 or 3.', '1 of 2: arrows walk on.']),
-            Look('h', ['Look at the clue 3 above column 1. h again: more.']),
-            Look('h', ['Clue 3 above column 1: all towers are seen, so they rise: r1c1 is not 2 or 3.']),
-            Look('h', ['So r1c1 is 1: 2 and 3 are ruled out above.']),
-            Look('h', ['1 of 9']),
+            Look('H', ['Why', '1. Clue 3 above column 1: ', 'So r1c1 is 1: 2 and 3 are ruled out above.']),
+            Look('<right>', ['So r1c1 is 1: 2 and 3 are ruled out above.', '2 of 2  Enter puts it in']),
+            Look('<left>', ['Clue 3 above column 1: ', '1 of 2  arrows walk  h the number']),
+            Look('<escape>', ['0 of 9'], ['1 of 2']),
+            Look('<enter>', ['PENCIL']),
+            Look('<enter>', ['0 of 9'], ['PENCIL']),
+            Look('H<enter><right><enter>', ['1 of 9', 'move 1/1', '1 hint']),
             Look('c', ['These numbers can still be completed, in one way.']),
-            Look('<down><down><right><right>3', ['2 of 9']),
-            Look('c', ["These numbers can't be completed since the last move: b takes it back."]),
-            Look('h', ['These numbers contradict one another: undo some. H: why.']),
-            Look('H', ['Why', '1. Clue 3 left of row 1: all towers are seen, so they rise: r1c3 is not 2.', 'So r1c3 has no number left: 1 and 3 stand in its row']),
-            Look('b', ['One move back, where the numbers could be completed', '1 hint']),
             Look('b', ['These numbers can still be completed: there is nothing to take back.']),
-            Look('r', ['2 of 9']),
+            Look('u', ['0 of 9']),
             Look(':new 3:///////////<enter>c', ['in several ways']),
-            Look('h', ['No number follows by the deductions alone']),
+            Look('h', ['No number follows by steps']),
+        ],
+    ),
+    BoardGame(
+        'a number in three presses',
+        ['towers', ID],
+        [
+            Look('p3', ['│         3 │', 'move 1/1']),
+            # Where to look; rows and columns have their numbers then.
+            Look('h', ['Look at clue 3 above column 1. h again: the steps.', '┌─────1─────┬─────2─────┬─────3─────┐', '3  1           │', '3*']),
+            # What is left, in place of the player's marks, and what the step rules out.
+            Look(
+                'h',
+                ['1 of 2  arrows walk  h the number', '│-1   2x  3x│ 1   2   3 │', '│*1   2   3 │ 1   2   3 │', 'move 1/1'],
+                styles=[('2x', {1, 7}, set()), ('*1   2   3 │', {48}, {7}), (' 1   2   3 │', set(), {48})],
+            ),
+            Look('<down>', ['So r1c1 is 1: 2 and 3 are ruled out above.', '2 of 2  Enter puts it in', '│*1         │ 1   2   3 │']),
+            Look('<up><right><right><right>', ['2 of 2']),
+            Look('h', ['│     1     │           │', 'move 2/2', '1 of 9'], ['┌─────1']),
+            Look('u', ['│         3 │', 'move 1/2']),
+        ],
+    ),
+    BoardGame(
+        'a hint on wrong numbers',
+        ['towers', ID],
+        [
+            Look('1<right><right>3<left><left><down>3', ['3 of 9', 'move 3/3']),
+            Look('<right>p2<right>1', ['move 5/5']),
+            Look('h', ["These numbers can't be completed since the last 3 moves: b takes them back. h again: why."]),
+            Look('H', ['Why', '1. ', 'any key goes back']),
+            Look('x', ['1 of ', 'arrows walk  b takes the last 3 moves back', 'move 5/5']),
+            Look('b', ['3 moves back with 2 pencil marks, where the numbers could be completed; redo brings', 'move 2/5']),
+            Look('rrr', ['move 5/5']),
+            Look('hh<right><right><right><right><right><right>', ['Enter takes the last 3 moves back']),
+            Look('<enter>', ['3 moves back', 'move 2/5'], ['1 hint']),
+            # A number that is wrong, though no steps show it.
+            Look(':new 4dx://2/////3///3/1//2//<enter><right><right>2', ['1 of 16']),
+            Look('h', ["These numbers can't be completed since the last move: b takes it back."], ['h again']),
+        ],
+    ),
+    BoardGame(
+        'marks, and what is left',
+        ['towers', ID],
+        [
+            Look('1', ['left  1:2  2:3  3:3']),
+            Look('P', ['│           │     2   3 │     2   3 │', '│     2   3 │ 1   2   3 │']),
+            Look('P', ['These marks are there already.']),
+            Look('u', ['│     1     │           │', 'move 1/']),
+            Look('r', ['│           │     2   3 │     2   3 │']),
+            Look('u<right>p1', ['│           │ 1         │']),
+            Look('P', ['│           │     2   3 │     2   3 │']),
+            Look('u', ['│           │ 1         │           │']),
+            Look('Sy', ['Filled in by the program.'], ['left']),
+        ],
+    ),
+    BoardGame(
+        'keys that move',
+        ['towers', GIVEN],
+        [
+            # Tab goes to the next empty square; the letters of vi are no keys.
+            Look('<tab>1', ['1!']),
+            Look('u<tab>3', ['1 of 6', 'move 1/1', '│     1     │           │     3     │']),
+            Look('<shift-tab>2', ['2 of 6', '│     1     │     2     │     3     │']),
+            Look('j', ['That key does nothing']),
+            Look('L', ['That key does nothing']),
+            Look('<space>', ['│     1     │           │     3     │']),
+            Look('<down><down><tab>2', ['│     1     │     2     │     3     │']),
         ],
     ),
     BoardGame(
         'pages',
         ['unequal', '4!7'],
         [
-            Look('?', ['arrows          move', 'says which of them has the greater', 'any key goes back']),
+            Look('?', ['arrows Tab      move', 'says which of them has the greater', 'any key goes back']),
             Look('xi', ['The ID of this puzzle', "puzzles-play unequal '4:"]),
             Look('x:list 3<enter>', ['move 0/0']),
             Look(':show<enter>', ['any key goes back']),
@@ -233,7 +294,9 @@ MORE = [
     BoardGame('refusals of Unequal', ['unequal', '3!7'], [Look(f':{line}<enter>', [sentence]) for line, sentence in UNEQUAL_REFUSALS]),
     BoardGame('no solution', ['towers', '3:3///3////////'], [Look('Sy', ['No solution exists for this puzzle'])]),
     BoardGame('several solutions', ['towers', '3:3///////////'], [Look('Sy', ['Multiple solutions exist for this puzzle'])]),
-    BoardGame('two lines of a message', ['towers', NINE['towers']], [Look('hhh', ['So r4c1 is 7: 1, 2, 3, 4, 5 and 6 stand in its row or column', 'h again: more.', '? keys'])]),
+    BoardGame('two lines of a message', ['towers', NINE['towers']], [
+        Look('hh<right>', ['So r4c1 is 7: 1, 2, 3, 4, 5 and 6 stand in its row or column', ' 2 of 2  Enter puts it in']),
+    ]),
     BoardGame('a filled square', ['towers', ID], [Look('1p2', ['There is a number: 0 clears it, then set pencil marks.'])]),
 ]
 
@@ -250,8 +313,8 @@ def test_kept_choice(front: BoardFront, room: Room) -> None:
         window.leave('q')
     with front.window(['--lines']) as window:
         window.look('m<enter>', ['9 squares have other pencil marks'])
-        window.look('0 0 1<enter>', ['row 0, column 0 is 1; row 0 lacks 2 and 3; 4 other squares have other pencil marks'])
-        window.look('0 1<enter>', ['row 1, column 0 is empty, marked 2 and 3'])
+        window.look('1 1 1<enter>', ['r1c1 is 1; row 1 lacks 2 and 3; 4 other squares have other pencil marks'])
+        window.look('2 1<enter>', ['r2c1 is empty, marked 2 and 3'])
         window.look('undo<enter>', ['towers 2/7>'])
         window.look('tidy<enter>', ['From now on marks stay'])
         window.look('redo<enter>', ['towers 7/7>'])
@@ -276,9 +339,9 @@ def test_question(front: BoardFront) -> None:
     """It stands right below a board that is small in its window."""
     with front.window(['towers', ID], (60, 200)) as window:
         window.look('S', ['y/N'])
-        assert window.reads([' Fill in the solution? u takes it back. y/N'], 27)
+        assert window.reads([' Fill in the solution? u takes it back. y/N'], 28)
         window.look('x:', hides=['y/N'])
-        assert window.reads([' :'], 27)
+        assert window.reads([' :'], 28)
 
 
 @pytest.mark.parametrize(('game', 'id', 'most'), WHOLE)

@@ -6,10 +6,10 @@ from typing import List, NamedTuple, Optional, Tuple
 
 import pytest
 
-from board.board import Place
 from board.layout import fit
 from board.picture import KEYS_ASIDE, KEYS_BELOW, Look, picture
-from board.program import Program
+from playing.naming import Place
+from playing.program import Program
 from tests.harness import by_name
 from tests.harness.puzzles import made
 

@@ -10,12 +10,12 @@ from typing import Callable, List, Tuple
 import pytest
 
 from board import manual
-from tests.harness.terminal import Terminal
 from tests.board.front import BoardFront
 from tests.harness import Room, run
 from tests.harness.game import ID, left_files, save_text
 from tests.harness.mounts import fill, small_disk
 from tests.harness.room import Folder
+from tests.harness.terminal import Terminal
 
 KEPT = 'state/puzzles/towers.sav'
 
@@ -224,7 +224,7 @@ def test_without_modules(front: BoardFront, room: Room) -> None:
         room.put(f'modules/{module}.py', b'raise ImportError\n')
     env = {**front.env(), 'PYTHONPATH': os.path.join(room.path, 'modules')}
     with front.window(['towers', ID], env=env) as window:
-        window.look('0 0 1<enter>', ['row 0, column 0 is 1; row 0 lacks 2 and 3', 'towers 2/2>'])
+        window.look('1 1 1<enter>', ['r1c1 is 1; row 1 lacks 2 and 3', 'towers 2/2>'])
         window.look('q<enter>', ['towers 2/2> q'])
         assert window.status() == 0, 'the status'
 
@@ -233,17 +233,17 @@ def test_to_lines(front: BoardFront, room: Room) -> None:
     """T goes on in lines of text; Ctrl-Z there leaves the terminal as a shell wants it."""
     with Terminal(['bash', '-c', STOPS, front.path, ID], front.env(), cwd=room.path, size=(24, 80)) as window:
         window.look('1', ['1 of 9'])
-        window.look('T', ['0 3 1 . . -', 'towers 2/2>'])
-        window.look('1 0 2<enter>', ['row 0, column 1 is 2'])
+        window.look('T', ['1 3 1 . . -', 'towers 2/2>'])
+        window.look('1 2 2<enter>', ['r1c2 is 2'])
         window.look('<ctrl-z>', ['STOPPED modes=3'])
-        window.look('<enter>2 0 3<enter>', ['row 0, column 2 is 3'])
+        window.look('<enter>1 3 3<enter>', ['r1c3 is 3'])
         window.look('q<enter>', ['OVER'])
 
 
 def test_narrow_lines(front: BoardFront, room: Room) -> None:
     """Sentences are broken between words."""
     with front.window(['--lines', 'towers', ID], (20, 40)) as window:
-        window.look('0 0 3<enter>', ['Contradicted: the clue 3 above column', '0; the clue 3 left of row 0.'])
+        window.look('1 1 3<enter>', ['Contradicted: clue 3 above column 1;', 'clue 3 left of row 1.'])
         window.look('q<enter>', ['> q'])
 
 
@@ -273,7 +273,7 @@ def test_words(front: BoardFront, room: Room) -> None:
         (['--ids', 'towers', 'number', 'x'], 2, b'A number goes from 0 to 18446744073709551615'),
         (['--ids', 'towers', 'today', '5', '2'], 2, b'So many there are of them: 1.'),
         (['--ids', 'towers', '9', 'extreme', '21'], 2, b'So many there are of them: 20.'),
-        (['towers', ID], 2, b'the board is for a terminal; in a pipe use the program itself, puzzles towers'),
+        (['towers', ID], 2, b'the board is for a terminal; in a pipe use --lines, or the program itself, puzzles towers'),
     ]:
         found = run([front.path, *line], room, env=front.env())
         assert found.status == status, f'{line}: the status'

@@ -10,8 +10,8 @@ from typing import Callable, List, Tuple
 
 import pytest
 
-from tests.board.test_beside import FOLDER, KEPT, LINES, LOW, SCREEN, THINGS, known, link_to, own_folder
 from tests.board.front import BoardFront
+from tests.board.test_beside import FOLDER, KEPT, LINES, LOW, SCREEN, THINGS, known, link_to, own_folder
 from tests.harness import Room, run
 from tests.harness.game import ID, left_files, save_text
 from tests.harness.users import ANNA, CARL, need_root
@@ -73,7 +73,7 @@ def test_opened(front: BoardFront, room: Room) -> None:
         make(os.path.join(room.path, str(at)))
     with front.window(['towers', ID], LOW) as window, front.window(['--lines', 'towers', ID], LOW) as lines:
         window.look('1', ['1 of 9'])
-        lines.look('0 0 1<enter>', ['towers 2/2>'])
+        lines.look('1 1 1<enter>', ['towers 2/2>'])
         for at, (_, why) in enumerate(NO_FILES):
             window.look(f'o0FOLDER/{at}<enter>', [f'FOLDER/{at} {why}.', '1 of 9'])
             lines.look(f'load FOLDER/{at}<enter>', [f'FOLDER/{at} {why}.'])
@@ -94,7 +94,7 @@ def test_saved(front: BoardFront, room: Room) -> None:
     before = [known(room, str(at)) for at in range(len(NO_FILES))]
     with front.window(['towers', ID], LOW) as window, front.window(['--lines', 'towers', ID], LOW) as lines:
         window.look('1', ['1 of 9'])
-        lines.look('0 0 1<enter>', ['towers 2/2>'])
+        lines.look('1 1 1<enter>', ['towers 2/2>'])
         for at, (_, why) in enumerate(NO_FILES):
             told = f'FOLDER/{at} {why}: a game is saved to a file.'
             window.look(f'wFOLDER/{at}<enter>', [told])
@@ -119,7 +119,7 @@ def test_old_games(front: BoardFront, room: Room) -> None:
         window.look('0', [f'FOLDER/{old} is a named pipe.', '0 of 9'])
         window.leave('q')
     with front.window(['--lines', 'towers'], LOW) as window:
-        window.look('open<enter>', ["towers, can't be read", "'open 0' goes on with number 0."])
+        window.look('open<enter>', ["towers, can't be read", "'open 0' goes on with number 0, 'delete 0' deletes it."])
         window.look('open 0<enter>', [f'FOLDER/{old} is a named pipe.'])
         window.leave('q<enter>')
     assert known(room, old) == before, 'what was there'
@@ -174,7 +174,7 @@ def test_closed_window(front: BoardFront, room: Room) -> None:
 def test_no_bank(front: BoardFront, room: Room) -> None:
     """Then there are fair games alone, and the menu says why."""
     copied = front.of(None)
-    bank = os.path.join(room.path, 'board', 'bank', 'towers.txt')
+    bank = os.path.join(room.path, 'playing', 'bank', 'towers.txt')
     os.remove(bank)
     os.mkfifo(bank)
     with copied.window(['towers'], LOW) as window:

@@ -8,7 +8,7 @@ from typing import List, NamedTuple, Tuple
 
 import pytest
 
-from board.games import SIZES
+from playing.games import SIZES
 from tests.board.front import USUAL, BoardFront
 from tests.harness import by_name
 from tests.harness.puzzles import made

@@ -6,7 +6,7 @@ import os
 
 import pytest
 
-from board.printable import printable
+from playing.printable import printable
 from tests.board.front import BoardFront
 from tests.harness import Room, run
 from tests.harness.game import ID

@@ -8,11 +8,11 @@ import time
 from pathlib import Path
 from typing import Dict
 
-from tests.harness.terminal import Terminal
-from tests.board.test_lives import is_gone
 from tests.board.front import BoardFront
+from tests.board.test_lives import is_gone
 from tests.harness import Room
 from tests.harness.game import ID, save_text
+from tests.harness.terminal import Terminal
 
 KEPT = 'state/puzzles/towers.sav'
 
@@ -92,9 +92,10 @@ def test_long_work(front: BoardFront, room: Room) -> None:
         window.look('2', ['│     2     │', 'move 2/2'])
         window.leave('q')
     with front.window(['--lines', 'towers', ID], env=between(front, room)) as window:
-        window.look('check<enter>', ['The program is at work: Ctrl-C stops it.'])
+        window.look('', ['towers 1/1>'])
+        window.look('check<enter>', ['towers 1/1> check The program is at work: Ctrl-C stops it.'])
         window.look('<ctrl-c>', ['Stopped; nothing has changed.', 'towers 1/1>'])
-        assert window.shown.count('is at work') == 1
+        assert window.shown.partition('check')[2].count('is at work') == 1
         window.leave('q<enter>')
 
 
@@ -104,7 +105,8 @@ def test_no_game(front: BoardFront, room: Room) -> None:
     env = {**front.env(), 'PUZZLES_JSON': os.path.join(room.path, 'without')}
     with front.window([], env=env) as window:
         window.look('m', ['Towers 5x5', 'easy', 'move 1/1'])
-        window.look('n<down>7<enter>', ['That number gives no such game: another one does.', 'move 1/1'])
+        window.look('n<down>7<enter>', ['A new game', 'That number gives no such game: another one does.', '[typed: 7]'])
+        window.look('q', ['move 1/1'])
         window.look('n<enter>', ['move 0/0', 'That number is always this game.'])
         window.leave('q')
     with front.window(['--lines', 'towers', '5', 'number', '7'], env=env) as window:

@@ -6,7 +6,7 @@ import os
 from typing import Callable, List
 from unittest import mock
 
-from board import files
+from playing import files
 from tests.harness import Room
 
 

@@ -1,20 +1,18 @@
 """All Python passes mypy and pylint, and all shell shellcheck."""
 
 import os
-import shutil
 import subprocess
 import sys
 from pathlib import Path
 from typing import List, Sequence
 
-import pytest
-
+from tests.harness import need
 from tests.harness.builds import TOP
 
 SETTINGS = TOP / 'tests' / 'code'
 
 #: The folders with Python and shell.
-FOLDERS = ['.ci', 'bench', 'board', 'docs', 'page', 'sheet', 'tests', 'tools']
+FOLDERS = ['.ci', 'bench', 'board', 'docs', 'page', 'playing', 'sheet', 'tests', 'tools']
 
 
 def scripts(*commands: str) -> List[str]:
@@ -40,8 +38,7 @@ def modules() -> List[str]:
 
 def said(words: Sequence[str]) -> str:
     """What a command complains of."""
-    if not shutil.which(words[0]):
-        pytest.skip(f'there is no {words[0]}')
+    need(words[0])
     path = os.pathsep.join(str(TOP / folder) for folder in ('', 'tools', 'bench'))
     env = {**os.environ, 'MYPYPATH': path, 'PYTHONPATH': path, 'PYTHONDONTWRITEBYTECODE': '1'}
     ended = subprocess.run(words, cwd=TOP, env=env, stdout=subprocess.PIPE, stderr=subprocess.STDOUT, encoding='utf-8', errors='replace', check=False)

@@ -7,7 +7,7 @@ from typing import Dict, Iterable, List, Sequence
 
 import pytest
 
-from tests.harness import Ended, Room, run
+from tests.harness import Ended, Room, Skip, run
 
 #: Debian has the usual programs in the last folder.
 PATH = f'{os.environ.get("PATH", os.defpath)}:/usr/games'
@@ -101,5 +101,5 @@ def picture_of(save: str) -> str:
 def sides(program: str, room: Room) -> Sides:
     for usual in ('sgt-towers', 'sgt-unequal'):
         if not shutil.which(usual, path=PATH):
-            pytest.skip(f"{usual} is not there; install Debian's package sgt-puzzles")
+            raise Skip(f'there is no {usual}', 'apt-get install sgt-puzzles')
     return Sides(room, program)

@@ -6,7 +6,7 @@ import json
 
 import pytest
 
-from board import fair
+from playing import fair
 from tests.exchange.sides import Sides
 from tests.harness import run
 

@@ -12,7 +12,7 @@ import pytest
 from tests.faults import devices, memory, saves
 from tests.faults.calls import Calls
 from tests.faults.rounds import Rounds
-from tests.harness import FaultLibrary, Room, by_name, need_root
+from tests.harness import FaultLibrary, Room, Skip, by_name, need_root
 from tests.harness.builds import TOP
 
 SCRIPTS = [devices.FIRST, devices.SAVED]
@@ -82,7 +82,9 @@ def test_another_users_file() -> None:
 @pytest.mark.parametrize(('is_full', 'part'), [(True, 0), *((False, part) for part in range(PARTS))])
 def test_calls(request: pytest.FixtureRequest, room: Room, library: FaultLibrary, is_full: bool, part: int) -> None:
     """The calls on a full history go one after the other."""
-    path = request.config.getoption('--calls') or pytest.skip('the program of crates/trial_runs is not named')
+    path = request.config.getoption('--calls')
+    if not path:
+        raise Skip('the program of crates/trial_runs is not named', 'make test-faults, with the kit')
     calls = Calls(room, str(TOP / path), library)
     listed = [(game, call) for game, call in calls.listed() if call.startswith('full-') == is_full]
     assert listed

@@ -1,6 +1,7 @@
 """Runs a built program from outside and looks at what came of it.
 
 room      a folder for a case, gone afterwards, and what is made and read in it
+skips     what would make it possible to try what can't be tried here
 program   one run: words, input, folder, user, limits, streams; and how it ended
 terminal  a run in a terminal, with what is typed to it and what it shows
 screen    the screen of that terminal
@@ -19,9 +20,10 @@ from typing import Protocol
 from tests.harness.faults import FaultLibrary, Met
 from tests.harness.program import Ended, run
 from tests.harness.room import Folder, Room, Skip
+from tests.harness.skips import need
 from tests.harness.users import User, is_root, need_root
 
-__all__ = ['Ended', 'FaultLibrary', 'Folder', 'Met', 'Room', 'Skip', 'User', 'by_name', 'is_root', 'need_root', 'run']
+__all__ = ['Ended', 'FaultLibrary', 'Folder', 'Met', 'Room', 'Skip', 'User', 'by_name', 'is_root', 'need', 'need_root', 'run']
 
 
 class Named(Protocol):

@@ -7,14 +7,13 @@ import fcntl
 import json
 import os
 import select
-import shutil
 import signal
 import subprocess
 import time
 from typing import Any, Dict, List, Mapping, Optional, Tuple
 
 from tests.harness.room import Room
-from tests.harness.room import Skip
+from tests.harness.skips import need
 
 #: It asks nobody for anything, and takes what memory there is.
 WORDS = ['--headless', '--no-sandbox', '--disable-gpu', '--disable-dev-shm-usage', '--no-first-run', '--remote-debugging-pipe']
@@ -48,8 +47,7 @@ class Browser:
     """One window, and those that are opened from it. Where there is no browser the case is skipped."""
 
     def __init__(self, room: Room, seconds: float = 60) -> None:
-        if not shutil.which('chromium'):
-            raise Skip('there is no chromium')
+        need('chromium')
         self._seconds = seconds
         self._came, self._number = b'', 0
         #: What the pages have complained of: errors of scripts, and what their policies have refused.

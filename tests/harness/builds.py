@@ -3,6 +3,8 @@
 import os
 import shutil
 from pathlib import Path
+from typing import Tuple
+
 from tests.harness.room import Room
 
 #: The top of the repository, whatever the working folder is.
@@ -20,3 +22,13 @@ def copy(room: Room, build: str, name: str) -> str:
     program = shutil.copyfile(build, os.path.join(folder, name))
     os.chmod(program, 0o755)
     return program
+
+
+def copy_both(room: Room, puzzles: str, objects: str) -> Tuple[str, str]:
+    """Copies of both programs, one beside the other. Where they are the same file the second is a link to the first, as users have it."""
+    plain = copy(room, puzzles, 'puzzles')
+    if not os.path.samefile(puzzles, objects):
+        return plain, copy(room, objects, 'puzzles-json')
+    link = os.path.join(os.path.dirname(plain), 'puzzles-json')
+    os.symlink('puzzles', link)
+    return plain, link

@@ -1,12 +1,12 @@
 """The library tests/faults/faults.c: a chosen call of a program fails, or the program is killed there."""
 
 import os
-import shutil
 import subprocess
 from pathlib import Path
 from typing import Dict, NamedTuple
 
 from tests.harness.room import Room, Skip, can_preload
+from tests.harness.skips import need
 
 SOURCE = Path(__file__).resolve().parent.parent / 'faults' / 'faults.c'
 
@@ -23,10 +23,9 @@ class FaultLibrary:
 
     def __init__(self, room: Room) -> None:
         """Raises `Skip` where it can't be built."""
-        if not shutil.which('cc'):
-            raise Skip('there is no C compiler (cc)')
+        need('cc')
         if not can_preload(room.path):
-            raise Skip(f'nothing in {room.path} can be preloaded')
+            raise Skip('nothing below TMPDIR can be preloaded', 'a TMPDIR without blanks and colons in its path')
         self._library = os.path.join(room.path, 'faults.so')
         self._count = os.path.join(room.path, 'count')
         built = subprocess.run(
@@ -37,7 +36,7 @@ class FaultLibrary:
         )
         if built.returncode != 0:
             first = built.stderr.decode(errors='replace').partition('\n')[0]
-            raise Skip(f"cc doesn't take tests/faults/faults.c: {first}")
+            raise Skip(f"cc doesn't take tests/faults/faults.c: {first}", 'a compiler of C with its headers, as of gcc and libc6-dev')
 
     def env(
         self,

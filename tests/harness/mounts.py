@@ -6,6 +6,7 @@ import os
 from typing import Iterator, Optional
 
 from tests.harness.room import Folder, Skip
+from tests.harness.skips import AS_ROOT
 
 CLONE_NEWNS = 0x00020000
 MS_BIND, MS_REC, MS_PRIVATE = 0x1000, 0x4000, 0x40000
@@ -67,7 +68,7 @@ def fill(disk: Folder) -> None:
 @contextlib.contextmanager
 def _mounted(source: str, target: str, kind: Optional[str], flags: int, data: Optional[str]) -> Iterator[None]:
     if _no_mounts:
-        raise Skip(_no_mounts)
+        raise Skip(_no_mounts, f'{AS_ROOT}; a container must be allowed to mount')
     words = [None if word is None else os.fsencode(word) for word in (source, target, kind, data)]
     answer(libc.mount(words[0], words[1], words[2], ctypes.c_ulong(flags), words[3]), target)
     try:

@@ -36,7 +36,7 @@ class Ended(NamedTuple):
         return self
 
 
-def run(
+def run(  # pylint: disable=too-many-arguments
     words: Sequence[Word],
     folder: Folder,
     *,
@@ -51,7 +51,7 @@ def run(
     stderr: int = subprocess.PIPE,
     kept: Sequence[int] = (),
     closed: Sequence[int] = (),
-    seconds: float = 30,
+    seconds: float = 120,
 ) -> Ended:
     """Runs a program in a folder until it ends. The first word is where it lies.
 

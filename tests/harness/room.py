@@ -15,7 +15,10 @@ Owner = Tuple[int, int]
 
 
 class Skip(Skipped):
-    """Raised in a case that can't be tried here. Its text is the reason."""
+    """Raised in a case that can't be tried here: the reason, and what would make it possible."""
+
+    def __init__(self, reason: str, remedy: str = '') -> None:
+        super().__init__(f'{reason}. To try it: {remedy}' if remedy else reason)
 
 
 class Folder:

@@ -33,7 +33,8 @@ class Screen(pyte.Screen):
                 found = self.buffer[y][line.index(text)]
                 flags = {1: found.bold, 2: found.italics, 4: found.underscore, 7: found.reverse}
                 colour = set() if found.fg == 'default' else {COLOURS.get(found.fg, 38)}
-                return colour.union(number for number, is_so in flags.items() if is_so)
+                ground = set() if found.bg == 'default' else {48}
+                return colour.union(ground, (number for number, is_so in flags.items() if is_so))
         return set()
 
     def draw(self, data: str) -> None:

@@ -33,6 +33,7 @@ NAMED: Dict[str, str] = {
     'ctrl-c': '\x03',
     'space': ' ',
     'tab': '\t',
+    'shift-tab': '\x1b[Z',
 }
 
 KEY = re.compile(r'<([a-z-]+)>|(.)', re.DOTALL)
@@ -59,7 +60,7 @@ class Terminal:
         *,
         cwd: str,
         user: Optional[User] = None,
-        seconds: float = 20,
+        seconds: float = 60,
     ) -> None:
         def begin() -> None:
             if user:

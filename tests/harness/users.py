@@ -4,6 +4,7 @@ import os
 from typing import NamedTuple, Optional, Tuple
 
 from tests.harness.room import Owner, Skip
+from tests.harness.skips import AS_ROOT
 
 
 class User(NamedTuple):
@@ -44,4 +45,4 @@ def plain_user() -> Optional[User]:
 def need_root() -> None:
     """Skips the case where this isn't root."""
     if not is_root():
-        raise Skip('neither root, nor root of a namespace with other users')
+        raise Skip('neither root, nor root of a namespace with other users', AS_ROOT)

@@ -2,11 +2,9 @@
 were unpacked."""
 
 import os
-import shutil
-
-import pytest
 
 from tests.board.playing import PROMPT
+from tests.harness import need
 from tests.harness.game import ID
 from tests.harness.program import Ended, run
 from tests.harness.terminal import Terminal
@@ -31,8 +29,7 @@ OTHERWISE = 'umask 077; export TZ=Asia/Tokyo LC_ALL=C GIT_CONFIG_COUNT=1 GIT_CON
 
 
 def test_packed(site: Site) -> None:
-    if not shutil.which('git'):
-        pytest.skip('there is no git')
+    need('git')
     site.expect(['git', 'init', '-q'])
     commit(site, 'the first')
     site.expect(['make', 'clean'])
@@ -117,6 +114,7 @@ def unpacked(site: Site) -> None:
     assert summed == [path for path in files(place) if path != 'SHA256SUMS']
     wanted = {'README.md', 'LICENSE', 'CHANGELOG.md', 'VERSION', 'docs/FORMATS.md', 'share/man/man6/puzzles.6'}
     assert sorted(wanted - set(summed)) == []
+    assert os.readlink(os.path.join(place, 'bin', 'puzzles-json')) == 'puzzles'
     expect_plays(site, os.path.join(place, 'bin'))
     version = site.run([os.path.join(place, 'bin', 'puzzles-play'), '--version'], cwd='..').output.decode().splitlines()
     assert version[1:] == [f'commit {head(site)}', 'proved by a kit that proves nothing', 'taken from the tree']
@@ -128,11 +126,11 @@ def first_game(site: Site, place: str) -> None:
     env = {'PATH': os.environ.get('PATH', os.defpath), 'TERM': 'dumb', 'HOME': place}
     with Terminal(['bin/puzzles-play', 'towers', ID], env, cwd=place, user=site.user) as terminal:
         first = terminal.wait_for(PROMPT)
-        answer = terminal.answer('0 0 1', PROMPT)
+        answer = terminal.answer('r1c1 1', PROMPT)
         terminal.answer('quit', PROMPT)
         assert terminal.status() == 0, 'unpacked: a game ends well'
-    assert '0 3 . . . -' in first
-    assert 'row 0, column 0 is 1' in answer
+    assert '1 3 . . . -' in first
+    assert 'r1c1 is 1' in answer
 
 
 def of_sources(site: Site) -> None:

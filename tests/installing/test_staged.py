@@ -12,6 +12,14 @@ from tests.installing.site import Site, expect_plays, files, snapshot, words_of
 OURS = 'share/verified-puzzles'
 DOCUMENTS = 'share/doc/verified-puzzles'
 
+#: What desktops look for: the page and the board in the menu, their picture, and what is told of them.
+DESKTOP = [
+    'share/applications/verified-puzzles.desktop',
+    'share/applications/verified-puzzles-terminal.desktop',
+    'share/icons/hicolor/scalable/apps/verified-puzzles.svg',
+    'share/metainfo/verified-puzzles.metainfo.xml',
+]
+
 #: What is told of the version, after its number.
 OF_A_BUILD = 'commit unknown\nproved by a kit that proves nothing\ntaken from a build\n'
 
@@ -26,9 +34,10 @@ def wanted() -> List[str]:
         *(f'share/fish/vendor_completions.d/{name}.fish' for name in names),
         *(f'share/man/man{page.name[-1]}/{page.name}' for page in (TOP / 'man').iterdir()),
         f'{OURS}/VERSION',
-        *(f'{OURS}/board/bank/{game}.txt' for game in ('towers', 'unequal')),
-        *(f'{OURS}/{package}/{path.name}' for package in ('board', 'page', 'sheet') for path in (TOP / package).glob('*.py')),
-        *(f'{OURS}/page/web/{path.name}' for path in (TOP / 'page' / 'web').iterdir()),
+        *(f'{OURS}/playing/bank/{game}.txt' for game in ('towers', 'unequal')),
+        *(f'{OURS}/{package}/{path.name}' for package in ('board', 'playing', 'sheet') for path in (TOP / package).glob('*.py')),
+        f'{OURS}/puzzles.html',
+        *DESKTOP,
         *(f'{DOCUMENTS}/{name}' for name in ('VERSION', 'README.md', 'CHANGELOG.md', 'LICENSE')),
         *(f'{DOCUMENTS}/docs/{path.name}' for pattern in ('*.md', '*.png') for path in (TOP / 'docs').glob(pattern)),
         *(f'{DOCUMENTS}/docs/clients/{path.name}' for path in (TOP / 'docs' / 'clients').iterdir() if path.is_file()),
@@ -42,6 +51,7 @@ def test_staged(site: Site) -> None:
     place = os.path.join(root, 'usr')
     site.expect(['make', 'install', *where])
     assert files(place) == wanted(), 'what is there'
+    assert os.readlink(os.path.join(place, 'games', 'puzzles-json')) == 'puzzles'
     expect_modes(site, place)
     expect_plays(site, os.path.join(place, 'games'))
     expect_version(site, os.path.join(place, 'games', 'puzzles-play'))
@@ -77,7 +87,7 @@ def expect_version(site: Site, play: str) -> None:
 
 
 def expect_bank(site: Site, place: str) -> None:
-    with open(os.path.join(place, OURS, 'board', 'bank', 'towers.txt'), encoding='utf-8') as file:
+    with open(os.path.join(place, OURS, 'playing', 'bank', 'towers.txt'), encoding='utf-8') as file:
         assert any(line.startswith('9dx') for line in file), 'its puzzles: some of Towers of size 9'
 
 

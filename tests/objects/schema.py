@@ -48,7 +48,7 @@ BOARD: Dict[str, Any] = {
     'signs': [SIGN],
     'size': range(3, 10),
 }
-STRIKE: Dict[str, Any] = {'cell': CELL, 'numbers': [NUMBER]}
+STRIKE: Dict[str, Any] = {'cell': CELL, 'numbers': [NUMBER], 'shows': (None, [[NUMBER]])}
 STEP: Dict[str, Any] = {
     'cells': (None, [CELL]),
     'clue': (None, NUMBER),
@@ -71,6 +71,7 @@ HINT: Dict[str, Any] = {
     'number': (None, NUMBER),
     'steps': [STEP],
     'text': [short],
+    'view': [[NUMBER]],
 }
 
 #: What each object has that answers a line, and what besides, by the line that it answers.

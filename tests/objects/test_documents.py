@@ -1,15 +1,15 @@
 """docs/JSON.md, docs/SCRIPTING.md and README: the clients stand there as they are in docs/clients, and play; the examples are what the
 programs write."""
 
+import json
 import os
 import re
-import shutil
 import sys
-from typing import List, NamedTuple
+from typing import Iterator, List, NamedTuple
 
 import pytest
 
-from tests.harness import Room, run
+from tests.harness import Room, need, run
 from tests.harness.builds import TOP
 from tests.harness.game import HEAD, ID
 from tests.objects.agreement import Pair
@@ -68,8 +68,7 @@ def test_quoted(file: str, name: str) -> None:
 def client(request: pytest.FixtureRequest) -> List[str]:
     """The words that run it."""
     found: Client = request.param
-    if not shutil.which(found.needs):
-        pytest.skip(f'there is no {found.needs}')
+    need(found.needs)
     return [found.command, str(CLIENTS / found.file)]
 
 
@@ -110,3 +109,49 @@ def test_example(pair: Pair, room: Room, block: str) -> None:
     env = {'PATH': f"{os.path.dirname(pair.plain)}:{os.environ.get('PATH', os.defpath)}"}
     ended = run(['bash', '-c', here], room, env=env)
     assert (ended.output.decode(errors='replace'), ended.error) == (wanted, b'')
+
+
+def rows_of(text: str) -> List[List[str]]:
+    """The cells of the tables of a text, without their heads."""
+    return [[cell.strip() for cell in line.strip('|').split('|')] for line in text.splitlines() if re.match(r'\| *[^-| ]', line)]
+
+
+def test_refusals() -> None:
+    """The table of refusals has the names of FORMATS.md that a line can be answered by, each once."""
+    formats = (TOP / 'docs' / 'FORMATS.md').read_text(encoding='utf-8').partition('## 10. Faults')[2]
+    faults = re.findall(r'^\*\*(\w+)\*\* \(.*?(?=^\*\*\w+\*\* \(|\Z)', formats, re.MULTILINE | re.DOTALL)
+    parts = dict(zip(faults, re.split(r'^\*\*\w+\*\* \(', formats, flags=re.MULTILINE)[1:]))
+    told = {
+        row[1] for name in ('IdFault', 'GenFault', 'FairFault', 'PlayFault', 'LineFault') for row in rows_of(parts[name]) if row[0].isdigit()
+    }
+    # Of these two `solve` says a sentence, and sizes and letters of fair games are refused before.
+    told -= {'NoSolution', 'SeveralSolutions', 'NotOffered'}
+    section = (TOP / 'docs' / 'JSON.md').read_text(encoding='utf-8').partition('### refused\n')[2].partition('\n### ')[0]
+    names = [name for row in rows_of(section)[1:] for name in row[0].split(', ')]
+    assert sorted(names) == sorted(told)
+
+
+class Sentence(NamedTuple):
+    """A sentence of a hint, and the game and lines after which it is told."""
+
+    text: str
+    game: str
+    lines: List[str]
+
+
+def sentences() -> Iterator[Sentence]:
+    """Those of the manual, each below its board: an ID, and moves to it. A sentence goes on in lines that are indented more."""
+    section = (TOP / 'docs' / 'JSON.md').read_text(encoding='utf-8').partition('### hint\n')[2].partition('\n### ')[0]
+    for game, board, text in re.findall(r'^    (towers|unequal) (.*)\n((?:      .*\n)+)', section, re.MULTILINE):
+        id, *moves = board.split()
+        for sentence in re.sub(r'\n {9}', ' ', text).splitlines():
+            yield Sentence(sentence.strip(), game, [f'new {id}', *(f'move {move}' for move in moves)])
+
+
+@pytest.mark.parametrize('told', sentences(), ids=lambda told: f'{told.text}')
+def test_sentence(pair: Pair, room: Room, told: Sentence) -> None:
+    script = ''.join(f'{line}\n' for line in [*told.lines, 'hint']).encode()
+    ended = run([pair.objects, told.game], room, input=script)
+    hint = json.loads(ended.output.splitlines()[-1])['hint']
+    texts = [*(step['text'] for step in hint['steps']), hint['text']]
+    assert any(' '.join(line.strip() for line in text).endswith(told.text) for text in texts)

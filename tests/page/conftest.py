@@ -1,30 +1,111 @@
-"""A player at a game."""
+"""A player at a game, in the browsers that are asked for; the page from a disk and from a server."""
 
 from __future__ import annotations
 
-from typing import Callable, Iterator, Sequence, Tuple
+import contextlib
+import functools
+import http.server
+import threading
+from pathlib import Path
+from typing import Iterator, List
 
 import pytest
 
-from tests.conftest import Programs
 from tests.harness import Room
 from tests.harness.browser import Browser
-from tests.page.playing import LAPTOP, Player
-from tests.page.serving import Served
+from tests.harness.builds import TOP
+from tests.harness.driver import Driver
+from tests.harness.room import Skip
+from tests.page.browsers import DRIVERS, PIPE, Piped, chosen
+from tests.page.playing import Player
 
-Sit = Callable[..., Player]
+PAGE = TOP / 'programs' / 'web' / 'puzzles.html'
+
+
+def pytest_addoption(parser: pytest.Parser) -> None:
+    parser.addoption('--browsers', default='', metavar='all|NAME', help='the browsers of the page: chromium, firefox, webkit or all; the first that is there otherwise')
+    parser.addoption('--page', default=str(PAGE), metavar='FILE', help='the page, if not the one that is ready')
+
+
+def pytest_configure(config: pytest.Config) -> None:
+    config.addinivalue_line('markers', 'gate: a case that runs only where browsers are asked for, as the gate does')
+
+
+def pytest_collection_modifyitems(config: pytest.Config, items: List[pytest.Item]) -> None:
+    """`make test` has some cases of each kind alone: all of them take a minute of a processor."""
+    if not config.getoption('--browsers'):
+        later = [item for item in items if item.get_closest_marker('gate')]
+        items[:] = [item for item in items if item not in later]
+        config.hook.pytest_deselected(items=later)
+
+
+def pytest_generate_tests(metafunc: pytest.Metafunc) -> None:
+    if 'driver' in metafunc.fixturenames:
+        metafunc.parametrize('driver', chosen(metafunc.config.getoption('--browsers')), indirect=True, scope='session')
+
+
+@pytest.fixture(scope='session')
+def page(request: pytest.FixtureRequest) -> Path:
+    """The file."""
+    path = Path(request.config.getoption('--page'))
+    if not path.is_file():
+        raise Skip(f'there is no {path}: make web')
+    return path
+
+
+@pytest.fixture(scope='session')
+def driver(request: pytest.FixtureRequest) -> Iterator[Driver]:
+    """One for all cases of a process."""
+    if request.param == PIPE:
+        yield Piped(request.getfixturevalue('browser'))
+        return
+    with Room() as made, DRIVERS[request.param](made) as driver:
+        yield driver
 
 
 @pytest.fixture
-def sit(browser: Browser, programs: Programs, room: Room) -> Iterator[Sit]:
-    """Gives a player at a page of a server that is begun with these words."""
-    served = []
+def player(driver: Driver, page: Path) -> Iterator[Player]:
+    """At the page from a disk, in a browser that keeps nothing."""
+    made = Player(driver, f'file://{page}')
+    yield made
+    made.forget()
+    driver.go('about:blank')
 
-    def begin(words: Sequence[str] = (), size: Tuple[int, int] = LAPTOP) -> Player:
-        served.append(Served(room, programs.objects, words, is_left=True))
-        return Player(browser, served[-1], size)
 
-    yield begin
+@pytest.fixture
+def piped(browser: Browser, page: Path) -> Iterator[Player]:
+    """The same in Chromium by its pipe, which can do what no driver can. Nothing may be complained of in it."""
+    made = Player(Piped(browser), f'file://{page}')
+    browser.complaints.clear()
+    yield made
+    made.forget()
+    browser.plain()
     browser.go('about:blank')
-    for one in served:
-        one.__exit__()
+    assert browser.complaints == []
+
+
+@pytest.fixture
+def served(page: Path, room: Room) -> Iterator[str]:
+    """The address of a server that hands out the page and nothing else."""
+    room.put('index.html', page.read_bytes())
+    with serving(room.path) as address:
+        yield address
+
+
+@contextlib.contextmanager
+def serving(folder: str) -> Iterator[str]:
+    """The address of a server that hands out the files of a folder."""
+    handler = functools.partial(Quiet, directory=folder)
+    with http.server.ThreadingHTTPServer(('127.0.0.1', 0), handler) as server:
+        thread = threading.Thread(target=server.serve_forever, kwargs={'poll_interval': 0.05}, daemon=True)
+        thread.start()
+        yield f'http://127.0.0.1:{server.server_address[1]}/'
+        server.shutdown()
+        thread.join(10)
+
+
+class Quiet(http.server.SimpleHTTPRequestHandler):
+    """Writes nothing."""
+
+    def log_message(self, *_: object) -> None:  # pylint: disable=arguments-differ
+        return

@@ -1,45 +1,32 @@
-"""A player at the page: a browser, what is pressed and touched there, and what is seen and said."""
+"""A player at the page: what is pressed and touched there, and what is seen and said."""
 
 from __future__ import annotations
 
 import json
-from typing import Any, List, Optional, Sequence, Set, Tuple
+from typing import Any, Dict, List, Optional, Sequence, Set, Tuple
 
-from board.board import Place
-from tests.harness.browser import Browser
-from tests.page.serving import Served
+from playing.naming import Place
+from tests.harness.driver import Driver
 
 #: Sizes of windows.
-LAPTOP, PHONE, SMALL = (1366, 768), (360, 740), (320, 568)
+LAPTOP, PHONE, SMALL = (1280, 800), (390, 844), (320, 568)
+
+#: What is kept in the browser begins so.
+OURS = 'puzzles:'
+
+#: Until what was asked for so far is done and seen: the clock of the frames goes on twice.
+PAINTED = 'new Promise((done) => requestAnimationFrame(() => requestAnimationFrame(() => done(true))))'
 
 
-#: Until the page has its answers, since what is asked after them has its turn, and has painted what comes of them.
-SETTLED = """(async () => {
-  const {ask} = await import(new URL('talk.js', document.querySelector('script').src))
-  await ask(() => '')
-  await new Promise(done => requestAnimationFrame(() => setTimeout(done)))
-})()"""
+class Seen:
+    """What is seen of one page in one browser, and what that browser keeps."""
 
+    def __init__(self, driver: Driver, address: str) -> None:
+        self.driver = driver
+        self.address = address
 
-class Player:
-    """At one page of a server. Nothing may be complained of in it."""
-
-    def __init__(self, browser: Browser, served: Served, size: Tuple[int, int] = LAPTOP) -> None:
-        self.browser = browser
-        self.served = served
-        browser.complaints.clear()
-        browser.media()
-        browser.size(*size, is_touch=size[0] < 500)
-        browser.go(served.link)
-        self.wait_for_board()
-
-    def wait_for_board(self) -> None:
-        self.browser.wait_for('document.querySelector("[data-place]") !== null')
-
-    # --- what is seen ---
-
-    def value(self, script: str) -> Any:
-        return self.browser.value(script)
+    def value(self, expression: str) -> Any:
+        return self.driver.value(expression)
 
     def text(self, selector: str) -> str:
         return str(self.value(f'document.querySelector({json.dumps(selector)}).textContent'))
@@ -52,58 +39,136 @@ class Player:
         """How it is drawn."""
         return set(self.value(f'document.querySelector({json.dumps(at(x, y))}).getAttribute("class")').split())
 
-    def chosen(self) -> List[int]:
+    def chosen(self) -> Tuple[int, int]:
         """The square or clue that has the focus."""
-        return [int(part) for part in self.value('document.activeElement.dataset.place').split(',')]
+        x, y = self.value('document.activeElement.dataset.place').split(',')
+        return int(x), int(y)
 
     def told(self, text: str) -> None:
         """Waits until that is said."""
-        self.browser.wait_for(f'document.querySelector("#told").textContent.includes({json.dumps(text)})')
+        self.driver.wait_for(f'document.querySelector("#told").textContent.includes({json.dumps(text)})')
+
+    def counts(self, text: str) -> None:
+        """Waits until that stands below the title."""
+        self.driver.wait_for(f'document.querySelector("#count").textContent.includes({json.dumps(text)})')
+
+    def called(self, title: str) -> None:
+        """Waits until the game has this title."""
+        self.driver.wait_for(f'document.querySelector("#title").textContent === {json.dumps(title)}')
 
     def is_called(self, x: int, y: int, name: str) -> None:
         """Waits until a square is called so."""
-        self.browser.wait_for(f'document.querySelector({json.dumps(at(x, y))}).getAttribute("aria-label") === {json.dumps(name)}')
+        self.driver.wait_for(f'document.querySelector({json.dumps(at(x, y))}).getAttribute("aria-label") === {json.dumps(name)}')
 
     def begins(self, x: int, y: int, name: str) -> None:
         """Waits until what a square is called begins so."""
-        self.browser.wait_for(f'document.querySelector({json.dumps(at(x, y))}).getAttribute("aria-label").startsWith({json.dumps(name)})')
+        self.driver.wait_for(f'document.querySelector({json.dumps(at(x, y))}).getAttribute("aria-label").startsWith({json.dumps(name)})')
 
     def is_shown(self, selector: str) -> None:
         """Waits until an element is there and has room."""
-        self.browser.wait_for(f'(document.querySelector({json.dumps(selector)})?.getClientRects().length ?? 0) > 0')
+        self.driver.wait_for(f'(document.querySelector({json.dumps(selector)})?.getClientRects().length ?? 0) > 0')
+
+    def is_gone(self, selector: str) -> None:
+        self.driver.wait_for(f'(document.querySelector({json.dumps(selector)})?.getClientRects().length ?? 0) === 0')
 
     def settles(self) -> None:
-        """Waits until what was done so far is done, and seen."""
-        self.browser.promised(SETTLED)
+        """Waits until what was done is seen."""
+        self.value(PAINTED)
 
-    # --- what is done ---
+    def kept(self) -> List[Dict[str, Any]]:
+        """The games that the browser keeps, the last one first."""
+        texts = self.value(f'Object.keys(localStorage).filter((name) => name.startsWith("{OURS}game:")).map((name) => localStorage[name])')
+        return sorted((json.loads(text) for text in texts), key=lambda game: -float(game['when']))
+
+    def moves(self) -> List[str]:
+        """Those of the save of the last game."""
+        lines = str(self.kept()[0]['save']).split('\n')
+        return [line.split(':', 2)[2] for line in lines if line.startswith('MOVE    :')]
+
+
+class Player(Seen):
+    """Opens the page, and plays."""
+
+    def sit(self, link: str = '', size: Optional[Tuple[int, int]] = None) -> Player:
+        """Opens the page with what stands after its #, in a browser that keeps nothing of it yet."""
+        if size:
+            self.driver.size(*size)
+        self.load(link)
+        return self
+
+    def load(self, link: str = '') -> None:
+        """Opens the page, as on the next day."""
+        self.driver.go('about:blank')
+        self.driver.go(self.address + (f'#{link}' if link else ''))
+        self.there()
+
+    def there(self) -> None:
+        self.driver.wait_for('document.querySelector("[data-place]")')
+
+    def forget(self) -> None:
+        """The browser keeps nothing any more."""
+        self.driver.value('[localStorage.clear(), sessionStorage.clear()]')
 
     def press(self, *keys: str) -> None:
-        self.browser.press(*keys)
+        self.driver.press(*keys)
+
+    def click(self, text: str) -> None:
+        """A button that is seen, by its text."""
+        self.driver.click(self.button(text))
 
     def button(self, text: str) -> str:
         """The selector of a button with that text, among those that are seen."""
         found = self.value(
-            f'(nodes => {{ const node = nodes.find(one => one.textContent.trim() === {json.dumps(text)} && one.getClientRects().length);'
-            ' if (node) { nodes.forEach(one => one.removeAttribute("data-test")); node.dataset.test = "it" } return Boolean(node) })'
+            f'((nodes) => {{ const node = nodes.find((one) => one.textContent.trim() === {json.dumps(text)} && one.getClientRects().length);'
+            ' if (node) { nodes.forEach((one) => one.removeAttribute("data-test")); node.dataset.test = "it"; } return Boolean(node); })'
             '([...document.querySelectorAll("button")])'
         )
         assert found, f'no button {text}'
         return '[data-test=it]'
 
-    def click(self, text: str) -> None:
-        """A button, by its text."""
-        self.browser.click(self.button(text))
+    def menu(self, text: str) -> None:
+        """A button of the menu."""
+        self.click('Menu')
+        self.is_shown('#menu')
+        self.click(text)
+
+    def answer(self, text: str) -> None:
+        """Answers a question."""
+        self.answer_once(text)
+        self.closes('#ask')
+
+    def answer_once(self, text: str) -> None:
+        """The same, where another dialog comes after it."""
+        self.is_shown('#ask')
+        self.click(text)
+        self.is_gone('#ask')
+
+    def closes(self, selector: str) -> None:
+        """Waits until a dialog is closed, and the board has the focus."""
+        self.is_gone(selector)
+        self.driver.wait_for('document.activeElement.dataset.place')
+
+    def write(self, selector: str, text: str) -> None:
+        """Writes into a field, or chooses of a list."""
+        self.value(
+            f'((node) => {{ node.value = {json.dumps(text)}; node.dispatchEvent(new Event("change")); return true; }})(document.querySelector({json.dumps(selector)}))'
+        )
 
     def drop(self, content: Optional[bytes] = None, name: str = 'a.sav', text: str = '', size: int = 0) -> None:
         """Drops a file onto the page, or a text; or a file of so many bytes."""
         parts = f'new Uint8Array({size})' if size else f'Uint8Array.from({json.dumps(list(content or b""))})'
         what = f'data.setData("text/plain", {json.dumps(text)})' if text else f'data.items.add(new File([{parts}], {json.dumps(name)}))'
-        self.value(f'{{const data = new DataTransfer(); {what}; document.dispatchEvent(new DragEvent("drop", {{dataTransfer: data, cancelable: true}})); 0}}')
+        script = f'const data = new DataTransfer(); {what}; document.dispatchEvent(new DragEvent("drop", {{dataTransfer: data, cancelable: true}})); return true;'
+        self.value(f'(() => {{ {script} }})()')
 
-    def leave(self) -> None:
-        """Nothing was complained of."""
-        assert self.browser.complaints == []
+    def catch_files(self) -> None:
+        """What the page gives as a file from here on is caught."""
+        self.value('(() => { window.files = []; URL.createObjectURL = (blob) => { window.files.push(blob); return "#"; }; return true; })()')
+
+    def caught(self) -> str:
+        """The text of the last file."""
+        self.driver.wait_for('window.files.length > 0')
+        return str(self.value('window.files[window.files.length - 1].text()'))
 
 
 def at(x: int, y: int) -> str:

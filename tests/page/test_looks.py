@@ -1,7 +1,7 @@
-"""How the page looks and what it is to who doesn't see it: checks of our own, since none come with Debian, and twelve pictures.
+"""How the page looks and what it is to a person who doesn't see it: checks of our own, since none come with Debian, and pictures.
 
-What is checked: names and roles, one tab stop in the board, the order of Tab, what is announced, sizes of what is pressed, contrast in both lights,
-that nothing has to be scrolled sideways, and that keys do what they do in a terminal. What isn't: real readers of screens, and other browsers.
+The checks are of names and roles, one tab stop in the board, the order of Tab, what is announced, sizes of what is pressed, contrast in both lights, and
+that nothing has to be scrolled sideways. They don't try real readers of screens. All windows are tried with --browsers=all, otherwise a phone's alone.
 """
 
 from __future__ import annotations
@@ -9,22 +9,19 @@ from __future__ import annotations
 import base64
 import json
 import os
-import re
 from pathlib import Path
 from typing import Any, Callable, Dict, List, NamedTuple, Sequence, Tuple
 
 import pytest
 
-from board import keys
-from board.games import SIZES, stored
+from playing.games import SIZES, stored
 from tests.harness import by_name
 from tests.harness.browser import Browser
-from tests.page.conftest import Sit
+from tests.page.browsers import ALL
 from tests.page.playing import LAPTOP, PHONE, SMALL, Player
+from tests.page.test_games import TOWERS, UNEQUAL
 
 PICTURES = Path(__file__).resolve().parent / 'pictures'
-
-DARK = {'prefers-color-scheme': 'dark'}
 
 #: What is seen of the page, and of what kind.
 SEEN = '[...document.querySelectorAll("{}")].filter(node => node.getClientRects().length)'
@@ -46,71 +43,106 @@ CHECKS: Dict[str, str] = {
     'names of dialogs': '[...document.querySelectorAll("dialog")].filter(node => !document.getElementById(node.getAttribute("aria-labelledby"))).map(node => node.id)',
     'groups with names': '[...document.querySelectorAll("[role=group], section")].filter(node => !node.ariaLabel).map(node => node.outerHTML)',
     'no width to scroll': '[document.documentElement.scrollWidth - innerWidth].filter(more => more > 0)',
+    # Seven days of a week stand side by side, in the narrowest window too.
     'buttons for fingers': SEEN.format('button, select, input')
-    + '.map(node => [node.getBoundingClientRect(), node]).filter(([box]) => box.width < 44 || box.height < 43.9).map(([box, node]) => [box.width, box.height, node.outerHTML])',
+    + '.map(node => [node.getBoundingClientRect(), node]).filter(([box, node]) => box.width < (node.dataset.day ? 35 : 43.8) || box.height < 43.8).map(([box, node]) => [box.width, box.height, node.outerHTML])',
     'squares that can be met': SEEN.format('.square rect') + '.map(node => node.getBoundingClientRect().width).filter(width => width < 24)',
 }
 
 #: The windows in which they are made: a large one, a small one, one at which twice as much is seen in a small one, and others.
-WINDOWS = [LAPTOP, PHONE, SMALL, (320, 480), (683, 384), (768, 1024), (3840, 2160)]
+WINDOWS = [LAPTOP, PHONE, SMALL, (320, 480), (683, 384), (844, 390), (768, 1024), (3840, 2160)]
 
 #: Colours of what is read on a ground, and of what else has to be seen beside another, with the contrast that is owed.
 CONTRASTS: List[Tuple[float, str, Sequence[str]]] = [
-    (4.5, 'ink', ['paper', 'square', 'given', 'same', 'rests', 'struck', 'button']),
-    (4.5, 'own', ['square', 'same', 'rests', 'struck']),
-    (4.5, 'soft', ['paper', 'square']),
+    (4.5, 'ink', ['paper', 'square', 'given', 'lane', 'given-lane', 'same', 'rests', 'struck', 'button']),
+    (4.5, 'own', ['square', 'lane', 'same', 'rests', 'struck', 'button']),
+    (4.5, 'left', ['square', 'rests', 'struck']),
+    (4.5, 'soft', ['paper', 'square', 'lane', 'button']),
     (4.5, 'wrong', ['paper', 'wrong-tint']),
     (4.5, 'on-main', ['main']),
     (3.0, 'line', ['paper', 'square']),
     (3.0, 'frame', ['paper', 'square']),
-    (3.0, 'chosen', ['paper', 'square', 'given', 'same', 'rests', 'struck']),
+    (3.0, 'chosen', ['paper', 'square', 'given', 'lane', 'same', 'rests', 'struck']),
     (3.0, 'hint', ['paper', 'square', 'given', 'rests']),
-    (3.0, 'bar', ['struck']),
+    (3.0, 'wrong', ['struck']),
 ]
 
 
-@pytest.mark.parametrize('window', WINDOWS, ids=str)
+def pytest_generate_tests(metafunc: pytest.Metafunc) -> None:
+    if 'window' in metafunc.fixturenames:
+        is_all = metafunc.config.getoption('--browsers') == ALL
+        metafunc.parametrize('window', WINDOWS if is_all else [PHONE], ids=str)
+
+
+@pytest.mark.gate
 @pytest.mark.parametrize('game', ['towers', 'unequal'])
-def test_checks(sit: Sit, game: str, window: Tuple[int, int]) -> None:
+def test_checks(piped: Player, game: str, window: Tuple[int, int]) -> None:
     """On the board, at all sizes, and over it in each dialog."""
-    player = sit([game, stored(game, 9, 'x')[0]], window)
+    piped.sit(f'{game}-9-easy-7', window)
     for size in SIZES:
-        player.drop(text=stored(game, size, 'x')[0])
-        player.browser.wait_for(f'document.querySelector("#title").textContent.endsWith("{size}x{size}")')
-        assert wrong(player) == [], size
-    player.press('m', 'H')
-    player.is_shown('#chain')
-    assert wrong(player) == []
-    player.press('Escape')
-    for key, dialog in [('n', '#fresh'), ('o', '#saved'), ('?', '#page'), (':', '#ask'), ('S', '#ask')]:
-        player.press(key)
-        player.is_shown(dialog)
-        assert [line for line in wrong(player) if 'type="file"' not in str(line)] == [], dialog
-        player.press('Escape')
-    player.browser.click('#menu')
-    player.is_shown('#more')
-    assert wrong(player) == []
-    player.leave()
+        piped.value(f'(location.hash = "#{game}-{size}-easy-7", true)')
+        piped.called(f'{game.title()} {size}×{size}')
+        assert wrong(piped) == [], size
+    piped.press('m', 'H')
+    piped.is_shown('#walk')
+    assert wrong(piped) == []
+    piped.press('Escape')
+    for key, dialog in [('n', '#fresh'), ('o', '#games'), ('t', '#daily'), ('?', '#rules'), ('i', '#page'), (':', '#ask'), ('S', '#ask')]:
+        piped.press(key)
+        piped.is_shown(dialog)
+        assert wrong(piped) == [], dialog
+        piped.press('Escape')
+        piped.closes(dialog)
+    piped.click('Menu')
+    piped.is_shown('#menu')
+    assert wrong(piped) == []
 
 
 def wrong(player: Player) -> List[Any]:
-    return [(name, found) for name, script in CHECKS.items() for found in player.value(script)]
+    checks = ', '.join(f'[{json.dumps(name)}, {script}]' for name, script in CHECKS.items())
+    return [(name, found) for name, found in player.value(f'[{checks}]') if found]
 
 
 @pytest.mark.parametrize('scheme', ['light', 'dark'])
-def test_contrast(sit: Sit, scheme: str) -> None:
-    player = sit(['towers', '5!7'])
-    player.browser.media(features={'prefers-color-scheme': scheme})
+def test_contrast(piped: Player, browser: Browser, scheme: str) -> None:
+    piped.sit(TOWERS)
+    browser.media(features={'prefers-color-scheme': scheme})
     names = sorted({name for _, colour, grounds in CONTRASTS for name in (colour, *grounds)})
-    values = player.value(f'{json.dumps(names)}.map(name => getComputedStyle(document.documentElement).getPropertyValue("--" + name).trim())')
+    values = piped.value(f'{json.dumps(names)}.map(name => getComputedStyle(document.documentElement).getPropertyValue("--" + name).trim())')
     light = {name: luminance(value) for name, value in zip(names, values)}
     assert light['paper'] > 0.8 if scheme == 'light' else light['paper'] < 0.1
     found = [(colour, ground, contrast(light[colour], light[ground]), owed) for owed, colour, grounds in CONTRASTS for ground in grounds]
     assert [row for row in found if row[2] < row[3]] == []
 
 
+#: Where the system forces its colours: an element with its colour, and its ground.
+FORCED = [
+    ('.square.wrong .number', 'fill', '.square.wrong rect', 'fill'),
+    ('.clue.wrong text', 'fill', '.clue.wrong rect', 'fill'),
+    ('[data-do=marks]', 'color', '[data-do=marks]', 'backgroundColor'),
+    ('[data-do=undo]', 'color', '[data-do=undo]', 'backgroundColor'),
+]
+
+
+@pytest.mark.gate
+@pytest.mark.parametrize('scheme', ['light', 'dark'])
+def test_forced_colours(piped: Player, browser: Browser, scheme: str) -> None:
+    """What is wrong is read on its mark, and a pressed button is another than the others."""
+    piped.sit(TOWERS)
+    browser.media(features={'forced-colors': 'active', 'prefers-color-scheme': scheme})
+    piped.press('2', 'ArrowRight', '2', 'p')
+    piped.driver.wait_for('document.querySelector(".clue.wrong") && document.querySelector(".square.wrong") && document.querySelector("[data-do=marks]").ariaPressed === "true"')
+    for one, colour, other, ground in FORCED:
+        values = piped.value(f'[["{one}", "{colour}"], ["{other}", "{ground}"]].map(([what, name]) => getComputedStyle(document.querySelector(what))[name])')
+        assert contrast(*map(luminance, values)) >= 4.5, (one, values)
+    pressed, usual = piped.value('["marks", "undo"].map((name) => getComputedStyle(document.querySelector(`[data-do=${name}]`)).backgroundColor)')
+    assert contrast(luminance(pressed), luminance(usual)) >= 3
+
+
 def luminance(colour: str) -> float:
-    """As the rules for the web define it, of a colour as a style sheet has it."""
+    """As the rules for the web define it, of a colour as a style sheet has it, or as a browser tells it."""
+    if colour.startswith('rgb'):
+        colour = ''.join(f'{int(part):02x}' for part in colour[colour.index('(') + 1 : -1].split(',')[:3])
     digits = colour.lstrip('#')
     digits = ''.join(2 * digit for digit in digits) if len(digits) == 3 else digits
     parts = [int(digits[at : at + 2], 16) / 255 for at in (0, 2, 4)]
@@ -122,75 +154,76 @@ def contrast(one: float, other: float) -> float:
     return (max(one, other) + 0.05) / (min(one, other) + 0.05)
 
 
-def test_tree(sit: Sit) -> None:
+def test_tree(piped: Player, browser: Browser) -> None:
     """What the browser tells a reader of screens."""
-    player = sit(['towers', '3:3//////3/////'])
-    player.press('p', '1', '3', 'ArrowUp', 'd')
-    player.is_called(0, -1, 'clue 3 above column 1, done')
-    player.browser.ask('Accessibility.enable')
-    nodes = player.browser.ask('Accessibility.getFullAXTree')['nodes']
+    piped.sit(TOWERS)
+    piped.press('p', '1', '3', 'ArrowUp', 'd')
+    piped.is_called(0, -1, 'clue 3 above column 1, done')
+    browser.ask('Accessibility.enable')
+    nodes = browser.ask('Accessibility.getFullAXTree')['nodes']
     named = [(node['role']['value'], node.get('name', {}).get('value', '')) for node in nodes if not node['ignored']]
-    assert named.count(('grid', 'Towers 3x3')) == 1
+    assert named.count(('grid', 'Towers 3×3')) == 1
     assert [role for role, _ in named].count('row') == 4
     cells = [name for role, name in named if role == 'gridcell']
     assert cells[:3] == ['clue 3 above column 1, done', 'clue 3 left of row 1', 'row 1, column 1, empty, marks 1 3'] and len(cells) == 11
-    assert [name for role, name in named if role == 'button'][:2] == ['New', 'Menu']
+    assert [name for role, name in named if role == 'button'][:5] == ['New', 'Menu', '1, 3 left', '2, 3 left', '3, 3 left']
     assert [role for role, _ in named].count('status') == 2
 
 
-def test_tab(sit: Sit) -> None:
+@pytest.mark.gate
+def test_tab(piped: Player) -> None:
     """The head, the board, the numbers, the buttons; and an arrow leaves the one tab stop of the board where it goes."""
-    player = sit(['unequal', '4!7'])
-    player.press('ArrowDown', 'Tab')
-    assert player.value('document.activeElement.textContent') == '1'
-    player.press(*['Tab'] * 4)
-    assert player.value('document.activeElement.textContent') == 'Marks'
+    piped.sit('unequal:4!7', LAPTOP)
+    piped.press('ArrowDown', 'Tab')
+    assert piped.value('document.activeElement.dataset.number') == '1'
+    piped.press(*['Tab'] * 4)
+    assert piped.value('document.activeElement.textContent') == 'Marks'
     # On a button keys are the button's.
-    player.press('3', 'Enter')
-    player.told('Digits are pencil marks.')
-    player.value('document.querySelector("#menu").focus()')
-    player.press('Tab')
-    assert player.chosen() == [0, 1]
-    player.leave()
+    piped.press('3', 'Enter')
+    piped.told('Numbers are pencil marks now.')
+    piped.value('(document.querySelector("[data-do=menu]").focus(), true)')
+    piped.press('Tab')
+    assert piped.chosen() == (0, 1)
 
 
-def test_announced(sit: Sit) -> None:
+@pytest.mark.gate
+def test_announced(piped: Player) -> None:
     """In the shortest form."""
-    player = sit(['unequal', '3:0,0L,0,0U,0,0,0U,0,0,'])
-    assert player.text('#said').endswith('0 given, 3 clues')
+    piped.sit('unequal:3:0,0L,0,0U,0,0,0U,0,0,')
+    assert piped.text('#said').endswith('0 given, 3 clues')
     for press, said in [('1', '1'), ('p', '1'), ('l', '1'), ('2', 'empty, marks 2'), ('m', '8 squares changed'), ('u', '8 squares changed')]:
-        player.press(press)
-        player.browser.wait_for(f'document.querySelector("#said").textContent === {json.dumps(said)}')
-    player.leave()
+        piped.press(press)
+        piped.driver.wait_for(f'document.querySelector("#said").textContent === {json.dumps(said)}')
 
 
-def test_all_keys(sit: Sit) -> None:
-    """No key of the board in a terminal does nothing on the page."""
-    player = sit(['towers', '5!7'])
-    text = player.browser.promised('fetch("main.js").then(got => got.text())')
-    names = set(keys.ACTIONS.values())
-    listed = set(re.findall(r"'([a-z]+)'", re.search(r'Object\.fromEntries\(\[(.*?)\]', text)[1]))  # type: ignore[index]
-    found = {name for name in names if re.search(rf"^  (async )?('{name}'|{name})(\(|:)", text, re.MULTILINE)} | listed
-    assert found >= names
+@pytest.mark.gate
+def test_messages_cover_nothing(piped: Player) -> None:
+    """A sentence stands beside the buttons, fades, and a long one moves none of them."""
+    piped.sit('towers:5!7', PHONE)
+    tops = '[...document.querySelectorAll("#play button")].map((node) => node.getBoundingClientRect().top)'
+    before = piped.value(tops)
+    piped.press('h', 'h')
+    piped.told('Clue 4 left of row 2')
+    assert piped.value(tops) == before
+    low, high = piped.value('[document.querySelector("#message").getBoundingClientRect().bottom, document.querySelector("#pad").getBoundingClientRect().top]')
+    assert low <= high
+    piped.press('p')
+    piped.driver.wait_for('document.querySelector("#message").classList.contains("fading")')
 
 
 class Picture(NamedTuple):
-    """A state of the page: the words of the command, the window, what is done, and what the page is shown on."""
+    """A state of the page: its link, the window, what is done, and what the page is shown on."""
 
     name: str
-    words: Sequence[str]
+    link: str
     window: Tuple[int, int]
     act: Callable[[Player], object] = lambda player: None
-    is_dark: bool = False
+    features: Dict[str, str] = {}
     kind: str = ''
 
 
-#: A window for a picture of a whole page.
-WINDOW = (800, 480)
-
-
 def play(*pressed: str) -> Callable[[Player], object]:
-    """Presses keys, a moment after each other; a name of more than one letter that is no key is a button."""
+    """Presses keys, a moment after each other."""
 
     def act(player: Player) -> None:
         for key in pressed:
@@ -200,44 +233,45 @@ def play(*pressed: str) -> Callable[[Player], object]:
     return act
 
 
-def lose(player: Player) -> None:
-    player.press('1')
-    player.begins(0, 0, 'row 1, column 1, 1')
-    player.served.end()
-    player.told('The server has ended.')
+def open_dialog(key: str, dialog: str) -> Callable[[Player], object]:
+    """Opens a dialog by its key."""
 
+    def act(player: Player) -> None:
+        player.press(key)
+        player.is_shown(dialog)
 
-def new(player: Player) -> None:
-    player.press('n')
-    player.is_shown('#fresh')
+    return act
 
 
 def solve(player: Player) -> None:
     player.press('S')
-    player.is_shown('#ask')
-    player.click('Yes')
-    player.told('Solved!')
+    player.answer('Yes')
+    player.told('Filled in')
 
 
-def puzzle(game: str, size: int) -> List[str]:
-    return [game, stored(game, size, 'x')[0]]
+def puzzle(game: str, size: int) -> str:
+    return f'{game}:{stored(game, size, "x")[0]}'
 
 
 DOWN, RIGHT, LEFT = 'ArrowDown', 'ArrowRight', 'ArrowLeft'
 
-ALL: List[Picture] = [
-    Picture('towers-5', puzzle('towers', 5), WINDOW, play('m', '1', RIGHT, '1', DOWN, 'p', '1', '2', 'p', LEFT, LEFT, 'd', RIGHT)),
-    Picture('unequal-6-dark', puzzle('unequal', 6), WINDOW, play(*['m', '3', RIGHT, '1', RIGHT, RIGHT, '6', DOWN, '6']), is_dark=True),
+DARK, FORCED_COLOURS = {'prefers-color-scheme': 'dark'}, {'forced-colors': 'active'}
+
+ALL_PICTURES: List[Picture] = [
+    Picture('towers-5', puzzle('towers', 5), LAPTOP, play('m', '1', RIGHT, '1', DOWN, 'p', '1', '2', 'p', LEFT, LEFT, 'd', RIGHT)),
+    Picture('unequal-6-dark', puzzle('unequal', 6), LAPTOP, play(*['m', '3', RIGHT, '1', RIGHT, RIGHT, '6', DOWN, '6']), DARK),
     Picture('towers-9-phone', puzzle('towers', 9), PHONE, play('m', '3')),
-    Picture('unequal-9-phone-dark', puzzle('unequal', 9), PHONE, play('m', '3', DOWN), is_dark=True),
+    Picture('unequal-9-phone-dark', puzzle('unequal', 9), PHONE, play('m', '3', DOWN), DARK),
     Picture('towers-4-small', puzzle('towers', 4), SMALL, play('4', DOWN, '4')),
-    Picture('hint-look', ['towers', '5!7'], WINDOW, play('m', 'h')),
-    Picture('hint-step', ['towers', '5!7'], WINDOW, play('m', 'h', 'h')),
-    Picture('why-phone', ['unequal', '5!7'], PHONE, play('m', 'H')),
-    Picture('new-game', puzzle('unequal', 6), WINDOW, new),
-    Picture('solved-zoomed', puzzle('towers', 6), (683, 384), solve),
-    Picture('lost', ['unequal', '3:0,0L,0,0U,0,0,0U,0,0,'], PHONE, lose),
-    Picture('print', puzzle('towers', 6), (560, 700), play('m', '1'), kind='print'),
+    Picture('forced-colours', UNEQUAL, (800, 480), play('3', RIGHT, '3', 'p'), FORCED_COLOURS),
+    Picture('hint-look', 'towers:5!7', PHONE, play('h')),
+    Picture('hint-reason', 'towers:5!7', LAPTOP, play('h', 'h')),
+    Picture('why-phone', 'unequal:5!7', PHONE, play('H', DOWN)),
+    Picture('new-game', TOWERS, SMALL, open_dialog('n', '#fresh')),
+    Picture('menu', UNEQUAL, PHONE, lambda player: player.click('Menu')),
+    Picture('rules', TOWERS, PHONE, open_dialog('?', '#rules')),
+    Picture('filled-in-zoomed', puzzle('towers', 6), (683, 384), solve),
+    Picture('print', puzzle('towers', 6), (560, 700), play('m', '1'), {}, 'print'),
 ]
 
 #: The part of its points in which a picture may be otherwise, since fonts are.
@@ -261,18 +295,23 @@ COMPARE = """
 """
 
 
-@pytest.mark.parametrize('picture', ALL, ids=by_name)
-def test_picture(sit: Sit, browser: Browser, picture: Picture) -> None:
+@pytest.mark.gate
+@pytest.mark.parametrize('picture', ALL_PICTURES, ids=by_name)
+def test_picture(piped: Player, browser: Browser, picture: Picture) -> None:
     """With PICTURES=new in the environment they are stored anew."""
-    player = sit(picture.words, picture.window)
-    browser.media(picture.kind, DARK if picture.is_dark else {})
-    picture.act(player)
-    player.settles()
+    piped.sit(picture.link, picture.window)
+    # The time stands in the head.
+    piped.menu('Time and statistics')
+    piped.press('Escape')
+    piped.closes('#menu')
+    browser.media(picture.kind, picture.features)
+    picture.act(piped)
+    piped.settles()
     shown = browser.picture()
     path = PICTURES / f'{picture.name}.png'
     if os.environ.get('PICTURES') == 'new':
         path.write_bytes(shown)
     browser.go('about:blank')
     data = [json.dumps(base64.b64encode(content).decode()) for content in (shown, path.read_bytes())]
-    part = browser.promised(COMPARE.replace('ONE', data[0]).replace('OTHER', data[1]))
-    assert part < MOST_OTHER
+    assert browser.promised(COMPARE.replace('ONE', data[0]).replace('OTHER', data[1])) < MOST_OTHER
+    piped.load()

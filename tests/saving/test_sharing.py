@@ -171,6 +171,6 @@ def test_access_list(saver: Saver, access: Optional[bytes], default: Optional[by
             if default:
                 os.setxattr(folder.path, DEFAULT, default)
         except OSError as error:
-            raise Skip(f'no access lists here: {error.strerror}') from error
+            raise Skip(f'no access lists here: {error.strerror}', 'a TMPDIR on a disk that has them') from error
         expect_saved(saver.save(folder, 's.sav'))
         assert folder.read('s.sav') == save_text(0), 'the content'

@@ -4,14 +4,13 @@ import contextlib
 import os
 import re
 import resource
-import shutil
 import signal
 import stat
 from typing import Iterator, List
 
 import pytest
 
-from tests.harness import Folder, Room, Skip, is_root, need_root
+from tests.harness import Folder, Room, Skip, is_root, need, need_root
 from tests.harness.game import left_files
 from tests.harness.mounts import small_disk
 from tests.harness.users import ANNA, GAMES
@@ -151,11 +150,9 @@ def test_names_differ(saver: Saver) -> None:
 
 def test_names_with_one_pid(saver: Saver) -> None:
     need_root()
-    unshare = shutil.which('unshare')
-    if not unshare:
-        raise Skip('there is no unshare')
+    need('unshare')
     # The first process of a namespace can't be killed in it, so that this one is the second.
-    front = [unshare, '--pid', '--fork', 'sh', '-c', '"$@"; exit 0', 'sh']
+    front = ['unshare', '--pid', '--fork', 'sh', '-c', '"$@"; exit 0', 'sh']
     expect_unforeseen(left_names(saver, saver.room, front))
 
 

@@ -15,7 +15,7 @@ from tests.harness.terminal import Terminal
 from tests.harness.users import plain_user
 
 #: What of the repository is copied: folders and files.
-PARTS = ['.ci', 'board', 'page', 'sheet', 'tests', 'tools', 'man', 'docs', 'bench']
+PARTS = ['.ci', 'board', 'page', 'playing', 'sheet', 'desktop', 'tests', 'tools', 'man', 'docs', 'bench', 'programs/web']
 PARTS += ['Makefile', 'README.md', 'CHANGELOG.md', 'LICENSE', 'VERSION', 'COMMIT', '.gitattributes', '.gitignore']
 
 #: What stands for commands that the scripts call.
@@ -86,7 +86,7 @@ class Place:
     def run(self, words: Sequence[str], *, cwd: str = '', input: bytes = b'', env: Optional[Mapping[str, str]] = None) -> Ended:
         """Runs a command, there or in a folder named from there, with what else the environment has."""
         with Folder(os.path.join(self.path, cwd)) as folder:
-            return run(words, folder, input=input, user=self.user, env=self.env(env or {}), seconds=120)
+            return run(words, folder, input=input, user=self.user, env=self.env(env or {}), seconds=300)
 
     def terminal(self, *words: str, **env: str) -> Terminal:
         """A command in a terminal. The named words are what else the environment has."""

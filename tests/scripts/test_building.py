@@ -6,6 +6,7 @@ from typing import Callable, NamedTuple, Sequence
 import pytest
 
 from building.run import lanes
+from tests.harness import Skip
 from tests.scripts.place import Place
 from tests.scripts.small import ALL, CRATES, FIRST, LAST, OF_HIGH, OF_LOW, OF_MIDDLE, Small, edit, put, remove, touch
 
@@ -49,7 +50,8 @@ CHANGES = [
     Change('another kit', put('../small kit/KIT-ID', b'the next one\n'), ALL),
     Change('a kit without a line', remove('../small kit/KIT-ID'), ALL),
     Change('a program is gone', remove('build/puzzles'), [FIRST]),
-    Change('a program is another', put('build/puzzles-json', b'#!/bin/sh\n'), [LAST]),
+    Change('a program is another', put('build/puzzles', b'#!/bin/sh\n'), [LAST]),
+    Change('its other name is gone', remove('build/puzzles-json'), [LAST]),
     Change('the record is gone', remove('build/RECORD'), []),
     Change('statements are gone', remove('crates/middle/out/rlib/stamp'), []),
     Change('statements are gone, and a program', remove('build/puzzles-json'), OF_MIDDLE),
@@ -65,6 +67,7 @@ def test_changes(small: Small) -> None:
         small.expect(small.run(), row.asked)
         small.expect(small.run('make', 'build', f'RT={small.rt}'), [])
     small.is_left('build/puzzles', 'build/puzzles-json', 'build/RECORD', 'crates/low/out/incremental')
+    assert small.place.file('build/puzzles-json') == small.place.file('build/puzzles')
 
 
 @pytest.fixture
@@ -86,7 +89,7 @@ def test_fails(built: Small) -> None:
 
 def test_side_by_side(built: Small) -> None:
     if lanes() < 2:
-        pytest.skip('there is one processor, or memory for one')
+        raise Skip('there is one processor, or memory for one', 'two processors, and 6 GB of free memory')
     for crate in ('low', 'beside'):
         edit(f'crates/{crate}/src/lib.rt')(built.place)
     built.expect(built.run(RT_MEET='low beside'), ALL)

@@ -30,7 +30,7 @@ class Gate(NamedTuple):
     status: int = 0
 
 
-ALLOWED = {'SKIPS_ALLOWED': '1'}
+ALLOWED = {'SKIPS_FAIL': '0'}
 SKIPPED = ('2 passed, 0 failed, 3 skipped', 0)
 
 ROUNDS = [
@@ -48,7 +48,7 @@ ROUNDS = [
     Gate('a part takes a skip for a failure', part=(SKIPPED[0], 1), counts=(7, 0, 3), status=1),
     Gate('a part skips, which is allowed', part=SKIPPED, env=ALLOWED, counts=(7, 0, 3)),
     Gate('a part skips, which is allowed, and ends badly', part=(SKIPPED[0], 1), env=ALLOWED, counts=(7, 1, 3), status=1),
-    Gate('a part skips, which is not allowed', part=SKIPPED, env={'SKIPS_ALLOWED': '0'}, counts=(7, 0, 3), status=1),
+    Gate('a part skips, which is not allowed', part=SKIPPED, env={'SKIPS_FAIL': '1'}, counts=(7, 0, 3), status=1),
     Gate('a part skips and fails', part=('2 passed, 1 failed, 3 skipped', 1), env=ALLOWED, counts=(7, 1, 3), status=1),
     Gate('a part is skipped whole', part=('0 passed, 0 failed, 1 skipped', 0), env=ALLOWED, counts=(5, 0, 1)),
 ]
@@ -140,8 +140,9 @@ def part_scripts(place: Place) -> List[str]:
 
 
 def put_part(place: Place, script: str, says: Tuple[str, int]) -> None:
+    """A script that says so, and before it what a skip is for it."""
     text, status = says
-    place.put(script, f"#!/bin/sh\necho '{text}'\nexit {status}\n".encode())
+    place.put(script, f"#!/bin/sh\necho \"a skip fails: $SKIPS_FAIL\"\necho '{text}'\nexit {status}\n".encode())
 
 
 def expect(place: Place, row: Gate, others: int, words: Sequence[str], cwd: str = '') -> None:
@@ -149,6 +150,7 @@ def expect(place: Place, row: Gate, others: int, words: Sequence[str], cwd: str 
     text, status = row.proofs
     ended = place.run(words, cwd=cwd, env={'RT_SAYS': text, 'RT_STATUS': str(status), **ANEW, **row.env})
     passed, failed, skipped = row.counts
+    assert set(re.findall(r'^a skip fails: (.*)', ended.said, re.MULTILINE)) == {row.env.get('SKIPS_FAIL', '1')}
     # Where a command fails, `make` ends with a status of its own.
     expect_last(ended, f'{passed + others} passed, {failed} failed, {skipped} skipped', 2 * row.status if 'make' in words else row.status)
 
@@ -161,8 +163,8 @@ def expect_last(ended: Ended, line: str, status: int) -> None:
 def test_both_fail(place: Place, scripts: List[str]) -> None:
     """What fails in the tests is counted, and so is the gate after them."""
     put_part(place, 'tests/run', ('1 passed, 2 failed', 1))
-    # The gate runs the tests four times more.
-    expect(place, Gate('the tests fail, and then the gate', counts=(6, 10, 0), status=1), len(scripts), ['.ci/run'])
+    # The gate runs the tests five times more.
+    expect(place, Gate('the tests fail, and then the gate', counts=(6, 12, 0), status=1), len(scripts), ['.ci/run'])
 
 
 def test_logged(place: Place, scripts: List[str]) -> None:

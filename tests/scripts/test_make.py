@@ -50,7 +50,7 @@ ROUNDS = [
     Make('installcheck: nothing is there', ['make', 'installcheck', 'DESTDIR=/nowhere'], 2, ['bin/puzzles is not there', 'does not play']),
     Make('dist: no commit is there', ['make', 'dist'], 2, ['dist: ']),
     Make('make play, in a pipe', ['make', 'play', f'ID={ID}'], says=[SHOWN], input=b'show\n'),
-    Make('make page, a refused ID', ['make', 'page', 'GAME=unequal', 'ID=2!7'], 2, ['An ID begins with the size']),
+    Make('make page, of which the record says nothing', ['make', 'page'], 2, ['programs/RECORD says nothing of the page: it is proved and built']),
     Make('make sheet, of seeds', ['make', 'sheet'], says=['build/sheet.html is there']),
 ]
 
@@ -67,8 +67,6 @@ OF_BUILT = [
     Make('make play, a game that is not there', ['make', 'play', 'GAME=chess'], 2, ['GAME is towers or unequal']),
     Make('make play, a game with an apostrophe', ['make', 'play', "GAME=it's"], 2, ['GAME is towers or unequal']),
     Make('make play, an ID with an apostrophe', ['make', 'play', "ID=it's"], 2, ['refused: BadSize']),
-    Make('make page, a game that is not there', ['make', 'page', 'GAME=chess'], 2, ['GAME is towers or unequal']),
-    Make('make page, an ID with an apostrophe', ['make', 'page', "ID=it's"], 2, ["There is no file 'it's'"]),
     Make('make sheet, of a save', ['make', 'sheet', 'IDS=../a.sav', 'WORDS=--large'], says=['build/sheet.html is there']),
     Make('make sheet, a list that is not there', ['make', 'sheet', "IDS=it's"], 2, ["it's can't be read"]),
     Make('make play, from elsewhere', ['make', '-C', '..', 'play', f'ID={ID}'], says=['3:3'], input=b'id\n', cwd='man'),
@@ -84,9 +82,8 @@ def test_builds(place: Place) -> None:
     """`make` leaves both programs, from any folder, and says where a proof has failed."""
     for words, cwd in ((['tools/build'], ''), (['../../tools/build'], 'crates/puzzles')):
         place.run(words, cwd=cwd).expect('12 functions proved')
-        for program in PROGRAMS:
-            assert place.file(program)
-            remove(program)(place)
+        assert all(map(place.file, PROGRAMS))
+        remove(*PROGRAMS)(place)
     place.run(['make'], env={'RT_SAYS': 'an open goal', 'RT_STATUS': '1'}).expect('not built', 'an open goal', status=2)
     assert not any(map(place.file, PROGRAMS))
 
@@ -118,7 +115,7 @@ def in_a_terminal(place: Place, **env: str) -> None:
         first = terminal.wait_for(PROMPT)
         terminal.answer('quit', PROMPT)
         assert terminal.status() == 0
-    assert '0 3 . . . -' in first
+    assert '1 3 . . . -' in first
 
 
 def test_benches(place: Place) -> None:

@@ -7,7 +7,8 @@ from tests.scripts.small import ALL, CRATES, OF_HIGH, Small, put, remove, touch
 from tests.harness.program import Ended
 
 FOLDER = 'programs/linux-amd64'
-STORED = [f'{FOLDER}/puzzles', f'{FOLDER}/puzzles-json', 'programs/RECORD']
+OTHER = f'{FOLDER}/puzzles-json'
+STORED = [f'{FOLDER}/puzzles', OTHER, 'programs/RECORD']
 OTHER_SOURCES = b'are of other sources than those that are here'
 
 
@@ -38,7 +39,8 @@ CHANGES = [
     Change('a file is gone', 'crates/middle/src/lib.rt', None, OTHER_SOURCES),
     Change('a library more in the list', 'crates.txt', CRATES.replace(b'middle: low', b'middle: low beside'), OTHER_SOURCES),
     Change('a program', f'{FOLDER}/puzzles', b'#!/bin/sh\nexit 1\n', b'puzzles is not the program that programs/RECORD names', 0o755),
-    Change('a program is gone', f'{FOLDER}/puzzles-json', None, b'puzzles-json is not the program that'),
+    Change('its other name is gone', OTHER, None, b'puzzles-json is not the program that'),
+    Change('its other name is another program', OTHER, b'#!/bin/sh\nexit 1\n', b'puzzles-json is not the program that', 0o755),
     Change('a program that may not be run', f'{FOLDER}/puzzles', PROGRAM, b'puzzles may not be run'),
     Change('the record is gone', 'programs/RECORD', None, b'there is no programs/RECORD'),
     Change('the record is none', 'programs/RECORD', b'\n\xff: \n', OTHER_SOURCES),
@@ -87,6 +89,7 @@ def stored(small: Small) -> None:
     expect(small, ended, ''.join(f'stored: {path}\n' for path in STORED).encode())
     modes = [f'{os.stat(os.path.join(small.place.path, path)).st_mode & 0o777:o}' for path in STORED]
     assert modes == ['755', '755', '644'], repr(modes)
+    assert small.place.file(OTHER) == small.place.file(STORED[0])
     summed = small.place.run(['sha256sum', '--check', '--strict', 'RECORD'], cwd='programs')
     expect(small, summed, b'linux-amd64/puzzles: OK\nlinux-amd64/puzzles-json: OK\n')
     lines = small.place.file('programs/RECORD').splitlines()
@@ -96,18 +99,17 @@ def stored(small: Small) -> None:
 def taken(small: Small, row: Change) -> None:
     """What becomes of the file changes whether the programs in the tree are taken, or doesn't: without a kit, which isn't needed for it."""
     path = os.path.join(small.place.path, row.path)
-    old, mode = small.place.file(row.path), os.stat(path).st_mode if os.path.exists(path) else 0
-    set_file(small, row.path, row.text, row.mode)
+    was_there = os.path.exists(path)
+    if was_there:
+        os.rename(path, f'{path}.away')
+    if row.text is not None:
+        small.place.put(row.path, row.text, row.mode)
     says = [row.says, b': they are proved and built\nnot built: there is no command'] if row.says else []
     where(small, '' if row.says else FOLDER, says=says, RT='/no kit')
-    set_file(small, row.path, old if mode else None, mode & 0o777)
-
-
-def set_file(small: Small, path: str, text: Optional[bytes], mode: int) -> None:
-    if text is None:
-        remove(path)(small.place)
+    if was_there:
+        os.rename(f'{path}.away', path)
     else:
-        small.place.put(path, text, mode)
+        remove(row.path)(small.place)
 
 
 def other_sources(small: Small) -> None:
@@ -158,20 +160,19 @@ def dates(small: Small) -> List[int]:
 
 def compared(small: Small) -> None:
     """The words of the gate, after what is stored was built as `build/`."""
-    built = ['build/puzzles', 'build/puzzles-json']
 
-    def expect_compared(status: int, *says: str, words: Sequence[str] = (), **env: str) -> None:
-        ended = small.run('tools/programs', 'compare', *(words or built), **env).expect(*says, status=status)
+    def expect_compared(status: int, *says: str, built: str = 'build/puzzles', **env: str) -> None:
+        ended = small.run('tools/programs', 'compare', built, **env).expect(*says, status=status)
         assert (ended.error, ended.said.endswith(f'{says[-1]}\n')) == (b'', True), ended
 
     advice = ': make programs, and commit\n'
     expect_compared(0, '3 passed, 0 failed')
     other = small.place.put('../another', b'#!/bin/sh\n')
     sums = [small.place.run(['sha256sum', path]).output.decode()[:64] for path in (other, STORED[0])]
-    expect_compared(1, *sums, advice, '2 passed, 1 failed', words=[other, built[1]])
-    expect_compared(1, 'No such file', advice, '2 passed, 1 failed', words=['nowhere', built[1]])
+    expect_compared(1, *sums, advice, '2 passed, 1 failed', built=other)
+    expect_compared(1, 'No such file', advice, '2 passed, 1 failed', built='nowhere')
     put('../small kit/KIT-ID', b'the next one\n')(small.place)
-    expect_compared(0, "were built by 'a small kit', and the kit here is 'the next one'", 'nothing is compared', '1 passed, 0 failed', words=[other, other])
+    expect_compared(0, "were built by 'a small kit', and the kit here is 'the next one'", 'nothing is compared', '1 passed, 0 failed', built=other)
     where(small, FOLDER)
     put('../small kit/KIT-ID', b'a small kit\n')(small.place)
     expect_compared(0, "the kit here is 'none'", '1 passed, 0 failed', RT='/no kit')

@@ -7,7 +7,7 @@ from typing import Dict, FrozenSet, NamedTuple, Optional, Sequence, Tuple
 
 from tests.second_implementation.puzzles import Numbers, Puzzle
 from tests.second_implementation.solving import cells_of
-from tests.second_implementation.towers import TowersPuzzle, edge_line, in_fillings
+from tests.second_implementation.towers import TowersPuzzle, counts_in_fillings, edge_line, in_fillings
 from tests.second_implementation.unequal import Sign, UnequalPuzzle
 
 #: What is left of each square, in reading order.
@@ -95,6 +95,12 @@ def looked_at(kind: str, size: int, left: FrozenSet[int]) -> FrozenSet[int]:
     return each(size)
 
 
+def shown_with(size: int, left: Left, reason: Reason, cell: int, number: int) -> FrozenSet[int]:
+    """The counts of towers that a clue's line would show with a number in one of its squares, by what the clue is looked at with."""
+    looks = {square: looked_at(reason.kind, size, left[square]) for square in seen_squares(size, reason.place)}
+    return counts_in_fillings(tuple(may & {number} if square == cell else may for square, may in looks.items()))
+
+
 def struck_by_sign(puzzle: Puzzle, left: Left, sign: Sign) -> Dict[int, FrozenSet[int]]:
     """Where an end has nothing left, no number goes with it."""
     if not isinstance(puzzle, UnequalPuzzle) or sign not in puzzle.signs:
@@ -117,6 +123,11 @@ def is_left_alone(size: int, left: Left, cell: int, number: int, line: int) -> b
     """Whether no other square of a line has the number left."""
     squares = cells_of(size, line)
     return cell in squares and not any(number in left[other] for other in squares if other != cell)
+
+
+def held(puzzle: Puzzle, left: Left, reason: Reason, cell: int) -> FrozenSet[int]:
+    """What a reason strikes of what is left of a square."""
+    return left[cell] & struck(puzzle, left, reason).get(cell, NONE)
 
 
 def after(puzzle: Puzzle, left: Left, steps: Sequence[Step]) -> Optional[Left]:

@@ -54,6 +54,22 @@ def in_fillings(clue: int, may: Tuple[FrozenSet[int], ...]) -> Tuple[FrozenSet[i
     return tuple(map(frozenset, found))
 
 
+@lru_cache(maxsize=1 << 16)
+def counts_in_fillings(may: Tuple[FrozenSet[int], ...]) -> FrozenSet[int]:
+    """The counts of towers that are seen in the fillings of a line, by what may stand in its squares, the nearest first."""
+    # So far, by the used numbers as bits, which tell the tallest too.
+    seen_so_far: Dict[int, FrozenSet[int]] = {0: frozenset([0])}
+    for numbers in may:
+        further: Dict[int, FrozenSet[int]] = {}
+        for used, counts in seen_so_far.items():
+            for height in numbers:
+                if not used >> height & 1:
+                    grown = used | 1 << height
+                    further[grown] = further.get(grown, frozenset()).union(count + (1 << height > used) for count in counts)
+        seen_so_far = further
+    return frozenset().union(*seen_so_far.values())
+
+
 @dataclass(frozen=True)
 class TowersPuzzle(Puzzle):
     #: The clue at each edge place, 0 for none.

@@ -65,7 +65,7 @@ def printed(browser: Browser, room: Room, page: str) -> Printed:
 
 def need_tools() -> None:
     if not all(map(shutil.which, TOOLS)):
-        raise Skip('there are no tools of poppler')
+        raise Skip('there are no tools of poppler', 'apt-get install poppler-utils')
 
 
 def said(*words: str) -> str:

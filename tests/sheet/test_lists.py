@@ -3,6 +3,9 @@
 from __future__ import annotations
 
 import itertools
+import re
+import resource
+import time
 from typing import Iterator, List, NamedTuple
 
 import pytest
@@ -78,7 +81,7 @@ WRONG = [
     Wrong('no save', b'/etc/passwd', "line 1: That is no save file of the collection: one begins with 'SAVEFILE:41:'.\n"),
     Wrong('empty', b'', 'standard input has no puzzles\n'),
     Wrong('empty lines', b'\n\r\n \n', 'standard input has no puzzles\n'),
-    Wrong('too many', content([TOWERS] * 201), 'There are 201 puzzles, and a sheet has 200 at most: --count 200 takes the first ones.\n'),
+    Wrong('too many', content([TOWERS] * 201), 'There are more than 200 puzzles, and a sheet has 200 at most: --count 200 takes the first ones.\n'),
     Wrong('letters for the terminal', b'\x1b[31m', f'line 1: {SIZE}\n'),
 ]
 
@@ -112,6 +115,20 @@ def test_large(maker: Maker, room: Room) -> None:
     for name, called in (('large', 'large'), ('/dev/zero', '/dev/zero')):
         ended = maker.run(['--ids', name])
         assert (ended.status, ended.error.decode()) == (3, f'{called} has more than 16,777,216 bytes\n')
+
+
+def test_long(maker: Maker, room: Room) -> None:
+    """A list is read as it comes: one of line ends alone is refused soon, and of a long one no more is read than is asked for."""
+    before = time.monotonic()
+    ended = maker.run(['--ids', '-'], b'\n' * 16_777_216, limits={resource.RLIMIT_AS: 400 << 20})
+    assert (ended.status, ended.error) == (3, b'standard input has no puzzles\n')
+    lines = stored('towers', 5, 20)
+    ended = maker.run(['--ids', '-', '--count', '5', '--answers', 'none'], content(lines * 5000), limits={resource.RLIMIT_AS: 400 << 20})
+    assert (ended.status, ended.error) == (0, b'')
+    assert [puzzle.id for puzzle in pictures(ended.output.decode())] == [re.sub('d.:', ':', id) for id in lines[:5]]
+    ended = maker.run(['--ids', '-'], content(['x'] * 1_000_000))
+    assert (ended.status, ended.error.decode()[:31]) == (3, 'There are more than 200 puzzles')
+    assert time.monotonic() - before < 20
 
 
 def test_unread(maker: Maker) -> None:

@@ -2,16 +2,20 @@
 
 from __future__ import annotations
 
+import os
 import re
+import shutil
+import sys
 from typing import Iterator, List, NamedTuple, Sequence
 
 import pytest
 
-from tests.harness import Room
+from sheet.pdf import BROWSERS
+from tests.harness import Room, Skip
 from tests.harness.browser import Browser
 from tests.second_implementation.seeded import full_puzzle
 from tests.sheet.making import Maker, content, stored
-from tests.sheet.printing import MEASURE, printed, shown
+from tests.sheet.printing import MEASURE, need_tools, printed, said, shown
 
 #: In points of a printer.
 PAPERS = {'a4': (595, 842), 'letter': (612, 792)}
@@ -43,18 +47,21 @@ def full() -> List[str]:
 
 
 def sheets(paper: str) -> Iterator[Sheet]:
-    """A page holds fewer puzzles where their squares would be too small: of size 6 six on Letter; of size 9 four of Towers, and of Unequal two on A4."""
-    is_a4 = paper == 'a4'
-    yield Sheet(['--per-page', '12'], sixes(), 1 if is_a4 else 2, 1)
-    yield Sheet(['--per-page', '9'], sixes('for Anna'), 2, 1)
-    yield Sheet(['--per-page', '4'], sixes('for Anna and Bert, who have done all the others ' * 5), 3, 1)
-    yield Sheet(['--per-page', '2'], sixes('for Anna')[4:9], 3, 1)
-    yield Sheet(['--per-page', '1', '--answers', 'none'], sixes('for Anna')[5:7], 2, 0)
-    yield Sheet(['--per-page', '12'], [f'{id} for Anna' for id in nines()], 3 if is_a4 else 5, 1)
-    yield Sheet(['--large'], [sixes()[0], sixes()[-1], *full()], 4, 1)
+    """A page has as many puzzles as is asked for; otherwise six, and of size 9 four of Towers and two of Unequal."""
+    yield Sheet(['--per-page', '12', '--paper', paper], stored('towers', 5, 12), 1, 1)
+    yield Sheet(['--per-page', '9', '--ids-below'], sixes('for Anna'), 2, 1)
+    yield Sheet(['--per-page', '5'], sixes('for Anna'), 3, 1)
+    yield Sheet(['--per-page', '4', '--ids-below', '--words'], sixes('for Anna and Bert, who have done all the others ' * 5), 3, 1)
+    yield Sheet(['--per-page', '2', '--ids-below'], sixes('for Anna')[4:9], 3, 1)
+    yield Sheet(['--per-page', '1', '--answers', 'none', '--words'], sixes('for Anna')[5:7], 2, 0)
+    yield Sheet([], [f'{id} for Anna' for id in nines()], 3, 1)
+    yield Sheet(['--ids-below'], nines()[4:], 2, 1)
+    yield Sheet(['--title', 'A title that is longer than a line ' * 3], sixes(), 2, 1)
+    yield Sheet(['--large', '--ids-below', '--words'], [sixes()[0], sixes()[-1], *full()], 4, 1)
+    yield Sheet(['--large', '--title', 'A title that is longer than a line ' * 3], sixes()[:2], 2, 1)
     yield Sheet(['--answers', 'only', '--per-page', '12'], nines(), 0, 1)
     yield Sheet(['--answers', 'only', '--steps'], nines(), 0, 1, 2)
-    yield Sheet(['--answers', 'only', '--steps', '--large'], nines()[2:6], 0, 1, 4 if is_a4 else 5)
+    yield Sheet(['--answers', 'only', '--steps', '--large'], nines()[2:6], 0, 1, 5)
 
 
 @pytest.mark.parametrize('size', PAPERS)
@@ -76,14 +83,78 @@ def expect_sheet(browser: Browser, room: Room, maker: Maker, sheet: Sheet, paper
     code = re.search(r'Sheet ([0-9A-F]{4})\b', found.texts[0])
     assert code
     for number in range(1, total + 1):
-        assert all(number in found.pages_with(text) for text in (f'Sheet{code[1]}', f'{number}/{total}', 'puzzles-sheet--ids-'))
+        assert all(number in found.pages_with(text) for text in (f'Sheet{code[1]}', f'{number}/{total}'))
+        # On a class sheet no words tell how the answers are had.
+        assert (number in found.pages_with('puzzles-sheet--ids-')) == ('--words' in sheet.words)
     assert found.pages_with('Answers:') == list(range(sheet.pages + 1, answers + 1))
     assert found.pages_with('Steps:') == list(range(answers + 1, total + 1))
     for number, line in enumerate(sheet.puzzles, 1):
-        # The ID is whole, and stands on one page, with the number of the puzzle.
+        # Where it is asked for the ID is whole, and stands on one page, with the number of the puzzle.
         pages = found.pages_with(line.split()[0])
-        assert len(pages) == (1 if sheet.pages else 0), line
-        assert set(pages) <= set(found.pages_with(f'{code[1]}-{number}')), line
+        assert len(pages) == (1 if '--ids-below' in sheet.words else 0), line
+        of_number = found.pages_with(f'{code[1]}-{number}')
+        assert set(pages) <= set(of_number) and len(of_number) >= (1 if sheet.pages else 0), line
+
+
+#: Words, and how many of the puzzles come onto a page whose squares aren't smaller than 7 mm: reckoned by hand for A4, of which 186 by 250 mm are free.
+TOO_MANY = [
+    # Three columns have 59 mm each, and a puzzle 71 mm; three rows of 77 mm have 231 mm.
+    (['towers', '--size', '9', '--per-page', '12'], 6),
+    # Three columns of 57 mm, and three rows of 62 mm.
+    (['towers', '--size', '7', '--per-page', '12'], 9),
+    # Two columns of 82 mm, and two rows of 88 mm.
+    (['unequal', '--size', '9', '--per-page', '6', '--count', '6'], 4),
+]
+
+
+@pytest.mark.parametrize(('words', 'number'), TOO_MANY)
+def test_too_many(maker: Maker, room: Room, words: List[str], number: int) -> None:
+    """More than have room are refused, with the number that has; so many are printed."""
+    asked = words[words.index('--per-page') + 1]
+    ended = maker.run([*words, '--output', 'page.html'])
+    told = f'puzzles-sheet: --per-page {asked}: the squares would be smaller than 7 mm; {number} on a page are not\n'
+    assert (ended.status, ended.output, ended.error.decode()) == (2, b'', told)
+    assert room.names() == []
+    page = maker.page([word if word != asked else str(number) for word in words])
+    first = re.split('<section>', page)[1]
+    assert len(re.findall('<figure style="height', first)) == number
+
+
+def test_pdf(maker: Maker, room: Room) -> None:
+    """A Chromium that is there prints the sheet; the page is written beside it where that is asked for, too."""
+    if not any(map(shutil.which, BROWSERS)):
+        raise Skip('there is no Chromium')
+    need_tools()
+    ended = maker.run(['towers', '--count', '8', '--paper', 'letter', '--pdf', 'sheet.pdf', '--output', 'page.html'], seconds=120)
+    assert (ended.status, ended.output, ended.error) == (0, b'', b'')
+    assert sorted(room.names()) == ['page.html', 'sheet.pdf']
+    told = said('pdfinfo', os.path.join(room.path, 'sheet.pdf'))
+    assert re.search(r'^Pages: +3$', told, re.MULTILINE) and re.search(r'^Page size: +612 x 792', told, re.MULTILINE)
+    assert 'Answers: Towers' in said('pdftotext', os.path.join(room.path, 'sheet.pdf'), '-')
+
+
+#: Words, what is told where no PDF comes of them.
+NO_PDF = [
+    (['--browser', 'no-browser'], "there is no program 'no-browser'"),
+    (['--browser', '/bin/false'], '/bin/false has made no PDF: write the page by --output, and print it in a browser'),
+    ([], 'no Chromium is there (chromium, chromium-browser, google-chrome ..): --browser names one; or write the page by --output, and print it in a browser'),
+]
+
+
+@pytest.mark.parametrize(('words', 'told'), NO_PDF)
+def test_no_pdf(maker: Maker, room: Room, words: List[str], told: str) -> None:
+    """It is told what is lacking, and nothing is written."""
+    env = {} if words else {'PATH': here_alone(room)}
+    ended = maker.run(['towers', '--count', '1', '--pdf', 'sheet.pdf', *words], env=env)
+    assert (ended.status, ended.output, ended.error.decode()) == (1, b'', f'puzzles-sheet: {told}\n')
+    assert 'sheet.pdf' not in room.names()
+
+
+def here_alone(room: Room) -> str:
+    """A folder for commands that has the Python of the tests alone."""
+    room.make_folder('commands').close()
+    room.link('commands/python3', sys.executable)
+    return os.path.join(room.path, 'commands')
 
 
 #: Titles and captions that want to be more than text.
@@ -106,10 +177,12 @@ LOOK = """[
 def test_hostile(paper: Browser, maker: Maker, room: Room) -> None:
     """Titles and captions are text, whatever stands in them; and what is measured is seen where it is wrong."""
     for text in HOSTILE:
-        page = maker.page(['--ids', '-', f'--title={text}', '--per-page', '12'], content([f'{sixes()[0]} {text}', *sixes()[1:5]]))
+        page = maker.page(['--ids', '-', f'--title={text}', '--per-page', '9', '--ids-below'], content([f'{sixes()[0]} {text}', *sixes()[1:5]]))
         shown(paper, room, page)
         title = ' '.join(text.split())
-        assert paper.value(LOOK) == ['undefined', 0, 0, title, [title], 1]
+        *found, above, notes = paper.value(LOOK)
+        assert [*found, notes] == ['undefined', 0, 0, title, 1]
+        assert all(title.startswith(text.rstrip('…')) and (text == title or len(text) > 40) for text in above), above
         assert not any(map(any, paper.value(MEASURE))), text[:40]
     shown(paper, room, re.sub('line-height:2', 'line-height:4', page))
     assert any(map(any, paper.value(MEASURE)))

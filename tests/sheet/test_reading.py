@@ -5,8 +5,8 @@ from __future__ import annotations
 import re
 from typing import List, Sequence
 
-from board.board import Board
-from board.program import Program
+from playing.board import Board
+from playing.program import Program
 from sheet import drawing
 from tests.harness import Room, run
 from tests.sheet.making import Maker, content, listed
@@ -31,7 +31,7 @@ def plain(id: str) -> str:
 def test_all(maker: Maker, program: str, room: Room) -> None:
     """Of 200 puzzles of both games and all sizes each is drawn as it was given, and each answer is taken by the program."""
     lines = listed()
-    ended = maker.run(['--ids', '-', '--title', 'All', '--count', '200'], content(lines))
+    ended = maker.run(['--ids', '-', '--title', 'All', '--ids-below', '--count', '200'], content(lines))
     assert ended.status == 0, ended.error
     page = ended.output.decode()
     ids = [id.replace('<wbr>', '') for id in ID.findall(page)]

@@ -8,10 +8,10 @@ from typing import List, NamedTuple, Sequence
 
 import pytest
 
-from board.board import Board
-from board.games import GRADES
-from board.program import Program
-from board.steps import sentences
+from playing.board import Board
+from playing.games import GRADES
+from playing.program import Program
+from playing.steps import sentences
 from tests.harness import Room, by_name
 from tests.second_implementation.fair import fair
 from tests.second_implementation.grades import LETTERS, follows
@@ -92,14 +92,23 @@ def test_each_seed(maker: Maker, game: str, size: int, grade: str, first: int, c
 
 def test_again(maker: Maker) -> None:
     """The same words make the same bytes, whatever the environment says, and so does the command in the foot; another seed makes others."""
-    words = ['towers', '--seed', '11', '--count', '5', '--paper', 'letter', '--title', "Anna's sheet"]
+    words = ['towers', '--seed', '11', '--count', '5', '--words', '--paper', 'letter', '--title', "Anna's sheet"]
     page = maker.page(words)
     assert maker.run(words, env={'LC_ALL': 'C', 'TZ': 'Asia/Tokyo', 'PYTHONHASHSEED': '7'}).output.decode() == page
     (again,) = set(re.findall(r'<footer>.*?<code>puzzles-sheet (.*?)</code>', page))
-    assert unescape(again) == """towers --size 5 --grade easy --seed 11 --count 5 --paper letter --title 'Anna'"'"'s sheet'"""
+    assert unescape(again) == """towers --size 5 --grade easy --seed 11 --count 5 --paper letter --words --title 'Anna'"'"'s sheet'"""
     assert maker.page([*again.split(' --title')[0].split(), *words[-2:]]) == page
     assert not set(ids(page)) & set(ids(maker.page(['towers', '--seed', '90', '--count', '5'])))
     assert set(ids(page)) <= set(ids(maker.page(['towers', '--seed', '10', '--count', '8'])))
+
+
+def test_number(maker: Maker) -> None:
+    """The number at the foot of a class sheet is the seed: with size, grade and count, which the sheet shows, it makes the puzzles again."""
+    page = maker.page(['unequal', '--size', '6', '--grade', 'tricky', '--seed', '20261127', '--count', '4', '--title', 'Class 4b', '--per-page', '4'])
+    sheet, number = re.findall(r'<footer><span>Sheet ([0-9A-F]{4}), number (\d+)</span><code></code>', page)[0]
+    assert 'puzzles-sheet' not in page and '<figcaption' in page and '6:' not in re.sub('<svg.*?</svg>', '', page)
+    again = maker.page(['unequal', '--size', '6', '--grade', 'tricky', '--seed', number, '--count', '4'])
+    assert ids(again) == ids(page) and f'Sheet {sheet}, number' in again
 
 
 def test_few(maker: Maker) -> None:
@@ -204,7 +213,7 @@ def test_steps(maker: Maker, objects: str) -> None:
     """The first three moves, and the hardest one, in the sentences of the hints, after the answers."""
     page = maker.page(['towers', '--grade', 'hard', '--count', '2', '--steps', '--title', 'Two'])
     assert re.findall(r'<h1 dir="auto">([A-Za-z: ]*)<bdi>', page) == ['', 'Answers: ', 'Steps: ']
-    assert re.findall(r'<p><b>(\d+)</b> (\w+)</p>', page) == [('1', 'Hard'), ('2', 'Hard')]
+    assert re.findall(r'<p class="first"><b>(\d+)</b> (\w+)</p>', page) == [('1', 'Hard'), ('2', 'Hard')]
     moves = re.findall(r'<p><b>Move (\d+)(, the hardest)?\.</b> ', page)
     second = [number for number, _ in moves].index('1', 1)
     for told in (moves[:second], moves[second:]):
@@ -212,6 +221,27 @@ def test_steps(maker: Maker, objects: str) -> None:
         assert len([hardest for _, hardest in told if hardest]) == 1
     for id, first in zip(ids(page), re.split(r'<b>Move 1\.</b> |<b>Move 1, the hardest\.</b> ', page)[1:]):
         assert paragraphs(first.partition('<b>Move 2')[0]) == hinted(objects, id)
+
+
+def test_all_told(maker: Maker) -> None:
+    """It is said which moves are told, and that others are left out; the columns are full but for the last one."""
+    page = maker.page(['towers', '--size', '6', '--grade', 'hard', '--steps'])
+    assert page.count('the others are left out, since they are found in the same ways.') == 1
+    columns = [len(paragraphs(column)) for column in re.findall(r'<div class="steps" [^>]*>(.*?)</div>', page, re.DOTALL)]
+    assert len(columns) > 1 and min(columns[:-1]) > 20, columns
+
+
+def test_example(maker: Maker) -> None:
+    """A small puzzle of each game comes first, with its answer and its first three moves; it is none of the sheet's own."""
+    lines = content([TOWERS, UNEQUAL])
+    page, without = maker.page(['--ids', '-', '--example'], lines), maker.page(['--ids', '-'], lines)
+    assert re.findall(r'<h1 dir="auto">([A-Za-z: ]*)<bdi>', page)[:3] == ['Example: ', 'Example: ', '']
+    drawn = pictures(page)
+    assert [(picture.game, picture.puzzle.size) for picture in drawn[:4]] == [('towers', 4), ('towers', 4), ('unequal', 4), ('unequal', 4)]
+    assert [ids(page)[at] for at in (0, 2)] == ids(page)[1:4:2], 'the answer is that of the puzzle'
+    assert all(all(picture.numbers) for picture in drawn[1:4:2]), 'it is solved'
+    assert ids(page)[4:] == ids(without)
+    assert re.findall(r'<p><b>Move (\d)\.</b>', page) == ['1', '2', '3'] * 2
 
 
 def paragraphs(text: str) -> List[str]:

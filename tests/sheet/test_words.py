@@ -30,6 +30,8 @@ class Wrong(NamedTuple):
 WRONG = [
     Wrong([], 'GAME is towers or unequal'),
     Wrong(['mines'], 'GAME is towers or unequal'),
+    Wrong(['towers', '--output', ''], 'argument --output: the name of a file'),
+    Wrong(['--ids', ''], 'argument --ids: the name of a file'),
     Wrong(['towers', 'unequal'], 'GAME is towers or unequal'),
     Wrong(['--ids', 'list', 'mines'], 'GAME is towers or unequal'),
     Wrong(['towers', '--size', '2'], 'argument --size: 3 to 9, several as 5-7 or 3,5'),

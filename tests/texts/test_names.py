@@ -7,8 +7,8 @@ import pytest
 
 from tests.objects import schema
 from tests.texts import sources
-from tests.texts.parts import documents, found, items, part, read, without_samples
-from trusting.page import Listed, outdated
+from tests.texts.parts import ROOT, documents, found, items, part, read, without_samples
+from trusting.page import PARTS, all_listed, listed, outdated
 
 #: Words in backquotes of the language and its library, and of what `rt plant` and `puzzles-play` print.
 OTHER_WORDS = {'mod', 'Vec', 'Unit', 'flat_map', 'proves', 'unknown'}
@@ -26,9 +26,8 @@ class Known:
         self.make = sources.make_names()
         self.names = set(found(r'\b(\w+)', read('crates.txt'))).union(OTHER_WORDS, self.make, *self.crates.values())
         self.names.update(schema.names(), schema.STATUSES, schema.COUNTS, schema.KINDS)
-        self.names.update(path.rpartition('/')[2] for path in self.files)
-        self.to_read = Listed()
-        self.names.update(self.to_read.kit)
+        self.names.update(name for path in self.files for name in (path.rpartition('/')[2], path.rpartition('/')[2].partition('.')[0]))
+        self.names.update(listed(PARTS).kit)
 
     def has(self, words: str) -> bool:
         """Whether a name, a path or a command of `make` is one that there is. What is none of these is a sample."""
@@ -67,20 +66,21 @@ def test_document(document: str, known: Known) -> None:
     assert list(wrong_names(document, known)) == []
 
 
-@pytest.mark.parametrize('document, heading', [('docs/PROMISES.md', '## Crate by crate'), ('docs/ARCHITECTURE.md', '## The crates')])
+@pytest.mark.parametrize('document, heading', [('docs/ARCHITECTURE.md', '## The crates')])
 def test_crates(document: str, heading: str, known: Known) -> None:
     named = found(r'^\*\*`(\w+)`', '\n'.join(items(part(read(document), heading, '^#'))))
     assert set(named) == set(known.crates) != set()
 
 
-def test_wrong_bodies() -> None:
-    """Each in the lists of wrong bodies is one of the crate whose list it is."""
-    lists = re.findall(r'^In `(\w+)`:\n\n((?:[- ] .*\n)+)', part(read('docs/PROMISES.md'), '## Wrong bodies', '^#'), re.MULTILINE)
-    for crate, text in lists:
-        assert not {name for item in items(text) for name in item.partition(':')[0].split(', ')} - sources.wrong_bodies(crate), crate
-    assert lists
+@pytest.mark.parametrize('crate', sorted(sources.crates()))
+def test_wrong_bodies(crate: str) -> None:
+    """Each in the list beside them is one of the crate."""
+    folder = ROOT / 'crates' / crate / 'wrong-bodies'
+    listed_there = part((folder / 'README.md').read_text(encoding='utf-8'), '# Wrong bodies', '^## ') if folder.is_dir() else ''
+    named = {name for item in items(listed_there) for name in item.partition(':')[0].split(', ')}
+    assert not named - sources.wrong_bodies(crate)
 
 
-def test_to_read(known: Known) -> None:
-    """The list in docs/TRUST.md, and README's number; tools/trust --write makes them."""
-    assert list(outdated(known.to_read)) == []
+def test_to_read() -> None:
+    """The list in docs/TRUST.md, and README's numbers; tools/trust --write makes them."""
+    assert not outdated(all_listed())

@@ -1,14 +1,13 @@
 """The version is written in the file VERSION: the changes, the package and the programs have the same. The kit is that of the programs' record, and of `rt`."""
 
 import re
-import warnings
 
 import pytest
 
 from building.changes import command, kit_of
 from building.record import TREE
 from tests.conftest import Programs
-from tests.harness import Room, run
+from tests.harness import Room, Skip, run
 from tests.texts.parts import ROOT, documents, read
 
 VERSION = read('VERSION').rstrip('\n')
@@ -54,15 +53,19 @@ def test_sources(path: str, pattern: str) -> None:
 
 @pytest.mark.parametrize('document', documents())
 def test_kit(document: str) -> None:
-    """README names the kit by which the programs in the tree were proved, and no document another one. It is the one that is here, where one is."""
-    record, rt = TREE.read(), command()
+    """README names the kit by which the programs in the tree were proved, and no document another one."""
+    record = TREE.read()
     assert record
     named = set(re.findall(r'rattle-kit-\S+ logic \w+', read(document)))
     assert named == {record.kit} or (not named and document != 'README.md')
+
+
+def test_kit_here() -> None:
+    """It is the one that is here."""
+    record, rt = TREE.read(), command()
     if not rt:
-        warnings.warn('there is no rt here, so the kit that documents name was compared with programs/RECORD alone')
-    elif named:
-        assert named == {kit_of(rt)}
+        raise Skip('there is no rt', 'the folder bin of the kit on the path')
+    assert record and record.kit == kit_of(rt)
 
 
 def test_programs(programs: Programs, room: Room) -> None:

@@ -4,7 +4,7 @@ from __future__ import annotations
 
 import subprocess
 import sys
-from typing import TextIO
+from typing import TextIO, cast
 
 from bodies.kept import sum_of_crates
 from building.crates import ROOT, listed
@@ -21,7 +21,7 @@ class Log:
         self._file: TextIO = LOG.open('w', encoding='utf-8')
         self._file.write(f'commit {commit}\nprover {kit}\ncrates {sum_here()}\n')
         self._screen = sys.stdout
-        sys.stdout = self  # type: ignore[assignment]
+        sys.stdout = cast(TextIO, self)
 
     def write(self, text: str) -> int:
         self._file.write(text)

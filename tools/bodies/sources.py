@@ -9,7 +9,7 @@ from typing import List, NamedTuple, Optional, Sequence, Set
 from bodies.edits import BadEdit, Edit, Texts, applied
 
 #: The line of a function's name, in brackets the blanks before it and the name.
-NAMED = re.compile(r'( *)(?:pub(?:\([^)]*\))? )?(?:const )?fn (\w+)')
+NAMED = re.compile(r'( *)(?:pub(?:\([^)]*\))? )?(?:const )?(?:extern "C" )?fn (\w+)')
 
 #: Lines right above it that are its own: attributes and comments.
 ABOVE = re.compile(r' *(?:#\[|//)')

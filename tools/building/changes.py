@@ -8,7 +8,7 @@ from typing import Dict, Optional, Set, Tuple
 
 from building.listing import TOP, Listed, all_of, below, files_of
 
-#: The crates of the programs, each with the names under which its program is left in build/.
+#: The crates of the programs, each with the names under which its program is left in build/: all are the same bytes.
 PROGRAMS: Dict[str, Tuple[str, ...]] = {'puzzles': ('puzzles', 'puzzles-json')}
 
 #: What is known of the last build.

@@ -7,7 +7,7 @@ import shutil
 from pathlib import Path
 from typing import Iterable
 
-from building.listing import PARTS, TOP, Listed, all_of, below, listed
+from building.listing import PARTS, TOP, Listed, all_of, below, heads, listed
 
 __all__ = ['BUILD', 'Listed', 'PARTS', 'ROOT', 'all_of', 'below', 'copy_folder', 'listed', 'own', 'write_list']
 
@@ -24,8 +24,8 @@ def own(name: str) -> Path:
 
 def write_list(folder: Path, names: Iterable[str], crates: Listed) -> None:
     """Writes crates.txt for a copy of these crates and of all below them."""
-    wanted = all_of(names, crates)
-    lines = [f'{name}: {" ".join(libraries)}\n' for name, libraries in crates.items() if name in wanted]
+    wanted, before = all_of(names, crates), heads()
+    lines = [f'{before[name]}: {" ".join(libraries)}\n' for name, libraries in crates.items() if name in wanted]
     (folder / 'crates.txt').write_text(''.join(lines), encoding='utf-8')
 
 

@@ -3,10 +3,10 @@
 from __future__ import annotations
 
 import sys
-from typing import Sequence
+from typing import Iterator
 
 from building.changes import command, kit_of, sum_of
-from building.record import BUILT, NAMES, TREE, put, sum_of_sources
+from building.record import BUILT, LINKS, NAMES, TREE, sum_of_sources
 from building.start import make
 
 #: What is to be done where the programs in the tree aren't those of the sources.
@@ -23,17 +23,16 @@ def store() -> int:
         print(f'nothing is stored: {fault}', file=sys.stderr)
         return 1
     for name in NAMES:
-        with open(BUILT.path(name), 'rb') as file:
-            if put(TREE.path(name), file.read(), 0o755):
-                print(f'stored: {TREE.folder}/{name}')
+        if TREE.take(BUILT, name):
+            print(f'stored: {TREE.folder}/{name}')
     if TREE.write(record):
         print(f'stored: {TREE.record}')
     return 0
 
 
-def compare(built: Sequence[str]) -> int:
-    """Compares programs that were built from nothing, in the order of their names, with those in the tree. Says how many cases have passed, which are
-    the record and each program, and gives the status to end with."""
+def compare(built: str) -> int:
+    """Compares a program that was built from nothing with that in the tree. Says how many cases have passed, which are the record, the program and its
+    other names, and gives the status to end with."""
     fault = TREE.fault(sum_of_sources())
     faults = [f'{fault}: {ADVICE}'] if fault else []
     passed = 0 if fault else 1
@@ -42,7 +41,7 @@ def compare(built: Sequence[str]) -> int:
     if record and record.kit != kit:
         print(f"the programs in {TREE.folder} were built by '{record.kit}', and the kit here is '{kit}': so nothing is compared")
     else:
-        unlike = [text for name, path in zip(NAMES, built) for text in difference(name, path)]
+        unlike = [*difference(built), *others()]
         passed += len(NAMES) - len(unlike)
         faults += unlike
     for text in faults:
@@ -51,10 +50,20 @@ def compare(built: Sequence[str]) -> int:
     return 1 if faults else 0
 
 
-def difference(name: str, built: str) -> Sequence[str]:
-    """How a program differs from that in the tree, with both sums; nothing where they are the same bytes."""
+def difference(built: str) -> Iterator[str]:
+    """How the program differs from that in the tree, with both sums; nothing where they are the same bytes."""
+    name, *_ = NAMES
     try:
         found, kept = sum_of(built), sum_of(TREE.path(name))
     except OSError as error:
-        return [f'{error.filename}: {error.strerror}: {ADVICE}']
-    return [] if found == kept else [f'{built} is {found}, and {TREE.folder}/{name} is {kept}: {ADVICE}']
+        yield f'{error.filename}: {error.strerror}: {ADVICE}'
+        return
+    if found != kept:
+        yield f'{built} is {found}, and {TREE.folder}/{name} is {kept}: {ADVICE}'
+
+
+def others() -> Iterator[str]:
+    """The other names of the program in the tree that are not the same bytes."""
+    for name, program in LINKS.items():
+        if TREE.sums().get(name) != TREE.sums().get(program):
+            yield f'{TREE.folder}/{name} is not {program}: {ADVICE}'

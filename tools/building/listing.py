@@ -30,6 +30,13 @@ def listed() -> Listed:
     return crates
 
 
+def heads() -> Dict[str, str]:
+    """What crates.txt has before the colon: the name of a crate, and after it `staticlib` where it is a static library."""
+    with open(f'{TOP}/crates.txt', encoding='utf-8') as file:
+        found = [line.partition('#')[0].partition(':')[0].strip() for line in file]
+    return {head.split()[0]: head for head in found if head}
+
+
 def below(crate: str, crates: Listed) -> Set[str]:
     """The crates of the repository that a crate stands on, and those below them."""
     found: Set[str] = set()

@@ -15,7 +15,7 @@ from __future__ import annotations
 
 import os
 from hashlib import sha256
-from typing import Dict, Iterator, Optional
+from typing import Dict, Iterable, Iterator, Optional
 
 from building.changes import PROGRAMS, sum_of
 from building.listing import TOP, all_of, files_of, listed
@@ -23,10 +23,18 @@ from building.listing import TOP, all_of, files_of, listed
 #: The names of the programs.
 NAMES = [name for names in PROGRAMS.values() for name in names]
 
+#: Those that are another name of a program, and its first. `rt ci` takes no link in a checkout, so in the tree, where git keeps their bytes once, and in
+#: build/ each is a file; where they are packed or installed they are links.
+LINKS = {name: names[0] for names in PROGRAMS.values() for name in names[1:]}
+
 #: What the files that a build reads end in.
 READ = ('.rt', '.antt')
 
 HEAD = "# What the programs are: 'make programs' writes this text, and 'make build' the one in build/. sha256sum --check reads it.\n"
+
+
+#: What is said of the page begins so.
+PAGE = '# page '
 
 
 class Record:
@@ -48,6 +56,11 @@ class Programs:
     def path(self, name: str) -> str:
         """The whole path of a program."""
         return f'{TOP}/{self.folder}/{name}'
+
+    def take(self, other: Programs, name: str) -> bool:
+        """Takes a program from another folder, where it isn't here already. Says whether it wasn't."""
+        with open(other.path(name), 'rb') as file:
+            return put(self.path(name), file.read(), 0o755)
 
     def sums(self) -> Dict[str, str]:
         """Those of the programs that are there."""
@@ -72,7 +85,17 @@ class Programs:
 
     def write(self, record: Record) -> bool:
         """Writes the record, where it isn't there already. Says whether it wasn't."""
-        return put(f'{TOP}/{self.record}', self.text(record).encode(), 0o644)
+        return put(f'{TOP}/{self.record}', (self.text(record) + self.of_page()).encode(), 0o644)
+
+    def of_page(self) -> str:
+        """What the record says of the page, below what it says of the programs: `web_build.kept` writes it."""
+        try:
+            with open(f'{TOP}/{self.record}', encoding='utf-8', errors='replace') as file:
+                text = file.read()
+        except OSError:
+            return ''
+        start = text.find(PAGE)
+        return text[start:] if start >= 0 else ''
 
     def forget(self) -> None:
         """Takes the record away."""
@@ -100,14 +123,15 @@ TREE = Programs('programs/linux-amd64', 'programs/RECORD')
 BUILT = Programs('build', 'build/RECORD')
 
 
-def sum_of_sources() -> str:
-    """The sum over what a build reads."""
-    return sha256(''.join(lines_of_sources()).encode('utf-8', 'surrogateescape')).hexdigest()
+def sum_of_sources(tops: Optional[Iterable[str]] = None, besides: Iterable[str] = ()) -> str:
+    """The sum over what a build of these crates reads, or of those of the programs, and over other files besides, by their paths from the top."""
+    lines = [*lines_of_sources(tops or PROGRAMS), *(f'{sum_of(f"{TOP}/{path}")}  {path}\n' for path in besides)]
+    return sha256(''.join(lines).encode('utf-8', 'surrogateescape')).hexdigest()
 
 
-def lines_of_sources() -> Iterator[str]:
+def lines_of_sources(tops: Iterable[str]) -> Iterator[str]:
     crates = listed()
-    names = sorted(all_of(PROGRAMS, crates))
+    names = sorted(all_of(tops, crates))
     yield from (f'{name}: {" ".join(crates[name])}\n' for name in names)
     for name in names:
         paths = (path for path in files_of(name) if path.endswith(READ))
@@ -128,3 +152,20 @@ def put(path: str, content: bytes, mode: int) -> bool:
         file.write(content)
     os.replace(f'{path}.new', path)
     return True
+
+
+def put_link(path: str, leads_to: str) -> bool:
+    """Makes a link that leads there, where it isn't one already. Says whether it wasn't. Who has an old file open keeps it."""
+    if leads(path, leads_to):
+        return False
+    os.makedirs(os.path.dirname(path), exist_ok=True)
+    if os.path.lexists(f'{path}.new'):
+        os.unlink(f'{path}.new')
+    os.symlink(leads_to, f'{path}.new')
+    os.replace(f'{path}.new', path)
+    return True
+
+
+def leads(path: str, leads_to: str) -> bool:
+    """Whether there is a link that leads there."""
+    return os.path.islink(path) and os.readlink(path) == leads_to

@@ -142,12 +142,10 @@ class Build:
         raise Failed(f'{ended.name} is not proved; the end of {LOG.relative_to(ROOT)}:', ended.said)
 
     def _leave(self, name: str) -> None:
-        """A program that is being played stays as it is until it ends."""
+        """Leaves the program of a crate under its names."""
         for left in PROGRAMS.get(name, ()):
-            part = BUILD / f'{left}.new'
             try:
-                shutil.copy(own(name) / 'out' / name, part)
-                os.replace(part, BUILD / left)
+                put_program(name, left)
             except OSError as error:
                 raise Failed(f'{name}: {error}') from error
             self._stamp.left(left)
@@ -155,6 +153,13 @@ class Build:
     def _left(self) -> float:
         running = {name: proof.seconds() for name, proof in self._running.items()}
         return self._plan.seconds_left(self._done, running, self._lanes, self._plan.scale(self._took))
+
+
+def put_program(crate: str, left: str) -> None:
+    """Puts the program of a crate there under one of its names. One that is being played stays as it is until it ends."""
+    part = BUILD / f'{left}.new'
+    shutil.copy(own(crate) / 'out' / crate, part)
+    os.replace(part, BUILD / left)
 
 
 def write_log(ended: Ended) -> None:

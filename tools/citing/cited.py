@@ -90,8 +90,8 @@ class Cited:
         return not self._by[id(one)]
 
     def is_shared(self, one: Declared) -> bool:
-        """Whether more than one file uses it."""
-        return len(self._by[id(one)]) > 1
+        """Whether more than one file uses it. Documents name clauses by the same words, so they don't count."""
+        return sum(path.suffix != '.md' for path in self._by[id(one)]) > 1
 
     def _follow(self) -> None:
         """Begins with what the code, the documents and the answers use, and goes on with what that uses."""

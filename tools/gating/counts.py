@@ -6,6 +6,9 @@ import os
 import re
 from typing import NamedTuple, Tuple
 
+#: The variable by which a skip is a failure, 1, or isn't, 0.
+SKIPS_FAIL = 'SKIPS_FAIL'
+
 LINE = re.compile(rb'^([0-9]+) passed, ([0-9]+) failed(?:, ([0-9]+) skipped)?$', re.MULTILINE)
 
 
@@ -21,8 +24,8 @@ class Counts(NamedTuple):
         return f'{self.passed} passed, {self.failed} failed, {self.skipped} skipped'
 
     def status(self) -> int:
-        """The status to end with. A skip is no pass."""
-        return 1 if self.failed or (self.skipped and not skips_allowed()) else 0
+        """The status to end with."""
+        return 1 if self.failed or (self.skipped and skips_fail()) else 0
 
 
 class Tally:
@@ -40,8 +43,9 @@ class Tally:
         print(f'skipped: {name}: {reason}', flush=True)
 
 
-def skips_allowed() -> bool:
-    return os.environ.get('SKIPS_ALLOWED') == '1'
+def skips_fail(by_itself: bool = True) -> bool:
+    """Whether a skip is a failure, since it is no pass: as the variable says, and where it says nothing as it is by itself."""
+    return {'0': False, '1': True}.get(os.environ.get(SKIPS_FAIL, ''), by_itself)
 
 
 def counted(said: bytes, status: int) -> Tuple[Counts, str]:
@@ -51,7 +55,7 @@ def counted(said: bytes, status: int) -> Tuple[Counts, str]:
         return Counts(0, 1, 0), f'it has not counted; its status is {status}'
     counts = Counts(*(int(number or 0) for number in lines[-1]))
     # A part may itself take a skip for a failure.
-    is_for_skips = counts.skipped > 0 and not skips_allowed()
+    is_for_skips = counts.skipped > 0 and skips_fail()
     if status != 0 and counts.failed == 0 and not is_for_skips:
         return counts._replace(failed=1), f'1 failed: its status is {status}'
     return counts, ''
@@ -59,7 +63,7 @@ def counted(said: bytes, status: int) -> Tuple[Counts, str]:
 
 def finish(counts: Counts) -> int:
     """Prints the last line, which counts all, and gives the status to end with."""
-    if counts.skipped and not skips_allowed():
-        print('What was skipped was not tried, so this has failed; SKIPS_ALLOWED=1 lets it pass.', flush=True)
+    if counts.skipped and skips_fail():
+        print(f'What is skipped is not tried, so this has failed; {SKIPS_FAIL}=0 lets it pass.', flush=True)
     print(counts, flush=True)
     return counts.status()

@@ -10,7 +10,7 @@ import sys
 import time
 from typing import BinaryIO, List, NamedTuple, Optional, Sequence
 
-from gating.counts import Counts, counted, finish
+from gating.counts import SKIPS_FAIL, Counts, counted, finish, skips_fail
 
 
 class Said(NamedTuple):
@@ -56,10 +56,11 @@ class Turns:
         self.say(f'== {name}')
 
     def _run(self, words: Sequence[str]) -> Said:
-        """Runs a command without any input, and passes on what it says."""
+        """Runs a command without any input, and passes on what it says. A skip is for it what it is here."""
         said: List[bytes] = []
+        env = {**os.environ, SKIPS_FAIL: str(int(skips_fail()))}
         try:
-            process = subprocess.Popen(words, stdin=subprocess.DEVNULL, stdout=subprocess.PIPE, stderr=subprocess.STDOUT)
+            process = subprocess.Popen(words, stdin=subprocess.DEVNULL, stdout=subprocess.PIPE, stderr=subprocess.STDOUT, env=env)
         except OSError as error:
             self.say(str(error))
             return Said(b'', 127)

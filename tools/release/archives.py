@@ -12,7 +12,7 @@ from typing import Iterator, NamedTuple
 
 from building.changes import sum_of
 from release import installing, places
-from release.note import Ready, Unfit, commit, fit, git, sums_in
+from release.note import Ready, Unfit, commit, fit_to_install, git, sums_in
 from release.places import TOP, Folders
 
 #: The folders of the tarball of programs, which are those below PREFIX. The documents lie at its top.
@@ -41,7 +41,7 @@ def archives() -> Iterator[Archive]:
     head = git('rev-parse', 'HEAD').decode().strip()
     if commit() != head:
         raise Unfit('there are changes that are not committed')
-    programs = fit(head)
+    programs = fit_to_install(head)
     name = f'puzzles-{places.version()}'
     sources = git('-c', 'tar.umask=0022', 'archive', '--format=tar', f'--prefix={name}/', 'HEAD')
     yield Archive(f'{name}.tar.gz', compressed(sources))

@@ -8,6 +8,7 @@ import subprocess
 import tempfile
 from typing import Iterable, Iterator, List, NamedTuple, Sequence, Tuple
 
+from building.record import put_link
 from release import places
 from release.places import NOTE, OURS, TOP, Folders, Item
 
@@ -24,15 +25,24 @@ def put(items: Sequence[Item], folders: Folders, note: str) -> None:
     for item in items:
         place = folders.of(item)
         made += make_folders(folders, os.path.dirname(place))
-        content = note.encode() if item.source == NOTE else (TOP / item.source).read_bytes()
-        if item.source in places.SCRIPTS.values():
-            content = with_package(item.source, content, folders)
-        put_file(folders.now(place), content, item.mode)
+        put_item(item, folders, note)
     if not folders.root:
         _, made_before = listed(folders)
         files = [folders.place('datadir', LIST), *map(folders.of, items)]
         text = '\n'.join(sorted(files) + ['', *sorted({*made, *made_before}), ''])
         put_file(folders.now(files[0]), text.encode(), 0o644)
+
+
+def put_item(item: Item, folders: Folders, note: str) -> None:
+    """Puts one file or link, in a folder that is there."""
+    place = folders.now(folders.of(item))
+    if item.link:
+        put_link(place, item.link)
+        return
+    content = note.encode() if item.source == NOTE else (TOP / item.source).read_bytes()
+    if item.source in places.SCRIPTS.values():
+        content = with_package(item.source, content, folders)
+    put_file(place, content, item.mode)
 
 
 def make_folders(folders: Folders, place: str) -> Iterator[str]:
@@ -130,6 +140,7 @@ TRIALS = [
     Trial(['puzzles-play', '--version'], '', f'puzzles {places.version()}\n'),
     Trial(['puzzles-page', '--help'], '', 'usage: puzzles-page '),
     Trial(['puzzles-page', '--version'], '', f'puzzles {places.version()}\n'),
+    Trial(['puzzles-page', '--path'], '', '/'),
     Trial(['puzzles-sheet', '--help'], '', 'usage: puzzles-sheet '),
     Trial(['puzzles-sheet', '--ids', '-'], '3:3//////3/////\n', '<!DOCTYPE html>\n'),
 ]

@@ -38,6 +38,16 @@ def fit(at: str) -> Ready:
     return Ready(programs.folder, at, record.sums, f'{head(at)}proved by {record.kit}\n{origin}\n{sums}')
 
 
+def fit_to_install(at: str) -> Ready:
+    """The same, where the page is ready, too."""
+    from web_build.kept import made_fault
+
+    programs, wrong = fit(at), made_fault()
+    if wrong:
+        raise Unfit(f'{wrong}: run make web')
+    return programs
+
+
 def note() -> str:
     """What is told, where there are no programs, too."""
     at = commit()

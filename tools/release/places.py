@@ -6,7 +6,7 @@ import os
 from typing import Iterator, List, Mapping, NamedTuple
 
 from building.crates import ROOT
-from building.record import NAMES
+from building.record import LINKS, NAMES
 
 TOP = ROOT
 
@@ -15,6 +15,9 @@ OURS = 'verified-puzzles'
 
 #: The folders that the Makefile names, and that packagers set.
 VARIABLES = ['gamesdir', 'datadir', 'mandir', 'docdir', 'bashcompdir', 'zshcompdir', 'fishcompdir']
+
+#: What the packages of the commands in Python have in common.
+COMMON = 'playing'
 
 #: The commands in Python, and the packages that they start: each lies in the folder of its package.
 FRONTS = {'puzzles-play': 'board', 'puzzles-page': 'page', 'puzzles-sheet': 'sheet'}
@@ -27,12 +30,14 @@ NOTE = 'what is told of the programs'
 
 
 class Item(NamedTuple):
-    """A file of the repository, and what becomes of it: the variable of its folder, its path from there, and its mode."""
+    """A file of the repository, and what becomes of it: the variable of its folder, its path from there, and its mode; or, where it is
+    a link, what it leads to from where it lies."""
 
     source: str
     variable: str
     path: str
     mode: int = 0o644
+    link: str = ''
 
 
 class Folders:
@@ -60,21 +65,30 @@ class Folders:
 
 def items(folder: str) -> List[Item]:
     """All that is installed, with the programs of this folder. A manual page, a document or a module that is new in its folder needs no line here."""
-    return [*programs(folder), *packages(), *documents(), *manual(), *completions()]
+    return [*programs(folder), *packages(), *page(), *documents(), *manual(), *completions()]
 
 
 def programs(folder: str) -> Iterator[Item]:
-    yield from (Item(f'{folder}/{name}', 'gamesdir', name, 0o755) for name in NAMES)
+    yield from (Item(f'{folder}/{name}', 'gamesdir', name, 0o755, LINKS.get(name, '')) for name in NAMES)
     yield from (Item(script, 'gamesdir', name, 0o755) for name, script in SCRIPTS.items())
 
 
 def packages() -> Iterator[Item]:
-    """The packages of Python, the puzzles of the board's, what the page sends, and what is told of the version."""
+    """The packages of Python, the stored puzzles, and what is told of the version."""
     yield Item(NOTE, 'datadir', f'{OURS}/VERSION')
-    for package in FRONTS.values():
-        for pattern in ('*.py', 'bank/*.txt', 'web/*'):
+    for package in (COMMON, *FRONTS.values()):
+        for pattern in ('*.py', 'bank/*.txt'):
             for source in below(package, pattern):
                 yield Item(f'{package}/{source}', 'datadir', f'{OURS}/{package}/{source}')
+
+
+def page() -> Iterator[Item]:
+    """The page, which is one file, and what has it and the board stand in the menu of a desktop."""
+    yield Item('programs/web/puzzles.html', 'datadir', f'{OURS}/puzzles.html')
+    yield Item('page/icon.svg', 'datadir', f'icons/hicolor/scalable/apps/{OURS}.svg')
+    yield Item(f'desktop/{OURS}.metainfo.xml', 'datadir', f'metainfo/{OURS}.metainfo.xml')
+    for source in below('desktop', '*.desktop'):
+        yield Item(f'desktop/{source}', 'datadir', f'applications/{source}')
 
 
 def documents() -> Iterator[Item]:

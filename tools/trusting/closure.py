@@ -1,84 +1,31 @@
-"""All that a reader has to read of what both names of the program call, and of the calls that docs/PROMISES.md names as those by which each promise is
-carried: what these contracts cite, and what that cites, to the kit's own words. Of a trait that they name these are also the contracts of its functions."""
+"""All that a reader has to read of some contracts: what they cite, and what that cites, to the kit's own words. Of a trait that they name these are also
+the contracts of its functions."""
 
 from __future__ import annotations
 
 import re
 from pathlib import Path
-from typing import Dict, Iterator, List, NamedTuple, Set, Tuple
+from typing import Dict, Iterable, List, Optional, Set, Tuple
 
 from trusting.contracts import Function, Rust
-from trusting.definitions import ROOT, Meaning, Part, Source, Specs, words
-
-#: What both names of the program call: the file and the function.
-WHOLE = ('crates/puzzles/src/whole_game.rt', 'program')
-
-#: The document, and its heading below which each item is a crate.
-PROMISES = ROOT / 'docs' / 'PROMISES.md'
-BY_CRATE = 'Crate by crate'
-
-#: Names, with a type or a crate before `::`.
-NAME = re.compile(r'`([\w:]+)`')
-
-
-def whole(rust: Rust) -> Function:
-    """What `main` calls."""
-    path, name = WHOLE
-    return next(one for one in rust.functions[name] if one.path == ROOT / path)
-
-
-class Row(NamedTuple):
-    """A promise: the crates that its section or itself names, and what carries it."""
-
-    crates: Tuple[str, ...]
-    carried: str
-
-
-def rows() -> Iterator[Row]:
-    """The items of the document that are carried by something: those of `Crate by crate` name their crate, others stand below a heading that does."""
-    for section in re.split(r'^## ', PROMISES.read_text(encoding='utf-8'), flags=re.MULTILINE):
-        heading, _, text = section.partition('\n')
-        for item in re.findall(r'^- (.*(?:\n +\S.*)*)', text, re.MULTILINE):
-            said, carries, carried = re.sub(r'\s+', ' ', item).partition('arried by ')
-            crates = re.findall(r'^\*\*`(\w+)`\*\*', said) if heading == BY_CRATE else NAME.findall(heading)
-            if carries:
-                yield Row(tuple(name for name in crates if (ROOT / 'crates' / name).is_dir()), carried)
-
-
-def named(row: Row, rust: Rust) -> Iterator[Function]:
-    """The functions that a row names: those of the name's type, trait or crate, or else of the one before it, or of the row's crates. A type and a trait
-    stand for their functions. What is in parentheses names clauses."""
-    owner = ''
-    for name in NAME.findall(re.sub(r'\([^()]*\)', '', row.carried)):
-        before, _, last = name.rpartition('::')
-        owner = before or owner
-        found = rust.functions.get(last, []) or [one for one in rust.owned.get(last, []) if one.is_public]
-        owned = [one for one in found if owner in one.owners or owner == crate_of(one)]
-        meant = owned or [one for one in found if not row.crates or crate_of(one) in row.crates]
-        yield from (one for one in meant if one.has_clauses)
-
-
-def crate_of(function: Function) -> str:
-    """The crate that a function is of."""
-    return function.path.relative_to(ROOT / 'crates').parts[0]
-
+from trusting.definitions import Meaning, Part, Source, Specs, words
 
 class Closure:
     """What was reached, and where it leads."""
 
-    def __init__(self) -> None:
+    def __init__(self, rust: Rust) -> None:
         self.parts: Dict[Part, None] = {}
         self.kit: Set[str] = set()
         self.uses: Dict[Path, Dict[Path, None]] = {}
         self._specs = Specs()
-        self._rust = Rust()
+        self._rust = rust
         self._members: Set[str] = set()
         self._traits: Set[str] = set()
 
-    def read_all(self) -> List[Part]:
-        """Reaches what both names of the program call and what the documents name, and gives these contracts."""
+    def read(self, functions: Iterable[Function]) -> List[Part]:
+        """Reaches the contracts of these functions with all that they cite, and gives the contracts."""
         found: Dict[Part, None] = {}
-        for one in [whole(self._rust), *(one for row in rows() for one in named(row, self._rust))]:
+        for one in functions:
             found[one.meaning.part] = None
             self._call(one.meaning)
         self._follow_traits()
@@ -93,10 +40,13 @@ class Closure:
 
     def _named(self, by: Part, word: str) -> None:
         """A type or a trait that code names."""
+        self._type_or_trait(by, word, self._rust.type_in(by.path, word))
+
+    def _type_or_trait(self, by: Part, word: str, meaning: Optional[Meaning]) -> None:
         if word in self._rust.traits:
             self._reach_trait(word)
-        elif word in self._rust.types:
-            self._reach(by, self._rust.types[word])
+        elif meaning:
+            self._reach(by, meaning)
 
     def _reach(self, by: Part, meaning: Meaning) -> None:
         if meaning.part.path != by.path:
@@ -117,13 +67,13 @@ class Closure:
 
     def _cite(self, by: Part, source: Source) -> None:
         module, name = source
-        rest = module.split('.')[2:]
+        _, crate, *rest = module.split('.')
         if rest[:2] == ['specs', 'declared']:
             owner = rest[-2] if rest[-1] == 'TheVariants' else rest[-1]
             if owner == 'TheConstants':
-                self._reach(by, self._rust.constants[name])
+                self._reach(by, self._rust.constants[crate, name])
             else:
-                self._named(by, owner)
+                self._type_or_trait(by, owner, self._rust.type_of(crate, owner))
             return
         meaning = self._specs.of(source)
         if meaning:

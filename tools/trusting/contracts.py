@@ -4,7 +4,7 @@ from __future__ import annotations
 
 import re
 from pathlib import Path
-from typing import Dict, Iterator, List, NamedTuple, Tuple
+from typing import Dict, Iterator, List, NamedTuple, Optional, Tuple
 
 from trusting.definitions import ROOT, Meaning, Part, imports
 
@@ -14,7 +14,7 @@ FOR_TESTS = re.compile(r'tests$|^trial_runs$|^client$')
 #: An item of a file, from its attributes and comments to its end.
 TYPE = re.compile(r'^((?: *(?://|#\[).*\n)*)pub(?:\(crate\))? (?:struct|enum) (\w+)[^;{]*(?:;|\{(?:.*\n)*?\}\n)', re.MULTILINE)
 CONSTANT = re.compile(r'^((?:///.*\n)*)pub(?:\(crate\))? const (\w+): [^;]*;', re.MULTILINE)
-FUNCTION = re.compile(r'^( *)(?:pub(?:\(crate\))? )?(?:final )?fn (\w+)\b.*?(?:;\n|(?=^\1\{[\n}]))', re.MULTILINE | re.DOTALL)
+FUNCTION = re.compile(r'^( *)(?:pub(?:\(crate\))? )?(?:final )?(?:extern "C" )?fn (\w+)\b.*?(?:;\n|(?=^\1\{[\n}]))', re.MULTILINE | re.DOTALL)
 GHOST = re.compile(r'((?:^    //[^\n]*\n)*)^    ghost (\w+)(?:: | = )(\{.*?\});\n', re.MULTILINE | re.DOTALL)
 BLOCK = re.compile(r'^(?:pub(?:\(crate\))? )?(?:impl|trait)\b[^{]*\{\n(?:.*\n)*?\}\n', re.MULTILINE)
 
@@ -25,12 +25,22 @@ class Code(NamedTuple):
     path: Path
     text: str
 
+    @property
+    def crate(self) -> str:
+        """The crate that it is of."""
+        return crate_of(self.path)
+
     def part(self, name: str, start: int, text: str) -> Meaning:
         """A part of it, with what the file and the part itself import."""
         lines = text.strip('\n')
         at = self.text.count('\n', 0, start) + 1 + (len(text) - len(text.lstrip('\n')))
         names = dict(imports(self.text))
         return Meaning(Part(self.path, at, name, lines), names)
+
+
+def crate_of(path: Path) -> str:
+    """The crate that a file is of."""
+    return path.relative_to(ROOT / 'crates').parts[0]
 
 
 def files() -> Iterator[Code]:
@@ -71,8 +81,8 @@ class Rust:
     """The types, constants, traits and functions of the crates."""
 
     def __init__(self) -> None:
-        self.types: Dict[str, Meaning] = {}
-        self.constants: Dict[str, Meaning] = {}
+        self._types_of: Dict[str, Dict[str, Meaning]] = {}
+        self.constants: Dict[Tuple[str, str], Meaning] = {}
         self.traits: Dict[str, Trait] = {}
         self.functions: Dict[str, List[Function]] = {}
         self.owned: Dict[str, List[Function]] = {}
@@ -83,11 +93,22 @@ class Rust:
             self._blocks(code)
             self._functions(code)
 
+    def type_of(self, crate: str, name: str) -> Optional[Meaning]:
+        """A type of a crate."""
+        return self._types_of.get(name, {}).get(crate)
+
+    def type_in(self, path: Path, name: str) -> Optional[Meaning]:
+        """The type that a file means by a name: that of the crate from which the file has the name, or of its own."""
+        if name not in self._types_of:
+            return None
+        used = re.search(rf'^(?:pub )?use (\w+)::[^;]*\b{name}\b', path.read_text(encoding='utf-8'), re.MULTILINE)
+        return self.type_of(used[1] if used and used[1] != 'crate' else crate_of(path), name)
+
     def _types(self, code: Code) -> None:
         for match in TYPE.finditer(code.text):
-            self.types[match[2]] = code.part(match[2], match.start(), match[0])
+            self._types_of.setdefault(match[2], {})[code.crate] = code.part(match[2], match.start(), match[0])
         for match in CONSTANT.finditer(code.text):
-            self.constants[match[2]] = code.part(match[2], match.start(), match[0])
+            self.constants[code.crate, match[2]] = code.part(match[2], match.start(), match[0])
 
     def _blocks(self, code: Code) -> None:
         for match in BLOCK.finditer(code.text):
@@ -99,7 +120,7 @@ class Rust:
                 start = match.start() + ghost.start()
                 if model and ghost[2] == 'Value':
                     # a type that contracts see as a value of its own: its fields need not be read
-                    self.types[model[1]] = code.part(f'{model[1]} is seen as', start, ghost[0])
+                    self._types_of.setdefault(model[1], {})[code.crate] = code.part(f'{model[1]} is seen as', start, ghost[0])
                 elif trait:
                     self._ghost(trait[1], re.findall(r'\w+', trait[2])).setdefault(ghost[2], []).insert(
                         0, code.part(f'{trait[1]}.{ghost[2]}', start, ghost[0])

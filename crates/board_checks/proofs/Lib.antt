@@ -6,7 +6,3 @@ pub mod RepeatedNumbers
 pub mod Signs
 pub mod Tables
 pub mod WholeGrids
--- Lemmas on what candidates leave, on the replay of a trail, and on hints.
-pub mod LeftValues
-pub mod ReplayedTrails
-pub mod FoundHints

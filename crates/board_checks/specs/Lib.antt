@@ -3,8 +3,6 @@ pub mod Demands
 pub mod Spots
 pub mod Games
 pub mod Errors
--- hints, and what they rest on
-pub mod Hints
 -- words that the contracts of private functions alone use
 pub mod Inner
 -- lemmas for the laws of the trait that the games keep

@@ -1,8 +1,10 @@
 //! Latin squares with givens, as a game.
 
+mod fair;
 mod game;
 mod picture;
 mod rules;
+mod steps;
 
 use latin_board::Grid;
 use std::marker::Model;

@@ -6,5 +6,4 @@ pub mod Trials
 pub mod RowSteps
 pub mod FullGivens
 pub mod PruneSteps
-pub mod IdleItems
 pub mod FairSteps

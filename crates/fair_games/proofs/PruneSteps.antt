@@ -1,7 +1,6 @@
 -- The steps of the pruning, for puzzles whose steps have names.
-use Rattle.std.proofs.Common.{◌≡◌, ℕ, ◌*◌, ◌<◌, ◌≤◌, Bool, true, false, ◌&&◌, ◌⊎◌, ◌-◌, List, length, take, drop, slice_index, Option, Some, inl, inr, refl, sym, ◌∙◌, ap, subst, arith}
+use Rattle.std.proofs.Common.{◌≡◌, ℕ, ◌*◌, ◌<◌, ◌≤◌, Bool, true, false, ◌&&◌, List, inl, inr, refl, sym, ◌∙◌, ap, subst, arith}
 use Rattle.std.proofs.lemmas.Bool.{cases_lt}
-use Rattle.std.proofs.lemmas.List.{get_or-take, get_or-drop, length-take-le, length-drop}
 use Rattle.latin_board.specs.Squares.{GridValue, IsGrid, IsLatin, number_at}
 use Rattle.trail_solver.specs.Candidates.{CandidatesValue, IsOnly}
 use Rattle.trail_solver.specs.Puzzles.{Solves}
@@ -9,16 +8,11 @@ use Rattle.trail_solver.specs.declared.rules.Rules.{Ghosts}
 use Rattle.puzzle_gen.specs.Orders.{place_in}
 use Rattle.puzzle_gen.proofs.ItemLaws.{AreCuts, ItemLaws, cuts_of_full}
 use Rattle.named_steps.specs.Following.{IsClosure, Follows}
-use Rattle.named_steps.specs.ItemLines.{HasNoItem, AgreeAlong}
-use Rattle.named_steps.specs.Passes.{AreCluesSettled, AreLinesSettled}
 use Rattle.named_steps.proofs.Antitone.{IsAntitone}
 use Rattle.named_steps.proofs.Kept.{IsSoundFor}
 use Rattle.named_steps.proofs.Followed.{follows_more}
-use Rattle.named_steps.proofs.Rounds.{IsShared}
-use Rattle.named_steps.proofs.SettledLines.{lines_of_settled}
 use Rattle.named_steps.specs.declared.reason.Reason.{Reason}
 use Rattle.named_steps.specs.declared.grade.Grade.{Grade}
-use Rattle.fair_games.specs.Pruned.{IsTrial}
 use Rattle.fair_games.specs.Fair.{FailsBy}
 use Rattle.fair_games.specs.Inner.PrunedTo.{outside, IsPrunedTo}
 use Rattle.fair_games.specs.Inner.Bases.{IsBase}
@@ -64,13 +58,10 @@ solves_without {P} f Struck items grade g order first last p q grid latin so_far
     (cut_of f g q (λ j. f.has p j && outside order first last j) items grid latin
     (gone ∙ cut_again f (FailsBy Struck grade g) g order first p (outside order first last) (cuts_of_full f g items grid latin) so_far)).solves
 
--- what a grade's steps leave of a base without some items: it is a base, rows and columns strike nothing of it, and it tells whether
--- the items go
+-- what a grade's steps leave of a base without some items: it is a base, and it tells whether the items go
 pub record IsLeftWithout {P : Type 0} (f : Ghosts P) (Struck : P → CandidatesValue → Reason → ℕ → ℕ → Type 0) (grade : Grade) (g : GridValue)
     (order : List ℕ) (first last : ℕ) (p : P) (left : CandidatesValue) : Type 0 where
   pub base : IsBase (Struck (f.cut p (outside order first last))) grade g left
-  pub lines : AreLinesSettled grade left
-  pub clues : AreCluesSettled (Struck (f.cut p (outside order first last))) grade left
   pub follows : ((cell : ℕ) → cell < left.size * left.size → IsOnly left cell (number_at g cell))
       → Follows (Struck (f.cut p (outside order first last))) grade g
   pub goes : ((cell : ℕ) → cell < left.size * left.size → IsOnly left cell (number_at g cell))
@@ -80,11 +71,11 @@ pub record IsLeftWithout {P : Type 0} (f : Ghosts P) (Struck : P → CandidatesV
 
 -- the candidates of a base, settled
 pub left_without : {P : Type 0} (f : Ghosts P) (Struck : P → CandidatesValue → Reason → ℕ → ℕ → Type 0) → HasSteps f Struck
-    → ((p : P) → IsShared (f.puzzle p) (Struck p)) → (grade : Grade) (g : GridValue) (order : List ℕ) (first last : ℕ) (p q : P)
+    → (grade : Grade) (g : GridValue) (order : List ℕ) (first last : ℕ) (p q : P)
     (base left : CandidatesValue) → IsGrid g → IsLatin g → first ≤ last → IsPrunedTo f (FailsBy Struck grade g) g order first p
     → q ≡ f.cut p (outside order first last) → IsBase (Struck (f.cut p (outside order first last))) grade g base
     → IsClosure (Struck q) grade base left → IsLeftWithout f Struck grade g order first last p left
-left_without {P} f Struck steps shared grade g order first last p q base left grid latin ordered so_far gone is closed =
+left_without {P} f Struck steps grade g order first last p q base left grid latin ordered so_far gone is closed =
     let Fails : P → Type 0 = FailsBy Struck grade g in
     let r = f.cut p (outside order first last) in
     let cuts = cuts_of_full f g steps.items grid latin in
@@ -94,8 +85,6 @@ left_without {P} f Struck steps shared grade g order first last p q base left gr
     let now = base_settled (f.puzzle r) (Struck r) (steps.sound r cut.valid) (steps.less r) grade g base left cut.solves is closure in
     record {
       base = now;
-      lines = lines_of_settled (f.puzzle r) (Struck r) (shared r) grade left (now.size ∙ sym cut.size) closure.settled;
-      clues = λ reason cell value is has pair h. closure.settled reason cell value has pair h;
       follows = base_follows (Struck r) grade g left now;
       goes = λ only. pruned_goes f Fails g order first last p r cuts (fewer_fail f Struck steps grade g) ordered so_far refl
           (λ fails. fails (base_follows (Struck r) grade g left now only));
@@ -210,118 +199,3 @@ pub first_gone : {P : Type 0} (f : Ghosts P) (Fails : P → Type 0) → ItemLaws
 first_gone {P} f Fails laws g order first middle last p fewer grid latin low high so_far gone =
     sym (ap (λ (r : P). f.cut r (outside order middle last)) gone
     ∙ first_half f Fails g order first middle last p (cuts_of_full f g laws grid latin) low high so_far)
-
--- ---- the items that are added
-
--- what a game owes of the lines along which its clues or signs are quiet
-pub record HasLines {P : Type 0} (f : Ghosts P) (Struck : P → CandidatesValue → Reason → ℕ → ℕ → Type 0)
-    (Quiet : P → Grade → ℕ → CandidatesValue → Type 0) (item_line : ℕ → ℕ → Option ℕ) : Type 0 where
-  pub settled : (p : P) (grade : Grade) (line : ℕ) (c : CandidatesValue) → AreCluesSettled (Struck p) grade c → Quiet p grade line c
-  pub cut : (p : P) (a b : ℕ → Bool) (grade : Grade) (line : ℕ) (c : CandidatesValue) → f.valid p → c.size ≡ (f.puzzle p).size → line < 2 * c.size
-      → AgreeAlong (item_line c.size) (f.items_of c.size) line a b → Quiet (f.cut p a) grade line c → Quiet (f.cut p b) grade line c
-
--- the list is of the items at the places of the order from one up to another
-record ArePlaces (order : List ℕ) (low high : ℕ) (items : List ℕ) : Type 0 where
-  count : length items ≡ high - low
-  each : (k : ℕ) → low ≤ k → k < high → slice_index items (k - low) ≡ slice_index order k
-
-places_are : (order : List ℕ) (low high : ℕ) (items : List ℕ) → high ≤ length order → items ≡ take (high - low) (drop low order)
-    → ArePlaces order low high items
-places_are order low high items whole is = record {
-  count = ap length is ∙ length-take-le (high - low) (drop low order) (omega (arith, length-drop low order, whole));
-  each = λ k from below. ap (λ (xs : List ℕ). slice_index xs (k - low)) is ∙ get_or-take (high - low) (drop low order) (k - low) 0 (omega (arith, from, below))
-      ∙ get_or-drop low order (k - low) 0 ∙ ap (λ (n : ℕ). slice_index order n) (omega (arith, from));
-}
-
--- two cuts that differ in items of some places alone: where the one is settled, nothing is struck by the other along a line that has none of these
-quiet_added : {P : Type 0} (f : Ghosts P) (Struck : P → CandidatesValue → Reason → ℕ → ℕ → Type 0)
-    (Quiet : P → Grade → ℕ → CandidatesValue → Type 0) (item_line : ℕ → ℕ → Option ℕ) → HasSteps f Struck → HasLines f Struck Quiet item_line
-    → (grade : Grade) (g : GridValue) (order : List ℕ) (low high : ℕ) (q r : P) (a b : ℕ → Bool) (items : List ℕ) (left : CandidatesValue)
-    → IsGrid g → IsLatin g → IsTrial (f.items_of g.size) order → high ≤ length order → left.size ≡ g.size
-    → q ≡ f.cut (f.full_of g) a → r ≡ f.cut (f.full_of g) b
-    → ((j : ℕ) → j < f.items_of g.size → (place_in j order < low) ⊎ (high ≤ place_in j order) → a j ≡ b j)
-    → ArePlaces order low high items → AreCluesSettled (Struck q) grade left
-    → (line : ℕ) → line < 2 * g.size → HasNoItem (item_line g.size) items line → Quiet r grade line left
-quiet_added {P} f Struck Quiet item_line steps lines grade g order low high q r a b items left grid latin trial whole size is_q is_r same places settled line line_is none =
-    let laws = steps.items in
-    let agree : AgreeAlong (item_line left.size) (f.items_of left.size) line a b = λ i below along.
-    let small : i < f.items_of g.size = subst (λ (n : ℕ). i < f.items_of n) size below in
-    let on : item_line g.size i ≡ Some line = subst (λ (n : ℕ). item_line n i ≡ Some line) size along in
-    let place = place_in i order in
-    elim (cases_lt place low) [
-      | inl before ↦ same i small (inl before)
-      | inr from ↦ elim (cases_lt place high) [
-        | inl within ↦
-            let is : slice_index items (place - low) ≡ i = places.each place from within ∙ trial.back i (omega (arith, within, whole)) in
-            absurd (none (place - low) (omega (arith, places.count, from, within)) (ap (item_line g.size) is ∙ on))
-        | inr after ↦ same i small (inr after)
-      ]
-    ] in
-    let there : Quiet (f.cut (f.full_of g) a) grade line left = subst (λ (p : P). Quiet p grade line left) is_q (lines.settled q grade line left settled) in
-    subst (λ (p : P). Quiet p grade line left) (sym is_r)
-    (lines.cut (f.full_of g) a b grade line left (laws.full_valid g grid latin) (size ∙ sym (laws.full_size g grid latin))
-    (omega (arith, size, line_is)) agree there)
-
--- so without the first half, where the second was added
-pub quiet_first : {P : Type 0} (f : Ghosts P) (Struck : P → CandidatesValue → Reason → ℕ → ℕ → Type 0)
-    (Quiet : P → Grade → ℕ → CandidatesValue → Type 0) (item_line : ℕ → ℕ → Option ℕ) → HasSteps f Struck → HasLines f Struck Quiet item_line
-    → (grade : Grade) (g : GridValue) (order : List ℕ) (first middle last : ℕ) (p : P) (items : List ℕ) (left : CandidatesValue)
-    → IsGrid g → IsLatin g → IsTrial (f.items_of g.size) order → first ≤ middle → middle ≤ last → last ≤ length order → left.size ≡ g.size
-    → IsPrunedTo f (FailsBy Struck grade g) g order first p → items ≡ take (last - middle) (drop middle order)
-    → AreCluesSettled (Struck (f.cut p (outside order first last))) grade left
-    → (line : ℕ) → line < 2 * g.size → HasNoItem (item_line g.size) items line → Quiet (f.cut p (outside order first middle)) grade line left
-quiet_first f Struck Quiet item_line steps lines grade g order first middle last p items left grid latin trial low high whole size so_far items_are =
-    let Fails = FailsBy Struck grade g in
-    let cuts = cuts_of_full f g steps.items grid latin in
-    quiet_added f Struck Quiet item_line steps lines grade g order middle last (f.cut p (outside order first last)) (f.cut p (outside order first middle))
-    (λ j. f.has p j && outside order first last j) (λ j. f.has p j && outside order first middle j) items left grid latin trial whole size
-    (cut_again f Fails g order first p (outside order first last) cuts so_far)
-    (cut_again f Fails g order first p (outside order first middle) cuts so_far)
-    (λ j small apart. ap (λ (t : Bool). f.has p j && t) (elim (cases_lt (place_in j order) first) [
-      | inl before ↦ outside_before order first last j before ∙ sym (outside_before order first middle j before)
-      | inr from ↦ elim apart [
-        | inl early ↦ outside_within order first last j from (omega (arith, early, high)) ∙ sym (outside_within order first middle j from early)
-        | inr after ↦ outside_after order first last j after ∙ sym (outside_after order first middle j (omega (arith, after, high)))
-      ]
-    ]))
-    (places_are order middle last items whole items_are)
-
--- and without the second, where what is left of the first was added
-pub quiet_second : {P : Type 0} (f : Ghosts P) (Struck : P → CandidatesValue → Reason → ℕ → ℕ → Type 0)
-    (Quiet : P → Grade → ℕ → CandidatesValue → Type 0) (item_line : ℕ → ℕ → Option ℕ) → HasSteps f Struck → HasLines f Struck Quiet item_line
-    → (grade : Grade) (g : GridValue) (order : List ℕ) (first middle last : ℕ) (p half : P) (items : List ℕ) (left : CandidatesValue)
-    → IsGrid g → IsLatin g → IsTrial (f.items_of g.size) order → first ≤ middle → middle ≤ last → last ≤ length order → left.size ≡ g.size
-    → IsPrunedTo f (FailsBy Struck grade g) g order first p → IsPrunedTo f (FailsBy Struck grade g) g order middle half
-    → ((j : ℕ) → j < f.items_of g.size → place_in j order < first → f.has half j ≡ f.has p j) → items ≡ take (middle - first) (drop first order)
-    → AreCluesSettled (Struck (f.cut p (outside order first last))) grade left
-    → (line : ℕ) → line < 2 * g.size → HasNoItem (item_line g.size) items line → Quiet (f.cut half (outside order middle last)) grade line left
-quiet_second f Struck Quiet item_line steps lines grade g order first middle last p half items left grid latin trial low high whole size so_far halved same items_are =
-    let Fails = FailsBy Struck grade g in
-    let cuts = cuts_of_full f g steps.items grid latin in
-    quiet_added f Struck Quiet item_line steps lines grade g order first middle (f.cut p (outside order first last)) (f.cut half (outside order middle last))
-    (λ j. f.has p j && outside order first last j) (λ j. f.has half j && outside order middle last j) items left grid latin trial
-    (omega (arith, high, whole)) size (cut_again f Fails g order first p (outside order first last) cuts so_far)
-    (cut_again f Fails g order middle half (outside order middle last) cuts halved)
-    (λ j small apart. elim apart [
-      | inl before ↦
-          rw (outside_before order first last j before, outside_before order middle last j (omega (arith, before, low)), same j small before) refl
-      | inr from ↦ elim (cases_lt (place_in j order) last) [
-        | inl within ↦
-            rw (outside_within order first last j (omega (arith, from, low)) within, outside_within order middle last j from within)
-            (none (f.has p j) (f.has half j))
-        | inr after ↦
-            rw (
-              outside_after order first last j after,
-              outside_after order middle last j after,
-              so_far.untried j small (omega (arith, from, low)),
-              halved.untried j small from,
-            ) refl
-      ]
-    ])
-    (places_are order first middle items (omega (arith, high, whole)) items_are)
-  where
-    none : (a b : Bool) → (a && false) ≡ (b && false)
-    none true true = refl
-    none true false = refl
-    none false true = refl
-    none false false = refl

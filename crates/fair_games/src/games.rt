@@ -96,8 +96,8 @@ pub fn fair<P: FairGame>(size: Size, grade: Grade, seed: u64) -> Result<P, FairF
     }
 }
 
-// The puzzle of the first draw of a seed that gives one of the grade.
-fn seeded<P: FairGame>(size: Size, grade: Grade, seed: u64) -> Option<P>
+/// The puzzle of the first draw of a seed that gives one of the grade: the fair game, where its size and grade are offered.
+pub fn seeded<P: FairGame>(size: Size, grade: Grade, seed: u64) -> Option<P>
     ensures needed { IfSome result (NeedsItems ⟦<P as Rules>⟧ P.struck_by grade (P.trial_of grade) size) }
     ensures fair { MatchOption result
         ((n : ℕ) → n < most_draws → IsPassedOver ⟦<P as Rules>⟧ P.struck_by grade

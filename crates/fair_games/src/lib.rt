@@ -23,6 +23,6 @@ mod trial;
 
 pub use fair_fault::FairFault;
 pub use fair_game::FairGame;
-pub use games::{fair, grade_of_letter, is_offered};
+pub use games::{fair, grade_of_letter, is_offered, seeded};
 pub use laws_of_games::fair_laws;
 pub use trial::Trial;

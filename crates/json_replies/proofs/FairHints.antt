@@ -1,13 +1,12 @@
 -- Hints of a puzzle that follows by a grade lead on.
-use Rattle.std.proofs.Common.{◌≡◌, ◌≢◌, ℕ, ◌*◌, ◌<◌, ◌≤◌, refl, sym, subst, arith, inl, inr}
-use Rattle.std.proofs.lemmas.Bool.{cases_eq}
+use Rattle.std.proofs.Common.{◌≡◌, ◌≢◌, ℕ, ◌*◌, ◌<◌, ◌≤◌, sym, subst, arith, inl, inr}
+use Rattle.std.proofs.lemmas.Bool.{cases_eq, cases_lt}
 use Rattle.latin_board.specs.Squares.{GridValue, number_at}
 use Rattle.trail_solver.specs.Candidates.{CandidatesValue}
 use Rattle.trail_solver.specs.Pairs.{IsPair}
 use Rattle.trail_solver.specs.Puzzles.{Puzzle, Solves}
 use Rattle.trail_solver.specs.Completions.{Keeps}
 use Rattle.trail_solver.proofs.FilledGrids.{solution_pair}
-use Rattle.board_checks.specs.declared.hints.Hint.TheVariants.{Follows as Found, Nothing, Contradiction}
 use Rattle.named_steps.specs.Chains.{IsView}
 use Rattle.named_steps.specs.Following.{Follows}
 use Rattle.named_steps.specs.StepLaws.{GradesAreNested}
@@ -18,14 +17,15 @@ use Rattle.named_steps.specs.declared.reason.Reason.{Reason}
 use Rattle.named_steps.proofs.Antitone.{IsAntitone}
 use Rattle.named_steps.proofs.Followed.{boards_lead, boards_refuted}
 use Rattle.step_chains.specs.Explanations.{NothingIsShown, IsRefutedGrid}
+use Rattle.step_chains.specs.declared.hints.NextHint.{NextHint}
+use Rattle.step_chains.specs.declared.hints.NextHint.TheVariants.{Follows as Found, Refuted, Nothing}
+use Rattle.step_chains.specs.NextHints.{NoneBelowShows, height}
 use Rattle.puzzle_cli.specs.GameFacts.{GameFacts}
-use Rattle.json_replies.specs.declared.told_hint.ToldHint.{ToldHint}
-use Rattle.json_replies.specs.declared.told_hint.ToldHint.TheVariants.{Explained, Refuted, Deduced}
-use Rattle.json_replies.specs.FairLaws.{rank, IsExplainedBy, IsWrongAt, HintsLeadOn}
+use Rattle.json_replies.specs.FairLaws.{IsContradiction, IsExplainedBy, IsWrongAt, HintsLeadOn}
 use Rattle.json_replies.specs.FurtherLines.{BoardFacts}
-use Rattle.json_replies.specs.ToldHints.{hint_of, NoneBelow, IsTold}
+use Rattle.json_replies.specs.ToldHints.{IsHint}
 
-module _ (p : Puzzle) (Strikes : CandidatesValue → ℕ → ℕ → Type 0) (Struck : CandidatesValue → Reason → ℕ → ℕ → Type 0) (less : IsAntitone Struck)
+module _ (p : Puzzle) (Struck : CandidatesValue → Reason → ℕ → ℕ → Type 0) (less : IsAntitone Struck)
     (nested : (h : GridValue) → (Follows Struck Latin h → Follows Struck Easy h) × (Follows Struck Easy h → Follows Struck Hard h))
     (s g : GridValue) (view : CandidatesValue) (cell : ℕ) (solves : Solves p s) (size : g.size ≡ s.size) (in_view : IsView g view)
     (inside : cell < g.size * g.size) (empty : number_at g cell ≡ 0) where
@@ -51,22 +51,17 @@ module _ (p : Puzzle) (Strikes : CandidatesValue → ℕ → ℕ → Type 0) (St
       elim (cases_eq (number_at s at) (number_at g at)) [ inl same ↦ same | inr other ↦ absurd (right at (within, apart, λ e. other (sym e))) ]
 
   -- a grade below which nothing is shown is no greater than that of the puzzle
-  least : (grade own : Grade) → Follows Struck grade s → NoneBelow Struck own g → rank own ≤ rank grade
-  least grade Latin follows none = omega arith
-  least Latin Easy follows none = absurd (leads Latin follows none)
-  least Easy Easy follows none = omega arith
-  least Hard Easy follows none = omega arith
-  least Latin Hard follows none = absurd (leads Latin follows none.0)
-  least Easy Hard follows none = absurd (leads Easy follows none.1)
-  least Hard Hard follows none = omega arith
+  least : (grade own : Grade) → Follows Struck grade s → NoneBelowShows Struck own g → height own ≤ height grade
+  least grade own follows none = elim (cases_lt (height grade) (height own)) [
+    | inl below ↦ absurd (leads grade follows (none grade below))
+    | inr within ↦ within
+  ]
 
-  right_hint : (grade : Grade) (told : ToldHint) → Follows Struck grade s → IsTold p Strikes Struck g told
-      → ((wrong : ℕ) → IsWrongAt g s wrong → ⊥) → IsExplainedBy grade told
-  right_hint grade (Explained own chain) follows is right = least grade own follows is.reached.1
-  right_hint grade (Refuted own refutation) follows is right = is.sound s (solves, keeps right)
-  right_hint grade (Deduced (Found at value)) follows is right = leads Hard (by_all grade follows) is.reached.1
-  right_hint grade (Deduced Nothing) follows is right = leads Hard (by_all grade follows) is.reached.1
-  right_hint grade (Deduced Contradiction) follows is right = is.sound s (solves, keeps right)
+  right_hint : (grade : Grade) (hint : NextHint) → Follows Struck grade s → IsHint p Struck g hint
+      → ((wrong : ℕ) → IsWrongAt g s wrong → ⊥) → IsExplainedBy grade hint
+  right_hint grade (Found own chain) follows is right = least grade own follows is.least.1
+  right_hint grade (Refuted own refutation) follows is right = is.right s (solves, keeps right)
+  right_hint grade Nothing follows is right = leads Hard (by_all grade follows) is.least.0
 
   -- a wrong square is refuted
   wrong_refuted : (grade : Grade) → Follows Struck grade s → (wrong : ℕ) → IsWrongAt g s wrong → IsRefutedGrid Struck Hard g
@@ -76,18 +71,16 @@ module _ (p : Puzzle) (Strikes : CandidatesValue → ℕ → ℕ → Type 0) (St
     boards_refuted Struck less Hard s g view wrong (by_all grade follows) size in_view (subst (λ (w : ℕ). wrong < w * w) size within) some other,
   )
 
-  wrong_hint : (grade : Grade) (told : ToldHint) → Follows Struck grade s → IsTold p Strikes Struck g told → (wrong : ℕ) → IsWrongAt g s wrong
-      → hint_of g.size told ≡ Contradiction
-  wrong_hint grade (Explained own chain) follows is wrong so = absurd (is.reached.2 (wrong_refuted grade follows wrong so))
-  wrong_hint grade (Refuted own refutation) follows is wrong so = refl
-  wrong_hint grade (Deduced (Found at value)) follows is wrong so = absurd (leads Hard (by_all grade follows) is.reached.1)
-  wrong_hint grade (Deduced Nothing) follows is wrong so = absurd (leads Hard (by_all grade follows) is.reached.1)
-  wrong_hint grade (Deduced Contradiction) follows is wrong so = refl
+  wrong_hint : (grade : Grade) (hint : NextHint) → Follows Struck grade s → IsHint p Struck g hint → (wrong : ℕ) → IsWrongAt g s wrong
+      → IsContradiction hint
+  wrong_hint grade (Found own chain) follows is wrong so = is.least.2 (wrong_refuted grade follows wrong so)
+  wrong_hint grade (Refuted own refutation) follows is wrong so = tt
+  wrong_hint grade Nothing follows is wrong so = is.least.1 (wrong_refuted grade follows wrong so)
 
 pub hints_lead_on : {P : Type 0} (f : GameFacts P) (b : BoardFacts P) → ((p : P) → IsAntitone (b.struck_by p)) → GradesAreNested b.struck_by
     → HintsLeadOn f b
-hints_lead_on f b less nested p grade s g view cell told solves follows size in_view inside empty is =
+hints_lead_on f b less nested p grade s g view cell hint solves follows size in_view inside empty is =
     let puzzle = f.rules.puzzle p in (
-      right_hint puzzle (b.strikes p) (b.struck_by p) (less p) (nested p) s g view cell solves size in_view inside empty grade told follows is,
-      wrong_hint puzzle (b.strikes p) (b.struck_by p) (less p) (nested p) s g view cell solves size in_view inside empty grade told follows is,
+      right_hint puzzle (b.struck_by p) (less p) (nested p) s g view cell solves size in_view inside empty grade hint follows is,
+      wrong_hint puzzle (b.struck_by p) (less p) (nested p) s g view cell solves size in_view inside empty grade hint follows is,
     )

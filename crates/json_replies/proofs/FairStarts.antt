@@ -1,10 +1,9 @@
 -- The session that a line `fair` begins.
-use Rattle.std.proofs.Common.{◌≡◌, ◌⊎◌, ℕ, List, Option, Some, None, Result, Ok, Err, IfSome, Contains, refl, sym, ap, subst, ◌∙◌, inl, inr}
+use Rattle.std.proofs.Common.{◌≡◌, ◌⊎◌, ℕ, List, Option, Some, None, Ok, Err, IfSome, Contains, refl, sym, ap, subst, ◌∙◌, inl, inr}
 use Rattle.std.specs.Option.{IsSomeAnd}
 use Rattle.clue_rules.specs.declared.params.Params.{Params}
 use Rattle.clue_rules.specs.Parameters.{IsParams}
 use Rattle.play_midend.specs.Histories.{History}
-use Rattle.puzzle_gen.proofs.ItemLaws.{ItemLaws}
 use Rattle.named_steps.specs.declared.grade.Grade.{Grade}
 use Rattle.fair_games.proofs.PruneSteps.{HasSteps}
 use Rattle.fair_games.proofs.FairSteps.{fair_puzzle, fair_solved, draw_size}
@@ -19,11 +18,11 @@ use Rattle.puzzle_cli.proofs.RepliesOnce.{IdsAreReadOnce}
 use Rattle.puzzle_cli.proofs.DescribedReplies.{AreCanonical, described_lines_begin}
 use Rattle.json_replies.specs.declared.fair_words.FairWords.{FairWords}
 use Rattle.json_replies.specs.declared.fair_request.FairRequest.{FairRequest}
-use Rattle.json_replies.specs.FairLines.{IsFairLine, IsSizeWord, IsAsked, AreFairLetters}
+use Rattle.json_replies.specs.FairLines.{IsFairLine, IsAsked, AreFairLetters}
 use Rattle.json_replies.specs.FairReplies.{fair_params, IsFairGame, FairGives}
 use Rattle.json_replies.specs.FairLaws.{IsFairStart, FairLinesBegin}
 use Rattle.json_replies.specs.FurtherLines.{BoardFacts, further_at}
-use Rattle.json_replies.specs.JsonReplies.{AnswerGives, TellsLine, JsonReply}
+use Rattle.json_replies.specs.JsonReplies.{AnswerGives, TellsLine}
 use Rattle.json_replies.specs.Replies.{Answer, left_by}
 use Rattle.json_replies.proofs.FairReading.{line_again}
 
@@ -43,18 +42,18 @@ asked_params letters letter own words r (size, (code, is, offered, word), seed) 
 module _ {P : Type 0} (f : GameFacts P) (b : BoardFacts P) (steps : HasSteps f.rules b.struck_by) (ids : IdsAreReadOnce f) (canonical : AreCanonical f)
     (letters : AreFairLetters f.letters b.fair_letter) where
   -- the session of a fair game
-  fair_start : (r : FairRequest) (p : P) → IsFairGame f b r (Ok p) → IsFairStart f b r (new_game (fair_params b r) p)
+  fair_start : (r : FairRequest) (p : P) → IsFairGame f b r p → IsFairStart f b r (new_game (fair_params b r) p)
   fair_start r p game =
-      let (solution, solved) = fair_solved f.rules b.struck_by steps r.grade _ p game.1 in
-      record { fair = game; start = refl; solution = solution; only = solved.0; follows = solved.1; graded = (game.1).graded }
+      let (solution, solved) = fair_solved f.rules b.struck_by steps r.grade _ p game in
+      record { fair = game; start = refl; solution = solution; only = solved.0; follows = solved.1; graded = game.graded }
 
   -- what `new` with its ID gives
   new_gives : (old : Option (History P)) (words : FairWords (List ℕ)) (r : FairRequest) (p : P) (outcome : Outcome P)
-      → IsAsked b.fair_letter words (Ok r) → IsFairGame f b r (Ok p) → LineGives f old (described_line f (fair_params b r) p) outcome
+      → IsAsked b.fair_letter words (Ok r) → IsFairGame f b r p → LineGives f old (described_line f (fair_params b r) p) outcome
       → (outcome ≡ Ok (ok_line, Some (new_game (fair_params b r) p))) ⊎ (outcome ≡ Err Memory)
   new_gives old words r p outcome asked game gives =
-      let cut = fair_puzzle f.rules b.struck_by r.grade _ p steps.items game.1 in
-      let size : (f.rules.puzzle p).size ≡ r.size = cut.size ∙ draw_size (b.trial r.grade) r.size (f.rules.items_of r.size) _ (game.1).draw in
+      let cut = fair_puzzle f.rules b.struck_by r.grade _ p steps.items game in
+      let size : (f.rules.puzzle p).size ≡ r.size = cut.size ∙ draw_size (b.trial r.grade) r.size (f.rules.items_of r.size) _ game.draw in
       (described_lines_begin f steps.items ids canonical old (fair_params b r) p (asked_params f.letters b.fair_letter letters words r asked) cut.valid
       (sym size)).others outcome gives
 
@@ -63,7 +62,7 @@ module _ {P : Type 0} (f : GameFacts P) (b : BoardFacts P) (steps : HasSteps f.r
   Begins old words new = (new ≡ old) ⊎ ((r : FairRequest) × IsAsked b.fair_letter words (Ok r) × IsSomeAnd new (IsFairStart f b r))
 
   outcome_begins : (old new : Option (History P)) (words : FairWords (List ℕ)) (r : FairRequest) (p : P) (outcome : Outcome P)
-      → IsAsked b.fair_letter words (Ok r) → IsFairGame f b r (Ok p)
+      → IsAsked b.fair_letter words (Ok r) → IsFairGame f b r p
       → (outcome ≡ Ok (ok_line, Some (new_game (fair_params b r) p))) ⊎ (outcome ≡ Err Memory) → new ≡ left old outcome → Begins old words new
   outcome_begins old new words r p outcome asked game (inl is) leaves =
       let begun : new ≡ Some (new_game (fair_params b r) p) = leaves ∙ ap (left old) is in

@@ -1,10 +1,13 @@
 -- What is told of a hint has one text.
-use Rattle.std.proofs.Common.{ℕ, ◌≤◌, ◌*◌, Bool, true, false, ◌&&◌, if◌then◌else◌, nat_lt, ℤ, pos, negsuc, List, codes, Option, Some, None, refl, sym, subst, arith, inl, inr}
+use Rattle.std.proofs.Common.{ℕ, ◌≤◌, ◌*◌, Bool, true, false, ◌&&◌, if◌then◌else◌, nat_lt, ℤ, pos, negsuc, List, [], ◌∷◌, Option, Some, None, refl, sym, subst, arith}
+use Rattle.std.specs.Prelude.{slice_index}
 use Rattle.std.specs.List.{range_with_len}
 use Rattle.number_sets.specs.Sets.{has_number}
 use Rattle.latin_board.specs.Edges.{edge_xy}
 use Rattle.latin_board.specs.Lines.{line_cell}
-use Rattle.serde_json.specs.Data.{Data, null, number, string, array, no_items}
+use Rattle.latin_board.specs.Squares.{GridValue}
+use Rattle.trail_solver.specs.Candidates.{CandidatesValue, may_be}
+use Rattle.serde_json.specs.Data.{Data, null, number, string}
 use Rattle.serde_json.specs.Find.{of_integer}
 use Rattle.serde_json.specs.Written.{has_float}
 use Rattle.named_steps.specs.Chains.{goal_cell, goal_value}
@@ -13,18 +16,19 @@ use Rattle.named_steps.specs.declared.reason.Reason.TheVariants.{Given, Peer, Pl
 use Rattle.named_steps.specs.declared.goal.Goal.{Goal}
 use Rattle.named_steps.specs.declared.goal.Goal.TheVariants.{OnlyValue, OnlyPlace}
 use Rattle.named_steps.specs.declared.grade.Grade.{Grade}
-use Rattle.board_checks.specs.declared.hints.Hint.{Hint}
-use Rattle.board_checks.specs.declared.hints.Hint.TheVariants.{Follows, Nothing, Contradiction}
-use Rattle.step_chains.specs.declared.chain.Step.{Step}
-use Rattle.json_replies.specs.declared.told_hint.ToldHint.{ToldHint}
-use Rattle.json_replies.specs.declared.told_hint.ToldHint.TheVariants.{Explained, Refuted, Deduced}
-use Rattle.json_replies.specs.declared.step_value.Ends.{Ends}
+use Rattle.step_chains.specs.declared.hints.NextHint.{NextHint}
+use Rattle.step_chains.specs.declared.hints.NextHint.TheVariants.{Follows, Refuted, Nothing}
+use Rattle.step_texts.specs.declared.told.Strike.{Strike}
+use Rattle.step_texts.specs.declared.told.ToldStep.{ToldStep}
+use Rattle.step_texts.specs.Lines.{line_texts}
+use Rattle.json_replies.specs.declared.reason_parts.Ends.{Ends}
 use Rattle.json_replies.specs.Counts.{count_data}
 use Rattle.json_replies.specs.Texts.{text_data, list_data}
-use Rattle.json_replies.specs.Boards.{when, mark_set_data}
+use Rattle.json_replies.specs.Boards.{when, mark_set_data, squares}
 use Rattle.json_replies.specs.ObjectLines.{Fits}
-use Rattle.json_replies.specs.Steps.{ToldLook, edge_of, ends_of, x_data, y_data, clue_data, greater_data, less_data, line_data, one_data, squares_data, cells_data, numbers_data, strike_data, step_data, looks_data}
-use Rattle.json_replies.specs.HintObjects.{hint_data, plain_data, by_word, goal_line_data, grade_data, IsHintValue}
+use Rattle.json_replies.specs.Reasons.{ReasonParts, one_data, squares_data, parts_of}
+use Rattle.json_replies.specs.Steps.{x_data, y_data, clue_data, greater_data, less_data, shows_data, strike_data, look_data, step_data, steps_data}
+use Rattle.json_replies.specs.HintObjects.{SaidData, by_word, goal_line_data, grade_data, said_of, left_data, view_data, hint_data, IsHintValue}
 use Rattle.json_replies.specs.Laws.Spellings.{no_float_or, list_fits, listed_fits, when_fits, text_fits}
 
 -- what fits fits deeper down
@@ -52,7 +56,33 @@ set_fits marks =
 one_fits : (n : ℕ) → Fits 1 (one_data n)
 one_fits n = record { whole = refl; flat = omega arith }
 
--- ---- a step
+-- ---- the parts of a reason
+
+-- its line fits where a value does, its squares and its numbers where a list does
+record PartsFit (parts : ReasonParts) : Type 0 where
+  line : Fits 0 parts.line
+  cells : Fits 1 parts.cells
+  numbers : Fits 1 parts.numbers
+
+squares_fit : (w line places : ℕ) → Fits 1 (squares_data w line places)
+squares_fit w line places =
+    either_fits 1 (nat_lt line (2 * w)) _ null
+    (listed_fits 0 (λ k. when (has_number places k) (count_data (line_cell w line k)))
+    (λ k. when_fits 0 (has_number places k) (count_data (line_cell w line k)) (count_fits (line_cell w line k))) (range_with_len 0 w)) (null_fits 1)
+
+parts_fit : (w : ℕ) (is_over : ℕ → ℕ → Bool) (reason : Reason) → PartsFit (parts_of w is_over reason)
+parts_fit w is_over (Given cell) = record { line = null_fits 0; cells = one_fits cell; numbers = null_fits 1 }
+parts_fit w is_over (Peer cell) = record { line = null_fits 0; cells = one_fits cell; numbers = null_fits 1 }
+parts_fit w is_over (Place line index value) = record {
+  line = count_fits line;
+  cells = either_fits 1 (nat_lt line (2 * w) && nat_lt index w) (one_data (line_cell w line index)) null (one_fits (line_cell w line index)) (null_fits 1);
+  numbers = one_fits value;
+}
+parts_fit w is_over (Bound place) = record { line = null_fits 0; cells = null_fits 1; numbers = null_fits 1 }
+parts_fit w is_over (Stand place) = record { line = null_fits 0; cells = null_fits 1; numbers = null_fits 1 }
+parts_fit w is_over (Clue place) = record { line = null_fits 0; cells = null_fits 1; numbers = null_fits 1 }
+parts_fit w is_over (Sign from to) = record { line = null_fits 0; cells = null_fits 1; numbers = null_fits 1 }
+parts_fit w is_over (Set line squares values) = record { line = count_fits line; cells = squares_fit w line squares; numbers = set_fits values }
 
 x_fits : (w : ℕ) (edge : Option ℕ) → Fits 0 (x_data w edge)
 x_fits w None = null_fits 0
@@ -74,68 +104,40 @@ less_fits : (ends : Option Ends) → Fits 0 (less_data ends)
 less_fits None = null_fits 0
 less_fits (Some ends) = count_fits ends.less
 
-line_fits : (reason : Reason) → Fits 0 (line_data reason)
-line_fits (Given cell) = null_fits 0
-line_fits (Peer cell) = null_fits 0
-line_fits (Place line index value) = count_fits line
-line_fits (Bound place) = null_fits 0
-line_fits (Stand place) = null_fits 0
-line_fits (Clue place) = null_fits 0
-line_fits (Sign from to) = null_fits 0
-line_fits (Set line squares values) = count_fits line
+-- ---- a step
 
-squares_fit : (w line places : ℕ) → Fits 1 (squares_data w line places)
-squares_fit w line places =
-    either_fits 1 (nat_lt line (2 * w)) _ null
-    (listed_fits 0 (λ k. when (has_number places k) (count_data (line_cell w line k)))
-    (λ k. when_fits 0 (has_number places k) (count_data (line_cell w line k)) (count_fits (line_cell w line k))) (range_with_len 0 w)) (null_fits 1)
+shows_fit : (values : ℕ) (shows : Option (List ℕ)) → Fits 2 (shows_data values shows)
+shows_fit values None = null_fits 2
+shows_fit values (Some shows) =
+    listed_fits 1 (λ n. when (has_number values n) (mark_set_data (slice_index shows n)))
+    (λ n. when_fits 1 (has_number values n) (mark_set_data (slice_index shows n)) (set_fits (slice_index shows n))) (range_with_len 1 9)
 
-cells_fit : (w : ℕ) (reason : Reason) → Fits 1 (cells_data w reason)
-cells_fit w (Given cell) = one_fits cell
-cells_fit w (Peer cell) = one_fits cell
-cells_fit w (Place line index value) =
-    either_fits 1 (nat_lt line (2 * w) && nat_lt index w) (one_data (line_cell w line index)) null (one_fits (line_cell w line index)) (null_fits 1)
-cells_fit w (Bound place) = null_fits 1
-cells_fit w (Stand place) = null_fits 1
-cells_fit w (Clue place) = null_fits 1
-cells_fit w (Sign from to) = null_fits 1
-cells_fit w (Set line squares values) = squares_fit w line squares
-
-numbers_fit : (reason : Reason) → Fits 1 (numbers_data reason)
-numbers_fit (Given cell) = null_fits 1
-numbers_fit (Peer cell) = null_fits 1
-numbers_fit (Place line index value) = one_fits value
-numbers_fit (Bound place) = null_fits 1
-numbers_fit (Stand place) = null_fits 1
-numbers_fit (Clue place) = null_fits 1
-numbers_fit (Sign from to) = null_fits 1
-numbers_fit (Set line squares values) = set_fits values
-
-strike_fits : (step : Step) → Fits 2 (strike_data step)
-strike_fits step =
-    let set = set_fits step.values in
+strike_fits : (strike : Strike) → Fits 3 (strike_data strike)
+strike_fits strike =
+    let set = set_fits strike.values in
+    let shows = shows_fit strike.values strike.shows in
     let a = set.flat in
-    record { whole = no_float_or (has_float (mark_set_data step.values)) false set.whole refl; flat = omega arith }
-
-strikes_fit : (steps : List Step) → Fits 3 (list_data strike_data steps)
-strikes_fit steps = list_fits 2 strike_data strike_fits steps
+    let b = shows.flat in
+    record {
+      whole = no_float_or (has_float (mark_set_data strike.values)) _ set.whole
+          (no_float_or (has_float (shows_data strike.values strike.shows)) false shows.whole refl);
+      flat = omega arith;
+    }
 
 texts_fit : (text : List (List ℕ)) → Fits 1 (list_data text_data text)
 texts_fit text = list_fits 0 text_data text_fits text
 
-step_fits : (w : ℕ) (clue : ℕ → ℕ) (is_over : ℕ → ℕ → Bool) (reason : Reason) (steps : List Step) (text : List (List ℕ))
-    → Fits 4 (step_data w clue is_over reason steps text)
-step_fits w clue is_over reason steps text =
-    let a = cells_fit w reason in
-    let b = clue_fits clue (edge_of w reason) in
-    let c = greater_fits (ends_of w is_over reason) in
-    let d = less_fits (ends_of w is_over reason) in
-    let e = line_fits reason in
-    let f = numbers_fit reason in
-    let h = strikes_fit steps in
-    let i = texts_fit text in
-    let j = x_fits w (edge_of w reason) in
-    let k = y_fits w (edge_of w reason) in
+look_fits : (w : ℕ) (clue : ℕ → ℕ) (parts : ReasonParts) (strikes text : Data) → PartsFit parts → Fits 4 strikes → Fits 1 text
+    → Fits 5 (look_data w clue parts strikes text)
+look_fits w clue parts strikes text fit h i =
+    let a = fit.cells in
+    let b = clue_fits clue parts.edge in
+    let c = greater_fits parts.ends in
+    let d = less_fits parts.ends in
+    let e = fit.line in
+    let f = fit.numbers in
+    let j = x_fits w parts.edge in
+    let k = y_fits w parts.edge in
     let aa = a.flat in
     let bb = b.flat in
     let cc = c.flat in
@@ -147,52 +149,39 @@ step_fits w clue is_over reason steps text =
     let jj = j.flat in
     let kk = k.flat in
     record {
-      whole = no_float_or (has_float (cells_data w reason)) _ a.whole (no_float_or (has_float (clue_data clue (edge_of w reason))) _ b.whole
-          (no_float_or (has_float (greater_data (ends_of w is_over reason))) _ c.whole
-          (no_float_or (has_float (less_data (ends_of w is_over reason))) _ d.whole (no_float_or (has_float (line_data reason)) _ e.whole
-          (no_float_or (has_float (numbers_data reason)) _ f.whole (no_float_or (has_float (list_data strike_data steps)) _ h.whole
-          (no_float_or (has_float (list_data text_data text)) _ i.whole (no_float_or (has_float (x_data w (edge_of w reason))) _ j.whole
-          (no_float_or (has_float (y_data w (edge_of w reason))) false k.whole refl)))))))));
+      whole = no_float_or (has_float parts.cells) _ a.whole (no_float_or (has_float (clue_data clue parts.edge)) _ b.whole
+          (no_float_or (has_float (greater_data parts.ends)) _ c.whole
+          (no_float_or (has_float (less_data parts.ends)) _ d.whole (no_float_or (has_float parts.line) _ e.whole
+          (no_float_or (has_float parts.numbers) _ f.whole (no_float_or (has_float strikes) _ h.whole
+          (no_float_or (has_float text) _ i.whole (no_float_or (has_float (x_data w parts.edge)) _ j.whole
+          (no_float_or (has_float (y_data w parts.edge)) false k.whole refl)))))))));
       flat = omega arith;
     }
 
-looks_fit : (w : ℕ) (clue : ℕ → ℕ) (is_over : ℕ → ℕ → Bool) (looks : List ToldLook) → Fits 5 (looks_data w clue is_over looks)
-looks_fit w clue is_over looks =
-    list_fits 4 (λ (look : ToldLook). step_data w clue is_over look.reason look.steps look.text)
-    (λ look. step_fits w clue is_over look.reason look.steps look.text) looks
+step_fits : (w : ℕ) (clue : ℕ → ℕ) (is_over : ℕ → ℕ → Bool) (told : ToldStep) → Fits 5 (step_data w clue is_over told)
+step_fits w clue is_over told =
+    look_fits w clue (parts_of w is_over told.reason) (list_data strike_data told.strikes.items) (list_data text_data (line_texts told.text.items))
+    (parts_fit w is_over told.reason) (list_fits 3 strike_data strike_fits told.strikes.items) (texts_fit (line_texts told.text.items))
+
+steps_fit : (w : ℕ) (clue : ℕ → ℕ) (is_over : ℕ → ℕ → Bool) (steps : List ToldStep) → Fits 6 (steps_data w clue is_over steps)
+steps_fit w clue is_over steps = list_fits 5 (step_data w clue is_over) (step_fits w clue is_over) steps
 
 -- ---- a hint
 
-hint_fits : (by cell grade : Data) (kind : List ℕ) (line value steps text : Data) → Fits 0 by → Fits 0 cell → Fits 0 grade → Fits 0 line → Fits 0 value
-    → Fits 5 steps → Fits 5 text → Fits 6 (hint_data by cell grade kind line value steps text)
-hint_fits by cell grade kind line value steps text a b c d e f h =
-    let aa = a.flat in
-    let bb = b.flat in
-    let cc = c.flat in
-    let dd = d.flat in
-    let ee = e.flat in
-    let ff = f.flat in
-    let hh = h.flat in
-    record {
-      whole = no_float_or (has_float by) _ a.whole (no_float_or (has_float cell) _ b.whole (no_float_or (has_float grade) _ c.whole
-          (no_float_or (has_float line) _ d.whole (no_float_or (has_float value) _ e.whole (no_float_or (has_float steps) _ f.whole
-          (no_float_or (has_float text) false h.whole refl))))));
-      flat = omega arith;
-    }
+left_fits : (c : CandidatesValue) (cell : ℕ) → Fits 1 (left_data c cell)
+left_fits c cell =
+    listed_fits 0 (λ n. when (may_be c cell n) (count_data n)) (λ n. when_fits 0 (may_be c cell n) (count_data n) (count_fits n)) (range_with_len 1 c.size)
 
-none_fits : Fits 5 (array no_items)
-none_fits = record { whole = refl; flat = omega arith }
+view_fits : (c : CandidatesValue) → Fits 2 (view_data c)
+view_fits c = listed_fits 1 (λ cell. left_data c cell ∷ []) (λ cell. (left_fits c cell, tt)) (squares c.size)
 
-plain_fits : (hint : Hint) → Fits 6 (plain_data hint)
-plain_fits (Follows cell value) =
-    hint_fits null (count_data cell) null (codes "follows") null (count_data value) (array no_items) (array no_items) (null_fits 0) (count_fits cell)
-    (null_fits 0) (null_fits 0) (count_fits value) none_fits none_fits
-plain_fits Nothing =
-    hint_fits null null null (codes "nothing") null null (array no_items) (array no_items) (null_fits 0) (null_fits 0) (null_fits 0) (null_fits 0)
-    (null_fits 0) none_fits none_fits
-plain_fits Contradiction =
-    hint_fits null null null (codes "contradiction") null null (array no_items) (array no_items) (null_fits 0) (null_fits 0) (null_fits 0) (null_fits 0)
-    (null_fits 0) none_fits none_fits
+-- each member of what a hint says is a single value
+record SaidFits (said : SaidData) : Type 0 where
+  by : Fits 0 said.by
+  cell : Fits 0 said.cell
+  grade : Fits 0 said.grade
+  line : Fits 0 said.line
+  number : Fits 0 said.number
 
 word_fits : (word : List ℕ) → Fits 0 (string word)
 word_fits word = record { whole = refl; flat = omega arith }
@@ -205,16 +194,44 @@ pub grade_fits : (letter : Grade → List ℕ) (grade : Option Grade) → Fits 0
 grade_fits letter None = null_fits 0
 grade_fits letter (Some grade) = word_fits (letter grade)
 
-pub hint_value_fits : (w : ℕ) (letter : Grade → List ℕ) (clue : ℕ → ℕ) (is_over : ℕ → ℕ → Bool) (told : ToldHint) (value : Data)
-    → IsHintValue w letter clue is_over told value → Fits 6 value
-hint_value_fits w letter clue is_over (Explained grade chain) value (looks, text, told, short, is) =
-    subst (Fits 6) (sym is) (hint_fits (string (by_word chain.goal)) (count_data (goal_cell w chain.goal)) (string (letter grade)) (codes "follows")
-    (goal_line_data chain.goal) (count_data (goal_value chain.goal)) (looks_data w clue is_over looks) (list_data text_data text)
-    (word_fits (by_word chain.goal)) (count_fits (goal_cell w chain.goal)) (word_fits (letter grade)) (goal_line_fits chain.goal)
-    (count_fits (goal_value chain.goal)) (looks_fit w clue is_over looks) (deeper 1 5 _ (texts_fit text) (omega arith)))
-hint_value_fits w letter clue is_over (Refuted grade refutation) value (looks, told, inl (few, (text, short, is))) =
-    subst (Fits 6) (sym is) (hint_fits null null (string (letter grade)) (codes "contradiction") null null (looks_data w clue is_over looks)
-    (list_data text_data text) (null_fits 0) (null_fits 0) (word_fits (letter grade)) (null_fits 0) (null_fits 0) (looks_fit w clue is_over looks)
-    (deeper 1 5 _ (texts_fit text) (omega arith)))
-hint_value_fits w letter clue is_over (Refuted grade refutation) value (looks, told, inr (many, is)) = subst (Fits 6) (sym is) (plain_fits Contradiction)
-hint_value_fits w letter clue is_over (Deduced hint) value is = subst (Fits 6) (sym is) (plain_fits hint)
+said_fits : (w : ℕ) (letter : Grade → List ℕ) (hint : NextHint) → SaidFits (said_of w letter hint)
+said_fits w letter (Follows grade chain) = record {
+  by = word_fits (by_word chain.goal);
+  cell = count_fits (goal_cell w chain.goal);
+  grade = word_fits (letter grade);
+  line = goal_line_fits chain.goal;
+  number = count_fits (goal_value chain.goal);
+}
+said_fits w letter (Refuted grade refutation) =
+    record { by = null_fits 0; cell = null_fits 0; grade = word_fits (letter grade); line = null_fits 0; number = null_fits 0 }
+said_fits w letter Nothing = record { by = null_fits 0; cell = null_fits 0; grade = null_fits 0; line = null_fits 0; number = null_fits 0 }
+
+object_fits : (said : SaidData) (steps text seen : Data) → SaidFits said → Fits 6 steps → Fits 1 text → Fits 2 seen
+    → Fits 7 (hint_data said steps text seen)
+object_fits said steps text seen fit f h i =
+    let a = fit.by in
+    let b = fit.cell in
+    let c = fit.grade in
+    let d = fit.line in
+    let e = fit.number in
+    let aa = a.flat in
+    let bb = b.flat in
+    let cc = c.flat in
+    let dd = d.flat in
+    let ee = e.flat in
+    let ff = f.flat in
+    let hh = h.flat in
+    let ii = i.flat in
+    record {
+      whole = no_float_or (has_float said.by) _ a.whole (no_float_or (has_float said.cell) _ b.whole (no_float_or (has_float said.grade) _ c.whole
+          (no_float_or (has_float said.line) _ d.whole (no_float_or (has_float said.number) _ e.whole (no_float_or (has_float steps) _ f.whole
+          (no_float_or (has_float text) _ h.whole (no_float_or (has_float seen) false i.whole refl)))))));
+      flat = omega arith;
+    }
+
+pub hint_value_fits : (w : ℕ) (letter : Grade → List ℕ) (clue : ℕ → ℕ) (is_over : ℕ → ℕ → Bool) (Struck : CandidatesValue → Reason → ℕ → ℕ → Type 0)
+    (g : GridValue) (hint : NextHint) (value : Data) → IsHintValue w letter clue is_over Struck g hint value → Fits 7 value
+hint_value_fits w letter clue is_over Struck g hint value told =
+    subst (Fits 7) (sym told.is)
+    (object_fits (said_of w letter hint) (steps_data w clue is_over told.steps) (list_data text_data told.text) (view_data told.view)
+    (said_fits w letter hint) (steps_fit w clue is_over told.steps) (texts_fit told.text) (view_fits told.view))

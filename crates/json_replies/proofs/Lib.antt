@@ -2,8 +2,6 @@ pub mod ReplyLines
 pub mod ObjectTexts
 pub mod Spellings
 pub mod HintSpellings
-pub mod ToldHints
-pub mod ToldLooks
 pub mod ToldReplies
 pub mod FairReading
 pub mod ToldResponses

@@ -213,14 +213,14 @@ reply_is_line refused reply session start line new fits empty opened whole plain
     (spelled_reply refused reply session fits).flat
     (ap (λ l. l ++ members_text false (reply_members refused reply session)) (opened ∙ ap (λ (l : List ℕ). l ++ 123 ∷ []) empty)) whole
 
-answer_flat : (which : FurtherLine) (answer session : Data) → Fits 6 answer → Fits 1 session → depth (answer_data which answer session) ≤ max_depth
+answer_flat : (which : FurtherLine) (answer session : Data) → Fits 7 answer → Fits 1 session → depth (answer_data which answer session) ≤ max_depth
 answer_flat which answer session told fits =
     let a = told.flat in
     let b = fits.flat in
     omega arith
 
 pub answer_is_line : (which : FurtherLine) (key : List ℕ) (answer session : Data) (start line one new : List ℕ) → key ≡ further_key which
-    → Fits 6 answer → Fits 1 session → start ≡ [] → line ≡ start ++ 123 ∷ [] → AddsMember false key answer line one → IsPlain answer
+    → Fits 7 answer → Fits 1 session → start ≡ [] → line ≡ start ++ 123 ∷ [] → AddsMember false key answer line one → IsPlain answer
     → new ≡ (one ++ members_text true (reply_members None [] session)) ++ 10 ∷ [] → IsPlain session
     → IsLineOf (object (member (further_key which) answer (reply_members None [] session))) new
 answer_is_line which key answer session start line one new keyed told fits empty opened add told_plain whole plain =

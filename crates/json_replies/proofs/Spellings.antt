@@ -82,13 +82,14 @@ pub record ListsFit {P : Type 0} (b : BoardFacts P) : Type 0 where
 
 -- what is told in answer
 pub told_fits : {P : Type 0} (f : GameFacts P) (b : BoardFacts P) → ListsFit b → (h : History P) (which : FurtherLine) (answer : Data)
-    → IsAnswer f b h which answer → Fits 6 answer
+    → IsAnswer f b h which answer → Fits 7 answer
 told_fits f b fit h Board answer (e, are, is) =
     let shown = shown_board f h in
     let fits = board_fits (f.rules.puzzle h.puzzle) shown e (b.clues h.puzzle shown e) (b.signs h.puzzle shown e)
     (fit.clues h.puzzle shown e) (fit.signs h.puzzle shown e) in
-    subst (Fits 6) (sym is) (deeper 3 6 _ fits (omega arith))
-told_fits f b fit h Completable answer (found, fits, is) = subst (Fits 6) (sym is) (deeper 3 6 _ (answer_fits found) (omega arith))
-told_fits f b fit h AskHint answer (told, so, value) =
-    hint_value_fits (f.rules.puzzle h.puzzle).size b.letter (b.edge_clue h.puzzle) (b.says_greater h.puzzle) told answer value
-told_fits f b fit h AskGrade answer (grade, least, is) = subst (Fits 6) (sym is) (deeper 0 6 _ (grade_fits b.letter grade) (omega arith))
+    subst (Fits 7) (sym is) (deeper 3 7 _ fits (omega arith))
+told_fits f b fit h Completable answer (found, fits, is) = subst (Fits 7) (sym is) (deeper 3 7 _ (answer_fits found) (omega arith))
+told_fits f b fit h AskHint answer (hint, so, value) =
+    hint_value_fits (f.rules.puzzle h.puzzle).size b.letter (b.edge_clue h.puzzle) (b.says_greater h.puzzle) (b.struck_by h.puzzle)
+    (grid_of (shown_board f h)) hint answer value
+told_fits f b fit h AskGrade answer (grade, least, is) = subst (Fits 7) (sym is) (deeper 0 7 _ (grade_fits b.letter grade) (omega arith))

@@ -9,7 +9,6 @@ use Rattle.puzzle_cli.specs.declared.command.line_fault.LineFault.TheVariants.{B
 use Rattle.puzzle_cli.specs.declared.reply.refusal.Refusal.TheVariants.{Line as OfLine}
 use Rattle.puzzle_cli.specs.Commands.{Reading, IsRead, IsEntry, is_quit}
 use Rattle.puzzle_cli.specs.Inner.CommandReading.{command_at, read_at}
-use Rattle.puzzle_cli.specs.Replies.{LineGives, left}
 use Rattle.puzzle_cli.proofs.CommandLaws.{entry_taken, line_is_read, goes_on}
 use Rattle.json_replies.specs.Replies.{reply_data}
 use Rattle.json_replies.specs.ObjectLines.{Fits, OrLost, IsLineOf}
@@ -21,7 +20,7 @@ use Rattle.latin_board.specs.Squares.{GridValue}
 use Rattle.latin_board.specs.Boards.{BoardValue, grid_of}
 use Rattle.board_checks.specs.Errors.{ErrorsValue}
 use Rattle.json_replies.specs.Boards.{board_data}
-use Rattle.puzzle_cli.specs.SessionReplies.{Outcome, shown_board}
+use Rattle.puzzle_cli.specs.SessionReplies.{shown_board}
 use Rattle.json_replies.specs.FurtherLines.{BoardFacts, AreErrors, further_at, further_key, further_words, IsFurtherLine, IsHintAnswer, IsAnswer}
 use Rattle.json_replies.proofs.Spellings.{session_fits}
 
@@ -79,11 +78,11 @@ further_told f b old line which bytes is told = record {
 -- the answer of a hint
 pub hint_told : {P : Type 0} (f : GameFacts P) (b : BoardFacts P) (h : History P) (puzzle : P) (g : GridValue) (which : FurtherLine) (answer : Data)
     → which ≡ AskHint → puzzle ≡ h.puzzle → g ≡ grid_of (shown_board f h)
-    → IsHintAnswer (f.rules.puzzle puzzle) b.letter (b.strikes puzzle) (b.struck_by puzzle) (b.edge_clue puzzle) (b.says_greater puzzle) g answer
+    → IsHintAnswer (f.rules.puzzle puzzle) b.letter (b.struck_by puzzle) (b.edge_clue puzzle) (b.says_greater puzzle) g answer
     → IsAnswer f b h which answer
 hint_told {P} f b h puzzle g which answer asked is shown told =
     let F : P → GridValue → Type 0 = λ x y.
-    IsHintAnswer (f.rules.puzzle x) b.letter (b.strikes x) (b.struck_by x) (b.edge_clue x) (b.says_greater x) y answer in
+    IsHintAnswer (f.rules.puzzle x) b.letter (b.struck_by x) (b.edge_clue x) (b.says_greater x) y answer in
     let all : F h.puzzle (grid_of (shown_board f h)) = subst (F h.puzzle) shown (subst (λ x. F x g) is told) in
     subst (λ w. IsAnswer f b h w answer) (sym asked) all
 

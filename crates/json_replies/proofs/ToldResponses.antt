@@ -21,7 +21,7 @@ use Rattle.json_replies.specs.declared.fair_request.FairRefusal.{FairRefusal}
 use Rattle.json_replies.specs.FairLines.{IsFairLine}
 use Rattle.json_replies.specs.FairReplies.{AskFor, AreRefused, FairGives}
 use Rattle.json_replies.specs.FurtherLines.{BoardFacts, further_at}
-use Rattle.json_replies.specs.JsonReplies.{TellsOutcome, TellsAnswer, TellsLine, JsonReply}
+use Rattle.json_replies.specs.JsonReplies.{TellsOutcome, TellsLine, JsonReply}
 use Rattle.json_replies.specs.Replies.{Answer, left_by, reply_data}
 use Rattle.json_replies.specs.FairRefusals.{fair_refusal_name}
 use Rattle.json_replies.specs.ObjectLines.{IsLineOf, OrLost}

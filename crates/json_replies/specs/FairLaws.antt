@@ -6,28 +6,27 @@ use Rattle.trail_solver.specs.Candidates.{CandidatesValue}
 use Rattle.trail_solver.specs.Puzzles.{Solves}
 use Rattle.trail_solver.specs.Solutions.{IsOnlySolution}
 use Rattle.play_midend.specs.Histories.{History}
-use Rattle.board_checks.specs.declared.hints.Hint.TheVariants.{Contradiction}
 use Rattle.named_steps.specs.Chains.{IsView}
 use Rattle.named_steps.specs.Following.{Follows}
 use Rattle.named_steps.specs.declared.grade.Grade.{Grade}
-use Rattle.named_steps.specs.declared.grade.Grade.TheVariants.{Latin, Easy, Hard}
+use Rattle.step_chains.specs.declared.hints.NextHint.{NextHint}
+use Rattle.step_chains.specs.declared.hints.NextHint.TheVariants.{Follows as Found, Refuted, Nothing}
+use Rattle.step_chains.specs.NextHints.{height}
 use Rattle.fair_games.specs.Fair.{IsOfGrade}
 use Rattle.puzzle_cli.specs.Lines.{Line}
 use Rattle.puzzle_cli.specs.GameFacts.{GameFacts}
 use Rattle.puzzle_cli.specs.NewSessions.{new_game}
 use Rattle.json_replies.specs.declared.fair_words.FairWords.{FairWords}
 use Rattle.json_replies.specs.declared.fair_request.FairRequest.{FairRequest}
-use Rattle.json_replies.specs.declared.told_hint.ToldHint.{ToldHint}
-use Rattle.json_replies.specs.declared.told_hint.ToldHint.TheVariants.{Explained, Refuted, Deduced}
 use Rattle.json_replies.specs.FairLines.{IsFairLine, IsAsked}
 use Rattle.json_replies.specs.FairReplies.{fair_params, IsFairGame}
 use Rattle.json_replies.specs.FurtherLines.{BoardFacts}
 use Rattle.json_replies.specs.JsonReplies.{JsonReply}
-use Rattle.json_replies.specs.ToldHints.{hint_of, IsTold}
+use Rattle.json_replies.specs.ToldHints.{IsHint}
 
 -- a new session of the fair game of a request: its puzzle has one solution, which follows by the grade, and not by the one below
 pub record IsFairStart {P : Type 0} (f : GameFacts P) (b : BoardFacts P) (r : FairRequest) (h : History P) : Type 0 where
-  pub fair : IsFairGame f b r (Ok h.puzzle)
+  pub fair : IsFairGame f b r h.puzzle
   pub start : h ≡ new_game (fair_params b r) h.puzzle
   pub solution : GridValue
   pub only : IsOnlySolution (f.rules.puzzle h.puzzle) solution
@@ -43,29 +42,29 @@ FairLinesBegin {P} f b =
 
 -- ---- hints
 
--- how many grades are below
-abbrev pub rank : Grade → ℕ
-rank Latin = 0
-rank Easy = 1
-rank Hard = 2
-
 -- the hint is a number that steps explain, of this grade at most
-abbrev pub IsExplainedBy : Grade → ToldHint → Type 0
-IsExplainedBy most (Explained grade chain) = rank grade ≤ rank most
+abbrev pub IsExplainedBy : Grade → NextHint → Type 0
+IsExplainedBy most (Found grade chain) = height grade ≤ height most
 IsExplainedBy most (Refuted grade refutation) = ⊥
-IsExplainedBy most (Deduced hint) = ⊥
+IsExplainedBy most Nothing = ⊥
+
+-- the hint is that the numbers contradict one another
+abbrev pub IsContradiction : NextHint → Type 0
+IsContradiction (Found grade chain) = ⊥
+IsContradiction (Refuted grade refutation) = Unit {0}
+IsContradiction Nothing = ⊥
 
 -- the square has a number in the grid, and another one than in the solution
 abbrev pub IsWrongAt : GridValue → GridValue → ℕ → Type 0
 IsWrongAt g s cell = (cell < g.size * g.size) × (number_at g cell ≢ 0) × (number_at g cell ≢ number_at s cell)
 
 -- Where a solution follows by a grade and the grid has an empty square, steps of that grade or of one below explain a number as long as no
--- square is wrong, and else it is a contradiction.
+-- square is wrong, and otherwise it is a contradiction.
 abbrev pub HintsLeadOn : {P : Type 0} → GameFacts P → BoardFacts P → Type 0
 HintsLeadOn {P} f b =
-    (p : P) (grade : Grade) (s g : GridValue) (view : CandidatesValue) (cell : ℕ) (told : ToldHint)
+    (p : P) (grade : Grade) (s g : GridValue) (view : CandidatesValue) (cell : ℕ) (hint : NextHint)
     → Solves (f.rules.puzzle p) s → Follows (b.struck_by p) grade s
     → g.size ≡ s.size → IsView g view → cell < g.size * g.size → number_at g cell ≡ 0
-    → IsTold (f.rules.puzzle p) (b.strikes p) (b.struck_by p) g told
-    → (((wrong : ℕ) → IsWrongAt g s wrong → ⊥) → IsExplainedBy grade told)
-    × ((wrong : ℕ) → IsWrongAt g s wrong → hint_of g.size told ≡ Contradiction)
+    → IsHint (f.rules.puzzle p) (b.struck_by p) g hint
+    → (((wrong : ℕ) → IsWrongAt g s wrong → ⊥) → IsExplainedBy grade hint)
+    × ((wrong : ℕ) → IsWrongAt g s wrong → IsContradiction hint)

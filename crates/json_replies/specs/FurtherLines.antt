@@ -27,9 +27,9 @@ use Rattle.puzzle_cli.specs.SessionReplies.{shown_board}
 use Rattle.json_replies.specs.declared.further_line.FurtherLine.{FurtherLine}
 use Rattle.json_replies.specs.declared.further_line.FurtherLine.TheVariants.{Board, Completable, Hint as AskHint, Grade as AskGrade}
 use Rattle.json_replies.specs.Boards.{board_data}
-use Rattle.json_replies.specs.declared.told_hint.ToldHint.{ToldHint}
+use Rattle.step_chains.specs.declared.hints.NextHint.{NextHint}
 use Rattle.json_replies.specs.HintObjects.{IsHintValue, grade_data}
-use Rattle.json_replies.specs.ToldHints.{IsTold}
+use Rattle.json_replies.specs.ToldHints.{IsHint}
 use Rattle.json_replies.specs.ObjectLines.{IsLineOf}
 use Rattle.json_replies.specs.Replies.{reply_members, IsReplyLine}
 use Rattle.json_replies.specs.Sessions.{game_data}
@@ -50,12 +50,11 @@ further_key Completable = codes "completable"
 further_key AskHint = codes "hint"
 further_key AskGrade = codes "grade"
 
--- what these answers know of a game: what it demands at which spots, what its deductions strike, its clues and signs as data; what its
--- steps strike, the letters of its grades, the clue at a place of the edge, and which signs it has; and of its fair games the letters of
--- their grades, the orders of trial, and the game's initial
+-- what these answers know of a game: what it demands at which spots, its clues and signs as data; what its steps strike, the letters of its
+-- grades, the clue at a place of the edge, and which signs it has; and of its fair games the letters of their grades, the orders of trial,
+-- and the game's initial
 pub record BoardFacts (P : Type 0) : Type 1 where
   pub demand : P → Spot → Option Demand
-  pub strikes : P → CandidatesValue → ℕ → ℕ → Type 0
   pub clues : P → BoardValue → ErrorsValue → Data
   pub signs : P → BoardValue → ErrorsValue → Data
   pub struck_by : P → CandidatesValue → Reason → ℕ → ℕ → Type 0
@@ -78,9 +77,10 @@ answer_data (One g) = string (codes "one")
 answer_data (Several g h) = string (codes "several")
 
 -- a hint of a grid is told in this answer
-abbrev pub IsHintAnswer : Puzzle → (Grade → List ℕ) → (CandidatesValue → ℕ → ℕ → Type 0) → (CandidatesValue → Reason → ℕ → ℕ → Type 0) → (ℕ → ℕ)
-    → (ℕ → ℕ → Bool) → GridValue → Data → Type 0
-IsHintAnswer p letter Strikes Struck clue is_over g answer = (told : ToldHint) × IsTold p Strikes Struck g told × IsHintValue p.size letter clue is_over told answer
+abbrev pub IsHintAnswer : Puzzle → (Grade → List ℕ) → (CandidatesValue → Reason → ℕ → ℕ → Type 0) → (ℕ → ℕ) → (ℕ → ℕ → Bool) → GridValue → Data
+    → Type 0
+IsHintAnswer p letter Struck clue is_over g answer =
+    (hint : NextHint) × IsHint p Struck g hint × IsHintValue p.size letter clue is_over Struck g hint answer
 
 -- what is told of a session to one of these lines
 abbrev pub IsAnswer : {P : Type 0} → GameFacts P → BoardFacts P → History P → FurtherLine → Data → Type 0
@@ -90,7 +90,7 @@ IsAnswer f b h Board answer =
 IsAnswer f b h Completable answer =
     (found : Answer) × Fits (Completes (f.rules.puzzle h.puzzle) (grid_of (shown_board f h))) found × (answer ≡ answer_data found)
 IsAnswer f b h AskHint answer =
-    IsHintAnswer (f.rules.puzzle h.puzzle) b.letter (b.strikes h.puzzle) (b.struck_by h.puzzle) (b.edge_clue h.puzzle) (b.says_greater h.puzzle)
+    IsHintAnswer (f.rules.puzzle h.puzzle) b.letter (b.struck_by h.puzzle) (b.edge_clue h.puzzle) (b.says_greater h.puzzle)
     (grid_of (shown_board f h)) answer
 IsAnswer f b h AskGrade answer =
     (grade : Option Grade) × IsGradeOf (f.rules.puzzle h.puzzle) (b.struck_by h.puzzle) grade × (answer ≡ grade_data b.letter grade)

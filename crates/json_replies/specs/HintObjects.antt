@@ -1,43 +1,41 @@
--- A hint as data: its kind, the square and the number, and where steps explain it, by what, and the steps with their sentences.
-use Rattle.std.specs.Prelude.{◌≡◌, ◌⊎◌, ◌<◌, ◌≤◌, ℕ, Bool, List, length, codes, Option, Some, None}
-use Rattle.serde_json.specs.Data.{Data, null, string, array, no_items, object, no_members, member}
-use Rattle.named_steps.specs.Chains.{goal_cell, goal_value, IsGoalOf}
+-- The object of a hint: what it says, what is in view of the grid, and the steps from there, each with its sentence.
+use Rattle.std.specs.Prelude.{◌≡◌, ℕ, Bool, List, [], ◌∷◌, codes, Option, Some, None}
+use Rattle.std.specs.List.{range_with_len}
+use Rattle.serde_json.specs.Data.{Data, null, string, object, no_members, member}
+use Rattle.latin_board.specs.Squares.{GridValue}
+use Rattle.trail_solver.specs.Candidates.{CandidatesValue, may_be}
+use Rattle.named_steps.specs.Chains.{IsView, goal_cell, goal_value, IsGoalOf}
 use Rattle.named_steps.specs.declared.goal.Goal.{Goal}
 use Rattle.named_steps.specs.declared.goal.Goal.TheVariants.{OnlyValue, OnlyPlace}
 use Rattle.named_steps.specs.declared.grade.Grade.{Grade}
-use Rattle.board_checks.specs.declared.hints.Hint.{Hint}
-use Rattle.board_checks.specs.declared.hints.Hint.TheVariants.{Follows, Nothing, Contradiction}
-use Rattle.step_chains.specs.declared.chain.Chain.{Chain}
-use Rattle.step_chains.specs.declared.chain.Refutation.{Refutation}
+use Rattle.named_steps.specs.declared.reason.Reason.{Reason}
+use Rattle.step_chains.specs.declared.chain.Step.{Step}
+use Rattle.step_chains.specs.declared.hints.NextHint.{NextHint}
+use Rattle.step_chains.specs.declared.hints.NextHint.TheVariants.{Follows, Refuted, Nothing}
+use Rattle.serde_json.specs.View.{view}
+use Rattle.step_texts.specs.declared.told.ToldStep.{ToldStep}
 use Rattle.step_texts.specs.Lines.{AreShort}
-use Rattle.json_replies.specs.declared.told_hint.ToldHint.{ToldHint}
-use Rattle.json_replies.specs.declared.told_hint.ToldHint.TheVariants.{Explained, Refuted, Deduced}
+use Rattle.step_texts.specs.Told.{AreTold}
+use Rattle.json_replies.specs.declared.hint_value.Said.{Said}
+use Rattle.json_replies.specs.Boards.{listed, when, squares}
 use Rattle.json_replies.specs.Counts.{count_data}
 use Rattle.json_replies.specs.Texts.{text_data, list_data}
-use Rattle.json_replies.specs.Steps.{ToldLook, AreTold, looks_data}
+use Rattle.json_replies.specs.Steps.{steps_data}
 
--- the object of a hint
-abbrev pub hint_data : Data → Data → Data → List ℕ → Data → Data → Data → Data → Data
-hint_data by cell grade kind line value steps text = object
-    (member (codes "by") by
-    (member (codes "cell") cell
-    (member (codes "grade") grade
-    (member (codes "kind") (string kind)
-    (member (codes "line") line
-    (member (codes "number") value
-    (member (codes "steps") steps
-    (member (codes "text") text
-    no_members))))))))
+-- ---- what it says
 
--- a kind, a square and a number, and nothing of steps
-abbrev pub bare_data : Data → List ℕ → Data → Data
-bare_data cell kind value = hint_data null cell null kind null value (array no_items) (array no_items)
+-- its members, null where it says nothing of that
+pub record SaidData : Type 0 where
+  pub by : Data
+  pub cell : Data
+  pub grade : Data
+  pub kind : List ℕ
+  pub line : Data
+  pub number : Data
 
--- what the deductions give
-abbrev pub plain_data : Hint → Data
-plain_data (Follows cell value) = bare_data (count_data cell) (codes "follows") (count_data value)
-plain_data Nothing = bare_data null (codes "nothing") null
-plain_data Contradiction = bare_data null (codes "contradiction") null
+-- the same of a value of the code
+abbrev pub said_data : Said → SaidData
+said_data s = record { by = view s.by; cell = view s.cell; grade = view s.grade; kind = s.kind.now; line = view s.line; number = view s.number }
 
 -- by what a goal is shown: the only value left of its square, or the only place in a row or column
 abbrev pub by_word : Goal → List ℕ
@@ -54,29 +52,72 @@ abbrev pub grade_data : (Grade → List ℕ) → Option Grade → Data
 grade_data letter None = null
 grade_data letter (Some grade) = string (letter grade)
 
--- a chain of a grade of this letter: its looks, each with its sentence, and the sentences of all, in short lines
-abbrev pub IsChainValue : ℕ → List ℕ → (ℕ → ℕ) → (ℕ → ℕ → Bool) → Chain → Data → Type 0
-IsChainValue w letter clue is_over chain value =
-    (looks : List ToldLook) × (text : List (List ℕ)) × AreTold chain.steps.items looks × AreShort text
-    × (value ≡ hint_data (string (by_word chain.goal)) (count_data (goal_cell w chain.goal)) (string letter) (codes "follows")
-    (goal_line_data chain.goal) (count_data (goal_value chain.goal)) (looks_data w clue is_over looks) (list_data text_data text))
+-- a hint without a number: its kind and its grade
+abbrev pub without_number : List ℕ → Data → SaidData
+without_number kind grade = record { by = null; cell = null; grade = grade; kind = kind; line = null; number = null }
 
--- a refutation by a grade of this letter: up to eight looks, each with its sentence, and the sentences of all; of more nothing is told
-abbrev pub IsRefutationValue : ℕ → List ℕ → (ℕ → ℕ) → (ℕ → ℕ → Bool) → Refutation → Data → Type 0
-IsRefutationValue w letter clue is_over refutation value =
-    (looks : List ToldLook) × AreTold refutation.steps.items looks
-    × (((length looks ≤ 8) × ((text : List (List ℕ)) × AreShort text
-    × (value ≡ hint_data null null (string letter) (codes "contradiction") null null (looks_data w clue is_over looks) (list_data text_data text))))
-    ⊎ ((8 < length looks) × (value ≡ plain_data Contradiction)))
+-- what a hint says, of a grid of a width, with these letters of grades
+abbrev pub said_of : ℕ → (Grade → List ℕ) → NextHint → SaidData
+said_of w letter (Follows grade chain) = record {
+  by = string (by_word chain.goal);
+  cell = count_data (goal_cell w chain.goal);
+  grade = string (letter grade);
+  kind = codes "follows";
+  line = goal_line_data chain.goal;
+  number = count_data (goal_value chain.goal);
+}
+said_of w letter (Refuted grade refutation) = without_number (codes "contradiction") (string (letter grade))
+said_of w letter Nothing = without_number (codes "nothing") null
 
--- a hint that is told
-abbrev pub IsHintValue : ℕ → (Grade → List ℕ) → (ℕ → ℕ) → (ℕ → ℕ → Bool) → ToldHint → Data → Type 0
-IsHintValue w letter clue is_over (Explained grade chain) value = IsChainValue w (letter grade) clue is_over chain value
-IsHintValue w letter clue is_over (Refuted grade refutation) value = IsRefutationValue w (letter grade) clue is_over refutation value
-IsHintValue w letter clue is_over (Deduced hint) value = value ≡ plain_data hint
+-- ---- the object
+
+-- its steps
+abbrev pub steps_in : NextHint → List Step
+steps_in (Follows grade chain) = chain.steps.items
+steps_in (Refuted grade refutation) = refutation.steps.items
+steps_in Nothing = []
+
+-- the numbers that are left of a square, rising
+abbrev pub left_data : CandidatesValue → ℕ → Data
+left_data c cell = listed (λ n. when (may_be c cell n) (count_data n)) (range_with_len 1 c.size)
+
+-- those of each square
+abbrev pub view_data : CandidatesValue → Data
+view_data c = listed (λ cell. left_data c cell ∷ []) (squares c.size)
+
+-- what a hint says, its steps, all sentences, and what is in view, as one object
+abbrev pub hint_data : SaidData → Data → Data → Data → Data
+hint_data said steps text view = object
+    (member (codes "by") said.by
+    (member (codes "cell") said.cell
+    (member (codes "grade") said.grade
+    (member (codes "kind") (string said.kind)
+    (member (codes "line") said.line
+    (member (codes "number") said.number
+    (member (codes "steps") steps
+    (member (codes "text") text
+    (member (codes "view") view
+    no_members)))))))))
+
+-- sentences in short lines, and none where nothing is said
+abbrev pub IsTextOf : NextHint → List (List ℕ) → Type 0
+IsTextOf (Follows grade chain) text = AreShort text
+IsTextOf (Refuted grade refutation) text = AreShort text
+IsTextOf Nothing text = text ≡ []
+
+-- a hint of a grid, as an object of a puzzle of a width with these letters, clues and signs: its steps are told from what is in view
+pub record IsHintValue (w : ℕ) (letter : Grade → List ℕ) (clue : ℕ → ℕ) (is_over : ℕ → ℕ → Bool)
+    (Struck : CandidatesValue → Reason → ℕ → ℕ → Type 0) (g : GridValue) (hint : NextHint) (value : Data) : Type 0 where
+  pub view : CandidatesValue
+  pub in_view : IsView g view
+  pub steps : List ToldStep
+  pub told : AreTold Struck w view (steps_in hint) steps
+  pub text : List (List ℕ)
+  pub lines : IsTextOf hint text
+  pub is : value ≡ hint_data (said_of w letter hint) (steps_data w clue is_over steps) (list_data text_data text) (view_data view)
 
 -- the goal of its chain, if it has one, is one of the size
-abbrev pub IsGoalTold : ℕ → ToldHint → Type 0
-IsGoalTold w (Explained grade chain) = IsGoalOf w chain.goal
+abbrev pub IsGoalTold : ℕ → NextHint → Type 0
+IsGoalTold w (Follows grade chain) = IsGoalOf w chain.goal
 IsGoalTold w (Refuted grade refutation) = Unit {0}
-IsGoalTold w (Deduced hint) = Unit {0}
+IsGoalTold w Nothing = Unit {0}

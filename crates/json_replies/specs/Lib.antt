@@ -1,5 +1,5 @@
 -- What is told as JSON. Bytes, lines and counts: Texts, Counts; an object's line: ObjectLines; the session that is left: Sessions; a reply:
--- Replies; the board, its clues and signs: Boards, ClueLists; a hint, with the steps that explain it: Steps, ToldHints, HintObjects; the
+-- Replies; the board, its clues and signs: Boards, ClueLists; a hint, with the steps that explain it: Reasons, Steps, ToldHints, HintObjects; the
 -- lines beside the commands: FurtherLines; the line `fair`: FairLines, FairRefusals, FairReplies; what may be said to a line:
 -- JsonReplies; its laws: ReplyLaws, FairLaws.
 pub mod Texts
@@ -9,6 +9,7 @@ pub mod Sessions
 pub mod Replies
 pub mod Boards
 pub mod ClueLists
+pub mod Reasons
 pub mod Steps
 pub mod ToldHints
 pub mod HintObjects

@@ -1,6 +1,6 @@
 //! The game that a line `fair` asks for, and how it begins.
 
-ghost use Rattle.std.specs.Prelude.{◌≡◌, Some, Ok, Err, IfOk, IfErr, OnErr};
+ghost use Rattle.std.specs.Prelude.{◌≡◌, Ok, Err, IfOk, IfErr, OnErr};
 ghost use Rattle.clue_rules.specs.Parameters.{IsParams};
 ghost use Rattle.puzzle_cli.specs.Commands.{is_quit};
 ghost use Rattle.puzzle_cli.specs.Machines.{IsResponse};
@@ -13,10 +13,9 @@ use crate::fair_request::{FairRefusal, read_request};
 use crate::fair_words::FairWords;
 use crate::shown::{ShownFacts, Shows};
 use clue_rules::{Game, Params};
-use fair_games::{FairGame, fair};
-use latin_board::OutOfMemory;
+use fair_games::{FairGame, seeded};
 use play_midend::Session;
-use puzzle_cli::{Draw, Facts, Refusal, Response, obey};
+use puzzle_cli::{Draw, Facts, Refusal, Response, Text, begin_game};
 use std::alloc::Global;
 use trail_solver::Rules;
 
@@ -39,43 +38,29 @@ pub(crate) fn fair_game<P: Shows>(words: FairWords<&[u8]>) -> Result<(Params, P)
         size: request.size,
         letter: <P as FairGame>::letter(request.grade),
     };
-    match fair(request.size, request.grade, request.seed) {
-        Ok(puzzle) => Ok((params, puzzle)),
-        Err(_) => Err(FairRefusal::NoneFound),
+    match seeded(request.size, request.grade, request.seed) {
+        Some(puzzle) => Ok((params, puzzle)),
+        None => Err(FairRefusal::NoneFound),
     }
 }
 
-/// What the line `new` with the written form of a puzzle makes of the session, or why it is refused.
-pub(crate) fn begin_described<P: Draw>(
+/// Begins the game of a puzzle, as the line `new` with the puzzle's written form does.
+pub(crate) fn begin_fair<P: Draw>(
     alloc: Global,
     session: &mut Option<Session<P>>,
     params: Params,
-    puzzle: &P,
+    puzzle: P,
 ) -> Result<Response, Refusal>
     requires params { IsParams P.letter_codes params }
-    requires valid { P.valid puzzle.now }
-    requires size { params.size ≡ (P.puzzle puzzle.now).size }
+    requires valid { P.valid puzzle }
+    requires size { params.size ≡ (P.puzzle puzzle).size }
     ensures ok { IfOk result (λ answer. IsResponse
         (λ old line said new. LineGives ⟦<P as Facts>⟧.facts old line (Ok (said, new)))
-        is_quit session.old (described_line ⟦<P as Facts>⟧.facts params puzzle.now) answer session.new) }
+        is_quit session.old (described_line ⟦<P as Facts>⟧.facts params puzzle) answer session.new) }
     ensures err { OnErr result (session.new ≡ session.old) }
     ensures why { IfErr result (λ refusal. LineGives ⟦<P as Facts>⟧.facts session.old
-        (described_line ⟦<P as Facts>⟧.facts params puzzle.now) (Err refusal)) }
+        (described_line ⟦<P as Facts>⟧.facts params puzzle) (Err refusal)) }
 {
-    let line = new_line(alloc, params, puzzle)?;
-    obey(alloc, session, Some(&line))
-}
-
-// The line `new` with the written form of a puzzle.
-fn new_line<P: Draw>(alloc: Global, params: Params, puzzle: &P) -> Result<Vec<u8>, OutOfMemory>
-    ensures { IfOk result (λ line. Some line.items
-        ≡ described_line ⟦<P as Facts>⟧.facts params puzzle.now) }
-{
-    let mut line = Vec::new(alloc);
-    line.extend_from_slice(b"new ")?;
-    line.extend_from_slice(&params.write())?;
-    line.push(b':')?;
-    let description = puzzle.write_desc(alloc).map_err(|_| OutOfMemory)?;
-    line.extend_from_slice(&description)?;
-    Ok(line)
+    *session = Some(begin_game(alloc, params, puzzle)?);
+    Ok(Response::Reply(Text::line("ok")))
 }

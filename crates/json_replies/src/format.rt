@@ -13,7 +13,7 @@ ghost use Rattle.json_replies.specs.ObjectLines.{IsLineOf, OrLost, lost_line};
 ghost use Rattle.json_replies.specs.Replies.{reply_data};
 ghost use Rattle.json_replies.specs.Sessions.{session_data};
 
-use crate::fair::{begin_described, fair_game};
+use crate::fair::{begin_fair, fair_game};
 use crate::fair_words::{FairWords, read_fair};
 use crate::further::answer_line;
 use crate::further_line::{FurtherLine, read_further};
@@ -63,7 +63,7 @@ fn fair_response<P: Shows>(
 {
     match fair_game(words) {
         Ok((params, puzzle)) => {
-            let answer = begin_described(alloc, session, params, &puzzle);
+            let answer = begin_fair(alloc, session, params, puzzle);
             told(alloc, session, answer)
         }
         Err(refusal) => Response::Reply(refused_object(alloc, session, refusal.name())),

@@ -16,7 +16,6 @@ use crate::hint_value::{grade_value, hint_value};
 use crate::object_line::answer_object;
 use crate::session::game_value;
 use crate::shown::{ShownFacts, Shows};
-use crate::told_hint::told_hint;
 use board_checks::errors;
 use latin_board::{Grid, OutOfMemory};
 use named_steps::grade_of;
@@ -24,6 +23,7 @@ use play_midend::Session;
 use puzzle_cli::Facts;
 use serde_json::Value;
 use std::alloc::{AllocError, Global};
+use step_chains::next_hint;
 use trail_solver::{Answer, completion};
 
 /// The line of the object with the answer, beside what each object has.
@@ -92,11 +92,11 @@ fn count_value(alloc: Global, found: Answer) -> Result<Value, AllocError>
 // The hint of a grid of the puzzle's size.
 fn hint_answer<P: Shows>(alloc: Global, puzzle: &P, grid: &Grid) -> Result<Value, OutOfMemory>
     requires { grid.now.size ≡ (P.puzzle puzzle.now).size }
-    ensures { IfOk result (λ value. IsHintAnswer (P.puzzle puzzle.now) P.grade_letter (P.strikes puzzle.now)
-        (P.struck_by puzzle.now) (P.edge_clue_of puzzle.now) (P.says_greater_of puzzle.now) grid.now (view value)) }
+    ensures { IfOk result (λ value. IsHintAnswer (P.puzzle puzzle.now) P.grade_letter (P.struck_by puzzle.now)
+        (P.edge_clue_of puzzle.now) (P.says_greater_of puzzle.now) grid.now (view value)) }
 {
-    let told = told_hint(alloc, puzzle, grid)?;
-    Ok(hint_value(alloc, puzzle, grid, &told)?)
+    let hint = next_hint(alloc, puzzle, grid)?;
+    Ok(hint_value(alloc, puzzle, grid, &hint)?)
 }
 
 // The puzzle's grade, if it has one. What it takes of the stack isn't on it while a hint is looked for.

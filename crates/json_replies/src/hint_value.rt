@@ -1,181 +1,91 @@
 //! The object of a hint.
 
-ghost use Rattle.std.specs.Prelude.{◌≡◌, ◌*◌, map, List, IfOk, Option};
+ghost use Rattle.std.specs.Prelude.{◌≡◌, ◌*◌, ◌<◌, IfOk};
 ghost use Rattle.serde_json.specs.View.{view};
-ghost use Rattle.named_steps.specs.Chains.{IsGoalOf};
-ghost use Rattle.step_chains.specs.declared.chain.Step.{Step};
-ghost use Rattle.json_replies.specs.Steps.{ToldLook, AreTold, look_data};
-ghost use Rattle.json_replies.specs.HintObjects.{hint_data, plain_data, bare_data, IsChainValue, IsRefutationValue, IsHintValue, by_word, goal_line_data, grade_data, IsGoalTold};
+ghost use Rattle.step_texts.specs.Lines.{line_texts};
+ghost use Rattle.json_replies.specs.HintObjects.{IsGoalTold, IsHintValue, IsTextOf, by_word, goal_line_data, grade_data, hint_data, left_data, said_data, said_of, steps_in, view_data, without_number};
 
-use crate::lists::push_value;
-use crate::step_value::step_value;
+use crate::lists::{push_value, push_when, square_count};
+use crate::step_value::steps_value;
 use crate::text::lines_value;
-use crate::told_hint::ToldHint;
-use board_checks::Hint;
-use latin_board::Grid;
+use latin_board::{Grid, Size};
 use named_steps::{Goal, Grade};
 use serde_json::{Map, Value, put};
 use std::alloc::{AllocError, Global};
-use step_chains::{Chain, Refutation, Step, view_of};
-use step_texts::{StepNames, chain_lines, first_look, look_lines, refutation_lines, strike_all};
+use step_chains::{NextHint, Step, view_of};
+use step_texts::{Line, StepNames, ToldStep, chain_lines, refutation_lines, told_steps};
+use trail_solver::Candidates;
 
-// How many steps of a refutation are told; of a longer one none are.
-const MOST_STEPS: usize = 8;
-
-/// A hint of a grid as an object.
+/// A hint of a grid as an object: what it says, what is in view, and the steps from there, each with its sentence.
 pub(crate) fn hint_value<P: StepNames>(
     alloc: Global,
     p: &P,
     grid: &Grid,
-    told: &ToldHint,
+    hint: &NextHint,
 ) -> Result<Value, AllocError>
     requires size { grid.now.size ≡ (P.Rules.puzzle p.now).size }
-    requires goal { IsGoalTold grid.now.size told.now }
+    requires goal { IsGoalTold grid.now.size hint.now }
     ensures { IfOk result (λ value. IsHintValue (P.Rules.puzzle p.now).size P.grade_letter (P.edge_clue_of p.now)
-        (P.says_greater_of p.now) told.now (view value)) }
+        (P.says_greater_of p.now) (P.Steps.struck_by p.now) grid.now hint.now (view value)) }
 {
-    match told {
-        ToldHint::Explained { grade, chain } => chain_value(alloc, p, grid, *grade, chain),
-        ToldHint::Refuted { grade, refutation } => {
-            refutation_value(alloc, p, grid, *grade, refutation)
-        }
-        ToldHint::Deduced(hint) => plain_value(alloc, *hint),
-    }
+    let candidates = view_of(grid);
+    let seen = view_value(alloc, &candidates)?;
+    let told = told_steps(alloc, p, candidates, steps_in(hint))?;
+    let lines = text_of(alloc, grid, told.as_slice(), hint)?;
+    let text = lines_value(alloc, lines.as_slice())?;
+    let steps = steps_value(alloc, p, told.as_slice())?;
+    let said = said_of::<P>(alloc, grid.size(), hint)?;
+    object_value(alloc, said, steps, text, seen)
 }
 
-// A hint without steps.
-fn plain_value(alloc: Global, hint: Hint) -> Result<Value, AllocError>
-    ensures { IfOk result (λ value. view value ≡ plain_data hint) }
-{
-    match hint {
-        Hint::Follows { cell, value } => {
-            bare_value(alloc, Value::from(cell), "follows", Value::from(value))
-        }
-        Hint::Nothing => bare_value(alloc, Value::from(()), "nothing", Value::from(())),
-        Hint::Contradiction => {
-            bare_value(alloc, Value::from(()), "contradiction", Value::from(()))
-        }
-    }
-}
-
-// A kind, a square and a number, and nothing of steps.
-fn bare_value(
-    alloc: Global,
-    cell: Value,
-    kind: &'static str,
-    number: Value,
-) -> Result<Value, AllocError>
-    ensures { IfOk result (λ value.
-        view value ≡ bare_data (view cell) kind.now (view number)) }
-{
-    object_value(
-        alloc,
-        Parts {
-            by: Value::from(()),
-            cell,
-            grade: Value::from(()),
-            kind,
-            line: Value::from(()),
-            number,
-            steps: Value::from(Vec::new(alloc)),
-            text: Value::from(Vec::new(alloc)),
-        },
-    )
-}
-
-// A number that steps of a grade explain.
-fn chain_value<P: StepNames>(
-    alloc: Global,
-    p: &P,
-    grid: &Grid,
-    grade: Grade,
-    chain: &Chain,
-) -> Result<Value, AllocError>
-    requires size { grid.now.size ≡ (P.Rules.puzzle p.now).size }
-    requires goal { IsGoalOf grid.now.size chain.now.goal }
-    ensures { IfOk result (λ value. IsChainValue (P.Rules.puzzle p.now).size (P.grade_letter grade) (P.edge_clue_of p.now)
-        (P.says_greater_of p.now) chain.now (view value)) }
-{
-    let text = chain_lines(alloc, p, grid, chain)?;
-    object_value(
-        alloc,
-        Parts {
-            by: Value::try_from_str(alloc, by_word(chain.goal))?,
-            cell: Value::from(chain.goal.cell(grid.size())),
-            grade: Value::try_from_str(alloc, P::letter(grade))?,
-            kind: "follows",
-            line: goal_line_value(chain.goal),
-            number: Value::from(chain.goal.value()),
-            steps: Value::from(looks_list(alloc, p, grid, chain.steps.as_slice())?),
-            text: lines_value(alloc, text.as_slice())?,
-        },
-    )
-}
-
-// A contradiction that steps of a grade find; without them where there are many.
-fn refutation_value<P: StepNames>(
-    alloc: Global,
-    p: &P,
-    grid: &Grid,
-    grade: Grade,
-    refutation: &Refutation,
-) -> Result<Value, AllocError>
-    requires { grid.now.size ≡ (P.Rules.puzzle p.now).size }
-    ensures { IfOk result (λ value. IsRefutationValue (P.Rules.puzzle p.now).size (P.grade_letter grade) (P.edge_clue_of p.now)
-        (P.says_greater_of p.now) refutation.now (view value)) }
-{
-    let looks = looks_list(alloc, p, grid, refutation.steps.as_slice())?;
-    if looks.len() > MOST_STEPS {
-        return plain_value(alloc, Hint::Contradiction);
-    }
-    let text = refutation_lines(alloc, p, grid, refutation)?;
-    object_value(
-        alloc,
-        Parts {
-            by: Value::from(()),
-            cell: Value::from(()),
-            grade: Value::try_from_str(alloc, P::letter(grade))?,
-            kind: "contradiction",
-            line: Value::from(()),
-            number: Value::from(()),
-            steps: Value::from(looks),
-            text: lines_value(alloc, text.as_slice())?,
-        },
-    )
-}
-
-// What an object of a hint has.
+// What a hint says: each a member, null where it says nothing of that.
 #[derive(Drop)]
-struct Parts {
+struct Said {
     by: Value,
     cell: Value,
     grade: Value,
     kind: &'static str,
     line: Value,
     number: Value,
-    steps: Value,
-    text: Value,
 }
 
-fn object_value(alloc: Global, parts: Parts) -> Result<Value, AllocError>
-    ensures { IfOk result (λ value. view value ≡ hint_data (view parts.by) (view parts.cell) (view parts.grade)
-        parts.kind.now (view parts.line) (view parts.number) (view parts.steps) (view parts.text)) }
+// What a hint of a grid of a size says.
+fn said_of<P: StepNames>(alloc: Global, size: Size, hint: &NextHint) -> Result<Said, AllocError>
+    requires { IsGoalTold size hint.now }
+    ensures { IfOk result (λ said. said_data said ≡ said_of size P.grade_letter hint.now) }
 {
-    let mut hint = Map::new(alloc);
-    put(&mut hint, alloc, "text", parts.text)?;
-    put(&mut hint, alloc, "steps", parts.steps)?;
-    put(&mut hint, alloc, "number", parts.number)?;
-    put(&mut hint, alloc, "line", parts.line)?;
-    put(
-        &mut hint,
-        alloc,
-        "kind",
-        Value::try_from_str(alloc, parts.kind)?,
-    )?;
-    put(&mut hint, alloc, "grade", parts.grade)?;
-    put(&mut hint, alloc, "cell", parts.cell)?;
-    put(&mut hint, alloc, "by", parts.by)?;
-    Ok(Value::from(hint))
+    match hint {
+        NextHint::Follows { grade, chain } => Ok(Said {
+            by: Value::try_from_str(alloc, by_word(chain.goal))?,
+            cell: Value::from(chain.goal.cell(size)),
+            grade: Value::try_from_str(alloc, P::letter(*grade))?,
+            kind: "follows",
+            line: goal_line_value(chain.goal),
+            number: Value::from(chain.goal.value()),
+        }),
+        NextHint::Refuted {
+            grade,
+            refutation: _,
+        } => Ok(without_number(
+            "contradiction",
+            Value::try_from_str(alloc, P::letter(*grade))?,
+        )),
+        NextHint::Nothing => Ok(without_number("nothing", Value::from(()))),
+    }
+}
+
+// What a hint says that has no number.
+fn without_number(kind: &'static str, grade: Value) -> Said
+    ensures { said_data result ≡ without_number kind.now (view grade) }
+{
+    Said {
+        by: Value::from(()),
+        cell: Value::from(()),
+        grade,
+        kind,
+        line: Value::from(()),
+        number: Value::from(()),
+    }
 }
 
 // By what a goal is shown, as a word.
@@ -206,31 +116,85 @@ fn goal_line_value(goal: Goal) -> Value
     }
 }
 
-// The steps of a chain, those side by side that have one reason together.
-fn looks_list<P: StepNames>(
-    alloc: Global,
-    p: &P,
-    grid: &Grid,
-    steps: &[Step],
-) -> Result<Vec<Value>, AllocError>
-    requires { grid.now.size ≡ (P.Rules.puzzle p.now).size }
-    ensures { IfOk result (λ list. (looks : List ToldLook) × AreTold steps.now looks
-        × (map view list.items ≡ map (look_data (P.Rules.puzzle p.now).size (P.edge_clue_of p.now) (P.says_greater_of p.now)) looks)) }
+// The steps of a hint.
+fn steps_in(hint: &NextHint) -> &[Step]
+    ensures { result.now ≡ steps_in hint.now }
 {
-    let mut candidates = view_of(grid);
-    let mut list = Vec::new(alloc);
-    let mut rest = steps;
-    while let Some(first) = rest.first() {
-        let (look, more) = rest.split_at(first_look(first.reason, rest));
-        let text = look_lines(alloc, p, &candidates, first.reason, look)?;
-        push_value(
-            &mut list,
-            step_value(alloc, p, first.reason, look, text.as_slice())?,
-        )?;
-        strike_all(&mut candidates, look);
-        rest = more;
+    match hint {
+        NextHint::Follows { grade: _, chain } => chain.steps.as_slice(),
+        NextHint::Refuted {
+            grade: _,
+            refutation,
+        } => refutation.steps.as_slice(),
+        NextHint::Nothing => &[],
     }
-    Ok(list)
+}
+
+// The sentences of a hint.
+fn text_of(
+    alloc: Global,
+    grid: &Grid,
+    told: &[ToldStep],
+    hint: &NextHint,
+) -> Result<Vec<Line>, AllocError>
+    ensures { IfOk result (λ lines. IsTextOf hint.now (line_texts lines.items)) }
+{
+    match hint {
+        NextHint::Follows { grade: _, chain } => chain_lines(alloc, grid, told, chain.goal),
+        NextHint::Refuted {
+            grade: _,
+            refutation,
+        } => refutation_lines(alloc, grid, told, refutation.cell),
+        NextHint::Nothing => Ok(Vec::new(alloc)),
+    }
+}
+
+// The numbers that are left of each square.
+fn view_value(alloc: Global, candidates: &Candidates) -> Result<Value, AllocError>
+    ensures { IfOk result (λ value. view value ≡ view_data candidates.now) }
+{
+    let mut list = Vec::new(alloc);
+    for cell in 0..square_count(candidates.size()) {
+        push_value(&mut list, left_value(alloc, candidates, cell)?)?;
+    }
+    Ok(Value::from(list))
+}
+
+// The numbers that are left of a square, rising.
+fn left_value(alloc: Global, candidates: &Candidates, cell: usize) -> Result<Value, AllocError>
+    requires { cell < candidates.now.size * candidates.now.size }
+    ensures { IfOk result (λ value. view value ≡ left_data candidates.now cell) }
+{
+    let mut list = Vec::new(alloc);
+    for n in 1..candidates.size().get() + 1 {
+        push_when(&mut list, candidates.may(cell, n), usize::from(n))?;
+    }
+    Ok(Value::from(list))
+}
+
+// The object of what a hint says, its steps, its sentences, and what is in view.
+fn object_value(
+    alloc: Global,
+    said: Said,
+    steps: Value,
+    text: Value,
+    seen: Value,
+) -> Result<Value, AllocError>
+    ensures { IfOk result (λ value. view value
+        ≡ hint_data (said_data said) (view steps) (view text) (view seen)) }
+{
+    let mut members = Map::new(alloc);
+    put(&mut members, alloc, "view", seen)?;
+    put(&mut members, alloc, "text", text)?;
+    put(&mut members, alloc, "steps", steps)?;
+    put(&mut members, alloc, "number", said.number)?;
+    put(&mut members, alloc, "line", said.line)?;
+    let kind = Value::try_from_str(alloc, said.kind)?;
+    put(&mut members, alloc, "kind", kind)?;
+    put(&mut members, alloc, "grade", said.grade)?;
+    put(&mut members, alloc, "cell", said.cell)?;
+    put(&mut members, alloc, "by", said.by)?;
+    Ok(Value::from(members))
 }
 
 /// The letter of a grade, or null.

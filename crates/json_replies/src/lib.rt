@@ -14,12 +14,12 @@ mod further_line;
 mod hint_value;
 mod lists;
 mod object_line;
+mod reason_parts;
 mod reply_laws;
 mod session;
 mod shown;
 mod step_value;
 mod text;
-mod told_hint;
 
 pub use format::Json;
 pub use reply_laws::laws;

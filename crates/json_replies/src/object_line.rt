@@ -45,7 +45,7 @@ pub(crate) fn answer_object(
     answer: &Value,
     session: &Value,
 ) -> Result<Vec<u8>, AllocError>
-    requires answer { Fits 6 (view answer.now) }
+    requires answer { Fits 7 (view answer.now) }
     requires session { Fits 1 (view session.now) }
     ensures { IfOk result (λ line. IsLineOf (object (member (further_key which) (view answer.now)
         (reply_members None [] (view session.now)))) line.items) }

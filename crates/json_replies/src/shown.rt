@@ -10,7 +10,7 @@ ghost use Rattle.json_replies.specs.FairLines.{AreFairLetters};
 ghost use Rattle.json_replies.specs.FurtherLines.{BoardFacts};
 
 use crate::clue_lists::{clues_value, signs_value};
-use board_checks::{BoardErrors, Deduces, Demands};
+use board_checks::{BoardErrors, Demands};
 use clue_rules::{Game, Towers, Unequal};
 use fair_games::FairGame;
 use latin_board::Board;
@@ -21,7 +21,7 @@ use step_texts::StepNames;
 use trail_solver::Rules;
 
 /// A game whose boards can be told.
-pub trait Shows: Draw + Demands + Deduces + StepNames + FairGame {
+pub trait Shows: Draw + Demands + StepNames + FairGame {
     // The clues that stand at the edges of a board, and the signs between its squares.
     ghost clues: { Self → BoardValue → ErrorsValue → Data };
 
@@ -132,7 +132,6 @@ pub trait ShownFacts {
 impl<P: Shows> ShownFacts for P {
     ghost board_facts = { record {
       demand = P.demand;
-      strikes = P.strikes;
       clues = P.clues;
       signs = P.signs;
       struck_by = P.struck_by;

@@ -1,181 +1,60 @@
-//! A look of a chain as an object: where it looks, what it strikes, and its sentence.
+//! A step of a hint as an object: where it looks, what it strikes, and its sentence.
 
-ghost use Rattle.std.specs.Prelude.{◌≡◌, ◌*◌, ◌<◌, ℕ, IfOk, IfSome};
-ghost use Rattle.step_texts.specs.Lines.{line_texts};
+ghost use Rattle.std.specs.Prelude.{◌≡◌, ◌*◌, ◌<◌, ◌++◌, map, slice_index, OnOk, IfOk, IfSome};
 ghost use Rattle.serde_json.specs.View.{view};
-ghost use Rattle.number_sets.specs.Sets.{has_number};
-ghost use Rattle.json_replies.specs.Texts.{list_data, text_data};
-ghost use Rattle.json_replies.specs.Boards.{mark_set_data};
-ghost use Rattle.json_replies.specs.Steps.{edge_at, edge_of, ends_at, ends_of, x_data, y_data, clue_data, greater_data, less_data, line_data, one_data, place_data, line_cells_data, squares_data, cells_data, numbers_data, reason_word, strike_data, step_data};
+ghost use Rattle.json_replies.specs.Boards.{when, mark_set_data};
+ghost use Rattle.json_replies.specs.Texts.{list_data};
+ghost use Rattle.json_replies.specs.Steps.{x_data, y_data, clue_data, greater_data, less_data, counts_data, shows_data, strike_data, step_data, steps_data};
 
-use crate::lists::{number_set_value, push_value, push_when};
+use crate::lists::{number_set_value, push_value};
+use crate::reason_parts::{Ends, parts_of};
 use crate::text::lines_value;
-use latin_board::{Size, edge_xy, line_cell};
-use named_steps::Reason;
+use latin_board::{Size, edge_xy};
 use number_sets::NumberSet;
 use serde_json::{Map, Value, put};
 use std::alloc::{AllocError, Global};
-use step_chains::Step;
-use step_texts::{Line, StepNames};
+use step_texts::{StepNames, Strike, ToldStep};
 use trail_solver::Rules;
 
-/// The squares between which a sign stands, the greater one and the lesser one.
-#[derive(Clone, Copy)]
-pub(crate) struct Ends {
-    greater: usize,
-    less: usize,
-}
-
-/// A reason with what its steps strike, and its sentence.
-pub(crate) fn step_value<P: StepNames>(
+/// Steps of a hint, in their order.
+pub(crate) fn steps_value<P: StepNames>(
     alloc: Global,
     p: &P,
-    reason: Reason,
-    steps: &[Step],
-    text: &[Line],
+    steps: &[ToldStep],
 ) -> Result<Value, AllocError>
+    ensures { IfOk result (λ value. view value ≡ steps_data (P.Rules.puzzle p.now).size (P.edge_clue_of p.now)
+        (P.says_greater_of p.now) steps.now) }
+{
+    let mut list = Vec::new(alloc);
+    for step in steps {
+        push_value(&mut list, step_value(alloc, p, step)?)?;
+    }
+    Ok(Value::from(list))
+}
+
+// A step as it is told.
+fn step_value<P: StepNames>(alloc: Global, p: &P, step: &ToldStep) -> Result<Value, AllocError>
     ensures { IfOk result (λ value. view value ≡ step_data (P.Rules.puzzle p.now).size (P.edge_clue_of p.now)
-        (P.says_greater_of p.now) reason steps.now (line_texts text.now)) }
+        (P.says_greater_of p.now) step.now) }
 {
     let size = p.size();
-    let edge = edge_of(size, reason);
-    let ends = ends_of(p, reason);
+    let parts = parts_of(alloc, p, step.reason)?;
+    let strikes = strikes_value(alloc, step.strikes.as_slice())?;
+    let text = lines_value(alloc, step.text.as_slice())?;
+    let word = Value::try_from_str(alloc, parts.word)?;
     let mut members = Map::new(alloc);
-    put(&mut members, alloc, "y", y_value(size, edge))?;
-    put(&mut members, alloc, "x", x_value(size, edge))?;
-    put(&mut members, alloc, "text", lines_value(alloc, text)?)?;
-    put(&mut members, alloc, "strikes", strikes_value(alloc, steps)?)?;
-    put(
-        &mut members,
-        alloc,
-        "reason",
-        Value::try_from_str(alloc, reason_word(reason))?,
-    )?;
-    put(
-        &mut members,
-        alloc,
-        "numbers",
-        numbers_value(alloc, reason)?,
-    )?;
-    put(&mut members, alloc, "line", line_value(reason))?;
-    put(&mut members, alloc, "less", less_value(ends))?;
-    put(&mut members, alloc, "greater", greater_value(ends))?;
-    put(&mut members, alloc, "clue", clue_value(p, edge))?;
-    put(
-        &mut members,
-        alloc,
-        "cells",
-        cells_value(alloc, size, reason)?,
-    )?;
+    put(&mut members, alloc, "y", y_value(size, parts.edge))?;
+    put(&mut members, alloc, "x", x_value(size, parts.edge))?;
+    put(&mut members, alloc, "text", text)?;
+    put(&mut members, alloc, "strikes", strikes)?;
+    put(&mut members, alloc, "reason", word)?;
+    put(&mut members, alloc, "numbers", parts.numbers)?;
+    put(&mut members, alloc, "line", parts.line)?;
+    put(&mut members, alloc, "less", less_value(parts.ends))?;
+    put(&mut members, alloc, "greater", greater_value(parts.ends))?;
+    put(&mut members, alloc, "clue", clue_value(p, parts.edge))?;
+    put(&mut members, alloc, "cells", parts.cells)?;
     Ok(Value::from(members))
-}
-
-// The word for a reason's kind.
-fn reason_word(reason: Reason) -> &'static str
-    ensures { result.now ≡ reason_word reason }
-{
-    match reason {
-        Reason::Given { cell: _ } => "given",
-        Reason::Peer { cell: _ } => "peer",
-        Reason::Place {
-            line: _,
-            index: _,
-            value: _,
-        } => "place",
-        Reason::Bound { place: _ } => "bound",
-        Reason::Stand { place: _ } => "stand",
-        Reason::Clue { place: _ } => "clue",
-        Reason::Sign { from: _, to: _ } => "sign",
-        Reason::Set {
-            line: _,
-            squares: _,
-            values: _,
-        } => "set",
-    }
-}
-
-// The place of the clue that a reason looks from, if it is one of the edge's.
-fn edge_of(size: Size, reason: Reason) -> Option<u8>
-    ensures value { result ≡ edge_of size reason }
-    ensures inside { IfSome result (λ place. place < 4 * size) }
-{
-    match reason {
-        Reason::Given { cell: _ } => None,
-        Reason::Peer { cell: _ } => None,
-        Reason::Place {
-            line: _,
-            index: _,
-            value: _,
-        } => None,
-        Reason::Bound { place } => edge_at(size, place),
-        Reason::Stand { place } => edge_at(size, place),
-        Reason::Clue { place } => edge_at(size, place),
-        Reason::Sign { from: _, to: _ } => None,
-        Reason::Set {
-            line: _,
-            squares: _,
-            values: _,
-        } => None,
-    }
-}
-
-// A place, if it is one of the edge's.
-fn edge_at(size: Size, place: usize) -> Option<u8>
-    ensures value { result ≡ edge_at size place }
-    ensures inside { IfSome result (λ place. place < 4 * size) }
-{
-    if place < 4 * size.get() as usize {
-        Some(place as u8)
-    } else {
-        None
-    }
-}
-
-// The squares of the sign that a reason looks along, if there is one.
-fn ends_of<P: StepNames>(p: &P, reason: Reason) -> Option<Ends>
-    ensures { result ≡ ends_of (P.Rules.puzzle p.now).size (P.says_greater_of p.now) reason }
-{
-    match reason {
-        Reason::Given { cell: _ } => None,
-        Reason::Peer { cell: _ } => None,
-        Reason::Place {
-            line: _,
-            index: _,
-            value: _,
-        } => None,
-        Reason::Bound { place: _ } => None,
-        Reason::Stand { place: _ } => None,
-        Reason::Clue { place: _ } => None,
-        Reason::Sign { from, to } => ends_at(p, from, to),
-        Reason::Set {
-            line: _,
-            squares: _,
-            values: _,
-        } => None,
-    }
-}
-
-// The squares of the sign between two squares of the grid, if there is one.
-fn ends_at<P: StepNames>(p: &P, first: usize, second: usize) -> Option<Ends>
-    ensures { result ≡ ends_at (P.Rules.puzzle p.now).size (P.says_greater_of p.now) first second }
-{
-    let width = p.size().get() as usize;
-    if first >= width * width || second >= width * width {
-        return None;
-    }
-    if p.says_greater(first, second) {
-        return Some(Ends {
-            greater: first,
-            less: second,
-        });
-    }
-    if p.says_greater(second, first) {
-        return Some(Ends {
-            greater: second,
-            less: first,
-        });
-    }
-    None
 }
 
 fn x_value(size: Size, edge: Option<u8>) -> Value
@@ -226,153 +105,79 @@ fn less_value(ends: Option<Ends>) -> Value
     }
 }
 
-// The row or column of a reason that looks at one.
-fn line_value(reason: Reason) -> Value
-    ensures { view result ≡ line_data reason }
-{
-    match reason {
-        Reason::Given { cell: _ } => Value::from(()),
-        Reason::Peer { cell: _ } => Value::from(()),
-        Reason::Place {
-            line,
-            index: _,
-            value: _,
-        } => Value::from(line),
-        Reason::Bound { place: _ } => Value::from(()),
-        Reason::Stand { place: _ } => Value::from(()),
-        Reason::Clue { place: _ } => Value::from(()),
-        Reason::Sign { from: _, to: _ } => Value::from(()),
-        Reason::Set {
-            line,
-            squares: _,
-            values: _,
-        } => Value::from(line),
-    }
-}
-
-// The squares that a reason rests on, of those that rest on some but for a clue's line and a sign's squares.
-fn cells_value(alloc: Global, size: Size, reason: Reason) -> Result<Value, AllocError>
-    ensures { IfOk result (λ value. view value ≡ cells_data size reason) }
-{
-    match reason {
-        Reason::Given { cell } => one_value(alloc, cell),
-        Reason::Peer { cell } => one_value(alloc, cell),
-        Reason::Place {
-            line,
-            index,
-            value: _,
-        } => place_value(alloc, size, line, index),
-        Reason::Bound { place: _ } => Ok(Value::from(())),
-        Reason::Stand { place: _ } => Ok(Value::from(())),
-        Reason::Clue { place: _ } => Ok(Value::from(())),
-        Reason::Sign { from: _, to: _ } => Ok(Value::from(())),
-        Reason::Set {
-            line,
-            squares,
-            values: _,
-        } => squares_value(alloc, size, line, squares),
-    }
-}
-
-// The numbers that a reason speaks of.
-fn numbers_value(alloc: Global, reason: Reason) -> Result<Value, AllocError>
-    ensures { IfOk result (λ value. view value ≡ numbers_data reason) }
-{
-    match reason {
-        Reason::Given { cell: _ } => Ok(Value::from(())),
-        Reason::Peer { cell: _ } => Ok(Value::from(())),
-        Reason::Place {
-            line: _,
-            index: _,
-            value,
-        } => one_value(alloc, usize::from(value)),
-        Reason::Bound { place: _ } => Ok(Value::from(())),
-        Reason::Stand { place: _ } => Ok(Value::from(())),
-        Reason::Clue { place: _ } => Ok(Value::from(())),
-        Reason::Sign { from: _, to: _ } => Ok(Value::from(())),
-        Reason::Set {
-            line: _,
-            squares: _,
-            values,
-        } => number_set_value(alloc, values),
-    }
-}
-
-// The list of one number.
-fn one_value(alloc: Global, n: usize) -> Result<Value, AllocError>
-    ensures { IfOk result (λ value. view value ≡ one_data n) }
-{
-    let mut list = Vec::new(alloc);
-    push_value(&mut list, Value::from(n))?;
-    Ok(Value::from(list))
-}
-
-// The list of the square at a place of a line, if the grid has it.
-fn place_value(alloc: Global, size: Size, line: usize, index: usize) -> Result<Value, AllocError>
-    ensures { IfOk result (λ value. view value ≡ place_data size line index) }
-{
-    let width = size.get() as usize;
-    if line >= 2 * width || index >= width {
-        return Ok(Value::from(()));
-    }
-    one_value(alloc, line_cell(size, line as u8, index as u8))
-}
-
-// The squares at some places of a line, if the grid has it.
-fn squares_value(
-    alloc: Global,
-    size: Size,
-    line: usize,
-    places: NumberSet,
-) -> Result<Value, AllocError>
-    ensures { IfOk result (λ value. view value ≡ squares_data size line places) }
-{
-    if line >= 2 * size.get() as usize {
-        return Ok(Value::from(()));
-    }
-    line_cells_value(alloc, size, line as u8, places)
-}
-
-// The squares at some places of a line of the grid.
-fn line_cells_value(
-    alloc: Global,
-    size: Size,
-    line: u8,
-    places: NumberSet,
-) -> Result<Value, AllocError>
-    requires { line < 2 * size }
-    ensures { IfOk result (λ value. view value ≡ line_cells_data size line places) }
-{
-    let mut list = Vec::new(alloc);
-    for place in 0..size.get() {
-        let cell = line_cell(size, line, place);
-        push_when(&mut list, places.has(place), cell)?;
-    }
-    Ok(Value::from(list))
-}
-
 // What is struck, square by square.
-fn strikes_value(alloc: Global, steps: &[Step]) -> Result<Value, AllocError>
-    ensures { IfOk result (λ value. view value ≡ list_data strike_data steps.now) }
+fn strikes_value(alloc: Global, strikes: &[Strike]) -> Result<Value, AllocError>
+    ensures { IfOk result (λ value. view value ≡ list_data strike_data strikes.now) }
 {
     let mut list = Vec::new(alloc);
-    for step in steps {
-        push_value(&mut list, strike_value(alloc, step)?)?;
+    for strike in strikes {
+        push_value(&mut list, strike_value(alloc, strike)?)?;
     }
     Ok(Value::from(list))
 }
 
-// A square, and the numbers that are struck there.
-fn strike_value(alloc: Global, step: &Step) -> Result<Value, AllocError>
-    ensures { IfOk result (λ value. view value ≡ strike_data step.now) }
+// A square, the numbers that are struck there, and what a clue would show with them.
+fn strike_value(alloc: Global, strike: &Strike) -> Result<Value, AllocError>
+    ensures { IfOk result (λ value. view value ≡ strike_data strike.now) }
 {
-    let mut strike = Map::new(alloc);
-    put(
-        &mut strike,
-        alloc,
-        "numbers",
-        number_set_value(alloc, step.values)?,
-    )?;
-    put(&mut strike, alloc, "cell", Value::from(step.cell))?;
-    Ok(Value::from(strike))
+    let numbers = number_set_value(alloc, strike.values)?;
+    let shows = shows_value(alloc, strike.values, strike.shows)?;
+    let mut members = Map::new(alloc);
+    put(&mut members, alloc, "shows", shows)?;
+    put(&mut members, alloc, "numbers", numbers)?;
+    put(&mut members, alloc, "cell", Value::from(strike.cell))?;
+    Ok(Value::from(members))
+}
+
+// Where a clue strikes, the counts of towers that are shown with each of the numbers.
+fn shows_value(
+    alloc: Global,
+    values: NumberSet,
+    shows: Option<[NumberSet; 10]>,
+) -> Result<Value, AllocError>
+    ensures { IfOk result (λ value. view value ≡ shows_data values shows) }
+{
+    match shows {
+        None => Ok(Value::from(())),
+        Some(shows) => counts_value(alloc, values, &shows),
+    }
+}
+
+// The counts of towers that are shown with each of the numbers.
+fn counts_value(
+    alloc: Global,
+    values: NumberSet,
+    shows: &[NumberSet; 10],
+) -> Result<Value, AllocError>
+    ensures { IfOk result (λ value. view value ≡ counts_data values shows.now) }
+{
+    let mut list = Vec::new(alloc);
+    for n in 1..10 {
+        push_set_when(alloc, &mut list, values.has(n), counts_with(shows, n))?;
+    }
+    Ok(Value::from(list))
+}
+
+// The counts of towers that are shown with one of the numbers.
+fn counts_with(shows: &[NumberSet; 10], n: u8) -> NumberSet
+    requires { n < 10 }
+    ensures { result ≡ slice_index shows.now n }
+{
+    shows[usize::from(n)]
+}
+
+// Appends the numbers of a set, where the test holds.
+fn push_set_when(
+    alloc: Global,
+    list: &mut Vec<Value>,
+    test: bool,
+    set: NumberSet,
+) -> Result<(), AllocError>
+    ensures { OnOk result (map view list.new.items
+        ≡ map view list.old.items ++ when test (mark_set_data set)) }
+{
+    if test {
+        push_value(list, number_set_value(alloc, set)?)?;
+    }
+    Ok(())
 }

@@ -1,18 +1,18 @@
 -- What givens strike, square by square.
-use Rattle.std.proofs.Common.{◌≡◌, ◌≢◌, ◌↔◌, ℕ, ◌*◌, ◌<◌, true, nat_le, ◌&&◌, ◌==◌, not, length, refl, sym, subst}
+use Rattle.std.proofs.Common.{◌≡◌, ◌≢◌, ◌↔◌, ℕ, ◌*◌, ◌<◌, true, nat_le, ◌&&◌, ◌==◌, not, refl, sym, subst}
 use Rattle.std.proofs.lemmas.Bool.{both_ways}
 use Rattle.number_sets.specs.Sets.{has_number}
 use Rattle.trail_solver.specs.Pairs.{IsPair}
 use Rattle.trail_solver.specs.Candidates.{CandidatesValue, may_be}
 use Rattle.trail_solver.specs.Puzzles.{Puzzle}
 use Rattle.named_steps.specs.Reasons.{IsByGiven}
-use Rattle.named_steps.specs.Left.{IsFewer, IsLeft}
+use Rattle.named_steps.specs.Left.{IsFewer}
 use Rattle.named_steps.specs.Passes.{LeadsTo, IsGivenQuiet, AreGivensSettled}
 use Rattle.named_steps.specs.Inner.Takes.{Strikes, Takes}
 use Rattle.named_steps.proofs.Antitone.{IsAntitone}
 use Rattle.named_steps.proofs.GameSets.{given_struck}
 use Rattle.named_steps.proofs.QuietLines.{gone_from}
-use Rattle.named_steps.proofs.Takes.{takes_struck, takes_stays, takes_same, leads_taken}
+use Rattle.named_steps.proofs.Takes.{takes_struck, leads_taken}
 use Rattle.named_steps.specs.declared.reason.Reason.{Reason}
 use Rattle.named_steps.specs.declared.reason.Reason.TheVariants.{Given}
 use Rattle.named_steps.specs.declared.grade.Grade.TheVariants.{Latin}
@@ -26,12 +26,10 @@ given_stays p at a b size fewer quiet = λ cell value pair h.
 pub givens_stay : (p : Puzzle) (a b : CandidatesValue) → b.size ≡ a.size → IsFewer a b → AreGivensSettled p a → AreGivensSettled p b
 givens_stay p a b size fewer quiet at = given_stays p at a b size fewer (quiet at)
 
--- what a given strikes is gone, and nothing of other squares
+-- what a given strikes is gone
 pub record IsGivenTaken (p : Puzzle) (Struck : CandidatesValue → Reason → ℕ → ℕ → Type 0) (at : ℕ) (a b : CandidatesValue) : Type 0 where
   pub leads : LeadsTo Struck Latin a b
   pub quiet : IsGivenQuiet p at b
-  pub others : (other v : ℕ) → other ≢ at → IsLeft a other v → IsLeft b other v
-  pub same : length b.trail ≡ length a.trail → b ≡ a
 
 pub given_taken : (p : Puzzle) (Struck : CandidatesValue → Reason → ℕ → ℕ → Type 0) → IsAntitone Struck
     → ((c : CandidatesValue) (at cell value : ℕ) → IsByGiven p at cell value ↔ Struck c (Given at) cell value) → (at all one rest given : ℕ) (a b : CandidatesValue)
@@ -51,6 +49,4 @@ given_taken p Struck less law at all one rest given a b inside is some members s
           let there : IsPair a.size at v = subst (λ (n : ℕ). IsPair a.size n v) h.here here in
           let again : IsByGiven p at at v = subst (λ (n : ℕ). IsByGiven p at n v) h.here h in
           taken.gone cell v here (h.here, (tested v).1 (there, again));
-      others = λ other v apart left. takes_stays Which a b other v taken left (λ h. apart h.0);
-      same = λ e. takes_same Which a b taken e;
     }

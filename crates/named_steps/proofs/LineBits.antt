@@ -3,21 +3,16 @@ use Rattle.std.proofs.Common.{◌≡◌, ℕ, ◌+◌, ◌-◌, ◌*◌, ◌/◌
 use Rattle.std.specs.Int.{bit_at, bit_not, trailing_zeros}
 use Rattle.std.specs.Int.Width.{w32}
 use Rattle.std.proofs.lemmas.Bool.{cases_eq, cases_lt, eq-eqb, ne_eqb, lt-ltb, le-ltb, lt-leb, le-leb, and_left, and_right}
-use Rattle.std.proofs.lemmas.Nat.{div_below, mod_below, one_shl, pow_pos, shl_whole, shr_le}
+use Rattle.std.proofs.lemmas.Nat.{one_shl, pow_pos, shl_whole, shr_le}
 use Rattle.std.proofs.lemmas.Nat.Bits.{bit_at-zero, bit_at_cat_low, bit_at_cat_high, bit_at_clear_same, bit_at_clear_other, bit_at-trailing_zeros}
 use lib.Count.{trailing_of_zero}
 use Rattle.number_sets.specs.Sets.{has_number}
 use Rattle.number_sets.proofs.Members.{has_number-above, has_number-and, has_number-none, has_number-one, has_number-or, has_number-shr, no_number-from_bit, number-from_bit, number-from_same_bit}
-use Rattle.latin_board.proofs.LatinLines.{some_width}
-use Rattle.named_steps.specs.Inner.WaitingLines.{is_through, is_crossing}
+use Rattle.named_steps.specs.Inner.WaitingLines.{is_crossing}
 
 and_true : (b : Bool) → (b && true) ≡ b
 and_true true = refl
 and_true false = refl
-
-or_false : (b : Bool) → (b || false) ≡ b
-or_false true = refl
-or_false false = refl
 
 -- ---- a line more, and a line less
 
@@ -49,30 +44,6 @@ has_without set line k low small =
 -- those of two words
 pub has_either : (set a b k : ℕ) → set ≡ bit_or a b → has_number set k ≡ (has_number a k || has_number b k)
 has_either set a b k is = rw is (has_number-or a b k)
-
--- those of a square
-pub has_square : (set row column cell w line : ℕ) → w ≤ 9 → cell < w * w → row ≡ cell / w → column ≡ w + cell % w
-    → has_number (bit_or (bit_or set (1 * 2 ^ row % 4294967296)) (1 * 2 ^ column % 4294967296)) line ≡ (has_number set line || is_through w cell line)
-has_square set row column cell w line narrow inside row_is column_is =
-    let some = some_width w cell inside in
-    let above : row < w = omega (arith, row_is, div_below cell w w some inside) in
-    let beyond : column < w + w = omega (arith, column_is, mod_below cell w some) in
-    let has = has_number set line in
-    has_with (bit_or set (1 * 2 ^ row % 4294967296)) column line (omega (arith, narrow, beyond))
-    ∙ ap (λ (b : Bool). b || (line == column)) (has_with set row line (omega (arith, narrow, above))) ∙ elim (cases_lt line w) [
-      | inl low ↦
-          rw (lt-ltb line w low, ne_eqb line column (λ same. omega (arith, same, low, column_is)))
-          (or_false (has || (line == row)) ∙ ap (λ (n : ℕ). has || (line == n)) row_is)
-      | inr on ↦
-          rw (le-ltb line w on, ne_eqb line row (λ same. omega (arith, same, on, above)))
-          (ap (λ (b : Bool). b || (line == column)) (or_false has) ∙ ap (λ (b : Bool). has || b) (same_column on))
-    ]
-  where
-    same_column : w ≤ line → (line == column) ≡ (line - w == cell % w)
-    same_column on = elim (cases_eq (line - w) (cell % w)) [
-      | inl same ↦ eq-eqb line column (omega (arith, same, on, column_is)) ∙ sym (eq-eqb (line - w) (cell % w) same)
-      | inr other ↦ ne_eqb line column (λ e. other (omega (arith, e, column_is))) ∙ sym (ne_eqb (line - w) (cell % w) other)
-    ]
 
 -- ---- the lines across
 

@@ -7,7 +7,6 @@ use Rattle.trail_solver.specs.Candidates.{CandidatesValue, may_be}
 use Rattle.named_steps.specs.Reasons.{IsByLine}
 use Rattle.named_steps.specs.Grades.{has_reason, is_of_lines}
 use Rattle.named_steps.specs.Laws.Less.{peer_less, place_less, set_less}
-use Rattle.named_steps.specs.Passes.{AreLinesSettled}
 use Rattle.named_steps.specs.Inner.Takes.{Takes}
 use Rattle.named_steps.specs.Inner.LineStrikes.{IsByRest, IsLeftByRest, IsRestQuiet}
 use Rattle.named_steps.specs.Inner.LineTallies.{IsVoid}
@@ -109,9 +108,3 @@ latin_has grade (Stand place) h = absurd (cc)
 latin_has grade (Clue place) h = absurd (cc)
 latin_has grade (Sign from to) h = absurd (cc)
 latin_has grade (Set line squares values) h = absurd (cc)
-
--- where lone values and last places strike nothing, the lines are quiet
-pub settled_quiet : (grade : Grade) (c : CandidatesValue) → AreLinesSettled grade c → (line : ℕ) → line < 2 * c.size → IsRestQuiet line c
-settled_quiet grade c settled line line_is k v low pair h =
-    let by = rest_reason c line k v line_is low h in
-    settled by.0 (line_cell c.size line k) v (latin_has grade by.0 by.1) pair by.2

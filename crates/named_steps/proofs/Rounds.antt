@@ -1,22 +1,17 @@
 -- From passes to what a grade leaves.
-use Rattle.std.proofs.Common.{◌≡◌, ◌↔◌, ℕ, ◌*◌, ◌<◌, ◌≤◌, true, ◌++◌, refl, sym, ap, ◌∙◌, subst}
-use Rattle.latin_board.specs.Squares.{GridValue, number_at}
-use Rattle.trail_solver.specs.Candidates.{CandidatesValue, IsOnly, IsWithin, may_be}
-use Rattle.trail_solver.specs.Puzzles.{Puzzle, Solves}
-use Rattle.named_steps.specs.Left.{IsLeft, AreAlike}
+use Rattle.std.proofs.Common.{◌≡◌, ◌↔◌, ℕ, ◌*◌, ◌<◌, ◌≤◌, true, refl, sym, subst}
+use Rattle.trail_solver.specs.Candidates.{CandidatesValue}
+use Rattle.trail_solver.specs.Puzzles.{Puzzle}
+use Rattle.named_steps.specs.Left.{IsLeft}
 use Rattle.named_steps.specs.Reasons.{IsByGiven, IsByPeer, IsByPlace, IsBySet, IsByLine}
 use Rattle.named_steps.specs.Grades.{has_reason, is_of_lines, is_past_latin, is_past_easy}
-use Rattle.named_steps.specs.Chains.{IsChain, left_by}
 use Rattle.named_steps.specs.Following.{IsSettled, IsClosure}
 use Rattle.named_steps.specs.Passes.{LeadsTo, AreCluesSettled, AreGivensSettled}
 use Rattle.named_steps.specs.Inner.LineStrikes.{IsRestQuiet, IsGroupQuiet}
-use Rattle.std.proofs.lemmas.Bool.{false_from_ne_true}
-use Rattle.named_steps.specs.Laws.Quiet.{latin_clues}
-use Rattle.named_steps.proofs.Kept.{IsSoundFor, chain_keeps, number_left}
+use Rattle.named_steps.specs.Laws.Along.{latin_clues}
 use Rattle.named_steps.proofs.LinePasses.{latin_has, line_reason}
 use Rattle.named_steps.proofs.QuietLines.{peer_quiet, place_quiet, set_quiet}
-use Rattle.named_steps.proofs.Parts.{chain_joined, left_append}
-use Rattle.named_steps.proofs.Takes.{allowed_joined, leads_size, leads_wider}
+use Rattle.named_steps.proofs.Takes.{leads_size, leads_wider}
 use Rattle.named_steps.specs.declared.reason.Reason.{Reason}
 use Rattle.named_steps.specs.declared.reason.Reason.TheVariants.{Given, Peer, Place, Bound, Stand, Clue, Sign, Set}
 use Rattle.named_steps.specs.declared.grade.Grade.{Grade}
@@ -85,23 +80,6 @@ clues_settled Struck Latin c h = latin_clues Struck c
 clues_settled Struck Easy c h = h refl
 clues_settled Struck Hard c h = h refl
 
--- a chain of a game's steps loses no solution
-pub leads_within : (p : Puzzle) (Struck : CandidatesValue → Reason → ℕ → ℕ → Type 0) → IsSoundFor p Struck → (grade : Grade) (a b : CandidatesValue) (g : GridValue)
-    → a.size ≡ p.size → LeadsTo Struck grade a b → Solves p g → IsWithin a g → IsWithin b g
-leads_within p Struck sound grade a b g size h s within =
-    subst (λ (d : CandidatesValue). IsWithin d g) (sym h.is) (chain_keeps p Struck sound a h.steps g size h.chain s within)
-
--- where a solution alone is left, nothing more is struck
-pub filled_settled : (p : Puzzle) (Struck : CandidatesValue → Reason → ℕ → ℕ → Type 0) → IsSoundFor p Struck → (grade : Grade) (c : CandidatesValue) (g : GridValue)
-    → c.size ≡ p.size → Solves p g → IsWithin c g → ((cell : ℕ) → cell < c.size * c.size → (v : ℕ) × IsOnly c cell v) → IsSettled Struck grade c
-filled_settled p Struck sound grade c g size s within filled reason cell value has pair h =
-    false_from_ne_true (may_be c cell value) (λ may.
-    let only = filled cell pair.inside in
-    let left = number_left p c g cell size s within pair.inside in
-    let number : number_at g cell ≡ only.0 = only.1.alone (number_at g cell) left.pair.low left.pair.high left.may in
-    let same : value ≡ only.0 = only.1.alone value pair.low pair.high may in
-    sound c reason cell value g size s within (subst (λ (w : ℕ). cell < w * w) size pair.inside) h (number ∙ sym same))
-
 -- ---- rounds until nothing goes
 
 -- what a chain leads to and is settled is what the grade leaves
@@ -117,16 +95,4 @@ closure_reached Struck grade a b lead settled = record {
     λ cell value left. subst (λ d. IsLeft d cell value) (sym lead.is) left,
   );
   settled = settled;
-}
-
--- what a grade leaves of what a chain leads to it leaves of the start
-pub closure_after : (Struck : CandidatesValue → Reason → ℕ → ℕ → Type 0) (grade : Grade) (a b c : CandidatesValue) → LeadsTo Struck grade a b
-    → IsClosure Struck grade b c → IsClosure Struck grade a c
-closure_after Struck grade a b c lead h = record {
-  steps = lead.steps ++ h.steps;
-  chain = chain_joined Struck a lead.steps h.steps lead.chain (subst (λ d. IsChain Struck d h.steps) lead.is h.chain);
-  allowed = allowed_joined grade lead.steps h.steps lead.allowed h.allowed;
-  size = h.size ∙ leads_size Struck grade a b lead;
-  left = subst (λ d. AreAlike d c) (ap (λ d. left_by d h.steps) lead.is ∙ sym (left_append a lead.steps h.steps)) h.left;
-  settled = h.settled;
 }

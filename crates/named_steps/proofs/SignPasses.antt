@@ -8,9 +8,9 @@ use Rattle.clue_rules.specs.Unequal.{UnequalValue, IsUnequal, IsGreater}
 use Rattle.clue_rules.specs.Laws.Signs.{never_both}
 use Rattle.named_steps.specs.Left.{IsLeft}
 use Rattle.named_steps.specs.Reasons.{IsUnequalStruckBy}
-use Rattle.named_steps.specs.QuietLines.{IsSignQuiet}
+use Rattle.named_steps.specs.Inner.QuietLines.{IsSignQuiet}
 use Rattle.named_steps.specs.Laws.Less.{unequal_less}
-use Rattle.named_steps.specs.Laws.Quiet.{sign_was}
+use Rattle.named_steps.specs.Laws.Along.{sign_was}
 use Rattle.named_steps.specs.Passes.{LeadsTo, StaysOn}
 use Rattle.named_steps.specs.Inner.Takes.{Strikes, Takes}
 use Rattle.named_steps.specs.Inner.SignEnds.{IsEnd}

@@ -1,19 +1,17 @@
 -- The values that none that is left of a square is above, or none below.
-use Rattle.std.proofs.Common.{◌≡◌, ◌≢◌, ◌↔◌, ℕ, ◌+◌, ◌-◌, ◌*◌, ◌%◌, ◌^◌, ◌<◌, ◌≤◌, Bool, true, false, nat_le, nat_lt, ◌&&◌, bit_and, bit_or, bit_xor, refl, sym, ap, ◌∙◌, inl, inr, arith, add-one}
-use Rattle.std.specs.Bool.{MatchBool}
+use Rattle.std.proofs.Common.{◌≡◌, ◌≢◌, ◌↔◌, ℕ, ◌+◌, ◌-◌, ◌*◌, ◌%◌, ◌^◌, ◌<◌, ◌≤◌, true, false, nat_le, nat_lt, ◌&&◌, bit_and, bit_or, bit_xor, sym, ap, ◌∙◌, inl, inr, arith, add-one}
 use Rattle.std.specs.Int.{bit_at}
 use Rattle.std.specs.Int.Bits.{xor_add_and}
 use Rattle.std.proofs.Math.Nat.{pow-suc}
 use Rattle.std.proofs.lemmas.Bool.{both_ways, and_parts, and_from, or_cases, or_left, cases_lt, cases_eq, lt-ltb, ltb-true, leb-true, le-leb}
 use Rattle.std.proofs.lemmas.Nat.{pow_pos, or_lt, and_le_l}
 use Rattle.std.proofs.lemmas.Nat.Bits.{bit_at_xor, ones_shl, bit_at-lt}
-use Rattle.number_sets.specs.Sets.{has_number, IsGreatest, IsSubset}
+use Rattle.number_sets.specs.Sets.{has_number, IsGreatest}
 use Rattle.number_sets.proofs.Ends.{lowest_power, greatest_is}
 use Rattle.number_sets.proofs.Members.{bit-from_number, no_number-from_bit, has_number-none, has_number-below, has_number-from, has_number-and, has_number-or, number_of_one, below_from_number}
 use Rattle.number_sets.proofs.OneMore.{added_without, added_other}
 use Rattle.trail_solver.specs.Candidates.{CandidatesValue, IsSetOf}
 use Rattle.named_steps.specs.Left.{IsLeft}
-use Rattle.named_steps.specs.Idle.{AreAbove}
 
 -- ---- as numbers
 
@@ -111,25 +109,3 @@ bounds_struck c from set bounds all result v Is small is members tested shared =
 )
 
 -- ---- two squares
-
--- the values of one square are above those of the other where these are below the least of those
-pub above_is : (c : CandidatesValue) (greater lesser above below under : ℕ) (result : Bool) → c.size ≤ 9 → IsSetOf c greater above
-    → IsSetOf c lesser below → ((v : ℕ) → (has_number under v ≡ true) ↔ ((v < 15) × ((u : ℕ) → has_number above u ≡ true → v < u)))
-    → MatchBool result (IsSubset below under) (IsSubset below under → ⊥) → (result ≡ true) ↔ AreAbove c greater lesser
-above_is c greater lesser above below under true small first second least found = (
-  λ yes. record {
-    each = λ u v high low. ((least v).0 (found v ((second v).1 (low.pair, low.may)))).1 u ((first u).1 (high.pair, high.may));
-  },
-  λ all. refl,
-)
-above_is c greater lesser above below under false small first second least found = (
-  λ yes. cc,
-  λ all. absurd (found (λ v has.
-      let low = (second v).0 has in
-      (least v).1 (
-        omega (arith, small, low.0.high),
-        λ u there.
-            let high = (first u).0 there in
-            all.each u v (record { pair = high.0; may = high.1 }) (record { pair = low.0; may = low.1 }),
-      ))),
-)

@@ -52,6 +52,20 @@ from_sets w May place clue row line r f =
       shown = f.shown;
     }
 
+-- what is supported in the k-th square is what a line by what may stand has there
+pub filled_supported : (w : ℕ) (May : ℕ → ℕ → Type 0) (place clue k v : ℕ) (sets : List ℕ) → w ≤ 9 → k < w → AreMaySets w May place w sets
+    → IsSupported (take w sets) clue k v ↔ ((line : List ℕ) × IsFilling w May place clue line × (slice_index line k ≡ v))
+filled_supported w May place clue k v sets small low are =
+    let r = row_of_sets w May place sets small are in (
+      λ s. (s.line, from_sets w May place clue (take w sets) s.line r s.filling, s.here),
+      λ h. record {
+        line = h.0;
+        filling = to_sets w May place clue (take w sets) h.0 r h.1;
+        inside = omega (arith, r.count, low);
+        here = h.2;
+      },
+    )
+
 -- what is supported in the k-th square is what isn't struck there
 pub unfilled_tested : (w : ℕ) (May : ℕ → ℕ → Type 0) (place clue cell k v : ℕ) (sets kept : List ℕ) → w ≤ 9 → place < 4 * w → k < w
     → view_cell w place k ≡ cell → AreMaySets w May place w sets

@@ -197,21 +197,6 @@ takes_next at Values k values a b c t s is =
       ]);
     }
 
--- nothing of a square goes
-pub takes_skip : (at : ℕ → ℕ) (Values : ℕ → ℕ → Type 0) (k : ℕ) (a b : CandidatesValue)
-    → Takes (λ cell v. (j : ℕ) × (j < k) × (cell ≡ at j) × Values j v) a b → ((v : ℕ) → Values k v → ⊥)
-    → Takes (λ cell v. (j : ℕ) × (j < k + 1) × (cell ≡ at j) × Values j v) a b
-takes_skip at Values k a b t none = record {
-  pairs = t.pairs;
-  size = t.size;
-  trail = t.trail;
-  each = λ cell v has. let h = t.each cell v has in (h.0, (h.1.0, omega (arith, h.1.1), h.1.2, h.1.3));
-  gone = λ cell v pair h. elim (cases_eq h.0 k) [
-    | inl last ↦ absurd (none v (subst (λ (j : ℕ). Values j v) last h.3))
-    | inr other ↦ t.gone cell v pair (h.0, omega (arith, h.1, other), h.2, h.3)
-  ];
-}
-
 -- ---- steps
 
 -- nothing is struck

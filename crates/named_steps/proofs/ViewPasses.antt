@@ -14,9 +14,9 @@ use Rattle.named_steps.specs.Grades.{has_reason}
 use Rattle.named_steps.specs.Laws.Less.{towers_less}
 use Rattle.named_steps.specs.Passes.{LeadsTo, StaysOn}
 use Rattle.named_steps.specs.Inner.Takes.{Takes}
-use Rattle.named_steps.specs.QuietLines.{IsViewQuiet, AreViewsQuiet}
+use Rattle.named_steps.specs.Inner.QuietLines.{IsViewQuiet, AreViewsQuiet}
 use Rattle.named_steps.specs.Inner.Rows.{May, IsAlong, look_grade}
-use Rattle.named_steps.specs.Laws.Quiet.{clue_was}
+use Rattle.named_steps.specs.Laws.Along.{clue_was}
 use Rattle.named_steps.proofs.Takes.{leads_taken, takes_map}
 use Rattle.named_steps.specs.declared.reason.Reason.{Reason}
 use Rattle.named_steps.specs.declared.reason.Reason.TheVariants.{Bound, Stand, Clue}

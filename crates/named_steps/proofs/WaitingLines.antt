@@ -1,17 +1,16 @@
 -- Which lines wait after a look along one, and which are quiet.
-use Rattle.std.proofs.Common.{◌≡◌, ◌≢◌, ℕ, ◌+◌, ◌-◌, ◌*◌, ◌/◌, ◌%◌, ◌<◌, ◌≤◌, ◌⊎◌, Bool, true, false, ◌||◌, ◌==◌, List, length, slice_index, inl, inr, refl, sym, ap, ◌∙◌, subst, arith}
-use Rattle.std.proofs.lemmas.Bool.{both_ways, cases_eq, cases_lt, cases_Bool, or_left, or_right, eq-eqb, lt-ltb, le-ltb, false_from_ne_true}
+use Rattle.std.proofs.Common.{◌≡◌, ◌≢◌, ℕ, ◌+◌, ◌-◌, ◌*◌, ◌/◌, ◌%◌, ◌<◌, ◌≤◌, ◌⊎◌, Bool, true, false, ◌||◌, ◌==◌, length, inl, inr, refl, sym, ap, ◌∙◌, subst, arith}
+use Rattle.std.proofs.lemmas.Bool.{both_ways, cases_lt, cases_Bool, or_left, or_right, eq-eqb, lt-ltb, le-ltb, false_from_ne_true}
 use Rattle.std.proofs.lemmas.Nat.{div-mul-add, mod-mul-add}
 use Rattle.number_sets.specs.Sets.{has_number, IsEmpty}
 use Rattle.latin_board.specs.Lines.{line_cell}
 use Rattle.trail_solver.specs.Pairs.{IsPair}
-use Rattle.trail_solver.specs.Candidates.{CandidatesValue, IsSetOf, may_be}
+use Rattle.trail_solver.specs.Candidates.{CandidatesValue, may_be}
 use Rattle.named_steps.specs.Left.{IsLeft, IsFewer, HasNoOther}
 use Rattle.named_steps.specs.Passes.{StaysOn, LosesAt}
-use Rattle.named_steps.specs.Inner.LineStrikes.{IsByRest, IsRestQuiet, AreLineSets}
+use Rattle.named_steps.specs.Inner.LineStrikes.{IsByRest, IsRestQuiet}
 use Rattle.named_steps.specs.Inner.Takes.{Strikes, Takes}
 use Rattle.named_steps.specs.Inner.WaitingLines.{is_crossing, AreChanged}
-use Rattle.named_steps.proofs.ChangedLines.{on_or_off}
 use Rattle.named_steps.proofs.Takes.{takes_struck, takes_length, takes_same, takes_stays}
 
 -- ---- squares of which something went
@@ -162,35 +161,6 @@ loses_both line first second both a b c size longer further is h k = record {
           | inr none ↦ absurd (both_ways (has_number both j) (is j ∙ ap (λ (x : Bool). x || has_number second j) lacks ∙ none) has)
         ] in
         omega (arith, k.went j after, longer)
-  ];
-}
-
--- what goes of the squares of a line alone, at the places where the sets have changed
-pub loses_by_sets : (line places : ℕ) (sets : List ℕ) (a b : CandidatesValue) → line < 2 * a.size → b.size ≡ a.size → AreLineSets a line a.size sets
-    → ((k : ℕ) → k < b.size → has_number places k ≡ false → IsSetOf b (line_cell b.size line k) (slice_index sets k))
-    → ((k : ℕ) → has_number places k ≡ true → (k < b.size) × (IsSetOf b (line_cell b.size line k) (slice_index sets k) → ⊥))
-    → ((cell v : ℕ) → IsLeft a cell v → ((k : ℕ) → k < a.size → cell ≢ line_cell a.size line k) → IsLeft b cell v)
-    → length a.trail ≤ length b.trail → (length b.trail ≡ length a.trail → b ≡ a) → LosesAt line places a b
-loses_by_sets line places sets a b line_is size before unchanged changed elsewhere longer same = record {
-  stays = λ cell v left apart. elim (on_or_off a.size line cell line_is left.pair.inside) [
-    | inl at ↦
-        let lacks : has_number places at.0 ≡ false = false_from_ne_true (has_number places at.0) (λ has. apart at.0 at.1 has (sym at.2)) in
-        let P : ℕ → Type 0 = λ (n : ℕ). IsLeft a n v in
-        let left_at : IsLeft a (line_cell a.size line at.0) v = subst P (sym at.2) left in
-        let has : has_number (slice_index sets at.0) v ≡ true = (before.each at.0 at.1 v).1 (left_at.pair, left_at.may) in
-        let now = (unchanged at.0 (omega (arith, at.1, size)) lacks v).0 has in
-        let there : IsLeft b (line_cell b.size line at.0) v = record { pair = now.0; may = now.1 } in
-        subst (λ (n : ℕ). IsLeft b n v) (ap (λ (n : ℕ). line_cell n line at.0) size ∙ at.2) there
-    | inr away ↦ elsewhere cell v left (λ k low here. away k low (sym here))
-  ];
-  went = λ k has. elim (cases_eq (length b.trail) (length a.trail)) [
-    | inl still ↦
-        let is : b ≡ a = same still in
-        let at = changed k has in
-        let Other : CandidatesValue → Type 0 = λ d. (k < d.size) × (IsSetOf d (line_cell d.size line k) (slice_index sets k) → ⊥) in
-        let there : Other a = subst Other is at in
-        absurd (there.1 (before.each k there.0))
-    | inr moved ↦ omega (arith, longer, moved)
   ];
 }
 

@@ -5,7 +5,8 @@ pub mod KnownRows
 pub mod Takes
 pub mod LineStrikes
 pub mod WaitingLines
-pub mod Stages
+pub mod LineLooks
 pub mod LineTallies
 pub mod Fills
 pub mod SignEnds
+pub mod QuietLines

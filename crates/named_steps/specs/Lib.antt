@@ -15,12 +15,8 @@ pub mod Chains
 pub mod Following
 -- what going through some reasons leads to
 pub mod Passes
--- along which lines clues or signs strike nothing more
-pub mod QuietLines
--- along which line a clue or a sign is looked at
-pub mod ItemLines
--- which items are idle: they strike nothing, whatever else goes
-pub mod Idle
+-- along which line a clue or a sign looks
+pub mod Along
 -- which puzzles follow by a grade, and the least of them
 pub mod Graded
 -- the laws of named steps

@@ -8,7 +8,7 @@ use Rattle.trail_solver.specs.Candidates.{CandidatesValue, may_be}
 use Rattle.trail_solver.specs.Puzzles.{Puzzle}
 use Rattle.named_steps.specs.Left.{IsLeft}
 use Rattle.named_steps.specs.Grades.{has_reason, is_of_clues}
-use Rattle.named_steps.specs.Reasons.{IsByGiven, IsByLine}
+use Rattle.named_steps.specs.Reasons.{IsByGiven}
 use Rattle.named_steps.specs.Chains.{StepValue, IsChain, AreOfGrade, left_by}
 use Rattle.named_steps.specs.declared.reason.Reason.{Reason}
 use Rattle.named_steps.specs.declared.grade.Grade.{Grade}
@@ -35,12 +35,6 @@ abbrev pub AreCluesSettled : (CandidatesValue → Reason → ℕ → ℕ → Typ
 AreCluesSettled Struck grade c =
     (reason : Reason) (cell value : ℕ) → is_of_clues reason ≡ true → has_reason grade reason ≡ true → IsPair c.size cell value
     → Struck c reason cell value → may_be c cell value ≡ false
-
--- no reason of rows and columns that the grade has strikes anything that is left
-abbrev pub AreLinesSettled : Grade → CandidatesValue → Type 0
-AreLinesSettled grade c =
-    (reason : Reason) (cell value : ℕ) → has_reason grade reason ≡ true → IsPair c.size cell value → IsByLine c.size c reason cell value
-    → may_be c cell value ≡ false
 
 -- the given of the square strikes nothing that is left
 abbrev pub IsGivenQuiet : Puzzle → ℕ → CandidatesValue → Type 0

@@ -17,7 +17,7 @@ use trail_solver::Candidates;
 
 /// What is seen of a line, when its clue is looked at.
 #[derive(Clone, Copy, Debug)]
-pub(crate) enum Look {
+pub enum Look {
     /// The clue alone.
     Alone,
     /// The numbers that stand in the line.
@@ -97,6 +97,15 @@ pub(crate) fn unfilled_row(
     let left = left_row(candidates, place);
     let kept = known.supported(&may_row(look, &left, width), width, clue);
     missing_row(width, &kept)
+}
+
+/// What may stand in each square from the clue's place, as its line is looked at; empty sets after the last square.
+pub fn looked_row(candidates: &Candidates, look: Look, place: u8) -> [NumberSet; 9]
+    requires { place < 4 * candidates.now.size }
+    ensures { AreMaySets candidates.now.size (May look candidates.now) place candidates.now.size result }
+{
+    let width = candidates.size().get();
+    may_row(look, &left_row(candidates, place), width)
 }
 
 /// As `unfilled_row`, but nothing where none of these values is left.

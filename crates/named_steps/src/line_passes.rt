@@ -9,7 +9,7 @@ ghost use Rattle.named_steps.specs.Inner.Takes.{Strikes, Takes};
 ghost use Rattle.named_steps.specs.Inner.LineStrikes.{IsLeftByRest, IsRestQuiet, AreLineSets};
 ghost use Rattle.named_steps.specs.Inner.LineTallies.{AreTallied, IsVoid, IsWhole};
 ghost use Rattle.named_steps.specs.Inner.WaitingLines.{AreChanged};
-ghost use Rattle.trail_solver.specs.Candidates.{IsSetOf, AreCandidates};
+ghost use Rattle.trail_solver.specs.Candidates.{AreCandidates};
 ghost use Rattle.named_steps.specs.declared.grade.Grade.TheVariants.{Latin};
 
 use crate::line_tally::Tally;
@@ -107,28 +107,6 @@ pub(crate) fn take_at(
     }
     candidates.remove_all(cell, values);
     NumberSet::one(place)
-}
-
-/// The places of those squares of a line of which something else is left than a set says.
-pub(crate) fn changed_places(
-    before: &[NumberSet; 9],
-    candidates: &Candidates,
-    line: u8,
-) -> NumberSet
-    requires { line < 2 * candidates.now.size }
-    ensures same { (k : ℕ) → k < candidates.now.size → has_number result k ≡ false
-        → IsSetOf candidates.now (line_cell candidates.now.size line k) (slice_index before.now k) }
-    ensures other { (k : ℕ) → has_number result k ≡ true
-        → (k < candidates.now.size) × (IsSetOf candidates.now (line_cell candidates.now.size line k) (slice_index before.now k) → ⊥) }
-{
-    let size = candidates.size();
-    let mut changed = NumberSet::empty();
-    for k in 0..size.get() {
-        if candidates.values(line_cell(size, line, k)) != before[k as usize] {
-            changed = changed.union(NumberSet::one(k));
-        }
-    }
-    changed
 }
 
 /// What is left of each square of a line, as sets.

@@ -1,25 +1,22 @@
 //! What a grade leaves of candidates.
-ghost use Rattle.std.specs.Prelude.{◌≡◌, ◌≢◌, ℕ, ◌*◌, ◌<◌, true, false, length, slice_index, IfSome, MatchOption};
-ghost use Rattle.std.specs.Bool.{OnTrue};
-ghost use Rattle.trail_solver.specs.Pairs.{IsPair};
-ghost use Rattle.trail_solver.specs.Candidates.{IsEarlier, IsOnly, IsWithin, may_be};
-ghost use Rattle.trail_solver.specs.Puzzles.{Solves};
-ghost use Rattle.named_steps.specs.Inner.Fills.{HasSolutionWithin};
-ghost use Rattle.named_steps.specs.Following.{IsClosure, IsSettled};
-ghost use Rattle.named_steps.specs.ItemLines.{HasNoItem};
-ghost use Rattle.named_steps.specs.Left.{IsLeft};
-ghost use Rattle.named_steps.specs.Passes.{LeadsTo, StaysOn, IsGivenQuiet, AreGivensSettled, AreLinesSettled};
-ghost use Rattle.named_steps.specs.Inner.WaitingLines.{is_waiting};
-ghost use Rattle.named_steps.specs.Inner.Stages.{AreWaiting, AreAllQuiet};
+ghost use Rattle.std.specs.Prelude.{◌≡◌, ℕ, ◌*◌, ◌<◌, ◌==◌, ◌&&◌, false, not, length};
+ghost use Rattle.number_sets.specs.Sets.{IsEmpty};
+ghost use Rattle.trail_solver.specs.Candidates.{IsEarlier};
+ghost use Rattle.named_steps.specs.Following.{IsClosure};
+ghost use Rattle.named_steps.specs.Passes.{LeadsTo, LosesAt, IsGivenQuiet, AreGivensSettled};
 ghost use Rattle.named_steps.specs.Grades.{is_past_latin, is_past_easy};
+ghost use Rattle.named_steps.specs.Inner.WaitingLines.{is_waiting};
+ghost use Rattle.named_steps.specs.Inner.LineLooks.{IsQuietOn, AreWaiting, AreAllQuiet, AreMore};
+ghost use Rattle.named_steps.specs.Inner.LineStrikes.{IsGroupQuiet};
+ghost use Rattle.named_steps.specs.Reasons.{IsByLine};
 
 use crate::grade::Grade;
+use crate::group_passes::strike_groups_on;
 use crate::known_rows::KnownRows;
-use crate::stages::{Stage, Waits, look};
+use crate::line_passes::strike_line;
 use crate::steps::Steps;
 use crate::striking::strike;
 use crate::waiting::Waiting;
-use latin_board::{Grid, Size};
 use number_sets::NumberSet;
 use trail_solver::{Candidates, Rules};
 
@@ -42,157 +39,136 @@ pub fn settle_knowing<P: Steps>(
     requires { candidates.old.size ≡ (P.puzzle p.now).size }
     ensures { IsClosure (P.struck_by p.now) grade candidates.old candidates.new }
 {
+    settle_on(p, grade, candidates, known);
+}
+
+/// As `settle_knowing`. What is taken away can be given back by a mark.
+pub fn settle_on<P: Steps>(p: &P, grade: Grade, candidates: &mut Candidates, known: &mut KnownRows)
+    requires { candidates.old.size ≡ (P.puzzle p.now).size }
+    ensures closure { IsClosure (P.struck_by p.now) grade candidates.old candidates.new }
+    ensures earlier { IsEarlier candidates.old candidates.new }
+{
     let _size = candidates.size();
+    let _valid = p.size();
     strike_givens(p, candidates);
-    settle_from(p, grade, candidates, Waits::all(), false, known);
-}
-
-/// As `settle`, for who settles many candidates and knows a solution among them: rows and columns strike nothing of these, clues or signs
-/// nothing but along the lines of some items, or of any where none are named, and what is known of rows of sets is used and added to.
-/// Nothing is looked at any more once the solution alone is left. What is taken away can be given back by a mark.
-pub fn settle_on<P: Steps>(
-    p: &P,
-    solution: &Grid,
-    grade: Grade,
-    added: Option<&[u8]>,
-    candidates: &mut Candidates,
-    known: &mut KnownRows,
-)
-    requires size { candidates.old.size ≡ (P.puzzle p.now).size }
-    requires solves { Solves (P.puzzle p.now) solution.now }
-    requires within { IsWithin candidates.old solution.now }
-    requires lines { AreLinesSettled grade candidates.old }
-    requires items { IfSome added (λ items. (k : ℕ) → k < length items.now
-        → slice_index items.now k < P.items_of candidates.old.size) }
-    requires quiet { IfSome added (λ items. (line : ℕ) → line < 2 * candidates.old.size
-        → HasNoItem (P.item_line candidates.old.size) items.now line → P.quiet_on p.now grade line candidates.old) }
-    ensures closure { IsClosure (P.struck_by p.now) grade candidates.old candidates.new }
-    ensures earlier { IsEarlier candidates.old candidates.new }
-{
-    let _size = candidates.size();
-    let _solution = solution.size();
-    let _valid = p.size();
-    let squares = strike_givens(p, candidates);
-    let clues = lines_of_clues::<P>(&squares, added, candidates.size());
-    let groups = squares;
-    let waits = Waits {
-        squares,
-        clues,
-        groups,
-    };
-    settle_from(p, grade, candidates, waits, true, known);
-}
-
-// These lines, and those along which some items are looked at; or all lines where no items are named.
-fn lines_of_clues<P: Steps>(lines: &Waiting, added: Option<&[u8]>, size: Size) -> Waiting
-    requires { IfSome added (λ items. (k : ℕ) → k < length items.now → slice_index items.now k < P.items_of size) }
-    ensures { MatchOption added.entry ((line : ℕ) → line < 2 * size → is_waiting result line ≡ true)
-        (λ items. (line : ℕ) → is_waiting result line ≡ false
-        → (is_waiting lines.now line ≡ false) × HasNoItem (P.item_line size) items.now line) }
-{
-    let _width = size.get();
-    match added {
-        None => Waiting::all(),
-        Some(items) => with_items::<P>(lines, items, size),
-    }
-}
-
-// These lines, and those along which some items are looked at.
-fn with_items<P: Steps>(lines: &Waiting, items: &[u8], size: Size) -> Waiting
-    requires { (k : ℕ) → k < length items.now → slice_index items.now k < P.items_of size }
-    ensures { (line : ℕ) → is_waiting result line ≡ false
-        → (is_waiting lines.now line ≡ false) × HasNoItem (P.item_line size) items.now line }
-{
-    let _width = size.get();
-    let mut waiting = *lines;
-    for k in 0..items.len() {
-        if let Some(line) = P::line_of_item(size, items[k]) {
-            waiting = waiting.with_line(line);
-        }
-    }
-    waiting
-}
-
-// The same from candidates of which the givens strike nothing, and nothing else but along the lines that wait; and whether a solution is
-// among them.
-fn settle_from<P: Steps>(
-    p: &P,
-    grade: Grade,
-    candidates: &mut Candidates,
-    first: Waits,
-    is_solved: bool,
-    known: &mut KnownRows,
-)
-    requires size { candidates.old.size ≡ (P.puzzle p.now).size }
-    requires givens { AreGivensSettled (P.puzzle p.now) candidates.old }
-    requires waiting { AreWaiting (P.quiet_on p.now) grade first candidates.old }
-    requires solved { is_solved ≡ true → HasSolutionWithin (P.puzzle p.now) candidates.old }
-    ensures closure { IsClosure (P.struck_by p.now) grade candidates.old candidates.new }
-    ensures earlier { IsEarlier candidates.old candidates.new }
-{
-    let _size = candidates.size();
-    let _valid = p.size();
-    let mut waits = first;
+    let mut waiting = Waiting::all();
     loop {
         let count = candidates.trail_len();
-        look_in_turn(p, grade, candidates, &mut waits, known);
+        look_in_turn(p, grade, candidates, &mut waiting, known);
         if candidates.trail_len() == count {
             return;
         }
-        if is_solved && is_filled(candidates) {
-            return;
-        }
     }
 }
 
-// Whether one value is left of each square: where a solution is among them, nothing more can go.
-fn is_filled(candidates: &Candidates) -> bool
-    ensures { OnTrue result ((cell : ℕ) → cell < candidates.now.size * candidates.now.size → (v : ℕ) × IsOnly candidates.now cell v) }
-{
-    let width = candidates.size().get() as usize;
-    let cells = width * width;
-    // As many pairs are left as squares, or more: mostly more.
-    candidates.trail_len() + cells >= cells * width && has_only(candidates)
-}
-
-// The same, square by square.
-fn has_only(candidates: &Candidates) -> bool
-    ensures { OnTrue result ((cell : ℕ) → cell < candidates.now.size * candidates.now.size → (v : ℕ) × IsOnly candidates.now cell v) }
-{
-    let width = candidates.size().get() as usize;
-    for cell in 0..width * width {
-        let Some(_) = candidates.only(cell) else {
-            return false;
-        };
-    }
-    true
-}
-
-// Looks along the lines that wait for the first stage, and for the next one where that struck nothing. Says in their place which wait then.
+// Looks along the lines that wait, and for groups along all lines where that struck nothing. Says in their place which wait then.
 fn look_in_turn<P: Steps>(
     p: &P,
     grade: Grade,
     candidates: &mut Candidates,
-    waits: &mut Waits,
+    waiting: &mut Waiting,
     known: &mut KnownRows,
 )
     requires size { candidates.old.size ≡ (P.puzzle p.now).size }
-    requires waiting { AreWaiting (P.quiet_on p.now) grade waits.old candidates.old }
+    requires waiting { AreWaiting (P.struck_by p.now) grade waiting.old candidates.old }
     ensures leads { LeadsTo (P.struck_by p.now) grade candidates.old candidates.new }
-    ensures waiting { AreWaiting (P.quiet_on p.now) grade waits.new candidates.new }
+    ensures waiting { AreWaiting (P.struck_by p.now) grade waiting.new candidates.new }
     ensures none { length candidates.new.trail ≡ length candidates.old.trail
-        → AreAllQuiet (P.quiet_on p.now) grade candidates.old }
+        → AreAllQuiet (P.struck_by p.now) grade candidates.old }
 {
     let count = candidates.trail_len();
-    look(p, grade, Stage::Squares, candidates, waits, known);
-    if candidates.trail_len() != count || !has_clues(grade) {
-        return;
+    look(p, grade, candidates, waiting, known);
+    if candidates.trail_len() == count && has_groups(grade) {
+        look_for_groups(candidates, waiting);
     }
-    look(p, grade, Stage::Clues, candidates, waits, known);
-    if candidates.trail_len() != count || !has_groups(grade) {
-        return;
+}
+
+// Looks once along each of the lines that wait, and says in their place which wait then.
+fn look<P: Steps>(
+    p: &P,
+    grade: Grade,
+    candidates: &mut Candidates,
+    waiting: &mut Waiting,
+    known: &mut KnownRows,
+)
+    requires size { candidates.old.size ≡ (P.puzzle p.now).size }
+    requires waiting { AreWaiting (P.struck_by p.now) grade waiting.old candidates.old }
+    ensures leads { LeadsTo (P.struck_by p.now) grade candidates.old candidates.new }
+    ensures waiting { AreWaiting (P.struck_by p.now) grade waiting.new candidates.new }
+    ensures none { length candidates.new.trail ≡ length candidates.old.trail
+        → (line : ℕ) → line < 2 * candidates.old.size → is_waiting waiting.new line ≡ false }
+{
+    let width = candidates.size().get();
+    let mut from = 0;
+    while let Some(line) = waiting.next(from, width) {
+        look_along(p, grade, candidates, line, waiting, known);
+        from = line + 1;
     }
-    look(p, grade, Stage::Groups, candidates, waits, known);
+}
+
+// Looks along a line. It waits no longer where nothing is struck; otherwise it waits again, and so do the lines that cross it there.
+fn look_along<P: Steps>(
+    p: &P,
+    grade: Grade,
+    candidates: &mut Candidates,
+    line: u8,
+    waiting: &mut Waiting,
+    known: &mut KnownRows,
+)
+    requires size { candidates.old.size ≡ (P.puzzle p.now).size }
+    requires line { line < 2 * candidates.old.size }
+    requires waiting { AreWaiting (P.struck_by p.now) grade waiting.old candidates.old }
+    ensures leads { LeadsTo (P.struck_by p.now) grade candidates.old candidates.new }
+    ensures waiting { AreWaiting (P.struck_by p.now) grade waiting.new candidates.new }
+    ensures none { length candidates.new.trail ≡ length candidates.old.trail
+        → (other : ℕ) → is_waiting waiting.new other ≡ (is_waiting waiting.old other && not (other == line)) }
+{
+    let width = candidates.size().get();
+    let changed = strike_along(p, grade, candidates, line, known);
+    if changed.is_empty() {
+        *waiting = waiting.without(line);
+    } else {
+        *waiting = waiting.union(&Waiting::crossing(line, changed, width));
+    }
+}
+
+// Takes away what is struck along a line by lone values and last places, or by its clues or signs where these strike nothing. Gives the
+// places of those squares of which something went.
+fn strike_along<P: Steps>(
+    p: &P,
+    grade: Grade,
+    candidates: &mut Candidates,
+    line: u8,
+    known: &mut KnownRows,
+) -> NumberSet
+    requires size { candidates.old.size ≡ (P.puzzle p.now).size }
+    requires line { line < 2 * candidates.old.size }
+    ensures leads { LeadsTo (P.struck_by p.now) grade candidates.old candidates.new }
+    ensures loses { LosesAt line result candidates.old candidates.new }
+    ensures quiet { IsEmpty result → IsQuietOn (P.struck_by p.now) grade line candidates.new }
+{
+    let by_squares = strike_line(candidates, line);
+    if by_squares.is_empty() && has_clues(grade) {
+        p.strike_by_clues(grade, candidates, line, known)
+    } else {
+        by_squares
+    }
+}
+
+// Looks for groups along each line. Those lines wait too of which something went.
+fn look_for_groups(candidates: &mut Candidates, waiting: &mut Waiting)
+    ensures leads { LeadsTo (IsByLine candidates.old.size) Grade.Hard candidates.old candidates.new }
+    ensures waiting { AreMore waiting.old waiting.new candidates.old candidates.new }
+    ensures none { length candidates.new.trail ≡ length candidates.old.trail
+        → (line : ℕ) → line < 2 * candidates.old.size → IsGroupQuiet line candidates.old }
+{
+    let width = candidates.size().get();
+    for line in 0..2 * width {
+        let changed = strike_groups_on(candidates, line);
+        if !changed.is_empty() {
+            *waiting = waiting.union(&Waiting::crossing(line, changed, width));
+        }
+    }
 }
 
 // Whether a grade looks at clues or signs.
@@ -209,40 +185,30 @@ fn has_groups(grade: Grade) -> bool
     matches!(grade, Grade::Hard)
 }
 
-// Goes through the givens once, and takes away what they strike. Gives the rows and columns with a square of which something went.
-fn strike_givens<P: Steps>(p: &P, candidates: &mut Candidates) -> Waiting
+// Goes through the givens once, and takes away what they strike.
+fn strike_givens<P: Steps>(p: &P, candidates: &mut Candidates)
     requires { candidates.old.size ≡ (P.puzzle p.now).size }
     ensures leads { LeadsTo (P.struck_by p.now) Grade.Latin candidates.old candidates.new }
     ensures settled { AreGivensSettled (P.puzzle p.now) candidates.new }
-    ensures others { (line : ℕ) → line < 2 * candidates.old.size → is_waiting result line ≡ false
-        → StaysOn line candidates.old candidates.new }
 {
     let width = candidates.size().get() as usize;
-    let mut changed = Waiting::none();
     for cell in 0..width * width {
-        if strike_given(p, candidates, cell) {
-            changed = changed.with_square(cell, width);
-        }
+        strike_given(p, candidates, cell);
     }
-    changed
 }
 
-// Takes away what the given of a square strikes, and tells whether something was left of that.
-fn strike_given<P: Steps>(p: &P, candidates: &mut Candidates, cell: usize) -> bool
+// Takes away what the given of a square strikes.
+fn strike_given<P: Steps>(p: &P, candidates: &mut Candidates, cell: usize)
     requires size { candidates.old.size ≡ (P.puzzle p.now).size }
     requires inside { cell < candidates.old.size * candidates.old.size }
     ensures leads { LeadsTo (P.struck_by p.now) Grade.Latin candidates.old candidates.new }
     ensures quiet { IsGivenQuiet (P.puzzle p.now) cell candidates.new }
-    ensures others { (other v : ℕ) → other ≢ cell → IsLeft candidates.old other v → IsLeft candidates.new other v }
-    ensures none { result ≡ false → candidates.new ≡ candidates.old }
 {
     let size = candidates.size();
     let given = p.given(cell);
     if given == 0 {
-        return false;
+        return;
     }
-    let count = candidates.trail_len();
     let values = NumberSet::up_to(size.get()).difference(NumberSet::one(given));
     strike(candidates, cell, values);
-    candidates.trail_len() != count
 }

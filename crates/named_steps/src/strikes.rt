@@ -3,21 +3,17 @@ ghost use Rattle.std.specs.Prelude.{◌≡◌, ◌↔◌, ℕ, ◌*◌, ◌<◌,
 ghost use Rattle.number_sets.specs.Sets.{has_number};
 ghost use Rattle.latin_board.specs.Lines.{ArePeers};
 ghost use Rattle.trail_solver.specs.Pairs.{IsPair};
-ghost use Rattle.named_steps.specs.Reasons.{IsByGiven, IsByPeer, IsByPlace, IsBySet};
+ghost use Rattle.named_steps.specs.Reasons.{IsByGiven, IsByLine, IsByPeer, IsByPlace, IsBySet};
 
 use crate::latin_strikes::{by_peer, by_place};
+use crate::reason::Reason;
 use crate::set_strikes::by_set;
 use number_sets::NumberSet;
 use trail_solver::{Candidates, Rules};
 
-/// What a given strikes in a square.
+/// What a given strikes in a square, in every game: the sizes are equal, and the square is one of the grid's.
 #[tactic(auto, using(crate::proofs::GameSets::given_struck))]
-pub(crate) fn by_given<P: Rules>(
-    p: &P,
-    candidates: &Candidates,
-    at: usize,
-    cell: usize,
-) -> NumberSet
+pub fn given_strikes<P: Rules>(p: &P, candidates: &Candidates, at: usize, cell: usize) -> NumberSet
     requires size { candidates.now.size ≡ (P.puzzle p.now).size }
     requires inside { cell < candidates.now.size * candidates.now.size }
     ensures { (v : ℕ) → (has_number result v ≡ true)
@@ -32,6 +28,29 @@ pub(crate) fn by_given<P: Rules>(
         return NumberSet::empty();
     }
     NumberSet::up_to(size.get()).difference(NumberSet::one(given))
+}
+
+/// What a reason of rows and columns strikes in a square, in every game; other reasons strike nothing here. The square is one of the
+/// grid's.
+pub fn line_strikes(candidates: &Candidates, reason: Reason, cell: usize) -> NumberSet
+    requires inside { cell < candidates.now.size * candidates.now.size }
+    ensures { (v : ℕ) → (has_number result v ≡ true)
+        ↔ (IsPair candidates.now.size cell v × IsByLine candidates.now.size candidates.now reason cell v) }
+{
+    match reason {
+        Reason::Given { cell: _ } => NumberSet::empty(),
+        Reason::Peer { cell: by } => by_any_peer(candidates, by, cell),
+        Reason::Place { line, index, value } => by_any_place(candidates, line, index, value, cell),
+        Reason::Bound { place: _ } => NumberSet::empty(),
+        Reason::Stand { place: _ } => NumberSet::empty(),
+        Reason::Clue { place: _ } => NumberSet::empty(),
+        Reason::Sign { from: _, to: _ } => NumberSet::empty(),
+        Reason::Set {
+            line,
+            squares,
+            values,
+        } => by_any_set(candidates, line, squares, values, cell),
+    }
 }
 
 /// As `by_peer`, of any square: one that the grid doesn't have strikes nothing.

@@ -1,10 +1,7 @@
-//! Values taken away from a square, and from the squares of a line.
-ghost use Rattle.std.specs.Prelude.{◌≡◌, ℕ, ◌*◌, ◌<◌, false, true};
-ghost use Rattle.number_sets.specs.Sets.{has_number};
-ghost use Rattle.latin_board.specs.Lines.{line_cell};
-ghost use Rattle.named_steps.specs.Inner.Takes.{Strikes, Takes};
+//! Values taken away from a square.
+ghost use Rattle.std.specs.Prelude.{◌*◌, ◌<◌};
+ghost use Rattle.named_steps.specs.Inner.Takes.{Strikes};
 
-use latin_board::line_cell;
 use number_sets::NumberSet;
 use trail_solver::Candidates;
 
@@ -16,23 +13,4 @@ pub fn strike(candidates: &mut Candidates, cell: usize, values: NumberSet)
     let _size = candidates.size();
     let set = candidates.values(cell).intersection(values);
     candidates.remove_all(cell, set);
-}
-
-/// Takes the values away from the squares of a line, but for some of them.
-pub(crate) fn strike_elsewhere(
-    candidates: &mut Candidates,
-    line: u8,
-    squares: NumberSet,
-    values: NumberSet,
-)
-    requires { line < 2 * candidates.old.size }
-    ensures { Takes (λ cell v. (k : ℕ) × (k < candidates.old.size) × (cell ≡ line_cell candidates.old.size line k)
-        × ((has_number squares k ≡ false) × (has_number values v ≡ true))) candidates.old candidates.new }
-{
-    let size = candidates.size();
-    for k in 0..size.get() {
-        if !squares.has(k) {
-            strike(candidates, line_cell(size, line, k), values);
-        }
-    }
 }

@@ -6,43 +6,29 @@ ghost use Rattle.clue_rules.specs.Towers.{clue_of};
 ghost use Rattle.named_steps.specs.Reasons.{IsByClue, IsTowersStruckBy, AreStruckFrom};
 ghost use Rattle.clue_rules.specs.Views.{front_place, view_line};
 ghost use Rattle.named_steps.specs.Passes.{LeadsTo, LosesAt, StaysOn};
-ghost use Rattle.named_steps.specs.QuietLines.{IsViewQuiet, AreViewsQuiet};
+ghost use Rattle.named_steps.specs.Inner.QuietLines.{IsViewQuiet, AreViewsQuiet};
 ghost use Rattle.named_steps.specs.Inner.Rows.{May, look_grade};
 
 use crate::clue_strikes::{Look, along_line, by_clue, striking_row, unfilled_row};
 use crate::grade::Grade;
-use crate::idle::is_given_idle;
 use crate::known_rows::KnownRows;
 use crate::line_passes::strike_row;
 use crate::reason::Reason;
 use crate::steps::Steps;
-use crate::strikes::{by_any_peer, by_any_place, by_any_set, by_given};
+use crate::strikes::{by_any_peer, by_any_place, by_any_set, given_strikes};
 use clue_rules::Towers;
-use latin_board::Size;
 use number_sets::NumberSet;
 use trail_solver::{Candidates, Rules};
 
 impl Steps for Towers {
     ghost use Rattle.named_steps.specs.Reasons.{IsTowersStruckBy};
     ghost use Rattle.named_steps.specs.Laws.Shared as shared;
-    ghost use Rattle.named_steps.specs.Laws.Placed as placed;
     ghost use Rattle.named_steps.specs.Laws.Less as less;
     ghost use Rattle.named_steps.specs.Laws.Sound as sound;
     ghost use Rattle.named_steps.specs.Laws.Cuts as cuts;
-    ghost use Rattle.named_steps.specs.Laws.Quiet as quiet;
-    ghost use Rattle.named_steps.specs.Laws.AddedItems as added;
-    ghost use Rattle.named_steps.specs.QuietLines.{are_towers_quiet};
-    ghost use Rattle.named_steps.specs.ItemLines.{towers_item_line};
-    ghost use Rattle.named_steps.specs.Laws.IdleItems as idle;
-    ghost use Rattle.named_steps.specs.Idle.{IsTowersIdle};
+    ghost use Rattle.named_steps.specs.Laws.Along as along;
 
     ghost struck_by = { IsTowersStruckBy };
-
-    ghost quiet_on = { are_towers_quiet };
-
-    ghost item_line = { towers_item_line };
-
-    ghost idle_at = { IsTowersIdle };
 
     fn strikes(
         &self,
@@ -52,7 +38,7 @@ impl Steps for Towers {
         known: &mut KnownRows,
     ) -> NumberSet {
         match reason {
-            Reason::Given { cell: at } => by_given(self, candidates, at, cell),
+            Reason::Given { cell: at } => given_strikes(self, candidates, at, cell),
             Reason::Peer { cell: by } => by_any_peer(candidates, by, cell),
             Reason::Place { line, index, value } => {
                 by_any_place(candidates, line, index, value, cell)
@@ -110,39 +96,17 @@ impl Steps for Towers {
         }
     }
 
-    fn line_of_item(size: Size, item: u8) -> Option<u8> {
-        let width = size.get();
-        if item < 4 * width {
-            Some(view_line(item, width))
-        } else {
-            None
-        }
-    }
+    ghost looks_along = { along.towers_look };
 
-    fn is_idle(_grade: Grade, item: u8, candidates: &Candidates) -> bool {
-        let width = candidates.size().get();
-        item >= 4 * width && is_given_idle(candidates, (item - 4 * width) as usize)
-    }
-
-    ghost quiet_stays = { quiet.towers_stay };
-
-    ghost quiet_settles = { λ p grade c valid. quiet.towers_settle p grade c };
-
-    ghost settled_quiet = { added.towers_still };
-
-    ghost quiet_cut = { λ p a b grade line c valid size line_is. added.towers_added p a b grade line c size };
+    ghost stands_along = { along.towers_stand };
 
     ghost given_struck = { shared.towers_givens };
 
     ghost line_struck = { shared.towers_lines };
 
-    ghost struck_placed = { placed.towers_placed };
-
     ghost struck_less = { less.towers_less };
 
     ghost struck_sound = { sound.towers_sound };
-
-    ghost idle_struck = { idle.towers_idle };
 
     ghost struck_cut = { cuts.towers_whole };
 }
@@ -179,24 +143,6 @@ fn front_place(line: u8, width: u8) -> u8
         2 * width + line
     } else {
         line - width
-    }
-}
-
-// The line along which the clue at a place is looked at.
-fn view_line(place: u8, width: u8) -> u8
-    requires width { width ≤ 9 }
-    requires place { place < 4 * width }
-    ensures line { result ≡ view_line width place }
-    ensures inside { result < 2 * width }
-{
-    if place < width {
-        width + place
-    } else if place < 2 * width {
-        place
-    } else if place < 3 * width {
-        place - 2 * width
-    } else {
-        place - 3 * width
     }
 }
 

@@ -6,18 +6,17 @@ ghost use Rattle.clue_rules.specs.Unequal.{IsGreater, IsUnequal};
 ghost use Rattle.named_steps.specs.Reasons.{IsBySign, IsUnequalStruckBy};
 ghost use Rattle.latin_board.specs.Lines.{line_cell};
 ghost use Rattle.named_steps.specs.Passes.{LeadsTo, LosesAt, StaysOn};
-ghost use Rattle.named_steps.specs.QuietLines.{IsSignQuiet, AreSignsQuiet};
+ghost use Rattle.named_steps.specs.Inner.QuietLines.{IsSignQuiet, AreSignsQuiet};
 ghost use Rattle.named_steps.specs.Inner.SignEnds.{IsEnd};
 ghost use Rattle.named_steps.specs.declared.grade.Grade.TheVariants.{Easy};
 
 use crate::grade::Grade;
-use crate::idle::{is_given_idle, is_sign_idle};
 use crate::known_rows::KnownRows;
 use crate::line_passes::take_at;
 use crate::reason::Reason;
 use crate::sign_strikes::{by_greater, by_lesser, from_greatest, up_to_least};
 use crate::steps::Steps;
-use crate::strikes::{by_any_peer, by_any_place, by_any_set, by_given};
+use crate::strikes::{by_any_peer, by_any_place, by_any_set, given_strikes};
 use clue_rules::Unequal;
 use latin_board::{Size, line_cell};
 use number_sets::NumberSet;
@@ -27,24 +26,12 @@ use trail_solver::{Candidates, Rules};
 impl Steps for Unequal {
     ghost use Rattle.named_steps.specs.Reasons.{IsUnequalStruckBy};
     ghost use Rattle.named_steps.specs.Laws.Shared as shared;
-    ghost use Rattle.named_steps.specs.Laws.Placed as placed;
     ghost use Rattle.named_steps.specs.Laws.Less as less;
     ghost use Rattle.named_steps.specs.Laws.Sound as sound;
     ghost use Rattle.named_steps.specs.Laws.Cuts as cuts;
-    ghost use Rattle.named_steps.specs.Laws.Quiet as quiet;
-    ghost use Rattle.named_steps.specs.Laws.AddedItems as added;
-    ghost use Rattle.named_steps.specs.QuietLines.{are_unequal_quiet};
-    ghost use Rattle.named_steps.specs.ItemLines.{unequal_item_line};
-    ghost use Rattle.named_steps.specs.Laws.IdleItems as idle;
-    ghost use Rattle.named_steps.specs.Idle.{IsUnequalIdle};
+    ghost use Rattle.named_steps.specs.Laws.Along as along;
 
     ghost struck_by = { IsUnequalStruckBy };
-
-    ghost quiet_on = { are_unequal_quiet };
-
-    ghost item_line = { unequal_item_line };
-
-    ghost idle_at = { IsUnequalIdle };
 
     fn strikes(
         &self,
@@ -54,7 +41,7 @@ impl Steps for Unequal {
         _known: &mut KnownRows,
     ) -> NumberSet {
         match reason {
-            Reason::Given { cell: at } => by_given(self, candidates, at, cell),
+            Reason::Given { cell: at } => given_strikes(self, candidates, at, cell),
             Reason::Peer { cell: by } => by_any_peer(candidates, by, cell),
             Reason::Place { line, index, value } => {
                 by_any_place(candidates, line, index, value, cell)
@@ -99,51 +86,17 @@ impl Steps for Unequal {
         }
     }
 
-    fn line_of_item(size: Size, item: u8) -> Option<u8> {
-        let width = size.get();
-        let across = width * (width - 1);
-        if item < across {
-            Some(item / (width - 1))
-        } else if item < 2 * across {
-            Some(width + (item - across) % width)
-        } else {
-            None
-        }
-    }
+    ghost looks_along = { along.unequal_look };
 
-    fn is_idle(grade: Grade, item: u8, candidates: &Candidates) -> bool {
-        let width = candidates.size().get();
-        let across = width * (width - 1);
-        if item < across {
-            let cell = item / (width - 1) * width + item % (width - 1);
-            is_sign_idle(grade, candidates, cell as usize, cell as usize + 1)
-        } else if item < 2 * across {
-            let cell = item - across;
-            is_sign_idle(grade, candidates, cell as usize, (cell + width) as usize)
-        } else {
-            is_given_idle(candidates, (item - 2 * across) as usize)
-        }
-    }
-
-    ghost quiet_stays = { quiet.unequal_stay };
-
-    ghost quiet_settles = { λ p grade c valid size. quiet.unequal_settle p grade c valid size valid.givens.smallest };
-
-    ghost settled_quiet = { added.unequal_still };
-
-    ghost quiet_cut = { λ p a b grade line c valid. added.unequal_added p a b grade line c valid.givens.smallest };
+    ghost stands_along = { along.unequal_stand };
 
     ghost given_struck = { shared.unequal_givens };
 
     ghost line_struck = { shared.unequal_lines };
 
-    ghost struck_placed = { placed.unequal_placed };
-
     ghost struck_less = { less.unequal_less };
 
     ghost struck_sound = { sound.unequal_sound };
-
-    ghost idle_struck = { idle.unequal_idle };
 
     ghost struck_cut = { cuts.unequal_whole };
 }

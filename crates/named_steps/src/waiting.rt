@@ -1,7 +1,7 @@
 //! Rows and columns that wait to be looked at: those with a square of which something went.
 ghost use Rattle.std.specs.Prelude.{◌≡◌, ℕ, ◌*◌, ◌<◌, ◌≤◌, true, false, not, ◌&&◌, ◌||◌, ◌==◌, MatchOption};
 ghost use Rattle.number_sets.specs.Sets.{has_number};
-ghost use Rattle.named_steps.specs.Inner.WaitingLines.{is_waiting, is_through, is_crossing, IsNextWaiting};
+ghost use Rattle.named_steps.specs.Inner.WaitingLines.{is_waiting, is_crossing, IsNextWaiting};
 
 use number_sets::NumberSet;
 
@@ -19,27 +19,6 @@ impl Waiting {
         // The widest grid has nine of each.
         Waiting {
             lines: (1 << 18) - 1,
-        }
-    }
-
-    /// None.
-    pub(crate) fn none() -> Waiting
-        ensures { (line : ℕ) → is_waiting result line ≡ false }
-    {
-        Waiting { lines: 0 }
-    }
-
-    /// These and the row and the column of a square.
-    #[tactic(auto, using(crate::proofs::LineBits::has_square))]
-    pub(crate) fn with_square(self, cell: usize, width: usize) -> Waiting
-        requires width { width ≤ 9 }
-        requires inside { cell < width * width }
-        ensures { (line : ℕ) → is_waiting result line ≡ (is_waiting self line || is_through width cell line) }
-    {
-        let row = 1 << (cell / width);
-        let column = 1 << (width + cell % width);
-        Waiting {
-            lines: self.lines | row | column,
         }
     }
 
@@ -64,17 +43,6 @@ impl Waiting {
     {
         Waiting {
             lines: self.lines & !(1 << line),
-        }
-    }
-
-    /// These and a line.
-    #[tactic(auto, using(crate::proofs::LineBits::has_with))]
-    pub(crate) fn with_line(self, line: u8) -> Waiting
-        requires { line < 32 }
-        ensures { (other : ℕ) → is_waiting result other ≡ (is_waiting self other || (other == line)) }
-    {
-        Waiting {
-            lines: self.lines | 1 << line,
         }
     }
 

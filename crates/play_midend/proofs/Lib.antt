@@ -5,6 +5,7 @@ pub mod MoveTextsRead
 pub mod BoardFilling
 pub mod Making
 pub mod TestedSolutions
+pub mod GivenSquares
 pub mod Replaying
 pub mod Linking
 pub mod Viewing

@@ -8,6 +8,7 @@ use Rattle.play_midend.specs.declared.moves.Move.TheVariants.{Solve, Restart}
 use Rattle.play_midend.specs.declared.fault.PlayFault.{PlayFault}
 use Rattle.play_midend.specs.Histories.{History, IsValid, IsStorable, with_move, at_position, refusal_in, played, SolveGives}
 use Rattle.play_midend.specs.Laws.{Call, Play, FromStart, ToSolution, Undo, Redo, CallGives, Answered, AnsweredInTurn, StartsStorable, RunsStayStorable}
+use Rattle.play_midend.proofs.GivenSquares.{givens_stay}
 use Rattle.play_midend.proofs.Playing.{accepted, solved_as_played}
 use Rattle.play_midend.proofs.SessionLaws.{valid_called, undone_is, redone_is, runs_stay_valid, undo_takes_back, undo_takes_restart_back, undo_takes_solve_back, redo_takes_undo_back}
 
@@ -94,4 +95,4 @@ starts_storable puzzle of_game letters first params next_params extras valid par
 }
 
 -- the laws of calls
-pub ruleset laws = (runs_stay_valid, starts_storable, undo_takes_back, undo_takes_restart_back, undo_takes_solve_back, redo_takes_undo_back)
+pub ruleset laws = (givens_stay, runs_stay_valid, starts_storable, undo_takes_back, undo_takes_restart_back, undo_takes_solve_back, redo_takes_undo_back)

@@ -2,9 +2,9 @@
 use Rattle.std.specs.Prelude.{◌≡◌, ◌↔◌, ℕ, ◌+◌, ◌-◌, ◌≤◌, Bool, true, false, List, [], ◌∷◌, length, None, Result, Ok, Err}
 use Rattle.std.specs.Bool.{MatchBool}
 use Rattle.std.specs.Result.{IsOkAnd}
-use Rattle.latin_board.specs.Boards.{BoardValue}
+use Rattle.latin_board.specs.Boards.{BoardValue, grid_of}
 use Rattle.latin_board.specs.Squares.{GridValue}
-use Rattle.trail_solver.specs.Puzzles.{Puzzle, Solves}
+use Rattle.trail_solver.specs.Puzzles.{Puzzle, HoldsGivens, Solves}
 use Rattle.clue_rules.specs.declared.params.Params.{Params}
 use Rattle.clue_rules.specs.Parameters.{IsParams}
 use Rattle.play_midend.specs.declared.extras.Extras.{Extras}
@@ -19,6 +19,10 @@ use Rattle.play_midend.specs.MoveLists.{result_and_then, played_all, with_moves,
 -- a grid can be filled in just where it solves the puzzle, whatever the board shows
 abbrev pub SolutionsAreFilledIn : Type 0
 SolutionsAreFilledIn = (p : Puzzle) (b : BoardValue) (g : GridValue) → (refusal_of p b (Solve g) ≡ None) ↔ Solves p g
+
+-- the board that a session shows has the givens of its puzzle
+abbrev pub GivensStay : {P : Type 0} → (P → Puzzle) → Type 0
+GivensStay {P} puzzle = (h : History P) → let p = puzzle h.puzzle in IsValid p h → HoldsGivens p (grid_of (shown p h))
 
 -- the calls that may change a session
 pub data Call : Type 0 where

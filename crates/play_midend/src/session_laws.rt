@@ -1,12 +1,12 @@
 //! The laws of a session's calls. They speak of its value alone, so the functions here do nothing.
 
-ghost use Rattle.play_midend.specs.Laws.{SolutionsAreFilledIn, RunsStayValid, StartsStorable, RunsStayStorable, UndoTakesBack, UndoTakesRestartBack, UndoTakesSolveBack, RedoTakesUndoBack, LegalListsPlay, AcceptedListsAreLegal, UndoLeadsBack, HistoriesAreReached};
+ghost use Rattle.play_midend.specs.Laws.{SolutionsAreFilledIn, GivensStay, RunsStayValid, StartsStorable, RunsStayStorable, UndoTakesBack, UndoTakesRestartBack, UndoTakesSolveBack, RedoTakesUndoBack, LegalListsPlay, AcceptedListsAreLegal, UndoLeadsBack, HistoriesAreReached};
 
 use clue_rules::Game;
 
 /// The laws of `play`, `restart`, `solve`, `undo` and `redo` on every valid session of a game, as the contracts of these calls see it.
 ///
-/// A grid can be filled in just where it solves the puzzle. Any list of calls, whatever was answered, leaves a valid session,
+/// A grid can be filled in just where it solves the puzzle. The board that is shown has the puzzle's givens. Any list of calls, whatever was answered, leaves a valid session,
 /// and a refused call changes nothing. A session that begins with a puzzle and parameters of the game can be stored in a save
 /// file, whatever calls follow. A move, a restart or a solution that is accepted and then undone gives back the puzzle, the
 /// parameters, the kept bytes, the past, the position and the board. What is undone and then made again is the whole session
@@ -14,6 +14,7 @@ use clue_rules::Game;
 #[tactic(auto, using(crate::proofs::StorableLaws::laws))]
 pub fn laws<P: Game>()
     ensures solutions { SolutionsAreFilledIn }
+    ensures givens_stay { GivensStay P.puzzle }
     ensures stays_valid { RunsStayValid P.puzzle }
     ensures starts_storable { StartsStorable P.puzzle P.valid P.letter_codes }
     ensures stays_storable { RunsStayStorable P.puzzle P.valid P.letter_codes }

@@ -29,7 +29,8 @@ module _ {P : Type 0} (f : GameFacts P) (canonical : AreCanonical f) (params : P
   line_read : IsRead (described_line f params puzzle) (Ok (Some (New (params_text params ++ colon ∷ f.desc_of puzzle))))
   line_read = (codes "new " ++ params_text params ++ colon ∷ f.desc_of puzzle, refl, inr refl)
 
-  begins : (old : Option (History P)) → AmpleGives f old (described_line f params puzzle) (Ok (ok_line, Some (new_game params puzzle)))
+  -- such a line begins a new game
+  pub begins : (old : Option (History P)) → AmpleGives f old (described_line f params puzzle) (Ok (ok_line, Some (new_game params puzzle)))
   begins old = (Ok (Some (New (params_text params ++ colon ∷ f.desc_of puzzle))), line_read, (Ok (new_game params puzzle), id_begins, refl))
 
   -- the line may lack memory

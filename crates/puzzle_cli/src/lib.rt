@@ -44,6 +44,7 @@ pub use program::game_files::{GameFiles, Unwritten};
 pub use program::play;
 pub use reply::answers::obey;
 pub use reply::facts::Facts;
+pub use reply::new_session::begin_game;
 pub use reply::refusal::Refusal;
 pub use reply::text::Text;
 pub use run_end::End;

@@ -11,7 +11,6 @@ use Rattle.puzzle_cli.specs.GameFacts.{GameFacts}
 use Rattle.puzzle_cli.specs.GameFiles.{Word, Reads, Writes}
 use Rattle.puzzle_cli.specs.Programs.{GameReply, IsGame}
 use Rattle.puzzle_cli.specs.Runs.{point_at}
-use Rattle.puzzles.specs.Endings.{IsStatus}
 use Rattle.puzzles.specs.Names.{IsCalledPuzzlesJson}
 
 -- what is around a program: files, its input and its output
@@ -37,18 +36,14 @@ IsOfWords old new words game fault =
     ((args : Args) × AreRead (map string_bytes words) (Ok args) × game args fault)
     ⊎ ((refused : CommandFault) × AreRead (map string_bytes words) (Err refused) × (fault ≡ Some (Words refused)) × (new ≡ old))
 
--- some fault, or none, is how this ends, and the status says so
-abbrev pub EndsBy : (Option Fault → Type 0) → ℕ → Type 0
-EndsBy Ends status = (fault : Option Fault) × Ends fault × IsStatus fault status
-
 -- it answers in objects where it is called by that name, and in lines of text else
 pub record IsUnderName (words : List Word) (plain json : List Word → Type 0) : Type 0 where
   pub in_objects : IsCalledPuzzlesJson words → json words
   pub in_lines : (IsCalledPuzzlesJson words → ⊥) → plain words
 
--- The words are had, and the program under the name among them ends with the status; or they can't be had, which the status says, and
--- the world stays as it was.
+-- The words are had, and the program under the name among them ends so; or they can't be had, which is its fault, and the world stays
+-- as it was.
 abbrev pub IsProgram : {F R W : Type 0} → World F R W → World F R W → Result (List Word) CommandFault
-    → (List Word → Type 0) → (List Word → Type 0) → ℕ → Type 0
-IsProgram old new (Ok words) plain json status = IsUnderName words plain json
-IsProgram old new (Err refused) plain json status = IsStatus (Some (Words refused)) status × (new ≡ old)
+    → (List Word → Type 0) → (List Word → Type 0) → Option Fault → Type 0
+IsProgram old new (Ok words) plain json fault = IsUnderName words plain json
+IsProgram old new (Err refused) plain json fault = (fault ≡ Some (Words refused)) × (new ≡ old)

@@ -15,6 +15,7 @@ mod program_name;
 mod system_files;
 mod whole_game;
 
+use crate::ending::status_of;
 use crate::process_words::ProcessWords;
 use crate::system_files::SystemFiles;
 use crate::whole_game::program;
@@ -24,7 +25,7 @@ use std::io::IsTerminal;
 use std::process::ExitCode;
 
 fn main(rt: HostRuntime) -> ExitCode {
-    ExitCode::from(program(
+    let ended = program(
         &rt,
         rt.alloc(),
         rt.stdin().is_terminal(),
@@ -32,5 +33,6 @@ fn main(rt: HostRuntime) -> ExitCode {
         &mut SystemFiles { rt: &rt },
         &mut FromRead::new(rt.reader()),
         &mut ToWrite::new(io::writer(&rt)),
-    ))
+    );
+    ExitCode::from(status_of(&rt, ended))
 }

@@ -5,9 +5,8 @@ ghost use Rattle.std.specs.Result.{result_err};
 ghost use Rattle.puzzle_cli.specs.GameFiles.{Word};
 ghost use Rattle.puzzle_cli.specs.Programs.{OfGame};
 ghost use Rattle.puzzle_cli.specs.declared.start.command_fault.CommandFault.{CommandFault};
-ghost use Rattle.puzzles.specs.WholePrograms.{EndsBy, IsGameIn, IsOfWords, IsProgram, world};
+ghost use Rattle.puzzles.specs.WholePrograms.{IsGameIn, IsOfWords, IsProgram, world};
 
-use crate::ending::status_of;
 use crate::json_texts::PUZZLES_JSON;
 use crate::process_words::{Words, args};
 use crate::program_name::{ProgramName, program_name};
@@ -20,11 +19,12 @@ use std::alloc::Global;
 /// What is told of the lines and of the board to who types lines.
 const GREETING: &str = "puzzles --help has the lines that can be typed; puzzles-play is the board";
 
-/// Reads the words, plays the game that they name, in the format of the name that the program is called by, as
-/// [`play`](puzzle_cli::play) does, from the source to the sink and over the files, and gives the status that says how it ended.
+/// Reads the words, and plays the game that they name, in the format of the name that the program is called by, as
+/// [`play`](puzzle_cli::play) does, from the source to the sink and over the files.
 ///
-/// Neither stream has failed before. Where lines of text are typed at a terminal, it tells on standard error beforehand which those are.
-pub(crate) fn program<T: Print + Eprint, A: Words, F: GameFiles, R: Source, W: Sink>(
+/// It can say nothing on standard output but by the sink. Neither stream has failed before. Where lines of text are typed at a terminal,
+/// it tells on standard error beforehand which those are.
+pub(crate) fn program<T: Eprint, A: Words, F: GameFiles, R: Source, W: Sink>(
     rt: &T,
     alloc: Global,
     is_typed: bool,
@@ -32,33 +32,33 @@ pub(crate) fn program<T: Print + Eprint, A: Words, F: GameFiles, R: Source, W: S
     files: &mut F,
     source: &mut R,
     sink: &mut W,
-) -> u8
+) -> Result<(), Fault>
     requires source { R.has_failed source.old ≡ false }
     requires sink { W.has_failed sink.old ≡ false }
     ensures { let old = world files.old source.old sink.old in let new = world files.new source.new sink.new in
         (given : Result (List Word) CommandFault) × A.gives words.now given × IsProgram old new given
-        (λ list. EndsBy (IsOfWords old new list (λ args fault. OfGame args.game
+        (λ list. IsOfWords old new list (λ args fault. OfGame args.game
         (IsGameIn ⟦<Towers as Facts>⟧.facts ⟦<Plain as Format<Towers>>⟧.reply F.reads F.writes R.Source W.Sink old new args fault)
-        (IsGameIn ⟦<Unequal as Facts>⟧.facts ⟦<Plain as Format<Unequal>>⟧.reply F.reads F.writes R.Source W.Sink old new args fault)))
-        result)
-        (λ list. EndsBy (IsOfWords old new list (λ args fault. OfGame args.game
+        (IsGameIn ⟦<Unequal as Facts>⟧.facts ⟦<Plain as Format<Unequal>>⟧.reply F.reads F.writes R.Source W.Sink old new args fault))
+        (result_err result))
+        (λ list. IsOfWords old new list (λ args fault. OfGame args.game
         (IsGameIn ⟦<Towers as Facts>⟧.facts ⟦<Json as Format<Towers>>⟧.reply F.reads F.writes R.Source W.Sink old new args fault)
-        (IsGameIn ⟦<Unequal as Facts>⟧.facts ⟦<Json as Format<Unequal>>⟧.reply F.reads F.writes R.Source W.Sink old new args fault)))
-        result)
-        result }
+        (IsGameIn ⟦<Unequal as Facts>⟧.facts ⟦<Json as Format<Unequal>>⟧.reply F.reads F.writes R.Source W.Sink old new args fault))
+        (result_err result))
+        (result_err result) }
 {
     let words = match words.words() {
         Ok(words) => words,
-        Err(fault) => return status_of(rt, Err(Fault::Words(fault))),
+        Err(fault) => return Err(Fault::Words(fault)),
     };
     match program_name(&words) {
         ProgramName::Puzzles => {
-            program_in::<Plain, T, F, R, W>(
+            play_words::<Plain, T, F, R, W>(
                 rt, alloc, is_typed, &PUZZLES, &words, files, source, sink,
             )
         }
         ProgramName::PuzzlesJson => {
-            program_in::<Json, T, F, R, W>(
+            play_words::<Json, T, F, R, W>(
                 rt,
                 alloc,
                 false,
@@ -70,35 +70,6 @@ pub(crate) fn program<T: Print + Eprint, A: Words, F: GameFiles, R: Source, W: S
             )
         }
     }
-}
-
-// Does so in this format, for a program with these texts and words.
-fn program_in<
-    N: Format<Towers> + Format<Unequal>,
-    T: Print + Eprint,
-    F: GameFiles,
-    R: Source,
-    W: Sink,
->(
-    rt: &T,
-    alloc: Global,
-    is_typed: bool,
-    texts: &ProgramTexts,
-    words: &[String],
-    files: &mut F,
-    source: &mut R,
-    sink: &mut W,
-) -> u8
-    requires source { R.has_failed source.old ≡ false }
-    requires sink { W.has_failed sink.old ≡ false }
-    ensures { let old = world files.old source.old sink.old in let new = world files.new source.new sink.new in
-        EndsBy (IsOfWords old new words.now (λ args fault. OfGame args.game
-        (IsGameIn ⟦<Towers as Facts>⟧.facts ⟦<N as Format<Towers>>⟧.reply F.reads F.writes R.Source W.Sink old new args fault)
-        (IsGameIn ⟦<Unequal as Facts>⟧.facts ⟦<N as Format<Unequal>>⟧.reply F.reads F.writes R.Source W.Sink old new args fault)))
-        result }
-{
-    let ended = play_words::<N, T, F, R, W>(rt, alloc, is_typed, texts, words, files, source, sink);
-    status_of(rt, ended)
 }
 
 // Reads the words and plays the game.

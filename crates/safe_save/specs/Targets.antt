@@ -1,12 +1,30 @@
 -- What is told of a save that failed.
-use Rattle.std.specs.Prelude.{◌≡◌, ◌⊎◌, ℕ, List, Some, string_bytes}
-use Rattle.safe_save.specs.Folder.{FolderState}
-use Rattle.safe_save.specs.Save.{IsLeftBeside, Keeps}
+use Rattle.std.specs.Prelude.{◌≡◌, ◌⊎◌, ℕ, List, All, Some, IsSome, string_bytes}
+use Rattle.std.specs.IoError.{error_kind}
+use Rattle.std.specs.declared.io.ErrorKind.TheVariants.{AlreadyExists, Other}
+use Rattle.safe_save.specs.Folder.{FolderState, HasFailed}
+use Rattle.safe_save.specs.Save.{FillFailed, IsLeftBeside, Keeps}
+use Rattle.safe_save.specs.declared.folder.FolderCall.TheVariants.{FlushFolder, Rename}
 use Rattle.safe_save.specs.declared.target.Unsaved.{Unsaved}
 use Rattle.safe_save.specs.declared.target.Unsaved.TheVariants.{Failed, LeftBeside}
 
--- where it is told as left beside, the bytes stand at the path that is told, also in a crash; else at the path is what stood there, or
--- it has the bytes
+-- where it is told as left beside, the bytes stand at the path that is told, also in a crash; otherwise at the path is what stood there,
+-- or it has the bytes
 abbrev pub IsToldOf : List ℕ → List ℕ → FolderState → FolderState → Unsaved → Type 0
 IsToldOf path bytes old new (LeftBeside beside) = IsLeftBeside path (string_bytes beside) bytes new
 IsToldOf path bytes old new (Failed error) = Keeps path old new ⊎ (new.stands path ≡ Some bytes)
+
+-- no new file can be made at the name: it is the path, or something stands there
+abbrev pub IsTaken : List ℕ → FolderState → List ℕ → Type 0
+IsTaken path state name = (name ≡ path) ⊎ IsSome (state.stands name)
+
+-- a call that makes or fills the new file has failed, or the flush of the folder
+abbrev pub CallFailed : FolderState → FolderState → Type 0
+CallFailed old new = FillFailed old new ⊎ HasFailed FlushFolder old new
+
+-- it is left beside only where a rename failed; an error of the kind Other is told only where a call failed, and one of the kind
+-- AlreadyExists only where each of the names was taken; no other is told
+abbrev pub HasItsCause : List ℕ → List (List ℕ) → FolderState → FolderState → Unsaved → Type 0
+HasItsCause path names old new (LeftBeside beside) = HasFailed Rename old new
+HasItsCause path names old new (Failed error) =
+    ((error_kind error ≡ Other) × CallFailed old new) ⊎ ((error_kind error ≡ AlreadyExists) × All (IsTaken path old) names)

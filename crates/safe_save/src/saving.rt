@@ -1,7 +1,7 @@
 //! A save: bytes take the place of a file, by a new file beside it.
 
 ghost use Rattle.std.specs.Prelude.{◌≡◌, ◌≢◌, ◌⊎◌, Some, None, [], IsSome, OnOk, OnErr, IsErrOf};
-ghost use Rattle.safe_save.specs.Folder.{TouchedBoth, LeavesOnly, KeepsFaults, HasFailed, NoWider, WidensNoOther};
+ghost use Rattle.safe_save.specs.Folder.{Same, TouchedBoth, LeavesOnly, KeepsFaults, HasFailed, NoWider, WidensNoOther};
 ghost use Rattle.safe_save.specs.Save.{IsStored, IsLeftBeside, IsGivenUp, IsCleared, Keeps, KeepsPath, KeepsBeside, FillFailed, IsOldOrNew, IsAtEither, ReadAsEither, TouchesOnly};
 
 use crate::folder::{Folder, FolderCall, FolderFault};
@@ -37,7 +37,9 @@ pub fn save<F: Folder>(
     ensures flushed { F.tells → IsErrOf result SaveFault.NotFlushed
         → (F.state folder.new).stands path.now ≡ Some bytes.now }
 
-    // What stands at the path is what stood there.
+    // Where the name is taken, each name has what it had; where the save is given up, the path has.
+    ensures unchanged { F.tells → IsErrOf result SaveFault.Taken
+        → Same (F.state folder.old).stands (F.state folder.new).stands }
     ensures kept { F.tells → IsGivenUp result → Keeps path.now (F.state folder.old) (F.state folder.new) }
 
     // The bytes stand beside, and the path is as it was, unless a rename was refused and an overwrite failed.

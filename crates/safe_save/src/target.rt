@@ -2,10 +2,10 @@
 //!
 //! A call by a name has room for that name on the stack. What makes such calls isn't inlined, so that few have theirs at once.
 
-ghost use Rattle.std.specs.Prelude.{IfErr, OnOk};
+ghost use Rattle.std.specs.Prelude.{◌≡◌, length, map, string_bytes, IfErr, IfOk, OnOk};
 ghost use Rattle.safe_save.specs.Folder.{NoWider};
 ghost use Rattle.safe_save.specs.Save.{IsStored};
-ghost use Rattle.safe_save.specs.Targets.{IsToldOf};
+ghost use Rattle.safe_save.specs.Targets.{HasItsCause, IsToldOf};
 
 use crate::files::{FilesFolder, Standing, folder_of};
 use crate::folder::Folder;
@@ -20,8 +20,8 @@ use std::{fs, io};
 /// How many links in a row are followed, as many as the system follows.
 const MOST_LINKS: u32 = 40;
 
-/// How many names are tried for the new file.
-const MOST_NAMES: u32 = 100;
+/// How many names are tried for the new file, each of which is free unless somebody guessed it.
+const MOST_NAMES: usize = 4;
 
 /// The names of the descriptors that this process holds open.
 const DESCRIPTORS: &str = "/proc/self/fd";
@@ -139,24 +139,27 @@ fn replace<R>(rt: &R, path: &str, bytes: &[u8], standing: Standing) -> Result<()
 where
     R: Files<File = File> + RandomSource + AllocGlobal,
 {
+    let names = fresh_names(rt, path)?;
     let mut folder = FilesFolder::new(rt, standing);
-    save_beside(rt, &mut folder, path, bytes)
+    save_beside(&mut folder, path, names, bytes)
 }
 
-// Saves in any folder so.
-fn save_beside<R: RandomSource + AllocGlobal, F: Folder>(
-    rt: &R,
+// Saves in any folder so, under the first of the names that isn't taken. An error of the kind `Other` tells that a call of the folder
+// failed, one of the kind `AlreadyExists` that each of the names was taken.
+fn save_beside<F: Folder>(
     folder: &mut F,
     path: &str,
+    names: Vec<String>,
     bytes: &[u8],
 ) -> Result<(), Unsaved>
     ensures saved { F.tells → OnOk result (IsStored path.now bytes.now (F.state folder.new)) }
     ensures unsaved { F.tells → IfErr result (λ fault.
         IsToldOf path.now bytes.now (F.state folder.old) (F.state folder.new) fault) }
+    ensures cause { F.tells → IfErr result (λ fault.
+        HasItsCause path.now (map string_bytes names.items) (F.state folder.old) (F.state folder.new) fault) }
     ensures private { F.tells → NoWider path.now path.now (F.state folder.old) (F.state folder.new) }
 {
-    for _ in 0..MOST_NAMES {
-        let beside = fresh_name(rt, path)?;
+    for beside in names {
         match save(folder, path, beside.as_str(), bytes) {
             Ok(()) => return Ok(()),
             Err(SaveFault::Taken) => {}
@@ -167,6 +170,17 @@ fn save_beside<R: RandomSource + AllocGlobal, F: Folder>(
         }
     }
     Err(Unsaved::Failed(io::Error::from(ErrorKind::AlreadyExists)))
+}
+
+// Names in the folder of the path, each with a random part.
+fn fresh_names<R: RandomSource + AllocGlobal>(rt: &R, path: &str) -> io::Result<Vec<String>>
+    ensures { IfOk result (λ names. length names.items ≡ MOST_NAMES) }
+{
+    let mut names = Vec::new(rt.alloc());
+    for _ in 0..MOST_NAMES {
+        names.push(fresh_name(rt, path)?)?;
+    }
+    Ok(names)
 }
 
 // A name in the folder of the path, with a random part.

@@ -21,7 +21,7 @@ use Rattle.step_chains.specs.ChainValues.{step_value, steps_of, LeavesNothing}
 use Rattle.step_chains.specs.Explanations.{NothingIsShown, IsRefutation, IsRefutedGrid}
 use Rattle.step_chains.specs.Inner.Replays.{Leads}
 use Rattle.step_chains.specs.Inner.Goals.{IsOpen, IsOpenShown, IsShownByAll}
-use Rattle.step_chains.specs.Inner.Aims.{IsReached, IsEmpty, HasSome}
+use Rattle.step_chains.specs.Inner.Aims.{IsReached, HasSome}
 use Rattle.step_chains.proofs.Followed.{none_removed, shows_where}
 use Rattle.step_chains.proofs.Tight.{shows_alike}
 
@@ -153,22 +153,6 @@ none_refuted Struck less grade g view d is closed some r =
     let inside : refuted.cell < d.size * d.size = subst (λ (w : ℕ). refuted.cell < w * w) (size ∙ sym closed.size) refuted.inside in
     let left = some refuted.cell inside in
     refuted.nothing left.0 (here.1 refuted.cell left.0 (fewer refuted.cell left.0 left.1))
-
--- where it leaves a square nothing its chain does
-pub refuted_by : (Struck : CandidatesValue → Reason → ℕ → ℕ → Type 0) (grade : Grade) (g : GridValue) (view d : CandidatesValue) (cell : ℕ)
-    → IsView g view → IsClosure Struck grade view d → IsEmpty d cell → IsRefutedGrid Struck grade g
-refuted_by Struck grade g view d cell is closed empty = (
-  view,
-  is,
-  record {
-    steps = closed.steps;
-    chain = closed.chain;
-    allowed = closed.allowed;
-    cell = cell;
-    inside = subst (λ (w : ℕ). cell < w * w) closed.size empty.0;
-    nothing = λ value left. empty.1 value (closed.left.1 cell value left);
-  },
-)
 
 -- what it shows all that the grade leaves shows
 pub shown_by_all : (Struck : CandidatesValue → Reason → ℕ → ℕ → Type 0) → IsAntitone Struck → (grade : Grade) (g : GridValue) (view d : CandidatesValue)

@@ -178,12 +178,30 @@ two_pieces steps place =
     ap steps_of (take_rest steps (place + 1)) ∙ ap (λ (n : ℕ). steps_of (drop n steps)) next ∙ sym (drop-map step_value (suc place) steps) in
     (λ i. sym (take-map step_value place steps) i ++ behind i)
 
+-- the steps before a place and those from it on
+pub from_place : (steps : List Step) (place : ℕ) → steps_of (take place steps) ++ steps_of (take (length steps - place) (drop place steps)) ≡ steps_of steps
+from_place steps place =
+    ap (λ xs. steps_of (take place steps) ++ steps_of xs) (take_rest steps place)
+    ∙ sym (map-append step_value (take place steps) (drop place steps)) ∙ ap steps_of (take-append-drop place steps)
+
+-- what is taken of a chain is what it leads to
+pub leads_known : (Struck : CandidatesValue → Reason → ℕ → ℕ → Type 0) (grade : Grade) (c d : CandidatesValue) (steps : List StepValue)
+    → IsGradeChain Struck grade c steps → d.size ≡ c.size → AreAlike (left_by c steps) d → Leads Struck grade c steps d
+leads_known Struck grade c d steps chain size alike = record { chain = chain.0; allowed = chain.1; size = size; alike = alike }
+
+-- some of the first steps of a chain are one
+pub front_chain : (Struck : CandidatesValue → Reason → ℕ → ℕ → Type 0) (grade : Grade) (c : CandidatesValue) (front back : List StepValue) (goal : Goal)
+    → Shows Struck grade c (front ++ back) goal → IsGradeChain Struck grade c front
+front_chain Struck grade c front back goal h =
+    ((chain_split Struck c front back h.chain).0, (allowed_split grade front back h.allowed).0)
+
 -- where the second piece leads on, or breaks, all does
 pub both_lead : (Struck : CandidatesValue → Reason → ℕ → ℕ → Type 0) → IsAntitone Struck → (grade : Grade) (c d e : CandidatesValue)
     (front back : List StepValue) (b : Bool) → Leads Struck grade c front d → OnTrue b (Leads Struck grade d back e) → OnTrue b (Leads Struck grade c (front ++ back) e)
 both_lead Struck less grade c d e front back true first second = leads_joined Struck less grade c d e front back first second
 both_lead Struck less grade c d e front back false first second = tt
 
+-- where the second piece is no chain, all is none
 pub both_break : (Struck : CandidatesValue → Reason → ℕ → ℕ → Type 0) → IsAntitone Struck → (grade : Grade) (c d : CandidatesValue)
     (front back : List StepValue) (b : Bool) → Leads Struck grade c front d → OnFalse b (IsGradeChain Struck grade d back → ⊥)
     → OnFalse b (IsGradeChain Struck grade c (front ++ back) → ⊥)

@@ -5,3 +5,7 @@ pub mod Idle
 pub mod Settled
 pub mod Explanations
 pub mod OpenGoals
+pub mod Live
+pub mod NextHints
+pub mod ForcedLaws
+pub mod Spare

@@ -1,9 +1,8 @@
 -- Chains from which steps are left out, the last first.
-use Rattle.std.proofs.Common.{◌≡◌, ℕ, zero, suc, ◌+◌, ◌-◌, ◌<◌, ◌≤◌, List, [], ◌∷◌, ◌++◌, length, take, drop, refl, sym, ap, ◌∙◌, subst, arith, inl, inr, append_assoc, length-append}
+use Rattle.std.proofs.Common.{◌≡◌, ℕ, zero, suc, ◌+◌, ◌<◌, ◌≤◌, List, [], ◌∷◌, ◌++◌, length, take, drop, refl, sym, ap, ◌∙◌, subst, arith, append_assoc, length-append}
 use Rattle.std.specs.List.{remove}
-use Rattle.std.proofs.lemmas.Bool.{cases_eq}
 use Rattle.std.proofs.Math.Seq.{take-append_seam, drop-append-add}
-use Rattle.std.proofs.lemmas.List.{take-map, drop-map, map-append, length-map}
+use Rattle.std.proofs.lemmas.List.{take-map, drop-map, map-append}
 use Rattle.trail_solver.specs.Candidates.{CandidatesValue}
 use Rattle.named_steps.specs.Left.{IsFewer, without}
 use Rattle.named_steps.specs.Chains.{StepValue, AreOfGrade, left_by, Shows, IsTight}
@@ -109,18 +108,6 @@ tight_without Struck less grade c steps place goal low whole tight = λ front ba
     (omega (arith, at.4, length-append at.0 (at.1 ∷ more.0)))
     (subst (λ xs. Shows Struck grade c xs goal) (sym (append_assoc at.0 (at.1 ∷ more.0) back)) with_it)
 
--- a step that can't be left out stays
-pub tight_with : (Struck : CandidatesValue → Reason → ℕ → ℕ → Type 0) (grade : Grade) (c : CandidatesValue)
-    (steps : List StepValue) (place : ℕ) (goal : Goal) → (Shows Struck grade c (remove steps place) goal → ⊥)
-    → IsTightFrom (place + 1) Struck grade c steps goal → IsTightFrom place Struck grade c steps goal
-tight_with Struck grade c steps place goal none tight = λ front back step is behind shows.
-    elim (cases_eq (length front) place) [
-      | inl here ↦
-          let rest : remove steps place ≡ front ++ back = (λ i. remove (is i) (sym here i)) ∙ remove_at front back step in
-          none (subst (λ xs. Shows Struck grade c xs goal) (sym rest) shows)
-      | inr other ↦ tight front back step is (omega (arith, behind, other)) shows
-    ]
-
 -- in other words: where it isn't shown without any one of them
 pub tight_from_each : (Struck : CandidatesValue → Reason → ℕ → ℕ → Type 0) (grade : Grade) (c : CandidatesValue) (steps : List StepValue) (goal : Goal)
     → ((place : ℕ) → place < length steps → Shows Struck grade c (remove steps place) goal → ⊥) → IsTight Struck grade c steps goal
@@ -134,38 +121,3 @@ each_from_tight Struck grade c steps place goal tight low shows =
     let at = parted steps place low in
     let rest : remove steps place ≡ at.0 ++ at.2 = (λ i. remove (at.3 i) (sym at.4 i)) ∙ remove_at at.0 at.2 at.1 in
     tight at.0 at.2 at.1 at.3 (subst (λ xs. Shows Struck grade c xs goal) rest shows)
-
--- ---- the loop that leaves steps out
-
--- one is left out
-pub pass_goes : (Struck : CandidatesValue → Reason → ℕ → ℕ → Type 0) → IsAntitone Struck → (grade : Grade) (c d : CandidatesValue) (steps rest : List Step)
-    (place : ℕ) (goal : Goal) → d ≡ c → 0 < place → place ≤ length steps → Shows Struck grade c (steps_of steps) goal
-    → IsTightFrom place Struck grade c (steps_of steps) goal → rest ≡ remove steps (place - 1) → Shows Struck grade d (remove (steps_of steps) (place - 1)) goal
-    → (place - 1 ≤ length rest) × Shows Struck grade c (steps_of rest) goal × IsTightFrom (place - 1) Struck grade c (steps_of rest) goal
-pass_goes Struck less grade c d steps rest place goal same some low whole tight is part =
-    let at = parted steps (place - 1) (omega (arith, some, low)) in
-    let parts : rest ≡ at.0 ++ at.2 = is ∙ (λ i. remove (at.3 i) (sym at.4 i)) ∙ remove_at at.0 at.2 at.1 in
-    let listed : steps_of rest ≡ remove (steps_of steps) (place - 1) = ap steps_of is ∙ steps_removed steps (place - 1) in
-    let here : place - 1 < length (steps_of steps) = omega (arith, some, low, length-map steps step_value) in
-    let back_again : place ≡ place - 1 + 1 = omega (arith, some) in
-    let now : IsTightFrom (place - 1 + 1) Struck grade c (steps_of steps) goal =
-    subst (λ (n : ℕ). IsTightFrom n Struck grade c (steps_of steps) goal) back_again tight in (
-      omega (arith, at.4, ap length parts, length-append at.0 at.2),
-      subst (λ xs. Shows Struck grade c xs goal) (sym listed) (subst (λ x. Shows Struck grade x (remove (steps_of steps) (place - 1)) goal) same part),
-      subst (λ xs. IsTightFrom (place - 1) Struck grade c xs goal) (sym listed)
-          (tight_without Struck less grade c (steps_of steps) (place - 1) goal here whole now),
-    )
-
--- one stays
-pub pass_stays : (Struck : CandidatesValue → Reason → ℕ → ℕ → Type 0) (grade : Grade) (c d : CandidatesValue) (steps : List Step)
-    (place : ℕ) (goal : Goal) → d ≡ c → 0 < place → place ≤ length steps → IsTightFrom place Struck grade c (steps_of steps) goal
-    → (Shows Struck grade d (remove (steps_of steps) (place - 1)) goal → ⊥)
-    → (place - 1 ≤ length steps) × IsTightFrom (place - 1) Struck grade c (steps_of steps) goal
-pass_stays Struck grade c d steps place goal same some low tight none =
-    let back_again : place ≡ place - 1 + 1 = omega (arith, some) in
-    let now : IsTightFrom (place - 1 + 1) Struck grade c (steps_of steps) goal =
-    subst (λ (n : ℕ). IsTightFrom n Struck grade c (steps_of steps) goal) back_again tight in (
-      omega (arith, low),
-      tight_with Struck grade c (steps_of steps) (place - 1) goal
-          (λ shows. none (subst (λ x. Shows Struck grade x (remove (steps_of steps) (place - 1)) goal) (sym same) shows)) now,
-    )

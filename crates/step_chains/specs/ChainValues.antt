@@ -1,11 +1,12 @@
 -- The steps of a chain, as what is struck by each.
-use Rattle.std.specs.Prelude.{ℕ, ◌*◌, ◌<◌, List, map}
-use Rattle.trail_solver.specs.Pairs.{pairs_of}
+use Rattle.std.specs.Prelude.{◌≡◌, ℕ, ◌*◌, ◌<◌, true, false, List, [], ◌∷◌, ◌++◌, map}
+use Rattle.trail_solver.specs.Pairs.{pairs_of, has_pair}
 use Rattle.trail_solver.specs.Candidates.{CandidatesValue}
-use Rattle.named_steps.specs.Left.{IsLeft}
-use Rattle.named_steps.specs.Chains.{StepValue, IsChain, AreOfGrade, left_by}
+use Rattle.named_steps.specs.Left.{IsLeft, without}
+use Rattle.named_steps.specs.Chains.{StepValue, IsChain, AreOfGrade, Shows, left_by}
 use Rattle.named_steps.specs.declared.reason.Reason.{Reason}
 use Rattle.named_steps.specs.declared.grade.Grade.{Grade}
+use Rattle.named_steps.specs.declared.goal.Goal.{Goal}
 use Rattle.step_chains.specs.declared.chain.Step.{Step}
 
 -- a step, with the pairs of its square and its values
@@ -22,3 +23,26 @@ pub record LeavesNothing (Struck : CandidatesValue → Reason → ℕ → ℕ �
   pub allowed : AreOfGrade grade steps
   pub inside : cell < c.size * c.size
   pub nothing : (value : ℕ) → IsLeft (left_by c steps) cell value → ⊥
+
+-- the step strikes only what is left
+abbrev pub IsLiveStep : CandidatesValue → StepValue → Type 0
+IsLiveStep c step = (cell value : ℕ) → has_pair step.strikes cell value ≡ true → IsLeft c cell value
+
+-- each step strikes only pairs that the steps before it leave
+abbrev pub AreLive : CandidatesValue → List StepValue → Type 0
+AreLive c [] = Unit {0}
+AreLive c (step ∷ steps) = IsLiveStep c step × AreLive (without c step.strikes) steps
+
+-- the first step strikes less: by the same reason some of the second's pairs, and this one of them not
+pub record StrikesLess (cell value : ℕ) (less step : StepValue) : Type 0 where
+  pub reason : less.reason ≡ step.reason
+  pub among : (k v : ℕ) → has_pair less.strikes k v ≡ true → has_pair step.strikes k v ≡ true
+  pub has : has_pair step.strikes cell value ≡ true
+  pub lacks : has_pair less.strikes cell value ≡ false
+
+-- no step can strike less, so that no number of a step can be left out
+abbrev pub AreAllNeeded :
+    (CandidatesValue → Reason → ℕ → ℕ → Type 0) → Grade → CandidatesValue → List StepValue → Goal → Type 0
+AreAllNeeded Struck grade c steps goal =
+    (front back : List StepValue) (step less : StepValue) (cell value : ℕ) → steps ≡ front ++ step ∷ back
+    → StrikesLess cell value less step → Shows Struck grade c (front ++ less ∷ back) goal → ⊥

@@ -2,14 +2,12 @@
 use Rattle.std.specs.Prelude.{◌≡◌, ℕ, List, ◌∷◌, ◌++◌}
 use Rattle.latin_board.specs.Squares.{GridValue, number_at}
 use Rattle.trail_solver.specs.Candidates.{CandidatesValue}
-use Rattle.named_steps.specs.Chains.{StepValue, IsView, IsExplained, IsGoalOf, Shows, goal_cell}
+use Rattle.named_steps.specs.Chains.{StepValue, IsView, IsGoalOf, Shows, goal_cell}
 use Rattle.named_steps.specs.Following.{IsRefuted}
 use Rattle.named_steps.specs.declared.reason.Reason.{Reason}
 use Rattle.named_steps.specs.declared.grade.Grade.{Grade}
 use Rattle.named_steps.specs.declared.goal.Goal.{Goal}
-use Rattle.step_chains.specs.declared.explaining.Explained.{Explained}
-use Rattle.step_chains.specs.declared.explaining.Explained.TheVariants.{Follows, Nothing, Contradiction}
-use Rattle.step_chains.specs.ChainValues.{steps_of, LeavesNothing}
+use Rattle.step_chains.specs.ChainValues.{LeavesNothing, AreLive, AreAllNeeded}
 
 -- no chain of the grade's steps from what is in view shows a number of an empty square
 abbrev pub NothingIsShown : (CandidatesValue → Reason → ℕ → ℕ → Type 0) → Grade → GridValue → Type 0
@@ -28,8 +26,12 @@ pub record IsRefutation (Struck : CandidatesValue → Reason → ℕ → ℕ →
   pub leaves : LeavesNothing Struck grade view steps cell
   pub tight : (front back : List StepValue) (step : StepValue) → steps ≡ front ++ step ∷ back → LeavesNothing Struck grade view (front ++ back) cell → ⊥
 
--- what an answer says: a refutation; or there is none, and a chain explains a number, or none shows any
-abbrev pub Explains : (CandidatesValue → Reason → ℕ → ℕ → Type 0) → Grade → GridValue → Explained → Type 0
-Explains Struck grade g (Follows chain) = IsExplained Struck grade g (steps_of chain.steps.items) chain.goal × (IsRefutedGrid Struck grade g → ⊥)
-Explains Struck grade g Nothing = NothingIsShown Struck grade g × (IsRefutedGrid Struck grade g → ⊥)
-Explains Struck grade g (Contradiction r) = IsRefutation Struck grade g (steps_of r.steps.items) r.cell
+-- from what is in view of the grid each step strikes only what the steps before it leave
+abbrev pub IsLiveFrom : GridValue → List StepValue → Type 0
+IsLiveFrom g steps = (view : CandidatesValue) × IsView g view × AreLive view steps
+
+-- and no step can strike less
+abbrev pub AreNeededFrom :
+    (CandidatesValue → Reason → ℕ → ℕ → Type 0) → Grade → GridValue → List StepValue → Goal → Type 0
+AreNeededFrom Struck grade g steps goal =
+    (view : CandidatesValue) × IsView g view × AreAllNeeded Struck grade view steps goal

@@ -4,5 +4,9 @@
 pub mod ChainValues
 -- what an answer explains
 pub mod Explanations
+-- what the next hint of a grid says
+pub mod NextHints
+-- squares that narrowing forces
+pub mod ForcedLaws
 -- words that the contracts of private functions alone use
 pub mod Inner

@@ -1,5 +1,6 @@
 //! Chains: steps one after another, and what they show.
-ghost use Rattle.std.specs.Prelude.{◌≡◌, ◌↔◌, IsTrue};
+ghost use Rattle.std.specs.Prelude.{◌≡◌, ◌↔◌, ◌<◌, IsTrue};
+ghost use Rattle.step_chains.specs.Inner.Tight.{Lacks};
 
 use named_steps::{Goal, Reason};
 use number_sets::NumberSet;
@@ -13,6 +14,18 @@ pub struct Step {
 }
 
 impl Step {
+    /// The step without one of its values.
+    pub(crate) fn without(&self, value: u8) -> Step
+        requires { value < 16 }
+        ensures { Lacks value self.now result }
+    {
+        Step {
+            reason: self.reason,
+            cell: self.cell,
+            values: self.values.difference(NumberSet::one(value)),
+        }
+    }
+
     /// Whether another step has the same reason. Steps one after another that have it are one look at a line, a sign or a clue.
     pub(crate) fn is_same_look(&self, other: &Step) -> bool
         ensures { IsTrue result ↔ (self.now.reason ≡ other.now.reason) }

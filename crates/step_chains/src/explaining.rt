@@ -1,15 +1,15 @@
-//! Hints that explain: a chain of steps to the next number, or to a square that is left nothing.
+//! The chains of hints: to a number of an empty square, or to a square that is left nothing; and whether a chain is such.
 ghost use Rattle.std.specs.Prelude.{◌≡◌, ◌↔◌, ◌*◌, ◌<◌, IsTrue, IfOk, IfSome, MatchOption};
 ghost use Rattle.named_steps.specs.Chains.{IsExplained, IsTight};
 ghost use Rattle.named_steps.specs.declared.goal.Goal.TheVariants.{OnlyValue};
 ghost use Rattle.step_chains.specs.ChainValues.{steps_of};
-ghost use Rattle.step_chains.specs.Explanations.{Explains, IsRefutation, IsRefutedGrid, NothingIsShown};
-ghost use Rattle.step_chains.specs.Inner.Aims.{IsAimOf, IsFirstAim, IsReached, aim_goal};
+ghost use Rattle.step_chains.specs.Explanations.{AreNeededFrom, IsRefutation, IsLiveFrom};
+ghost use Rattle.step_chains.specs.Inner.Aims.{IsAimOf, IsReached, aim_goal};
 ghost use Rattle.step_chains.specs.Inner.Goals.{IsOpen, IsShownByAll};
 
-use crate::aims::{Aim, first_empty};
+use crate::aims::Aim;
 use crate::chain::{Chain, Refutation, Step};
-use crate::goals::{is_open, shown_goal};
+use crate::goals::is_open;
 use crate::kinds::Sought;
 use crate::next_steps::all_steps;
 use crate::replays::shows_without;
@@ -17,101 +17,13 @@ use crate::shortest::short_chain;
 use crate::tightening::tighten;
 use crate::view::view_of;
 use latin_board::{Grid, OutOfMemory};
-use named_steps::{Goal, Grade, KnownRows, Steps, settle, settle_knowing};
+use named_steps::{Goal, Grade, KnownRows, Steps};
 use std::alloc::Global;
 use trail_solver::{Candidates, Rules};
 
-/// What follows from the numbers of a grid, and how.
-#[derive(Debug, Drop)]
-pub enum Explained {
-    /// These steps show a number of an empty square, and none of them can be left out.
-    Follows(Chain),
-    /// No steps of the grade show a number of an empty square.
-    Nothing,
-    /// These steps leave a square nothing, and none of them can be left out: some number is wrong.
-    Contradiction(Refutation),
-}
-
-/// The next number of a grid by the steps of a grade, with the steps that show it, or the steps that refute the grid's numbers;
-/// `OutOfMemory` where a growth was refused. The grid has the puzzle's size.
+/// A chain that shows a number of an empty square, and rather a short one. All steps together show this one.
 #[inline(never)]
-pub fn explain<P: Steps>(
-    alloc: Global,
-    p: &P,
-    grid: &Grid,
-    grade: Grade,
-) -> Result<Explained, OutOfMemory>
-    requires { grid.now.size ≡ (P.puzzle p.now).size }
-    ensures { IfOk result (Explains (P.struck_by p.now) grade grid.now) }
-{
-    // One table for all that follows, since it takes ten kilobytes of the stack.
-    let mut known = KnownRows::none();
-    match first_aim(p, grid, grade, &mut known) {
-        Some(Aim::Number(goal)) => {
-            let chain = chain_to(alloc, p, grid, grade, goal, &mut known)?;
-            Ok(Explained::Follows(chain))
-        }
-        Some(Aim::Nothing { cell }) => {
-            let refutation = refutation_at(alloc, p, grid, grade, cell, &mut known)?;
-            Ok(Explained::Contradiction(refutation))
-        }
-        None => Ok(Explained::Nothing),
-    }
-}
-
-// The first square that all steps of the grade's together leave nothing, or else the first number of an empty square that they show,
-// if they show any. What they leave is in this frame alone, so that it isn't on the stack while a chain is searched.
-#[inline(never)]
-fn first_aim<P: Steps>(p: &P, grid: &Grid, grade: Grade, known: &mut KnownRows) -> Option<Aim>
-    requires { grid.now.size ≡ (P.puzzle p.now).size }
-    ensures { MatchOption result
-        (NothingIsShown (P.struck_by p.now) grade grid.now × (IsRefutedGrid (P.struck_by p.now) grade grid.now → ⊥))
-        (IsFirstAim (P.struck_by p.now) grade grid.now) }
-{
-    let mut settled = view_of(grid);
-    settle_knowing(p, grade, &mut settled, known);
-    if let Some(cell) = first_empty(&settled) {
-        return Some(Aim::Nothing { cell });
-    }
-    match shown_goal(&settled, grid) {
-        Some(goal) => Some(Aim::Number(goal)),
-        None => None,
-    }
-}
-
-/// The next number of a grid by the steps of a grade, with the steps that show it, if they show any. It doesn't ask whether steps refute
-/// the grid's numbers, and is quicker than `explain` for those who know that none do; where some do, it may tell a number or none.
-/// `OutOfMemory` where a growth was refused. The grid has the puzzle's size.
-#[inline(never)]
-pub fn explain_number<P: Steps>(
-    alloc: Global,
-    p: &P,
-    grid: &Grid,
-    grade: Grade,
-) -> Result<Option<Chain>, OutOfMemory>
-    requires { grid.now.size ≡ (P.puzzle p.now).size }
-    ensures { IfOk result (λ found. MatchOption found
-        ((IsRefutedGrid (P.struck_by p.now) grade grid.now → ⊥) → NothingIsShown (P.struck_by p.now) grade grid.now)
-        (λ chain. IsExplained (P.struck_by p.now) grade grid.now (steps_of chain.steps.items) chain.goal)) }
-{
-    // One table for all that follows, as in `explain`.
-    let mut known = KnownRows::none();
-    if let Some(chain) = short_number(alloc, p, grid, grade, &mut known)? {
-        return Ok(Some(chain));
-    }
-    match first_aim(p, grid, grade, &mut known) {
-        Some(Aim::Number(goal)) => {
-            let chain = plain_number(alloc, p, grid, grade, goal, &mut known)?;
-            Ok(Some(chain))
-        }
-        Some(Aim::Nothing { cell: _ }) => Ok(None),
-        None => Ok(None),
-    }
-}
-
-// A chain that shows a number of an empty square, and rather a short one. All steps together show this one.
-#[inline(never)]
-fn chain_to<P: Steps>(
+pub(crate) fn chain_to<P: Steps>(
     alloc: Global,
     p: &P,
     grid: &Grid,
@@ -122,7 +34,9 @@ fn chain_to<P: Steps>(
     requires size { grid.now.size ≡ (P.puzzle p.now).size }
     requires open { IsOpen grid.now goal }
     requires shown { IsShownByAll (P.struck_by p.now) grade grid.now goal }
-    ensures { IfOk result (λ chain. IsExplained (P.struck_by p.now) grade grid.now (steps_of chain.steps.items) chain.goal) }
+    ensures is { IfOk result (λ chain. IsExplained (P.struck_by p.now) grade grid.now (steps_of chain.steps.items) chain.goal) }
+    ensures live { IfOk result (λ chain. IsLiveFrom grid.now (steps_of chain.steps.items)) }
+    ensures needed { IfOk result (λ chain. AreNeededFrom (P.struck_by p.now) grade grid.now (steps_of chain.steps.items) chain.goal) }
 {
     if let Some(chain) = short_number(alloc, p, grid, grade, known)? {
         return Ok(chain);
@@ -140,10 +54,13 @@ fn short_number<P: Steps>(
     known: &mut KnownRows,
 ) -> Result<Option<Chain>, OutOfMemory>
     requires { grid.now.size ≡ (P.puzzle p.now).size }
-    ensures { IfOk result (λ found. IfSome found
+    ensures is { IfOk result (λ found. IfSome found
         (λ chain. IsExplained (P.struck_by p.now) grade grid.now (steps_of chain.steps.items) chain.goal)) }
+    ensures live { IfOk result (λ found. IfSome found (λ chain. IsLiveFrom grid.now (steps_of chain.steps.items))) }
+    ensures needed { IfOk result (λ found. IfSome found
+        (λ chain. AreNeededFrom (P.struck_by p.now) grade grid.now (steps_of chain.steps.items) chain.goal)) }
 {
-    if let Some(found) = short_chain(alloc, p, grid, grade, Sought::Number, known)? {
+    if let Some(found) = short_chain(alloc, p, grid, grade, Sought::NumberShown, known)? {
         if let Aim::Number(goal) = found.aim {
             if is_open(grid, goal) {
                 return Ok(Some(Chain {
@@ -169,15 +86,17 @@ fn plain_number<P: Steps>(
     requires size { grid.now.size ≡ (P.puzzle p.now).size }
     requires open { IsOpen grid.now goal }
     requires shown { IsShownByAll (P.struck_by p.now) grade grid.now goal }
-    ensures { IfOk result (λ chain. IsExplained (P.struck_by p.now) grade grid.now (steps_of chain.steps.items) chain.goal) }
+    ensures is { IfOk result (λ chain. IsExplained (P.struck_by p.now) grade grid.now (steps_of chain.steps.items) chain.goal) }
+    ensures live { IfOk result (λ chain. IsLiveFrom grid.now (steps_of chain.steps.items)) }
+    ensures needed { IfOk result (λ chain. AreNeededFrom (P.struck_by p.now) grade grid.now (steps_of chain.steps.items) chain.goal) }
 {
     let steps = plain_chain(alloc, p, grid, grade, Aim::Number(goal), known)?;
     Ok(Chain { steps, goal })
 }
 
-// A chain that leaves a square nothing, and rather a short one. All steps together leave this one nothing.
+/// A chain that leaves a square nothing, and rather a short one. All steps together leave this one nothing.
 #[inline(never)]
-fn refutation_at<P: Steps>(
+pub(crate) fn refutation_at<P: Steps>(
     alloc: Global,
     p: &P,
     grid: &Grid,
@@ -188,9 +107,11 @@ fn refutation_at<P: Steps>(
     requires size { grid.now.size ≡ (P.puzzle p.now).size }
     requires inside { cell < grid.now.size * grid.now.size }
     requires empty { IsShownByAll (P.struck_by p.now) grade grid.now (OnlyValue cell 0) }
-    ensures { IfOk result (λ r. IsRefutation (P.struck_by p.now) grade grid.now (steps_of r.steps.items) r.cell) }
+    ensures is { IfOk result (λ r. IsRefutation (P.struck_by p.now) grade grid.now (steps_of r.steps.items) r.cell) }
+    ensures live { IfOk result (λ r. IsLiveFrom grid.now (steps_of r.steps.items)) }
+    ensures needed { IfOk result (λ r. AreNeededFrom (P.struck_by p.now) grade grid.now (steps_of r.steps.items) (OnlyValue r.cell 0)) }
 {
-    if let Some(found) = short_chain(alloc, p, grid, grade, Sought::Nothing, known)? {
+    if let Some(found) = short_chain(alloc, p, grid, grade, Sought::SquareEmptied, known)? {
         if let Aim::Nothing { cell } = found.aim {
             return Ok(Refutation {
                 steps: found.steps,
@@ -215,25 +136,13 @@ fn plain_chain<P: Steps>(
     requires size { grid.now.size ≡ (P.puzzle p.now).size }
     requires aim { IsAimOf grid.now.size aim }
     requires reached { IsShownByAll (P.struck_by p.now) grade grid.now (aim_goal aim) }
-    ensures { IfOk result (λ steps. IsReached (P.struck_by p.now) grade grid.now (steps_of steps.items) (aim_goal aim)) }
+    ensures is { IfOk result (λ steps. IsReached (P.struck_by p.now) grade grid.now (steps_of steps.items) (aim_goal aim)) }
+    ensures live { IfOk result (λ steps. IsLiveFrom grid.now (steps_of steps.items)) }
+    ensures needed { IfOk result (λ steps. AreNeededFrom (P.struck_by p.now) grade grid.now (steps_of steps.items) (aim_goal aim)) }
 {
     let mut steps = all_steps(alloc, p, grade, &mut view_of(grid), known)?;
     tighten(p, grade, &mut view_of(grid), &mut steps, aim, known);
     Ok(steps)
-}
-
-/// Whether steps of a grade refute the numbers of a grid. The grid has the puzzle's size.
-#[inline(never)]
-pub fn is_refuted<P: Steps>(p: &P, grid: &Grid, grade: Grade) -> bool
-    requires { grid.now.size ≡ (P.puzzle p.now).size }
-    ensures { IsTrue result ↔ IsRefutedGrid (P.struck_by p.now) grade grid.now }
-{
-    let mut settled = view_of(grid);
-    settle(p, grade, &mut settled);
-    match first_empty(&settled) {
-        Some(_) => true,
-        None => false,
-    }
 }
 
 /// Whether a chain explains a number of a grid by the steps of a grade. The grid has the puzzle's size.

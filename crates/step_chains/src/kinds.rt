@@ -1,13 +1,14 @@
 //! Kinds of steps, and which of them lead on to what is sought.
+//! Nothing here ensures anything: `short_chain` follows what comes of it step by step, and tells it only where it is a chain.
 use named_steps::Grade;
 
 /// What rounds are to lead to.
 #[derive(Clone, Copy, Debug)]
 pub(crate) enum Sought {
     /// A number of an empty square.
-    Number,
+    NumberShown,
     /// A square that is left nothing.
-    Nothing,
+    SquareEmptied,
 }
 
 /// Kinds of steps, the cheapest first.
@@ -39,7 +40,7 @@ pub(crate) const KINDS: [Kind; 8] = [
 /// one they strike nothing.
 pub(crate) fn is_of_use(kind: Kind, sought: Sought, grade: Grade) -> bool {
     match (kind, sought, grade) {
-        (Kind::Peer | Kind::Place, Sought::Number, _) => false,
+        (Kind::Peer | Kind::Place, Sought::NumberShown, _) => false,
         (Kind::Peer | Kind::Place | Kind::Given, _, _) => true,
         (Kind::Bound | Kind::Sign | Kind::Stand, _, Grade::Latin) => false,
         (Kind::Clue | Kind::Set, _, Grade::Latin | Grade::Easy) => false,

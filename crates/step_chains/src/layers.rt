@@ -1,9 +1,9 @@
 //! A first chain: rounds of steps, in which the dearer kinds wait for the cheaper ones.
+//! Nothing here ensures anything: `short_chain` follows what comes of it step by step, and tells it only where it is a chain.
 ghost use Rattle.std.specs.Prelude.{◌≡◌};
 
-use crate::aims::first_empty;
+use crate::aims::found_in;
 use crate::chain::Step;
-use crate::goals::shown_goal;
 use crate::kinds::{KINDS, Kind, Sought, is_done, is_of_use};
 use crate::needs::{Values, left, neighbours, single, squares_but, squares_from};
 use crate::replays::{struck, take};
@@ -109,7 +109,7 @@ impl<'a> Rounds<'a> {
         if self.open == steps {
             return false;
         }
-        let found = is_found(self.sought, &self.now, grid);
+        let found = found_in(self.sought, &self.now, grid).is_some();
         if !found {
             self.open = steps;
         }
@@ -410,16 +410,6 @@ impl<'a> Rounds<'a> {
         self.gone.add(cell, values);
         self.steps.push(step)?;
         Ok(())
-    }
-}
-
-// Whether the candidates show a number of an empty square, or leave a square nothing, as is sought. The sizes are equal.
-fn is_found(sought: Sought, candidates: &Candidates, grid: &Grid) -> bool
-    requires { candidates.now.size ≡ grid.now.size }
-{
-    match sought {
-        Sought::Number => shown_goal(candidates, grid).is_some(),
-        Sought::Nothing => first_empty(candidates).is_some(),
     }
 }
 

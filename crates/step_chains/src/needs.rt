@@ -1,4 +1,5 @@
 //! Sets of values for squares: what is needed of a chain, and where reasons look.
+//! Nothing here ensures anything: `short_chain` follows what comes of it step by step, and tells it only where it is a chain.
 
 use crate::aims::Aim;
 use arrayvec::ArrayVec;

@@ -5,7 +5,7 @@ ghost use Rattle.latin_board.specs.Lines.{line_cell};
 ghost use Rattle.named_steps.specs.Left.{IsLeft};
 ghost use Rattle.named_steps.specs.Following.{IsSettled};
 ghost use Rattle.named_steps.specs.declared.reason.Reason.TheVariants.{Sign};
-ghost use Rattle.step_chains.specs.ChainValues.{steps_of};
+ghost use Rattle.step_chains.specs.ChainValues.{steps_of, AreLive};
 ghost use Rattle.step_chains.specs.Inner.Replays.{Leads};
 ghost use Rattle.step_chains.specs.Inner.Quiet.{IsNew, IsIdleIn, IsIdle, IsSquareIdle, IsPlaceIdle, IsClueIdle, IsGroupIdle};
 
@@ -28,6 +28,7 @@ pub(crate) fn all_steps<P: Steps>(
     requires { candidates.old.size ≡ (P.puzzle p.now).size }
     ensures leads { IfOk result
         (λ steps. Leads (P.struck_by p.now) grade candidates.old (steps_of steps.items) candidates.new) }
+    ensures live { IfOk result (λ steps. AreLive candidates.old (steps_of steps.items)) }
     ensures settled { IfOk result (λ _. IsSettled (P.struck_by p.now) grade candidates.new) }
 {
     let mut steps = Vec::new(alloc);

@@ -1,13 +1,14 @@
 //! Chains followed step by step.
-ghost use Rattle.std.specs.Prelude.{◌≡◌, ◌↔◌, ℕ, true, IsTrue};
+ghost use Rattle.std.specs.Prelude.{◌≡◌, ◌↔◌, ◌≤◌, ℕ, true, take, length, IsTrue};
 ghost use Rattle.std.specs.Bool.{OnTrue, OnFalse};
 ghost use Rattle.std.specs.List.{remove};
 ghost use Rattle.number_sets.specs.Sets.{has_number};
 ghost use Rattle.trail_solver.specs.Pairs.{IsPair, has_pair};
 ghost use Rattle.trail_solver.specs.Candidates.{IsEarlier};
-ghost use Rattle.named_steps.specs.Chains.{Shows};
+ghost use Rattle.named_steps.specs.Left.{AreAlike};
+ghost use Rattle.named_steps.specs.Chains.{Shows, left_by};
 ghost use Rattle.named_steps.specs.Inner.Takes.{Takes};
-ghost use Rattle.step_chains.specs.ChainValues.{step_value, steps_of};
+ghost use Rattle.step_chains.specs.ChainValues.{step_value, steps_of, AreLive, IsLiveStep};
 ghost use Rattle.step_chains.specs.Inner.Aims.{IsAimOf, aim_goal};
 ghost use Rattle.step_chains.specs.Inner.Replays.{IsGradeStep, IsGradeChain, Leads};
 
@@ -39,6 +40,86 @@ pub(crate) fn shows_without<P: Steps>(
     let shows = leads_to(p, grade, candidates, steps, place, aim, known);
     candidates.give_back(mark);
     shows
+}
+
+/// Whether the steps, of which those before a place are known to be a chain of the grade's from the candidates, are all one and come to the
+/// aim. The candidates are afterwards what they were.
+pub(crate) fn shows_from<P: Steps>(
+    p: &P,
+    grade: Grade,
+    candidates: &mut Candidates,
+    steps: &[Step],
+    place: usize,
+    aim: Aim,
+    known: &mut KnownRows,
+) -> bool
+    requires size { candidates.old.size ≡ (P.puzzle p.now).size }
+    requires aim { IsAimOf candidates.old.size aim }
+    requires inside { place ≤ length steps.now }
+    requires front { IsGradeChain (P.struck_by p.now) grade candidates.old (steps_of (take place steps.now)) }
+    ensures same { candidates.new ≡ candidates.old }
+    ensures shows { IsTrue result ↔ Shows (P.struck_by p.now) grade candidates.old (steps_of steps.now) (aim_goal aim) }
+{
+    let mark = candidates.mark();
+    let shows = leads_from(p, grade, candidates, steps, place, aim, known);
+    candidates.give_back(mark);
+    shows
+}
+
+// Follows the steps from a place on, and tells whether all are a chain of the grade's and come to the aim.
+fn leads_from<P: Steps>(
+    p: &P,
+    grade: Grade,
+    candidates: &mut Candidates,
+    steps: &[Step],
+    place: usize,
+    aim: Aim,
+    known: &mut KnownRows,
+) -> bool
+    requires size { candidates.old.size ≡ (P.puzzle p.now).size }
+    requires aim { IsAimOf candidates.old.size aim }
+    requires inside { place ≤ length steps.now }
+    requires front { IsGradeChain (P.struck_by p.now) grade candidates.old (steps_of (take place steps.now)) }
+    ensures earlier { IsEarlier candidates.old candidates.new }
+    ensures shows { IsTrue result ↔ Shows (P.struck_by p.now) grade candidates.old (steps_of steps.now) (aim_goal aim) }
+{
+    if !follow_from(p, grade, candidates, steps, place, known) {
+        return false;
+    }
+    aim.is_met(candidates)
+}
+
+// Takes away what the steps before a place list, follows the others, and tells whether all are a chain of the grade's.
+fn follow_from<P: Steps>(
+    p: &P,
+    grade: Grade,
+    candidates: &mut Candidates,
+    steps: &[Step],
+    place: usize,
+    known: &mut KnownRows,
+) -> bool
+    requires size { candidates.old.size ≡ (P.puzzle p.now).size }
+    requires inside { place ≤ length steps.now }
+    requires front { IsGradeChain (P.struck_by p.now) grade candidates.old (steps_of (take place steps.now)) }
+    ensures earlier { IsEarlier candidates.old candidates.new }
+    ensures leads { OnTrue result
+        (Leads (P.struck_by p.now) grade candidates.old (steps_of steps.now) candidates.new) }
+    ensures breaks { OnFalse result
+        (IsGradeChain (P.struck_by p.now) grade candidates.old (steps_of steps.now) → ⊥) }
+{
+    take_all(candidates, &steps[..place]);
+    follow(p, grade, candidates, &steps[place..], known)
+}
+
+// Takes away what the steps list.
+fn take_all(candidates: &mut Candidates, steps: &[Step])
+    ensures size { candidates.new.size ≡ candidates.old.size }
+    ensures earlier { IsEarlier candidates.old candidates.new }
+    ensures alike { AreAlike (left_by candidates.old (steps_of steps.now)) candidates.new }
+{
+    for step in steps {
+        take(candidates, step);
+    }
 }
 
 // Follows the steps without the one at a place, and tells whether they are a chain of the grade's and come to the aim.
@@ -181,4 +262,42 @@ pub(crate) fn take(candidates: &mut Candidates, step: &Step)
         return;
     }
     strike(candidates, cell, step.values);
+}
+
+/// Whether each step strikes only values that the steps before it leave. The candidates are afterwards what they were.
+pub(crate) fn are_live(candidates: &mut Candidates, steps: &[Step]) -> bool
+    ensures same { candidates.new ≡ candidates.old }
+    ensures live { IsTrue result ↔ AreLive candidates.old (steps_of steps.now) }
+{
+    let mark = candidates.mark();
+    let live = go_live(candidates, steps);
+    candidates.give_back(mark);
+    live
+}
+
+// Takes away what the steps strike, as far as it is left, and tells whether all of it is.
+fn go_live(candidates: &mut Candidates, steps: &[Step]) -> bool
+    ensures earlier { IsEarlier candidates.old candidates.new }
+    ensures live { IsTrue result ↔ AreLive candidates.old (steps_of steps.now) }
+{
+    for step in steps {
+        if !is_left(candidates, step) {
+            return false;
+        }
+        take(candidates, step);
+    }
+    true
+}
+
+// Whether all that a step strikes is left.
+fn is_left(candidates: &Candidates, step: &Step) -> bool
+    ensures { IsTrue result ↔ IsLiveStep candidates.now (step_value step.now) }
+{
+    let width = candidates.size().get() as usize;
+    let cell = step.cell as usize;
+    let _bits = step.values.bits();
+    if cell >= width * width {
+        return step.values.is_empty();
+    }
+    step.values.is_subset(candidates.values(cell))
 }

@@ -1,4 +1,5 @@
 //! Rows of sets: what is left of squares side by side, and which rows have been looked at.
+//! Nothing here ensures anything: `short_chain` follows what comes of it step by step, and tells it only where it is a chain.
 
 use crate::needs::left;
 use arrayvec::ArrayVec;

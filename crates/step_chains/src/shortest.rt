@@ -2,7 +2,8 @@
 ghost use Rattle.std.specs.Prelude.{◌≡◌, ◌*◌, IfOk, IfSome};
 ghost use Rattle.std.specs.Bool.{OnTrue};
 ghost use Rattle.named_steps.specs.Chains.{IsTight, Shows};
-ghost use Rattle.step_chains.specs.ChainValues.{steps_of};
+ghost use Rattle.step_chains.specs.ChainValues.{steps_of, AreLive, AreAllNeeded};
+ghost use Rattle.step_chains.specs.Explanations.{AreNeededFrom, IsLiveFrom};
 ghost use Rattle.step_chains.specs.Inner.Aims.{IsAimOf, IsReached, aim_goal};
 
 use crate::aims::{Aim, Aimed};
@@ -11,8 +12,8 @@ use crate::goals::{shown_in_place, shown_in_square};
 use crate::kinds::Sought;
 use crate::layers::Rounds;
 use crate::needs::left;
-use crate::replays::shows_without;
-use crate::slices::{gathered, slice, struck_once};
+use crate::replays::{are_live, shows_without};
+use crate::slices::{gathered, slice};
 use crate::tightening::tighten;
 use crate::view::view_of;
 use latin_board::{Grid, OutOfMemory};
@@ -31,8 +32,11 @@ pub(crate) fn short_chain<P: Steps>(
     sought: Sought,
     known: &mut KnownRows,
 ) -> Result<Option<Aimed>, OutOfMemory>
-    ensures { IfOk result (λ found. IfSome found (λ a. IsAimOf grid.now.size a.aim
+    ensures reached { IfOk result (λ found. IfSome found (λ a. IsAimOf grid.now.size a.aim
         × IsReached (P.struck_by p.now) grade grid.now (steps_of a.steps.items) (aim_goal a.aim))) }
+    ensures live { IfOk result (λ found. IfSome found (λ a. IsLiveFrom grid.now (steps_of a.steps.items))) }
+    ensures needed { IfOk result (λ found. IfSome found
+        (λ a. AreNeededFrom (P.struck_by p.now) grade grid.now (steps_of a.steps.items) (aim_goal a.aim))) }
 {
     let Some(mut found) = least_chain(alloc, p, grid, grade, sought, known)? else {
         return Ok(None);
@@ -53,8 +57,10 @@ fn shorten_from_view<P: Steps>(
     aim: Aim,
     known: &mut KnownRows,
 ) -> bool
-    ensures { OnTrue result (IsAimOf grid.now.size aim
+    ensures reached { OnTrue result (IsAimOf grid.now.size aim
         × IsReached (P.struck_by p.now) grade grid.now (steps_of steps.new.items) (aim_goal aim)) }
+    ensures live { OnTrue result (IsLiveFrom grid.now (steps_of steps.new.items)) }
+    ensures needed { OnTrue result (AreNeededFrom (P.struck_by p.now) grade grid.now (steps_of steps.new.items) (aim_goal aim)) }
 {
     let mut view = view_of(grid);
     shorten(p, grade, &mut view, steps, aim, known)
@@ -74,10 +80,12 @@ fn shorten<P: Steps>(
     ensures of { OnTrue result (IsAimOf candidates.old.size aim) }
     ensures shows { OnTrue result (Shows (P.struck_by p.now) grade candidates.old (steps_of steps.new.items) (aim_goal aim)) }
     ensures tight { OnTrue result (IsTight (P.struck_by p.now) grade candidates.old (steps_of steps.new.items) (aim_goal aim)) }
+    ensures live { OnTrue result (AreLive candidates.old (steps_of steps.new.items)) }
+    ensures needed { OnTrue result (AreAllNeeded (P.struck_by p.now) grade candidates.old (steps_of steps.new.items) (aim_goal aim)) }
 {
     let all = steps.len();
     let size = candidates.size();
-    if p.size() != size || !aim.is_of(size) {
+    if p.size() != size || !aim.is_of(size) || !are_live(candidates, steps.as_slice()) {
         return false;
     }
     if !shows_without(p, grade, candidates, steps.as_slice(), all, aim, known) {
@@ -87,7 +95,8 @@ fn shorten<P: Steps>(
     true
 }
 
-// The chain that costs least of those that the aims of the first rounds need.
+// The chain that costs least of those that the aims of the first rounds need. Nothing from here on ensures anything: `short_chain` follows
+// what comes of it step by step.
 #[inline(never)]
 fn least_chain<P: Steps>(
     alloc: Global,
@@ -100,27 +109,34 @@ fn least_chain<P: Steps>(
     let mut rounds = Rounds::of(alloc, view_of(grid), sought, known);
     rounds.go_through(p, grid, grade)?;
     let aims = match sought {
-        Sought::Number => numbers_shown(alloc, grid, &rounds.now)?,
-        Sought::Nothing => squares_emptied(alloc, &rounds.now)?,
+        Sought::NumberShown => numbers_shown(alloc, grid, &rounds.now)?,
+        Sought::SquareEmptied => squares_emptied(alloc, &rounds.now)?,
     };
     rounds.give_back();
     let mut least = Least {
-        grade,
         chain: None,
         cost: usize::MAX,
     };
     for aim in aims.as_slice() {
-        least.try_aim(alloc, p, &mut rounds, *aim)?;
+        if !least.is_done() {
+            least.try_aim(alloc, p, &mut rounds, *aim)?;
+        }
     }
     Ok(least.chain)
 }
 
-// The squares that are left nothing.
+// The chains to so many squares that are left nothing are compared at most: each takes time, and the first mostly serves.
+const MOST_SQUARES: usize = 3;
+
+// A chain of more steps takes so long to find that it isn't compared with others.
+const LONG: usize = 50;
+
+// The first squares that are left nothing.
 fn squares_emptied(alloc: Global, candidates: &Candidates) -> Result<Vec<Aim>, OutOfMemory> {
     let width = candidates.size().get() as usize;
     let mut aims = Vec::new(alloc);
     for cell in 0..width * width {
-        if left(candidates, cell).is_empty() {
+        if aims.len() < MOST_SQUARES && left(candidates, cell).is_empty() {
             aims.push(Aim::Nothing { cell })?;
         }
     }
@@ -179,16 +195,23 @@ fn list_places(
     Ok(())
 }
 
-// The chain that costs least so far.
+// The chain that costs least so far, of those that aims need.
 #[derive(Drop)]
 struct Least {
-    grade: Grade,
     chain: Option<Aimed>,
     cost: usize,
 }
 
 impl Least {
-    // Tries the chain that an aim needs.
+    // Whether no other aim is to be tried: nothing costs less, or each takes long.
+    fn is_done(&self) -> bool {
+        match &self.chain {
+            Some(chain) => chain.steps.is_empty() || chain.steps.len() > LONG,
+            None => false,
+        }
+    }
+
+    // Takes the chain that an aim needs, where it costs less.
     #[inline(never)]
     fn try_aim<P: Steps>(
         &mut self,
@@ -197,9 +220,6 @@ impl Least {
         rounds: &mut Rounds,
         aim: Aim,
     ) -> Result<(), OutOfMemory> {
-        if self.cost == 0 {
-            return Ok(());
-        }
         let needed = slice(
             alloc,
             p,
@@ -208,11 +228,7 @@ impl Least {
             aim,
             rounds.known,
         )?;
-        let mut all = gathered(alloc, p, &mut rounds.now, needed.as_slice(), rounds.known)?;
-        if !shorten(p, self.grade, &mut rounds.now, &mut all, aim, rounds.known) {
-            return Ok(());
-        }
-        let steps = struck_once(alloc, &mut rounds.now, all.as_slice())?;
+        let steps = gathered(alloc, p, &mut rounds.now, needed.as_slice(), rounds.known)?;
         let cost = cost_of(steps.as_slice());
         if cost < self.cost {
             self.cost = cost;

@@ -1,11 +1,12 @@
 //! What an aim needs of a long chain: a slice of it, with the strikes of a reason side by side.
+//! Nothing here ensures anything: `short_chain` follows what comes of it step by step, and tells it only where it is a chain.
 
 use crate::aims::Aim;
 use crate::chain::Step;
 use crate::needs::{Values, left, looked_at, needs_of};
 use crate::replays::{struck, take};
 use arrayvec::ArrayVec;
-use latin_board::OutOfMemory;
+use latin_board::{CELLS, OutOfMemory};
 use named_steps::{KnownRows, Reason, Steps};
 use number_sets::NumberSet;
 use std::alloc::Global;
@@ -161,8 +162,8 @@ fn strikes_by<P: Steps>(
     strikes
 }
 
-/// The chain in which each look has all that its reason is to strike anywhere, as far as it strikes it by then. Some values are
-/// listed twice.
+/// The chain in which each reason strikes, where it first strikes anything, all that it is to strike in any of the steps, as far as it does so
+/// by then; and side by side in reading order. Each value is listed once.
 #[inline(never)]
 pub(crate) fn gathered<P: Steps>(
     alloc: Global,
@@ -173,16 +174,12 @@ pub(crate) fn gathered<P: Steps>(
 ) -> Result<Vec<Step>, OutOfMemory> {
     let mark = candidates.mark();
     let mut found = Vec::new(alloc);
-    for place in 0..steps.len() {
-        if place == 0 || !steps[place].is_same_look(&steps[place - 1]) {
-            gather(
-                p,
-                candidates,
-                steps,
-                &steps[place].reason,
-                &mut found,
-                known,
-            )?;
+    for step in steps {
+        let is_gone = step
+            .values
+            .is_disjoint(left(candidates, step.cell as usize));
+        if !is_gone {
+            gather(p, candidates, steps, &step.reason, &mut found, known)?;
         }
     }
     if mark.len() <= candidates.trail_len() {
@@ -191,7 +188,7 @@ pub(crate) fn gathered<P: Steps>(
     Ok(found)
 }
 
-// All that a reason is to strike in the steps, as far as it strikes it.
+// Lists all that a reason is to strike in the steps, as far as it strikes it by what is left now, and takes it away.
 fn gather<P: Steps>(
     p: &P,
     candidates: &mut Candidates,
@@ -200,22 +197,13 @@ fn gather<P: Steps>(
     found: &mut Vec<Step>,
     known: &mut KnownRows,
 ) -> Result<(), OutOfMemory> {
-    let mut wanted = Values::none();
-    for step in steps {
-        if step.reason == *reason {
-            wanted.add(step.cell as usize, step.values);
-        }
-    }
-    for step in steps {
-        let cell = step.cell as usize;
-        let values = wanted
-            .of(cell)
-            .intersection(struck(p, candidates, reason, cell, known));
-        if step.reason == *reason && !values.is_empty() {
-            wanted.remove(cell, values);
+    let now = struck_now(p, candidates, steps, reason, known);
+    for cell in 0..CELLS {
+        let values = now.of(cell);
+        if !values.is_empty() {
             let step = Step {
                 reason: *reason,
-                cell: step.cell,
+                cell: cell as u8,
                 values,
             };
             take(candidates, &step);
@@ -225,30 +213,24 @@ fn gather<P: Steps>(
     Ok(())
 }
 
-/// The steps with each value where it is first struck alone.
-pub(crate) fn struck_once(
-    alloc: Global,
-    candidates: &mut Candidates,
+// What a reason is to strike in the steps, is left, and is struck by what is left now.
+fn struck_now<P: Steps>(
+    p: &P,
+    candidates: &Candidates,
     steps: &[Step],
-) -> Result<Vec<Step>, OutOfMemory> {
-    let mark = candidates.mark();
-    let mut found = Vec::new(alloc);
+    reason: &Reason,
+    known: &mut KnownRows,
+) -> Values {
+    let mut now = Values::none();
     for step in steps {
-        let values = step
-            .values
-            .intersection(left(candidates, step.cell as usize));
-        if !values.is_empty() {
-            let step = Step {
-                reason: step.reason,
-                cell: step.cell,
-                values,
-            };
-            take(candidates, &step);
-            found.push(step)?;
+        if step.reason == *reason {
+            let cell = step.cell as usize;
+            let values = step
+                .values
+                .intersection(left(candidates, cell))
+                .intersection(struck(p, candidates, reason, cell, known));
+            now.add(cell, values);
         }
     }
-    if mark.len() <= candidates.trail_len() {
-        candidates.give_back(mark);
-    }
-    Ok(found)
+    now
 }

@@ -1,2 +1,5 @@
 pub mod ShortLines
-pub mod LookLemmas
+pub mod JoinedSteps
+pub mod ToldAlike
+pub mod LooksTold
+pub mod Held

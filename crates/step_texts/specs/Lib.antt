@@ -1,4 +1,7 @@
--- How grades are named, lines of text, and which steps are told together.
+-- How grades are named, lines of text, which steps are told together, and what is told of them.
 pub mod Letters
 pub mod Lines
 pub mod Looks
+pub mod Told
+pub mod ToldLaws
+pub mod Laws

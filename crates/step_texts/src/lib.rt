@@ -1,24 +1,33 @@
 //! The sentences of named steps: why each strikes what it strikes, and what a chain of them shows or leaves nothing.
 //!
-//! Steps one after another that have the same reason are one look, and have one sentence. `chain_lines` says a chain, look by look, in
-//! lines of at most 100 characters, and `refutation_lines` one that refutes a board. A square is named by its row and column, both
-//! counted from 1, as r2c3. A line that goes on with a sentence begins with three spaces.
+//! `told_steps` goes over a chain once. Steps one after another that have the same reason and hold at once are one told step, with one
+//! sentence; where a clue strikes, it says how many towers would be seen. `chain_lines` says all of it in lines of at most 100 characters,
+//! and `refutation_lines` what refutes a board. A square is named by its row and column, both counted from 1, as r2c3. A line that goes on
+//! with a sentence begins with three spaces.
 //!
 //! ```
-//! for line in chain_lines(alloc, &puzzle, &grid, &chain)?.iter() {
+//! let told = told_steps(alloc, &puzzle, view_of(&grid), chain.steps.as_slice())?;
+//! for line in chain_lines(alloc, &grid, told.as_slice(), chain.goal)?.iter() {
 //!     output.write_all(line.as_slice())?;
 //! }
 //! ```
 #![tactic(auto)]
 
 mod chain_texts;
+mod clue_sentences;
 mod looks;
 mod names;
 mod sentences;
+mod showing;
 mod step_names;
+mod telling;
+mod told;
+mod told_laws;
 mod writing;
 
-pub use chain_texts::{chain_lines, look_lines, refutation_lines};
-pub use looks::{first_look, strike_all};
+pub use chain_texts::{chain_lines, refutation_lines};
 pub use step_names::StepNames;
+pub use telling::told_steps;
+pub use told::{Strike, ToldStep};
+pub use told_laws::laws;
 pub use writing::{LINE, Line};

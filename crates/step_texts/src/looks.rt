@@ -1,37 +1,110 @@
-//! Looks: steps one after another that have one reason.
-ghost use Rattle.std.specs.Prelude.{◌≡◌, ◌<◌, ◌≤◌, ℕ, ◌*◌, drop, length, take};
-ghost use Rattle.step_texts.specs.Looks.{AllFor, BeginsOtherwise};
+//! Looks: steps one after another that have one reason and hold at once.
+ghost use Rattle.std.specs.Prelude.{◌≡◌, ◌≢◌, ◌↔◌, ◌<◌, ◌≤◌, ℕ, ◌*◌, ◌+◌, ◌^◌, ◌∷◌, true, drop, length, take, IsTrue};
+ghost use Rattle.number_sets.specs.Sets.{has_number};
+ghost use Rattle.trail_solver.specs.Pairs.{IsPair, has_pair};
+ghost use Rattle.trail_solver.specs.Candidates.{may_be};
+ghost use Rattle.named_steps.specs.Left.{AreAlike};
+ghost use Rattle.named_steps.specs.Chains.{left_by};
+ghost use Rattle.named_steps.specs.Inner.Takes.{Takes};
+ghost use Rattle.step_chains.specs.ChainValues.{step_value, steps_of};
+ghost use Rattle.step_texts.specs.Looks.{HoldsAt, IsJoinable, AreJoined, HasNoMore};
 
-use named_steps::Reason;
+use named_steps::{KnownRows, Reason, Steps, strike as take};
+use number_sets::NumberSet;
 use step_chains::Step;
-use trail_solver::Candidates;
+use trail_solver::{Candidates, Rules};
 
-/// How many steps at the head of a list have this reason.
-pub fn first_look(reason: Reason, steps: &[Step]) -> usize
+/// How many of these steps are told together with the one before them: they have its reason, each strikes by what is left before the
+/// first of them numbers that are left there, and their squares are in reading order.
+pub(crate) fn joined_steps<P: Steps>(
+    p: &P,
+    candidates: &Candidates,
+    first: &Step,
+    steps: &[Step],
+    known: &mut KnownRows,
+) -> usize
     ensures within { result ≤ length steps.now }
-    ensures one { AllFor reason (take result steps.now) }
-    ensures ends { BeginsOtherwise reason (drop result steps.now) }
+    ensures room { result + 1 < 2 ^ 64 }
+    ensures joined { AreJoined (P.struck_by p.now) (P.puzzle p.now).size candidates.now first.now (take result steps.now) }
+    ensures ends { HasNoMore (P.struck_by p.now) (P.puzzle p.now).size candidates.now first.now (take result steps.now)
+        (drop result steps.now) }
 {
+    let mut last = first.cell;
     for at in 0..steps.len() {
-        if steps[at].reason != reason {
+        let step = &steps[at];
+        if !is_joinable(p, candidates, first.reason, last, step, known) {
             return at;
         }
+        last = step.cell;
     }
+    let _next = steps.len() + 1;
     steps.len()
 }
 
+// Whether a step can be told with those of a reason before it, the last of which is at a square.
+fn is_joinable<P: Steps>(
+    p: &P,
+    candidates: &Candidates,
+    reason: Reason,
+    after: u8,
+    step: &Step,
+    known: &mut KnownRows,
+) -> bool
+    ensures { IsTrue result ↔ IsJoinable (P.struck_by p.now) (P.puzzle p.now).size candidates.now reason after step.now }
+{
+    if step.reason != reason || step.cell <= after {
+        return false;
+    }
+    holds_at(p, candidates, step, known)
+}
+
+// Whether a step strikes by what is left numbers that are left.
+fn holds_at<P: Steps>(p: &P, candidates: &Candidates, step: &Step, known: &mut KnownRows) -> bool
+    ensures { IsTrue result ↔ HoldsAt (P.struck_by p.now) (P.puzzle p.now).size candidates.now step.now }
+{
+    let values = struck_left(p, candidates, &step.reason, step.cell as usize, known);
+    step.values.is_subset(values)
+}
+
+// What is left of the values that a reason strikes in a square: nothing, where the sizes differ.
+fn struck_left<P: Steps>(
+    p: &P,
+    candidates: &Candidates,
+    reason: &Reason,
+    cell: usize,
+    known: &mut KnownRows,
+) -> NumberSet
+    ensures { (v : ℕ) → (has_number result v ≡ true) ↔ ((candidates.now.size ≡ (P.puzzle p.now).size)
+        × (IsPair candidates.now.size cell v × (may_be candidates.now cell v ≡ true)
+        × P.struck_by p.now candidates.now reason.now cell v)) }
+{
+    let size = candidates.size();
+    let width = size.get() as usize;
+    if p.size() != size || cell >= width * width {
+        return NumberSet::empty();
+    }
+    p.strikes(candidates, *reason, cell, known)
+        .intersection(candidates.values(cell))
+}
+
 /// Takes away what steps strike.
-pub fn strike_all(candidates: &mut Candidates, steps: &[Step]) {
+pub(crate) fn strike_all(candidates: &mut Candidates, steps: &[Step])
+    ensures size { candidates.new.size ≡ candidates.old.size }
+    ensures leaves { AreAlike (left_by candidates.old (steps_of steps.now)) candidates.new }
+{
     for step in steps {
         strike(candidates, step);
     }
 }
 
-fn strike(candidates: &mut Candidates, step: &Step) {
+fn strike(candidates: &mut Candidates, step: &Step)
+    ensures { Takes (λ cell v. has_pair (step_value step.now).strikes cell v ≡ true) candidates.old candidates.new }
+{
     let width = candidates.size().get() as usize;
     let cell = step.cell as usize;
-    if cell < width * width {
-        let values = candidates.values(cell).intersection(step.values);
-        candidates.remove_all(cell, values);
+    let _bits = step.values.bits();
+    if cell >= width * width {
+        return;
     }
+    take(candidates, cell, step.values);
 }

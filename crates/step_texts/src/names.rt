@@ -1,10 +1,10 @@
 //! How squares, lines, clues and lists are named.
 
+use crate::told::Strike;
 use crate::writing::Writing;
 use latin_board::Size;
 use number_sets::NumberSet;
 use std::alloc::AllocError;
-use step_chains::Step;
 
 /// How the last two of a list are joined.
 #[derive(Clone, Copy)]
@@ -118,45 +118,48 @@ pub(crate) fn line_squares(
     Ok(())
 }
 
-/// What steps strike, the squares that lose the same values together.
-pub(crate) fn losses(text: &mut Writing, size: Size, steps: &[Step]) -> Result<(), AllocError> {
-    for at in 0..steps.len() {
-        let values = steps[at].values;
-        if count_of(&steps[..at], values) == 0 {
+/// What is struck, the squares that lose the same values together.
+pub(crate) fn losses(text: &mut Writing, size: Size, strikes: &[Strike]) -> Result<(), AllocError> {
+    for at in 0..strikes.len() {
+        let values = strikes[at].values;
+        if count_of(&strikes[..at], values) == 0 {
             if at > 0 {
                 text.say("; ")?;
             }
-            losers(text, size, steps, values)?;
+            losers(text, size, strikes, values)?;
         }
     }
-    text.say(".")
+    Ok(())
 }
 
 // The squares that lose these values, and that they do.
 fn losers(
     text: &mut Writing,
     size: Size,
-    steps: &[Step],
+    strikes: &[Strike],
     values: NumberSet,
 ) -> Result<(), AllocError> {
-    for at in 0..steps.len() {
-        if steps[at].values == values {
-            square(text, size, steps[at].cell as usize)?;
-            between(text, count_of(&steps[at + 1..], values), Joined::And)?;
+    for at in 0..strikes.len() {
+        if strikes[at].values == values {
+            square(text, size, strikes[at].cell as usize)?;
+            between(text, count_of(&strikes[at + 1..], values), Joined::And)?;
         }
     }
-    let is_one = count_of(steps, values) == 1;
+    let is_one = count_of(strikes, values) == 1;
     text.say(if is_one { " is not " } else { " are not " })?;
     numbers(text, values, Joined::Or)
 }
 
 // In how many squares exactly these values are struck.
-fn count_of(steps: &[Step], values: NumberSet) -> usize {
-    steps.iter().filter(|step| step.values == values).count()
+fn count_of(strikes: &[Strike], values: NumberSet) -> usize {
+    strikes
+        .iter()
+        .filter(|strike| strike.values == values)
+        .count()
 }
 
-// What stands before the last so many of a list.
-fn between(text: &mut Writing, left: usize, joined: Joined) -> Result<(), AllocError> {
+/// What stands before the last so many of a list.
+pub(crate) fn between(text: &mut Writing, left: usize, joined: Joined) -> Result<(), AllocError> {
     match (left, joined) {
         (0, _) => Ok(()),
         (1, Joined::And) => text.say(" and "),

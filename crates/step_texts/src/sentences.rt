@@ -1,65 +1,66 @@
-//! The sentence of a step, and the one of what a chain comes to.
+//! The sentence of a step, and that of what a chain shows or leaves nothing.
 
+use crate::clue_sentences::{EdgeClue, Knowing, say_clue};
 use crate::names::{
-    Joined, edge, first_square, line, line_square, line_squares, losses, numbers, square,
+    Joined, first_square, line, line_square, line_squares, losses, numbers, square,
 };
 use crate::step_names::StepNames;
+use crate::told::Strike;
 use crate::writing::Writing;
 use latin_board::{Grid, Size, line_cell};
 use named_steps::{Goal, Reason};
 use number_sets::NumberSet;
 use std::alloc::AllocError;
-use step_chains::{Step, view_of};
+use step_chains::view_of;
 use trail_solver::Candidates;
 
-/// Why steps of a reason strike, by the candidates before them, and what they strike.
-pub(crate) fn say_look<P: StepNames>(
+/// Why a reason strikes, by the candidates before it, and what it strikes.
+pub(crate) fn say_step<P: StepNames>(
     text: &mut Writing,
     p: &P,
     candidates: &Candidates,
     reason: Reason,
-    look: &[Step],
-) -> Result<(), AllocError> {
-    say_reason(text, p, candidates, reason)?;
-    text.say(": ")?;
-    losses(text, candidates.size(), look)
-}
-
-// Why they strike.
-fn say_reason<P: StepNames>(
-    text: &mut Writing,
-    p: &P,
-    candidates: &Candidates,
-    reason: Reason,
+    strikes: &[Strike],
 ) -> Result<(), AllocError> {
     let size = candidates.size();
     match reason {
         Reason::Given { cell } => {
             first_square(text, size, cell)?;
-            text.say(" is given")
+            text.say(" is given")?;
         }
         Reason::Peer { cell } => {
             first_square(text, size, cell)?;
-            text.say(" is ")?;
-            numbers(text, left_of(candidates, cell), Joined::Or)
+            say_left(text, left_of(candidates, cell))?;
         }
-        Reason::Place { line, index, value } => say_place(text, candidates, line, index, value),
-        Reason::Bound { place } => say_bound(text, p, size, place),
+        Reason::Place { line, index, value } => say_place(text, candidates, line, index, value)?,
+        Reason::Bound { place } => {
+            return say_clue(text, &edge_clue(p, place), Knowing::Alone, strikes);
+        }
         Reason::Stand { place } => {
-            say_clue(text, p, size, place)?;
-            text.say(": with the numbers that stand in that line")
+            return say_clue(text, &edge_clue(p, place), Knowing::Stands, strikes);
         }
         Reason::Clue { place } => {
-            say_clue(text, p, size, place)?;
-            text.say(": with the numbers that are left in that line")
+            return say_clue(text, &edge_clue(p, place), Knowing::Marks, strikes);
         }
-        Reason::Sign { from, to } => say_sign(text, p, candidates, from, to),
+        Reason::Sign { from, to } => say_sign(text, p, candidates, from, to)?,
         Reason::Set {
             line,
             squares,
             values,
-        } => say_set(text, size, line, squares, values),
+        } => say_set(text, size, line, squares, values)?,
     }
+    text.say(": ")?;
+    losses(text, size, strikes)?;
+    text.say(".")
+}
+
+// What is left of a square.
+fn say_left(text: &mut Writing, left: NumberSet) -> Result<(), AllocError> {
+    if left.is_empty() {
+        return text.say(" has no number left");
+    }
+    text.say(" is ")?;
+    numbers(text, left, Joined::Or)
 }
 
 // That a value has one place in a line, or, where it isn't left there either, that it has no other.
@@ -72,20 +73,31 @@ fn say_place(
 ) -> Result<(), AllocError> {
     let size = candidates.size();
     if one(value).is_subset(left_on(candidates, at, index)) {
-        line(text, size, at, "Row ", "Column ")?;
-        text.say(" has its ")?;
-        text.number(value as usize)?;
-        text.say(" in ")?;
-        line_square(text, size, at, index)
+        text.say("In ")?;
+        line(text, size, at, "row ", "column ")?;
+        text.say(" only ")?;
+        line_square(text, size, at, index)?;
+        say_can_be(text, value)
     } else {
-        text.say("No other square of ")?;
-        say_can_be(text, size, at, value)
+        say_no_other(text, "No", size, at, value)
     }
 }
 
-// A line, and that its squares, which are named before, can have a value.
-fn say_can_be(text: &mut Writing, size: Size, at: usize, value: u8) -> Result<(), AllocError> {
+// That no other square of a line than the one that is spoken of can have a value, after this word.
+fn say_no_other(
+    text: &mut Writing,
+    no: &str,
+    size: Size,
+    at: usize,
+    value: u8,
+) -> Result<(), AllocError> {
+    text.say(no)?;
+    text.say(" other square of ")?;
     line(text, size, at, "row ", "column ")?;
+    say_can_be(text, value)
+}
+
+fn say_can_be(text: &mut Writing, value: u8) -> Result<(), AllocError> {
     text.say(" can be ")?;
     text.number(value as usize)
 }
@@ -98,42 +110,21 @@ fn say_set(
     squares: NumberSet,
     values: NumberSet,
 ) -> Result<(), AllocError> {
-    line(text, size, at, "Row ", "Column ")?;
-    text.say(": ")?;
+    text.say("In ")?;
+    line(text, size, at, "row ", "column ")?;
+    text.say(" ")?;
     line_squares(text, size, at, squares)?;
-    text.say(" take ")?;
-    numbers(text, values, Joined::And)?;
-    text.say(" among them")
-}
-
-// A clue and where it stands.
-fn say_clue<P: StepNames>(
-    text: &mut Writing,
-    p: &P,
-    size: Size,
-    place: usize,
-) -> Result<(), AllocError> {
-    text.say("Clue ")?;
-    text.number(clue_at(p, place) as usize)?;
-    edge(text, size, place)
-}
-
-// What a clue says by itself.
-fn say_bound<P: StepNames>(
-    text: &mut Writing,
-    p: &P,
-    size: Size,
-    place: usize,
-) -> Result<(), AllocError> {
-    say_clue(text, p, size, place)?;
-    let clue = clue_at(p, place);
-    if clue == 1 {
-        text.say(": the nearest tower is the tallest")
-    } else if clue == size.get() {
-        text.say(": all towers are seen, so they rise")
+    text.say(if squares.is_single() {
+        " takes "
     } else {
-        text.say(", by itself")
-    }
+        " take "
+    })?;
+    numbers(text, values, Joined::And)?;
+    text.say(if squares.is_single() {
+        ""
+    } else {
+        " among them"
+    })
 }
 
 // What a sign says by what is left of one of its ends.
@@ -197,8 +188,7 @@ pub(crate) fn say_goal(text: &mut Writing, grid: &Grid, goal: Goal) -> Result<()
         } => {
             line_square(text, size, at, index)?;
             say_is(text, value)?;
-            text.say("no other square of ")?;
-            say_can_be(text, size, at, value)?;
+            say_no_other(text, "no", size, at, value)?;
             text.say(".")
         }
     }
@@ -245,7 +235,7 @@ fn say_gone(
         text.say(" in its row or column")?;
     }
     if !struck.is_empty() {
-        text.say(if stood.is_empty() { "" } else { ", " })?;
+        text.say(if stood.is_empty() { "" } else { ", and " })?;
         numbers(text, struck, Joined::And)?;
         text.say(if struck.is_single() { " is" } else { " are" })?;
         text.say(" ruled out above")?;
@@ -290,12 +280,14 @@ fn is_filled(grid: &Grid, cell: usize) -> bool {
 }
 
 // The clue at a place of the edge; 0 of any other.
-fn clue_at<P: StepNames>(p: &P, place: usize) -> u8 {
-    if place < 4 * p.size().get() as usize {
+fn edge_clue<P: StepNames>(p: &P, place: usize) -> EdgeClue {
+    let size = p.size();
+    let clue = if place < 4 * size.get() as usize {
         p.edge_clue(place as u8)
     } else {
         0
-    }
+    };
+    EdgeClue { size, place, clue }
 }
 
 // Whether a sign says that the first of two squares has the greater number; not so of squares that the grid doesn't have.

@@ -1,6 +1,10 @@
 //! What a game adds for its steps to be told.
 ghost use Rattle.std.specs.Prelude.{◌≡◌, ◌*◌, ◌<◌, ℕ, Bool, List};
+ghost use Rattle.trail_solver.specs.Candidates.{CandidatesValue};
 ghost use Rattle.named_steps.specs.declared.grade.Grade.{Grade};
+ghost use Rattle.named_steps.specs.declared.reason.Reason.{Reason};
+ghost use Rattle.shown_counts.specs.Shown.{IsShownBy};
+ghost use Rattle.step_texts.specs.Told.{clue_at, IsInView};
 
 use clue_rules::{Towers, Unequal};
 use named_steps::{Grade, Steps};
@@ -29,18 +33,32 @@ pub trait StepNames: Steps {
         requires first { first < (Self.Rules.puzzle self.now).size * (Self.Rules.puzzle self.now).size }
         requires second { second < (Self.Rules.puzzle self.now).size * (Self.Rules.puzzle self.now).size }
         ensures { result ≡ says_greater_of self.now first second };
+
+    // What a clue strikes is told by the counts: the clue is in none of those with a number that it strikes.
+    ghost struck_unshown: { (p : Self) (c : CandidatesValue) (reason : Reason) (cell value : ℕ) → c.size ≡ (Self.Rules.puzzle p).size
+        → Self.struck_by p c reason cell value → IsShownBy c reason cell value (clue_at (edge_clue_of p) reason) → ⊥ };
+
+    // And a clue strikes each number of its squares of which it isn't among the counts.
+    ghost unshown_struck: { (p : Self) (c : CandidatesValue) (reason : Reason) (cell value : ℕ) → c.size ≡ (Self.Rules.puzzle p).size
+        → 0 < clue_at (edge_clue_of p) reason → IsInView (Self.Rules.puzzle p).size reason cell
+        → (IsShownBy c reason cell value (clue_at (edge_clue_of p) reason) → ⊥) → Self.struck_by p c reason cell value };
 }
 
 impl StepNames for Towers {
     ghost use Rattle.std.specs.Prelude.{false};
     ghost use Rattle.clue_rules.specs.Towers.{clue_of};
     ghost use Rattle.step_texts.specs.Letters.{towers_letter};
+    ghost use Rattle.step_texts.specs.Laws.ToldByCounts as laws;
 
     ghost grade_letter = { towers_letter };
 
     ghost edge_clue_of = { clue_of };
 
     ghost says_greater_of = { λ _ _ _. false };
+
+    ghost struck_unshown = { laws.towers_unshown };
+
+    ghost unshown_struck = { laws.towers_told };
 
     fn letter(grade: Grade) -> &'static str {
         match grade {
@@ -63,12 +81,17 @@ impl StepNames for Unequal {
     ghost use Rattle.std.specs.Prelude.{zero};
     ghost use Rattle.clue_rules.specs.Unequal.{is_greater};
     ghost use Rattle.step_texts.specs.Letters.{unequal_letter};
+    ghost use Rattle.step_texts.specs.Laws.ToldByCounts as laws;
 
     ghost grade_letter = { unequal_letter };
 
     ghost edge_clue_of = { λ _ _. zero };
 
     ghost says_greater_of = { is_greater };
+
+    ghost struck_unshown = { laws.unequal_unshown };
+
+    ghost unshown_struck = { laws.unequal_told };
 
     fn letter(grade: Grade) -> &'static str {
         match grade {

@@ -42,6 +42,17 @@ impl Writing {
         Ok(())
     }
 
+    /// Goes on with a sentence that was cut into lines before.
+    pub(crate) fn say_lines(&mut self, lines: &[Line]) -> Result<(), AllocError> {
+        for line in lines {
+            for byte in line.as_slice() {
+                self.byte(*byte)?;
+            }
+            self.end_word()?;
+        }
+        Ok(())
+    }
+
     /// Goes on with a number in decimal.
     pub(crate) fn number(&mut self, n: usize) -> Result<(), AllocError> {
         if n >= 10 {
@@ -74,8 +85,11 @@ impl Writing {
         Ok(())
     }
 
-    // Puts the word into the line, or into the next one where there is no room.
+    // Puts the word into the line, or into the next one where there is no room; nothing where there is no word.
     fn end_word(&mut self) -> Result<(), AllocError> {
+        if self.word.is_empty() {
+            return Ok(());
+        }
         if self.line.len() + 1 + self.word.len() > LINE {
             self.end_line()?;
             self.put(b"  ");

@@ -2,10 +2,11 @@
 
 use super::rows::{Row, check};
 use super::worked::{Described, grid_of, is_square, puzzle};
-use board_checks::{Deduces, Hint, find_hint};
 use clue_rules::{Game, Towers, Unequal};
 use latin_board::Grid;
+use named_steps::Steps;
 use std::alloc::Global;
+use step_chains::{NextHint, next_hint};
 use trail_solver::{Answer, completion, grid_candidates};
 
 // The two squares that begin with 1, 2, 3.
@@ -97,28 +98,57 @@ fn candidates_of_a_board(rt: HostRuntime) {
     assert!(rt; only == (Some(2), Some(3), None) && candidates.values(0).len() == 3);
 }
 
-// A puzzle, a board as digits, and the hint.
-struct Hinted(Described, &'static str, Hint);
+// What a hint says.
+#[derive(Clone, Copy, PartialEq, Eq)]
+enum Said {
+    Number(usize, u8),
+    Nothing,
+    Contradiction,
+}
 
-fn is_hinted<P: Game + Deduces>(text: &str, digits: &str, hint: Hint) -> bool {
+// What is said of a grid of the puzzle's size, if memory is there for it.
+fn hint_of<P: Game + Steps>(alloc: Global, p: &P, grid: &Grid) -> Option<Said> {
+    let size = p.size();
+    if grid.size() != size {
+        return None;
+    }
+    match next_hint(alloc, p, grid) {
+        Ok(NextHint::Follows { grade: _, chain }) if chain.goal.is_of(size) => {
+            Some(Said::Number(chain.goal.cell(size), chain.goal.value()))
+        }
+        Ok(NextHint::Nothing) => Some(Said::Nothing),
+        Ok(
+            NextHint::Refuted {
+                grade: _,
+                refutation: _,
+            },
+        ) => Some(Said::Contradiction),
+        _ => None,
+    }
+}
+
+// A puzzle, a board as digits, and what the hint says.
+struct Hinted(Described, &'static str, Said);
+
+fn is_hinted<P: Game + Steps>(alloc: Global, text: &str, digits: &str, hint: Said) -> bool {
     match (puzzle::<P>(3, text), grid_of(3, digits)) {
-        (Ok(p), Some(grid)) if grid.size().get() == p.size().get() => find_hint(&p, &grid) == hint,
+        (Ok(p), Some(grid)) => hint_of(alloc, &p, &grid) == Some(hint),
         _ => false,
     }
 }
 
 impl Row for Hinted {
-    fn holds(&self, _alloc: Global) -> bool {
+    fn holds(&self, alloc: Global) -> bool {
         match self.0 {
-            Described::Towers(text) => is_hinted::<Towers>(text, self.1, self.2),
-            Described::Unequal(text) => is_hinted::<Unequal>(text, self.1, self.2),
+            Described::Towers(text) => is_hinted::<Towers>(alloc, text, self.1, self.2),
+            Described::Unequal(text) => is_hinted::<Unequal>(alloc, text, self.1, self.2),
         }
     }
 }
 
-const THIRD: Hint = Hint::Follows { cell: 2, value: 3 };
+const THIRD: Said = Said::Number(2, 3);
 
-const MIDDLE: Hint = Hint::Follows { cell: 4, value: 2 };
+const MIDDLE: Said = Said::Number(4, 2);
 
 #[test]
 fn hints_follow_from_boards(rt: HostRuntime) {
@@ -132,23 +162,22 @@ fn hints_follow_from_boards(rt: HostRuntime) {
         Hinted(NO_CLUES, "132301213", MIDDLE),
         Hinted(NO_SIGNS, "132301213", MIDDLE),
         // Two squares go on from here, and each empty one differs.
-        Hinted(NO_CLUES, "123000000", Hint::Nothing),
-        Hinted(NO_SIGNS, "123000000", Hint::Nothing),
-        Hinted(NO_CLUES, "000000000", Hint::Nothing),
-        Hinted(NO_SIGNS, "000000000", Hint::Nothing),
+        Hinted(NO_CLUES, "123000000", Said::Nothing),
+        Hinted(NO_SIGNS, "123000000", Said::Nothing),
+        Hinted(NO_CLUES, "000000000", Said::Nothing),
+        Hinted(NO_SIGNS, "000000000", Said::Nothing),
         // A full square leaves nothing to say, and a full board that is none is wrong.
-        Hinted(NO_CLUES, RISING, Hint::Nothing),
-        Hinted(NO_SIGNS, RISING, Hint::Nothing),
-        Hinted(NO_CLUES, "123231321", Hint::Contradiction),
-        Hinted(NO_SIGNS, "123231321", Hint::Contradiction),
+        Hinted(NO_CLUES, RISING, Said::Nothing),
+        Hinted(NO_SIGNS, RISING, Said::Nothing),
+        Hinted(NO_CLUES, "123231321", Said::Contradiction),
+        Hinted(NO_SIGNS, "123231321", Said::Contradiction),
         // A number twice in a row, and a square that no number fits.
-        Hinted(NO_CLUES, "110000000", Hint::Contradiction),
-        Hinted(NO_SIGNS, "110000000", Hint::Contradiction),
-        Hinted(NO_CLUES, "120003000", Hint::Contradiction),
-        Hinted(NO_SIGNS, "120003000", Hint::Contradiction),
-        // The given that doesn't stand on the board is the first to follow.
-        Hinted(GIVEN, "000000000", Hint::Follows { cell: 0, value: 1 }),
-        Hinted(GIVEN, "100000000", Hint::Follows { cell: 4, value: 3 }),
+        Hinted(NO_CLUES, "110000000", Said::Contradiction),
+        Hinted(NO_SIGNS, "110000000", Said::Contradiction),
+        Hinted(NO_CLUES, "120003000", Said::Contradiction),
+        Hinted(NO_SIGNS, "120003000", Said::Contradiction),
+        // The given that doesn't stand on the board follows.
+        Hinted(GIVEN, "023231312", Said::Number(0, 1)),
     ];
     check(&rt, rt.alloc(), ROWS);
 }
@@ -157,7 +186,7 @@ fn hints_follow_from_boards(rt: HostRuntime) {
 #[derive(Clone, Copy)]
 struct Led(Described);
 
-fn leads_to_the_solution<P: Game + Deduces>(text: &str) -> bool {
+fn leads_to_the_solution<P: Game + Steps>(alloc: Global, text: &str) -> bool {
     let (Ok(p), Some(mut grid), Some(rising)) = (
         puzzle::<P>(3, text),
         grid_of(3, ""),
@@ -166,10 +195,10 @@ fn leads_to_the_solution<P: Game + Deduces>(text: &str) -> bool {
         return false;
     };
     for _ in 0..9 {
-        if grid.size().get() != 3 || p.size().get() != 3 || rising.size().get() != 3 {
+        if grid.size().get() != 3 || rising.size().get() != 3 {
             return false;
         }
-        if let Hint::Follows { cell, value } = find_hint(&p, &grid) {
+        if let Some(Said::Number(cell, value)) = hint_of(alloc, &p, &grid) {
             if cell >= 9 || value > 3 || value != rising.get(cell) {
                 return false;
             }
@@ -180,10 +209,10 @@ fn leads_to_the_solution<P: Game + Deduces>(text: &str) -> bool {
 }
 
 impl Row for Led {
-    fn holds(&self, _alloc: Global) -> bool {
+    fn holds(&self, alloc: Global) -> bool {
         match self.0 {
-            Described::Towers(text) => leads_to_the_solution::<Towers>(text),
-            Described::Unequal(text) => leads_to_the_solution::<Unequal>(text),
+            Described::Towers(text) => leads_to_the_solution::<Towers>(alloc, text),
+            Described::Unequal(text) => leads_to_the_solution::<Unequal>(alloc, text),
         }
     }
 }

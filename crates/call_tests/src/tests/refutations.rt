@@ -7,10 +7,8 @@ use latin_board::Grid;
 use named_steps::{Grade, Reason, Steps};
 use number_sets::NumberSet;
 use std::alloc::{AllocError, Global};
-use step_chains::{
-    Explained, Refutation, Step, explain, explain_number, explains, is_refuted, refutes,
-};
-use step_texts::{StepNames, refutation_lines};
+use step_chains::{NextHint, Refutation, Step, explains, next_hint, refutes, view_of};
+use step_texts::{StepNames, refutation_lines, told_steps};
 use trail_solver::Rules;
 
 // A puzzle of width 3 without items and a board, the square of which one number is left, the square that is left nothing by that, and
@@ -34,32 +32,36 @@ fn refutation_of(alloc: Global, row: &Refuted, with_step: bool) -> Result<Refuta
     })
 }
 
-// Whether the chain that is told is one.
+// Whether the chain of the next hint is one, and of rows and columns alone.
 fn is_told<P: Steps>(alloc: Global, p: &P, grid: &Grid) -> bool {
     if p.size() != grid.size() {
         return false;
     }
-    match explain(alloc, p, grid, Grade::Latin) {
-        Ok(Explained::Contradiction(found)) => refutes(p, grid, Grade::Latin, &found),
-        Ok(Explained::Follows(found)) => explains(p, grid, Grade::Latin, &found),
+    match next_hint(alloc, p, grid) {
+        Ok(NextHint::Refuted { grade, refutation }) => {
+            grade == Grade::Latin && refutes(p, grid, grade, &refutation)
+        }
+        Ok(NextHint::Follows { grade, chain }) => {
+            grade == Grade::Latin && explains(p, grid, grade, &chain)
+        }
         _ => false,
     }
 }
 
-// The same of a number, where none of the grid's is asked for.
-fn is_shown<P: Steps>(alloc: Global, p: &P, grid: &Grid) -> bool {
+// Whether nothing follows, and nothing contradicts.
+fn is_nothing<P: Steps>(alloc: Global, p: &P, grid: &Grid) -> bool {
     if p.size() != grid.size() {
         return false;
     }
-    match explain_number(alloc, p, grid, Grade::Latin) {
-        Ok(Some(found)) => explains(p, grid, Grade::Latin, &found),
+    match next_hint(alloc, p, grid) {
+        Ok(NextHint::Nothing) => true,
         _ => false,
     }
 }
 
 fn follows<P: Game + Steps>(alloc: Global, text: &str, grid: &Grid) -> bool {
     match puzzle::<P>(3, text) {
-        Ok(p) => is_told(alloc, &p, grid) && is_shown(alloc, &p, grid),
+        Ok(p) => is_told(alloc, &p, grid),
         Err(_) => false,
     }
 }
@@ -74,9 +76,7 @@ fn is_judged<P: Steps>(alloc: Global, p: &P, grid: &Grid, row: &Refuted) -> bool
         refutation_of(alloc, row, false),
     ) {
         (Ok(with), Ok(without)) => {
-            is_refuted(p, grid, Grade::Latin)
-                && refutes(p, grid, Grade::Latin, &with)
-                && !refutes(p, grid, Grade::Latin, &without)
+            refutes(p, grid, Grade::Latin, &with) && !refutes(p, grid, Grade::Latin, &without)
         }
         _ => false,
     }
@@ -86,7 +86,11 @@ fn is_said<P: StepNames>(alloc: Global, p: &P, grid: &Grid, row: &Refuted) -> bo
     let Ok(refutation) = refutation_of(alloc, row, true) else {
         return false;
     };
-    match refutation_lines(alloc, p, grid, &refutation) {
+    let steps = refutation.steps.as_slice();
+    let Ok(told) = told_steps(alloc, p, view_of(grid), steps) else {
+        return false;
+    };
+    match refutation_lines(alloc, grid, told.as_slice(), refutation.cell) {
         Ok(told) => {
             told.len() == row.4.len()
                 && (0..row.4.len()).all(|at| told[at].as_slice() == row.4[at].as_bytes())
@@ -101,7 +105,7 @@ fn is_refuted_so<P: Game + StepNames>(alloc: Global, text: &str, row: &Refuted) 
             is_judged(alloc, &p, &grid, row)
                 && is_told(alloc, &p, &grid)
                 && is_said(alloc, &p, &grid, row)
-                && !is_refuted(&p, &blank, Grade::Hard)
+                && is_nothing(alloc, &p, &blank)
         }
         _ => false,
     }

@@ -7,8 +7,8 @@ use latin_board::Grid;
 use named_steps::{Goal, Reason};
 use number_sets::NumberSet;
 use std::alloc::{AllocError, Global};
-use step_chains::{Chain, Step};
-use step_texts::{Line, StepNames, chain_lines};
+use step_chains::{Chain, Step, view_of};
+use step_texts::{Line, StepNames, chain_lines, told_steps};
 
 // Why, and what it strikes: squares with the numbers that they lose, as digits.
 struct Worked(Why, &'static [(u8, &'static str)]);
@@ -81,7 +81,8 @@ fn said_lines<P: Game + StepNames>(
     said: &Said,
 ) -> Result<bool, AllocError> {
     let chain = chain_of(alloc, said.3, said.4)?;
-    let lines = chain_lines(alloc, p, grid, &chain)?;
+    let told = told_steps(alloc, p, view_of(grid), chain.steps.as_slice())?;
+    let lines = chain_lines(alloc, grid, told.as_slice(), chain.goal)?;
     Ok(are_lines(lines.as_slice(), said.5))
 }
 
@@ -111,7 +112,7 @@ fn chains_are_said(rt: HostRuntime) {
             &[Worked(Why::Bound(2), &[(2, "1234")])],
             Goal::OnlyValue { cell: 2, value: 5 },
             &[
-                "1. Clue 1 above column 3: the nearest tower is the tallest: r1c3 is not 1, 2, 3 or 4.",
+                "1. Clue 1 above column 3: the nearest tower is the tallest, so r1c3 is not 1, 2, 3 or 4.",
                 "So r1c3 is 5: 1, 2, 3 and 4 are ruled out above.",
             ],
         ),
@@ -132,11 +133,12 @@ fn chains_are_said(rt: HostRuntime) {
                 value: 5,
             },
             &[
-                "1. Clue 3 above column 6, by itself: r1c6 is not 5.",
-                "2. Clue 4 right of row 1, by itself: r1c6 is not 4.",
-                "3. Clue 3 right of row 3, by itself: r3c6 is not 5.",
-                "4. Clue 4 right of row 6, by itself: r6c6 is not 4 or 5.",
-                "5. Clue 3 above column 6: with the numbers that are left in that line: r4c6 is not 5.",
+                "1. Clue 3 above column 6, by itself: with a 5 in r1c6 fewer than 3 towers would be seen.",
+                "2. Clue 4 right of row 1, by itself: with a 4 in r1c6 fewer than 4 towers would be seen.",
+                "3. Clue 3 right of row 3, by itself: with a 5 in r3c6 fewer than 3 towers would be seen.",
+                "4. Clue 4 right of row 6, by itself: with 4 or 5 in r6c6 fewer than 4 towers would be seen.",
+                "5. Clue 3 above column 6 and what is left there: with a 5 in r4c6 it would be 2, 4 or 5 towers,",
+                "   never 3.",
                 "So r2c6 is 5: no other square of column 6 can be 5.",
             ],
         ),
@@ -161,8 +163,8 @@ fn chains_are_said(rt: HostRuntime) {
                 "3. R3c4 is less than r3c5, which is at most 5: r3c4 is not 5 or 6.",
                 "4. R3c4 is greater than r4c4: r3c4 is not 1.",
                 "5. R4c4 is less than r3c4, which is at most 3: r4c4 is not 5 or 6.",
-                "6. Column 4: r2c4 and r3c4 take 2 and 3 among them: r4c4 is not 2.",
-                "So r4c4 is 1: 3 and 4 stand in its row or column, 2, 5 and 6 are ruled out above.",
+                "6. In column 4 r2c4 and r3c4 take 2 and 3 among them: r4c4 is not 2.",
+                "So r4c4 is 1: 3 and 4 stand in its row or column, and 2, 5 and 6 are ruled out above.",
             ],
         ),
     ];

@@ -137,8 +137,8 @@ fn words_that_ask_for_help(rt: HostRuntime) {
     const ROWS: &[Told] = &[
         Told(PUZZLES, HELP, 2, "HelpAsked", 0, "Usage: puzzles"),
         Told(PUZZLES, SHORT, 2, "HelpAsked", 0, "Usage: puzzles"),
-        Told(PUZZLES, VERSION, 2, "HelpAsked", 0, "puzzles 2.0"),
-        Told(PUZZLES, V, 2, "HelpAsked", 0, "puzzles 2.0"),
+        Told(PUZZLES, VERSION, 2, "HelpAsked", 0, "puzzles 3.0"),
+        Told(PUZZLES, V, 2, "HelpAsked", 0, "puzzles 3.0"),
         Told(DOTS, DOTS_HELP, 2, "HelpAsked", 0, "Usage: dots"),
         Told(
             DOTS,
@@ -149,7 +149,7 @@ fn words_that_ask_for_help(rt: HostRuntime) {
             "Towers and Unequal in dots",
         ),
         Told(DOTS, DOTS_HELP, 2, "HelpAsked", 0, "Each reply is a dot."),
-        Told(DOTS, DOTS_VERSION, 2, "HelpAsked", 0, "dots 2.0"),
+        Told(DOTS, DOTS_VERSION, 2, "HelpAsked", 0, "dots 3.0"),
     ];
     check(&rt, rt.alloc(), ROWS);
 }

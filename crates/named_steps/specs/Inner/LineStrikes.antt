@@ -59,36 +59,14 @@ pub record IsUnionOf (sets : List ℕ) (squares union : ℕ) : Type 0 where
   pub all : (k v : ℕ) → has_number squares k ≡ true → has_number (slice_index sets k) v ≡ true → has_number union v ≡ true
   pub only : (v : ℕ) → has_number union v ≡ true → (k : ℕ) × (has_number squares k ≡ true) × (has_number (slice_index sets k) v ≡ true)
 
--- the set at a place below the width has several numbers, and this one
-abbrev pub IsOfSeveral : ℕ → List ℕ → ℕ → ℕ → Type 0
-IsOfSeveral w sets k v = (k < w) × (1 < count_ones (slice_index sets k)) × (has_number (slice_index sets k) v ≡ true)
-
--- two sets with several numbers have this one
-abbrev pub IsOfTwo : ℕ → List ℕ → ℕ → Type 0
-IsOfTwo w sets v = (j k : ℕ) × (j < k) × IsOfSeveral w sets j v × IsOfSeveral w sets k v
-
--- the places are of a group: each of their sets has several numbers, all together have as many as they are, and another set has one of these
-pub record IsGroupOfSets (w : ℕ) (sets : List ℕ) (group : ℕ) : Type 0 where
-  pub several : (k : ℕ) → has_number group k ≡ true → (k < w) × (1 < count_ones (slice_index sets k))
-  pub union : ℕ
-  pub is : IsUnionOf sets group union
-  pub same : count_ones union ≡ count_ones group
-  pub index : ℕ
-  pub index_is : index < w
-  pub outside : has_number group index ≡ false
-  pub value : ℕ
-  pub one : has_number union value ≡ true
-  pub struck : has_number (slice_index sets index) value ≡ true
-
--- the group has the squares, and beside them some of the further ones; its sets have as many numbers together as it has squares, and
--- one of these is among some others, or in the set of a further square that it lacks
-pub record IsGroupAmong (sets : List ℕ) (further squares others group : ℕ) : Type 0 where
+-- the places have these squares, and beside them some of the further ones; their sets have as many numbers together as they are
+pub record IsGroupAmong (sets : List ℕ) (further squares group union : ℕ) : Type 0 where
   pub has : IsSubset squares group
   pub within : (k : ℕ) → has_number group k ≡ true → (has_number squares k ≡ true) ⊎ (has_number further k ≡ true)
-  pub union : ℕ
   pub is : IsUnionOf sets group union
   pub same : count_ones union ≡ count_ones group
-  pub value : ℕ
-  pub one : has_number union value ≡ true
-  pub struck : (has_number others value ≡ true)
-      ⊎ ((k : ℕ) × (has_number further k ≡ true) × (has_number group k ≡ false) × (has_number (slice_index sets k) value ≡ true))
+
+-- such a group has the value, and not the place
+abbrev pub IsStruckAmong : List ℕ → ℕ → ℕ → ℕ → ℕ → Type 0
+IsStruckAmong sets further squares k v =
+    (group : ℕ) × (union : ℕ) × IsGroupAmong sets further squares group union × (has_number group k ≡ false) × (has_number union v ≡ true)

@@ -1,5 +1,5 @@
 -- Rows and columns that wait to be looked at, since something went of one of their squares.
-use Rattle.std.specs.Prelude.{◌≡◌, ◌≢◌, ℕ, ◌-◌, ◌*◌, ◌/◌, ◌%◌, ◌<◌, ◌≤◌, ◌==◌, Bool, true, false, nat_lt, if◌then◌else◌, length}
+use Rattle.std.specs.Prelude.{◌≡◌, ◌≢◌, ℕ, ◌-◌, ◌*◌, ◌<◌, ◌≤◌, Bool, true, false, nat_lt, if◌then◌else◌, length}
 use Rattle.number_sets.specs.Sets.{has_number, IsEmpty}
 use Rattle.latin_board.specs.Lines.{line_cell}
 use Rattle.trail_solver.specs.Candidates.{CandidatesValue}
@@ -16,10 +16,6 @@ pub record IsNextWaiting (w : ℕ) (waiting : Waiting) (from line : ℕ) : Type 
   pub inside : line < 2 * w
   pub waits : is_waiting waiting line ≡ true
   pub first : (l : ℕ) → from ≤ l → l < line → is_waiting waiting l ≡ false
-
--- the line is the square's row or column
-abbrev pub is_through : ℕ → ℕ → ℕ → Bool
-is_through w cell line = if nat_lt line w then (line == cell / w) else (line - w == cell % w)
 
 -- the other line crosses the line at one of the places
 abbrev pub is_crossing : ℕ → ℕ → ℕ → ℕ → Bool

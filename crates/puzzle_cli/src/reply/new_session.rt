@@ -33,8 +33,13 @@ fn read_game<P: Game>(id: &[u8]) -> Result<(Params, P), StartFault>
     }
 }
 
-// A session at the start of a puzzle of the size of these parameters. Nothing but memory refuses it.
-fn begin_game<P: Game>(alloc: Global, params: Params, puzzle: P) -> Result<Session<P>, StartFault>
+/// A session at the start of a puzzle of the size of these parameters: the one that the line `new` with the puzzle's written form begins.
+/// Nothing but memory refuses it.
+pub fn begin_game<P: Game>(
+    alloc: Global,
+    params: Params,
+    puzzle: P,
+) -> Result<Session<P>, StartFault>
     requires { params.size ≡ (P.puzzle puzzle).size }
     ensures ok { IfOk result (λ session. session ≡ new_game params puzzle) }
     ensures why { IfErr result (λ fault. fault ≡ StartFault.OutOfMemory) }

@@ -135,7 +135,7 @@ fn bare_command<'a>(alloc: Global, texts: &ProgramTexts) -> Result<Command<'a>, 
     Ok(
         Command::new(alloc, texts.name)
             .bin_name(texts.name)?
-            .version("2.0")
+            .version("3.0")
             .about(texts.about)
             .after_help(texts.more_help),
     )

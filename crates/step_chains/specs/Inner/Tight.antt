@@ -1,13 +1,76 @@
--- Chains of which none of the last steps can be left out.
-use Rattle.std.specs.Prelude.{◌≡◌, ℕ, ◌≤◌, List, ◌∷◌, ◌++◌, length}
+-- Chains of which none of the last steps, or of their numbers, can be left out.
+use Rattle.std.specs.Prelude.{◌≡◌, ◌≢◌, ◌↔◌, ℕ, ◌+◌, ◌<◌, ◌≤◌, true, List, ◌∷◌, ◌++◌, length}
+use Rattle.number_sets.specs.Sets.{has_number}
+use Rattle.trail_solver.specs.Pairs.{has_pair}
 use Rattle.trail_solver.specs.Candidates.{CandidatesValue}
 use Rattle.named_steps.specs.Chains.{StepValue, Shows}
 use Rattle.named_steps.specs.declared.reason.Reason.{Reason}
 use Rattle.named_steps.specs.declared.grade.Grade.{Grade}
 use Rattle.named_steps.specs.declared.goal.Goal.{Goal}
+use Rattle.step_chains.specs.declared.chain.Step.{Step}
+use Rattle.step_chains.specs.ChainValues.{StrikesLess, step_value, steps_of}
 
 -- no step from a place on can be left out
-abbrev pub IsTightFrom : ℕ → (CandidatesValue → Reason → ℕ → ℕ → Type 0) → Grade → CandidatesValue → List StepValue → Goal → Type 0
+abbrev pub IsTightFrom :
+    ℕ → (CandidatesValue → Reason → ℕ → ℕ → Type 0) → Grade → CandidatesValue → List StepValue → Goal → Type 0
 IsTightFrom place Struck grade c steps goal =
     (front back : List StepValue) (step : StepValue) → steps ≡ front ++ step ∷ back → place ≤ length front
     → Shows Struck grade c (front ++ back) goal → ⊥
+
+-- from a place on no step can strike less
+abbrev pub IsNeededFrom :
+    ℕ → (CandidatesValue → Reason → ℕ → ℕ → Type 0) → Grade → CandidatesValue → List StepValue → Goal → Type 0
+IsNeededFrom place Struck grade c steps goal =
+    (front back : List StepValue) (step less : StepValue) (cell v : ℕ) → steps ≡ front ++ step ∷ back
+    → place ≤ length front → StrikesLess cell v less step → Shows Struck grade c (front ++ less ∷ back) goal → ⊥
+
+-- the step at a place can't do without a value below this one
+abbrev pub IsNeededBelow :
+    ℕ → ℕ → (CandidatesValue → Reason → ℕ → ℕ → Type 0) → Grade → CandidatesValue → List StepValue → Goal → Type 0
+IsNeededBelow value place Struck grade c steps goal =
+    (front back : List StepValue) (step less : StepValue) (cell v : ℕ) → steps ≡ front ++ step ∷ back
+    → length front ≡ place → StrikesLess cell v less step → v < value → Shows Struck grade c (front ++ less ∷ back) goal → ⊥
+
+-- it can't strike less
+abbrev pub IsNeededAt :
+    ℕ → (CandidatesValue → Reason → ℕ → ℕ → Type 0) → Grade → CandidatesValue → List StepValue → Goal → Type 0
+IsNeededAt place Struck grade c steps goal =
+    (front back : List StepValue) (step less : StepValue) (cell v : ℕ) → steps ≡ front ++ step ∷ back
+    → length front ≡ place → StrikesLess cell v less step → Shows Struck grade c (front ++ less ∷ back) goal → ⊥
+
+-- the second step has all values of the first but this one
+pub record Lacks (value : ℕ) (step less : Step) : Type 0 where
+  pub reason : less.reason ≡ step.reason
+  pub cell : less.cell ≡ step.cell
+  pub values : (n : ℕ) → (has_number less.values n ≡ true) ↔ ((has_number step.values n ≡ true) × (n ≢ value))
+
+-- the step at a place strikes no more than before, and can't do without the value; all others are as they were
+pub record IsLeftOut (Struck : CandidatesValue → Reason → ℕ → ℕ → Type 0) (grade : Grade)
+    (c : CandidatesValue) (place value : ℕ) (old new : List Step) (goal : Goal) : Type 0 where
+  pub front : List Step
+  pub back : List Step
+  pub was : Step
+  pub now : Step
+  pub at : length front ≡ place
+  pub old_is : old ≡ front ++ was ∷ back
+  pub new_is : new ≡ front ++ now ∷ back
+  pub reason : now.reason ≡ was.reason
+  pub among : (cell v : ℕ) → has_pair (step_value now).strikes cell v ≡ true
+      → has_pair (step_value was).strikes cell v ≡ true
+  pub needed : (less : StepValue) (cell : ℕ) → StrikesLess cell value less (step_value now)
+      → Shows Struck grade c (steps_of front ++ less ∷ steps_of back) goal → ⊥
+
+-- what is so of the steps while the numbers of one are left out
+pub record IsNarrowed (Struck : CandidatesValue → Reason → ℕ → ℕ → Type 0) (grade : Grade)
+    (c : CandidatesValue) (place value : ℕ) (steps : List Step) (goal : Goal) : Type 0 where
+  pub tight : IsTightFrom (place + 1) Struck grade c (steps_of steps) goal
+  pub needed : IsNeededFrom (place + 1) Struck grade c (steps_of steps) goal
+  pub here : IsNeededBelow value place Struck grade c (steps_of steps) goal
+
+-- what is so of the steps once those from a place on are done
+pub record IsDoneFrom (Struck : CandidatesValue → Reason → ℕ → ℕ → Type 0) (grade : Grade)
+    (c : CandidatesValue) (place : ℕ) (steps : List Step) (goal : Goal) : Type 0 where
+  pub inside : place ≤ length steps
+  pub shows : Shows Struck grade c (steps_of steps) goal
+  pub tight : IsTightFrom place Struck grade c (steps_of steps) goal
+  pub needed : IsNeededFrom place Struck grade c (steps_of steps) goal

@@ -1,10 +1,11 @@
 //! What a board's numbers say of its puzzle: its errors, a hint, and how many solutions keep them.
 
 use crate::timing::batches::Call;
-use board_checks::{Hint, errors, find_hint};
+use board_checks::errors;
 use json_replies::Shows;
 use play_midend::Session;
 use std::alloc::Global;
+use step_chains::{NextHint, next_hint};
 use trail_solver::{Answer, completion};
 
 /// Which of them is timed.
@@ -38,15 +39,21 @@ pub(crate) struct BoardCheck<P: Shows> {
 
 impl<P: Shows> Call for BoardCheck<P> {
     // The number is of no use but that it depends on what was found.
-    fn call(&mut self, _alloc: Global) -> u64 {
+    fn call(&mut self, alloc: Global) -> u64 {
         let puzzle = self.session.puzzle();
         let grid = self.session.board().grid();
         match self.check {
             Check::Errors => u64::from(errors(puzzle, grid).any()),
-            Check::Hint => match find_hint(puzzle, grid) {
-                Hint::Follows { cell, .. } => cell as u64,
-                Hint::Nothing => 100,
-                Hint::Contradiction => 101,
+            Check::Hint => match next_hint(alloc, puzzle, grid) {
+                Ok(NextHint::Follows { grade: _, chain }) => u64::from(chain.goal.value()),
+                Ok(
+                    NextHint::Refuted {
+                        grade: _,
+                        refutation,
+                    },
+                ) => refutation.cell as u64,
+                Ok(NextHint::Nothing) => 100,
+                Err(_) => 101,
             },
             Check::Completion => match completion(puzzle, grid) {
                 Answer::None => 0,

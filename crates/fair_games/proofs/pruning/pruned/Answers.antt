@@ -1,6 +1,5 @@
-use Rattle.std.proofs.Common.{◌≤◌, sym, ◌∙◌, subst, arith}
+use Rattle.std.proofs.Common.{sym, ◌∙◌, subst}
 use Rattle.puzzle_gen.proofs.ItemLaws.{laws_of, cuts_of_full}
-use Rattle.named_steps.proofs.SettledLines.{lines_of_all}
 use Rattle.fair_games.specs.Fair.{FailsBy}
 use Rattle.fair_games.specs.Inner.PrunedTo.{IsPrunedTo}
 use Rattle.named_steps.specs.Following.{Follows}
@@ -19,12 +18,6 @@ without_all-requires-clause-pruned g c =
 pub without_all-requires-clause-base : goal.without_all-requires-clause-base
 without_all-requires-clause-base g c =
     base_all _ c.args.grade c.args.grid.now c.all-left.result (c.all-left.ensures.size ∙ c.size.ensures.value) c.all-left.ensures.trail
-
-pub without_all-requires-clause-settled : goal.without_all-requires-clause-settled
-without_all-requires-clause-settled g c =
-    let wide : 3 ≤ c.all-left.result.size = omega (arith, c.all-left.ensures.size, c.size.ensures.value, c.size.ensures.valid.smallest) in
-    let small : c.all-left.result.size ≤ 9 = omega (arith, c.all-left.ensures.size, c.size.ensures.value, c.size.ensures.valid.largest) in
-    lines_of_all c.args.grade c.all-left.result wide small c.all-left.ensures.trail
 
 pub split-requires-clause-follows : goal.split-requires-clause-follows
 split-requires-clause-follows g c =

@@ -15,17 +15,17 @@ facts g = facts_of g.P.Rules g.P.Game g.P.Draw
 
 -- what a game says of boards
 abbrev boards : (g : Over) → BoardFacts g.row.P.Denot
-boards g = record { demand = g.P.Demands.demand; strikes = g.P.Deduces.strikes; clues = g.P.Shows.clues; signs = g.P.Shows.signs; struck_by = g.P.Steps.struck_by; letter = g.P.StepNames.grade_letter; edge_clue = g.P.StepNames.edge_clue_of; says_greater = g.P.StepNames.says_greater_of; fair_letter = g.P.FairGame.letter_of; trial = g.P.FairGame.trial_of; initial = g.P.FairGame.initial_code }
+boards g = record { demand = g.P.Demands.demand; clues = g.P.Shows.clues; signs = g.P.Shows.signs; struck_by = g.P.Steps.struck_by; letter = g.P.StepNames.grade_letter; edge_clue = g.P.StepNames.edge_clue_of; says_greater = g.P.StepNames.says_greater_of; fair_letter = g.P.FairGame.letter_of; trial = g.P.FairGame.trial_of; initial = g.P.FairGame.initial_code }
 
 pub returns-in-Ok : goal.returns-in-Ok
 returns-in-Ok g c =
     let f = facts g in
     let b = boards g in
     let old = c.args.session.now in
-    let new = c.begin_described-answer.new.session in
+    let new = c.begin_fair-answer.new.session in
     let words = words_copied c.args.words in
     let line = described_line f c.in-Ok.params c.in-Ok.puzzle in
-    let begun = c.begin_described-answer in
+    let begun = c.begin_fair-answer in
     responds f old new line None (λ before read bytes after. TellsFair f b before words bytes after) (λ read. false) begun.result c.told.result refl
     (λ outcome bytes gives leaves told. game_told f b old new words c.in-Ok.params c.in-Ok.puzzle outcome bytes c.in-Ok.ensures.asked gives leaves told)
     (obeyed f old new line begun.result begun.ensures.ok begun.ensures.err (whenever begun.result refl) begun.ensures.why) c.told.ensures

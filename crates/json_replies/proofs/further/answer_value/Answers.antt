@@ -9,14 +9,14 @@ use Rattle.json_replies.proofs.further.answer_value.Goals as goal
 
 pub returns-in-Hint : goal.returns-in-Hint
 returns-in-Hint g c =
-    let b : BoardFacts g.row.P.Denot = record { demand = g.P.Demands.demand; strikes = g.P.Deduces.strikes; clues = g.P.Shows.clues; signs = g.P.Shows.signs; struck_by = g.P.Steps.struck_by; letter = g.P.StepNames.grade_letter; edge_clue = g.P.StepNames.edge_clue_of; says_greater = g.P.StepNames.says_greater_of; fair_letter = g.P.FairGame.letter_of; trial = g.P.FairGame.trial_of; initial = g.P.FairGame.initial_code } in
+    let b : BoardFacts g.row.P.Denot = record { demand = g.P.Demands.demand; clues = g.P.Shows.clues; signs = g.P.Shows.signs; struck_by = g.P.Steps.struck_by; letter = g.P.StepNames.grade_letter; edge_clue = g.P.StepNames.edge_clue_of; says_greater = g.P.StepNames.says_greater_of; fair_letter = g.P.FairGame.letter_of; trial = g.P.FairGame.trial_of; initial = g.P.FairGame.initial_code } in
     IfOk-weaker c.hint_answer.result _ _ (λ v told. hint_told (facts_of g.P.Rules g.P.Game g.P.Draw) b c.args.session.now
     c.puzzle-puzzle.result.now c.grid-in-Hint.result.now c.args.which (view v) c.in-Hint.is c.puzzle-puzzle.ensures
     (c.grid-in-Hint.ensures ∙ ap grid_of c.board-board.ensures.shown) told) c.hint_answer.ensures
 
 pub returns-in_ok-board_value-in-Board : goal.returns-in_ok-board_value-in-Board
 returns-in_ok-board_value-in-Board g c =
-    let b : BoardFacts g.row.P.Denot = record { demand = g.P.Demands.demand; strikes = g.P.Deduces.strikes; clues = g.P.Shows.clues; signs = g.P.Shows.signs; struck_by = g.P.Steps.struck_by; letter = g.P.StepNames.grade_letter; edge_clue = g.P.StepNames.edge_clue_of; says_greater = g.P.StepNames.says_greater_of; fair_letter = g.P.FairGame.letter_of; trial = g.P.FairGame.trial_of; initial = g.P.FairGame.initial_code } in
+    let b : BoardFacts g.row.P.Denot = record { demand = g.P.Demands.demand; clues = g.P.Shows.clues; signs = g.P.Shows.signs; struck_by = g.P.Steps.struck_by; letter = g.P.StepNames.grade_letter; edge_clue = g.P.StepNames.edge_clue_of; says_greater = g.P.StepNames.says_greater_of; fair_letter = g.P.FairGame.letter_of; trial = g.P.FairGame.trial_of; initial = g.P.FairGame.initial_code } in
     let found = c.errors-errors.ensures in
     board_told (facts_of g.P.Rules g.P.Game g.P.Draw) b c.args.session.now
     c.puzzle-puzzle.result.now c.grid.result.now c.board-board.result.now c.errors-errors.result c.args.which

@@ -3,5 +3,5 @@ use Rattle.serde_json.specs.View.{view}
 use Rattle.json_replies.specs.Steps.{strike_data}
 use Rattle.json_replies.proofs.step_value.strikes_value.Given as goal
 
-abbrev pub invariant-loop-step : goal.invariant-loop-step
-invariant-loop-step l = map view l.list.items ≡ map strike_data (take l.step-index l.steps)
+abbrev pub invariant-loop-strike : goal.invariant-loop-strike
+invariant-loop-strike l = map view l.list.items ≡ map strike_data (take l.strike-index l.strikes)

@@ -1,97 +1,65 @@
-use Rattle.std.proofs.Common.{◌≡◌, ◌≤◌, false, length, sym, ◌∙◌, subst, arith}
+use Rattle.std.proofs.Common.{◌≡◌, ◌*◌, ◌<◌, length, sym, ◌∙◌, subst}
+use Rattle.std.proofs.lemmas.Bool.{both_ways}
 use Rattle.trail_solver.specs.Candidates.{CandidatesValue}
-use Rattle.named_steps.specs.Grades.{is_past_latin, is_past_easy}
-use Rattle.named_steps.specs.Inner.Stages.{AreWaiting, AreNoMore}
-use Rattle.named_steps.proofs.StageLooks.{one_quiet, two_quiet, three_quiet}
-use Rattle.named_steps.proofs.Takes.{leads_on, leads_length, leads_same, leads_size}
-use Rattle.named_steps.specs.declared.stages.Stage.TheVariants.{Clues, Groups}
+use Rattle.named_steps.specs.Grades.{is_past_easy}
+use Rattle.named_steps.specs.Passes.{LeadsTo}
+use Rattle.named_steps.specs.Inner.LineLooks.{AreAllQuiet}
+use Rattle.named_steps.proofs.LineLooks.{waits_on}
+use Rattle.named_steps.proofs.Rounds.{IsShared, groups_lead}
+use Rattle.named_steps.proofs.Takes.{leads_fewer, leads_on, leads_same, leads_size}
 use Rattle.named_steps.proofs.settling.look_in_turn.Goals as goal
-use Rattle.named_steps.proofs.settling.look_in_turn.Goals.{then-trail_len-count-via-then-trail_len-count, then-trail_len-count-via-else-trail_len-count+then-not-has_clues, then-trail_len-count-2-via-then-trail_len-count-2, then-trail_len-count-2-via-else-trail_len-count-2+then-not-has_groups}
+use Rattle.named_steps.proofs.settling.look_in_turn.Goals.{else-trail_len-count-via-then-trail_len-count+else-has_groups, else-trail_len-count-via-else-trail_len-count}
 
-pub returns-then-trail_len-count-clause-none : goal.returns-then-trail_len-count-clause-none
-returns-then-trail_len-count-clause-none g c = λ still.
+-- the groups are the game's own reasons
+groups_of : (g : _) (c : goal.After-look_for_groups g) → LeadsTo (g.P.Steps.struck_by c.args.p.now) c.args.grade c.look.new.candidates c.look_for_groups.new.candidates
+groups_of g c =
+    let p = c.args.p.now in
+    let Struck = g.P.Steps.struck_by p in
+    let shared : IsShared (g.P.Rules.puzzle p) Struck = record { given = g.met.P.Steps.given_struck p; line = g.met.P.Steps.line_struck p } in
+    groups_lead (g.P.Rules.puzzle p) Struck shared c.args.grade c.look.new.candidates c.look_for_groups.new.candidates
+    (leads_size Struck c.args.grade c.args.candidates.now c.look.new.candidates c.look.ensures.leads ∙ c.requires.size)
+    (sym c.has_groups.ensures ∙ c.if-has_groups.true) c.look_for_groups.ensures.leads
+
+pub returns-then-has_groups-clause-leads : goal.returns-then-has_groups-clause-leads
+returns-then-has_groups-clause-leads g c =
+    leads_on (g.P.Steps.struck_by c.args.p.now) c.args.grade c.args.candidates.now c.look.new.candidates c.look_for_groups.new.candidates
+    c.look.ensures.leads (groups_of g c)
+
+pub returns-then-has_groups-clause-waiting : goal.returns-then-has_groups-clause-waiting
+returns-then-has_groups-clause-waiting g c =
+    let p = c.args.p.now in
+    let Struck = g.P.Steps.struck_by p in
+    let a = c.look.new.candidates in
+    let b = c.look_for_groups.new.candidates in
+    let leads = groups_of g c in
+    waits_on (g.P.Rules.puzzle p).size (g.P.Steps.struck_by p) (g.met.P.Steps.looks_along p) c.args.grade c.look.new.waiting c.look_for_groups.new.waiting a b
+    (leads_size Struck c.args.grade c.args.candidates.now a c.look.ensures.leads ∙ c.requires.size) (leads_size Struck c.args.grade a b leads)
+    (leads_fewer Struck c.args.grade a b leads) c.look_for_groups.ensures.waiting c.look.ensures.waiting
+
+pub returns-then-has_groups-clause-none : goal.returns-then-has_groups-clause-none
+returns-then-has_groups-clause-none g c = λ still.
     let Struck = g.P.Steps.struck_by c.args.p.now in
-    let Quiet = g.P.Steps.quiet_on c.args.p.now in
-    let grade = c.args.grade in
     let a = c.args.candidates.now in
     let b = c.look.new.candidates in
-    elim c.then-trail_len-count.branch [
-      | then-trail_len-count-via-then-trail_len-count w ↦
-          absurd (w.if-trail_len-count.true (c.trail_len.ensures.value ∙ still ∙ sym c.trail_len-count.ensures.value))
-      | then-trail_len-count-via-else-trail_len-count+then-not-has_clues w ↦
-          let one : b ≡ a = leads_same Struck grade a b c.look.ensures.leads still in
-          let latin : is_past_latin grade ≡ false = sym w.has_clues.ensures ∙ w.if-not-has_clues.true in
-          one_quiet Quiet grade a c.args.waits.now c.look.new.waits (c.look.ensures.none still)
-          (subst (λ (e : CandidatesValue). AreWaiting Quiet grade c.look.new.waits e) one c.look.ensures.waiting) latin
+    let first : length b.trail ≡ length a.trail = sym c.trail_len.ensures.value ∙ c.if-trail_len-count.true ∙ c.trail_len-count.ensures.value in
+    let one : b ≡ a = leads_same Struck c.args.grade a b c.look.ensures.leads first in
+    subst (λ (d : CandidatesValue). AreAllQuiet Struck c.args.grade d) one (record {
+      lines = λ line low. c.look.ensures.waiting line low (c.look.ensures.none first line (subst (λ (d : CandidatesValue). line < 2 * d.size) one low));
+      groups = λ past. c.look_for_groups.ensures.none (still ∙ sym first);
+    })
+
+pub returns-else-trail_len-count-clause-none : goal.returns-else-trail_len-count-clause-none
+returns-else-trail_len-count-clause-none g c = λ still.
+    let Struck = g.P.Steps.struck_by c.args.p.now in
+    let a = c.args.candidates.now in
+    let b = c.look.new.candidates in
+    let one : b ≡ a = leads_same Struck c.args.grade a b c.look.ensures.leads still in
+    elim c.else-trail_len-count.branch [
+      | else-trail_len-count-via-then-trail_len-count+else-has_groups w ↦
+          subst (λ (d : CandidatesValue). AreAllQuiet Struck c.args.grade d) one (record {
+            lines = λ line low. c.look.ensures.waiting line low (c.look.ensures.none still line (subst (λ (d : CandidatesValue). line < 2 * d.size) one low));
+            groups = λ past line low. absurd (both_ways (is_past_easy c.args.grade) (sym w.has_groups.ensures ∙ w.if-has_groups.false) past);
+          })
+      | else-trail_len-count-via-else-trail_len-count w ↦
+          absurd (w.if-trail_len-count.false (c.trail_len.ensures.value ∙ still ∙ sym c.trail_len-count.ensures.value))
     ]
-
-pub look-requires-2-clause-size : goal.look-requires-2-clause-size
-look-requires-2-clause-size g c =
-    leads_size (g.P.Steps.struck_by c.args.p.now) c.args.grade c.args.candidates.now c.look.new.candidates c.look.ensures.leads ∙ c.requires.size
-
-pub returns-then-trail_len-count-2-clause-leads : goal.returns-then-trail_len-count-2-clause-leads
-returns-then-trail_len-count-2-clause-leads g c =
-    leads_on (g.P.Steps.struck_by c.args.p.now) c.args.grade c.args.candidates.now c.look.new.candidates c.look-2.new.candidates
-    c.look.ensures.leads c.look-2.ensures.leads
-
-pub returns-then-trail_len-count-2-clause-none : goal.returns-then-trail_len-count-2-clause-none
-returns-then-trail_len-count-2-clause-none g c = λ still.
-    let Struck = g.P.Steps.struck_by c.args.p.now in
-    let Quiet = g.P.Steps.quiet_on c.args.p.now in
-    let grade = c.args.grade in
-    let a = c.args.candidates.now in
-    let b = c.look.new.candidates in
-    let d = c.look-2.new.candidates in
-    elim c.then-trail_len-count-2.branch [
-      | then-trail_len-count-2-via-then-trail_len-count-2 w ↦
-          absurd (w.if-trail_len-count-2.true (c.trail_len-2.ensures.value ∙ still ∙ sym c.trail_len-count.ensures.value))
-      | then-trail_len-count-2-via-else-trail_len-count-2+then-not-has_groups w ↦
-          let on : length a.trail ≤ length b.trail = leads_length Struck grade a b c.look.ensures.leads in
-          let further : length b.trail ≤ length d.trail = leads_length Struck grade b d c.look-2.ensures.leads in
-          let first : length b.trail ≡ length a.trail = omega (arith, still, on, further) in
-          let second : length d.trail ≡ length b.trail = omega (arith, still, first) in
-          let one : b ≡ a = leads_same Struck grade a b c.look.ensures.leads first in
-          let two : d ≡ a = leads_same Struck grade b d c.look-2.ensures.leads second ∙ one in
-          let More : CandidatesValue → Type 0 = λ e. AreNoMore e.size Clues c.look.new.waits c.look-2.new.waits in
-          let easy : is_past_easy grade ≡ false = sym w.has_groups.ensures ∙ w.if-not-has_groups.true in
-          two_quiet Quiet grade a c.args.waits.now c.look.new.waits c.look-2.new.waits (c.look.ensures.none first)
-          (subst More one (c.look-2.ensures.none second)) (subst (λ (e : CandidatesValue). AreWaiting Quiet grade c.look-2.new.waits e) two c.look-2.ensures.waiting)
-          easy
-    ]
-
-pub look-requires-3-clause-size : goal.look-requires-3-clause-size
-look-requires-3-clause-size g c =
-    leads_size (g.P.Steps.struck_by c.args.p.now) c.args.grade c.look.new.candidates c.look-2.new.candidates c.look-2.ensures.leads
-    ∙ leads_size (g.P.Steps.struck_by c.args.p.now) c.args.grade c.args.candidates.now c.look.new.candidates c.look.ensures.leads ∙ c.requires.size
-
-pub returns-clause-leads : goal.returns-clause-leads
-returns-clause-leads g c =
-    let Struck = g.P.Steps.struck_by c.args.p.now in
-    let a = c.args.candidates.now in
-    let b = c.look.new.candidates in
-    let d = c.look-2.new.candidates in
-    leads_on Struck c.args.grade a d c.look-3.new.candidates (leads_on Struck c.args.grade a b d c.look.ensures.leads c.look-2.ensures.leads)
-    c.look-3.ensures.leads
-
-pub returns-clause-none : goal.returns-clause-none
-returns-clause-none g c = λ still.
-    let Struck = g.P.Steps.struck_by c.args.p.now in
-    let Quiet = g.P.Steps.quiet_on c.args.p.now in
-    let grade = c.args.grade in
-    let a = c.args.candidates.now in
-    let b = c.look.new.candidates in
-    let d = c.look-2.new.candidates in
-    let e = c.look-3.new.candidates in
-    let on : length a.trail ≤ length b.trail = leads_length Struck grade a b c.look.ensures.leads in
-    let further : length b.trail ≤ length d.trail = leads_length Struck grade b d c.look-2.ensures.leads in
-    let last : length d.trail ≤ length e.trail = leads_length Struck grade d e c.look-3.ensures.leads in
-    let first : length b.trail ≡ length a.trail = omega (arith, still, on, further, last) in
-    let second : length d.trail ≡ length b.trail = omega (arith, still, first, further, last) in
-    let third : length e.trail ≡ length d.trail = omega (arith, still, first, second) in
-    let one : b ≡ a = leads_same Struck grade a b c.look.ensures.leads first in
-    let two : d ≡ a = leads_same Struck grade b d c.look-2.ensures.leads second ∙ one in
-    let three : e ≡ a = leads_same Struck grade d e c.look-3.ensures.leads third ∙ two in
-    three_quiet Quiet grade a c.args.waits.now c.look.new.waits c.look-2.new.waits c.look-3.new.waits (c.look.ensures.none first)
-    (subst (λ (x : CandidatesValue). AreNoMore x.size Clues c.look.new.waits c.look-2.new.waits) one (c.look-2.ensures.none second))
-    (subst (λ (x : CandidatesValue). AreNoMore x.size Groups c.look-2.new.waits c.look-3.new.waits) two (c.look-3.ensures.none third))
-    (subst (λ (x : CandidatesValue). AreWaiting Quiet grade c.look-3.new.waits x) three c.look-3.ensures.waiting)

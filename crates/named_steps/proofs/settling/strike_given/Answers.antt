@@ -1,4 +1,4 @@
-use Rattle.std.proofs.Common.{◌≡◌, ℕ, nat_le, ◌&&◌, ◌∙◌, rules, subst}
+use Rattle.std.proofs.Common.{◌≡◌, ℕ, nat_le, ◌&&◌, ◌∙◌, subst}
 use Rattle.number_sets.specs.Sets.{has_number}
 use Rattle.named_steps.proofs.GivenPasses.{given_taken}
 use Rattle.named_steps.proofs.settling.strike_given.Goals as goal
@@ -11,4 +11,4 @@ returns g c =
     c.args.candidates.now c.strike.new.candidates c.requires.inside c.given-given.ensures.value c.if-given-eq0.false
     (subst Members (c.get.ensures.value ∙ c.size-size.ensures.value) c.up_to.ensures.members) c.one.ensures.members c.difference-values.ensures
     c.strike.ensures in
-    record { leads = taken.leads; quiet = taken.quiet; others = taken.others; none = search rules }
+    record { leads = taken.leads; quiet = taken.quiet }

@@ -1,6 +1,5 @@
-use Rattle.std.proofs.Common.{◌≡◌, ℕ, ◌*◌, ◌<◌, false}
-use Rattle.named_steps.specs.Passes.{LeadsTo, StaysOn, IsGivenQuiet}
-use Rattle.named_steps.specs.Inner.WaitingLines.{is_waiting}
+use Rattle.std.proofs.Common.{ℕ, ◌<◌}
+use Rattle.named_steps.specs.Passes.{LeadsTo, IsGivenQuiet}
 use Rattle.named_steps.specs.declared.grade.Grade.TheVariants.{Latin}
 use Rattle.named_steps.proofs.settling.strike_givens.Given as goal
 
@@ -8,4 +7,3 @@ abbrev pub invariant-loop-cell : goal.invariant-loop-cell
 invariant-loop-cell g l =
     LeadsTo (g.P.Steps.struck_by l.p) Latin l.fn.candidates l.candidates
     × ((j : ℕ) → j < l.cell → IsGivenQuiet (g.P.Rules.puzzle l.p) j l.candidates)
-    × ((line : ℕ) → line < 2 * l.fn.candidates.size → is_waiting l.changed line ≡ false → StaysOn line l.fn.candidates l.candidates)

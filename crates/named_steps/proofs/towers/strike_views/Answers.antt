@@ -3,8 +3,8 @@ use Rattle.clue_rules.specs.Views.{front_place, view_line}
 use Rattle.clue_rules.proofs.ViewSteps.{front_line}
 use Rattle.named_steps.specs.Reasons.{IsTowersStruckBy}
 use Rattle.named_steps.specs.Passes.{StaysOn}
-use Rattle.named_steps.specs.QuietLines.{IsViewQuiet}
-use Rattle.named_steps.specs.Laws.Quiet.{view_stays}
+use Rattle.named_steps.specs.Inner.QuietLines.{IsViewQuiet}
+use Rattle.named_steps.specs.Laws.Along.{view_stays}
 use Rattle.named_steps.specs.Inner.Rows.{look_grade}
 use Rattle.named_steps.proofs.Takes.{leads_fewer, leads_length, leads_on, leads_size}
 use Rattle.named_steps.proofs.ViewPasses.{back_line, back_low, ends_quiet}

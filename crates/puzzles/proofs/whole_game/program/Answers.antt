@@ -4,7 +4,7 @@ use Rattle.puzzles.proofs.whole_game.program.Goals as goal
 
 -- src/whole_game.rt: the words can't be had
 pub returns-in-Err : goal.returns-in-Err
-returns-in-Err g c = (Err c.in-Err.fault, c.in-Err.ensures.err, (c.status_of.ensures, refl))
+returns-in-Err g c = (Err c.in-Err.fault, c.in-Err.ensures.err, (refl, refl))
 
 -- lines of text
 pub returns-in-Puzzles : goal.returns-in-Puzzles
@@ -12,7 +12,7 @@ returns-in-Puzzles g c = (
   Ok c.in-Ok.words.items,
   c.in-Ok.ensures.ok,
   in_lines _ _ _ _ _ _ c.deref.ensures.value
-      c.deref-in-Puzzles.ensures.value c.program_name.ensures c.in-Puzzles.is c.program_in.ensures,
+      c.deref-in-Puzzles.ensures.value c.program_name.ensures c.in-Puzzles.is c.play_words.ensures,
 )
 
 -- objects
@@ -21,5 +21,5 @@ returns g c = (
   Ok c.in-Ok.words.items,
   c.in-Ok.ensures.ok,
   in_objects _ _ _ _ _ _ c.deref.ensures.value
-      c.deref-in-PuzzlesJson.ensures.value c.program_name.ensures c.in-PuzzlesJson.is c.program_in-in-PuzzlesJson.ensures,
+      c.deref-in-PuzzlesJson.ensures.value c.program_name.ensures c.in-PuzzlesJson.is c.play_words-in-PuzzlesJson.ensures,
 )

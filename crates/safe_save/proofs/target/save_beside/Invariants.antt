@@ -1,8 +1,11 @@
-use Rattle.safe_save.specs.Folder.{NoWider}
-use Rattle.safe_save.specs.Save.{Keeps}
+use Rattle.std.specs.Prelude.{◌≤◌, All, map, string_bytes}
+use Rattle.safe_save.specs.Folder.{NoWider, Same}
+use Rattle.safe_save.specs.Targets.{IsTaken}
 use Rattle.safe_save.proofs.target.save_beside.Given as goal
 
--- so far each name was taken, and the path has what it had, for no more readers
-abbrev pub invariant-loop : goal.invariant-loop
-invariant-loop g l =
-    g.F.Folder.tells → Keeps l.path (g.F.Folder.state l.initial.folder) (g.F.Folder.state l.folder) × NoWider l.path l.path (g.F.Folder.state l.initial.folder) (g.F.Folder.state l.folder)
+-- so far each name was taken, and each name has what it had, for no more readers of the path
+abbrev pub invariant-loop-beside : goal.invariant-loop-beside
+invariant-loop-beside g l =
+    g.F.Folder.tells → let old = g.F.Folder.state l.initial.folder in let new = g.F.Folder.state l.folder in
+    Same old.stands new.stands × NoWider l.path l.path old new × (old.moment ≤ new.moment)
+    × All (IsTaken l.path old) (map string_bytes l.yielded)

@@ -1,5 +1,6 @@
 use Rattle.std.proofs.Common.{◌≡◌, ℕ, ◌-◌, ◌*◌, ◌<◌, ◌≤◌, length, ap, arith}
 use Rattle.step_chains.proofs.Settled.{new_longer, new_leads}
+use Rattle.step_chains.proofs.Live.{new_live}
 use Rattle.step_chains.proofs.next_steps.all_steps.Goals as goal
 
 pub loop-step-smaller : goal.loop-step-smaller
@@ -16,6 +17,12 @@ loop-step-smaller g c =
 
 pub loop-step-preserved : goal.loop-step-preserved
 loop-step-preserved g c =
-    new_leads (g.P.Steps.struck_by c.args.p.now) (g.met.P.Steps.struck_less c.args.p.now) c.args.grade c.args.candidates.now c.loop-step.candidates
-    c.remove_all.new.self c.loop-step.steps.items c.push.new.self.items c.in-Some.step c.loop-step.invariant c.in-Some.ensures c.remove_all.ensures.size
-    c.remove_all.ensures.trail c.in_ok-push.ensures.items
+    let Struck = g.P.Steps.struck_by c.args.p.now in
+    let old = c.loop-step.candidates in
+    let new = c.remove_all.new.self in
+    let small : old.size ≤ 9 = omega (arith, c.size-size.ensures.valid.largest, c.remove_all.ensures.size) in (
+      new_leads Struck (g.met.P.Steps.struck_less c.args.p.now) c.args.grade c.args.candidates.now old new c.loop-step.steps.items c.push.new.self.items
+          c.in-Some.step c.loop-step.invariant.0 c.in-Some.ensures c.remove_all.ensures.size c.remove_all.ensures.trail c.in_ok-push.ensures.items,
+      new_live Struck c.args.grade c.args.candidates.now old c.loop-step.steps.items c.push.new.self.items c.in-Some.step small c.loop-step.invariant.0
+          c.in-Some.ensures c.in_ok-push.ensures.items c.loop-step.invariant.1,
+    )

@@ -1,4 +1,5 @@
 use Rattle.std.proofs.Common.{ℕ, ◌*◌, ◌^◌, ◌<◌}
+use Rattle.named_steps.proofs.LineLooks.{placed_of}
 use Rattle.named_steps.specs.Following.{IsSettled}
 use Rattle.step_chains.specs.Inner.Quiet.{IsGroupIdle}
 use Rattle.step_chains.proofs.Settled.{idle_settled, found_last}
@@ -14,7 +15,8 @@ returns g c =
     (λ groups. idle_settled (g.P.Rules.puzzle c.args.p.now) Struck
     (record {
       shared = record { given = g.met.P.Steps.given_struck c.args.p.now; line = g.met.P.Steps.line_struck c.args.p.now };
-      placed = λ e reason cell value. g.met.P.Steps.struck_placed c.args.p.now e reason cell value c.size-valid.ensures.valid;
+      placed = λ e reason cell value is struck.
+          placed_of (g.P.Rules.puzzle c.args.p.now).size reason cell (g.met.P.Steps.stands_along c.args.p.now e reason cell value c.size-valid.ensures.valid is struck);
     }) c.args.grade d c.size-size.ensures.valid.largest c.requires
     (record { squares = c.in_default.ensures; places = c.in_default-step_by_places.ensures; clues = c.in_default-step_by_clues.ensures; signs = c.in_default-step_by_signs.ensures; groups = groups }))
     c.step_by_groups.ensures

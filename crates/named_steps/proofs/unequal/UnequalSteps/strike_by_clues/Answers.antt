@@ -1,7 +1,8 @@
 use Rattle.std.proofs.Common.{sym, subst}
 use Rattle.named_steps.specs.Reasons.{IsUnequalStruckBy}
 use Rattle.named_steps.specs.Passes.{LeadsTo}
-use Rattle.named_steps.specs.QuietLines.{are_unequal_quiet}
+use Rattle.named_steps.specs.Along.{IsQuietAlong}
+use Rattle.named_steps.specs.Laws.Along.{signs_along, latin_along}
 use Rattle.named_steps.proofs.Followed.{hard_has}
 use Rattle.named_steps.proofs.Takes.{leads_wider}
 use Rattle.named_steps.proofs.WaitingLines.{stays_all}
@@ -9,12 +10,18 @@ use Rattle.named_steps.specs.declared.grade.Grade.{Grade}
 use Rattle.named_steps.specs.declared.grade.Grade.TheVariants.{Easy, Hard}
 use Rattle.named_steps.proofs.unequal.UnequalSteps.strike_by_clues.Goals as goal
 
+pub returns-in-Latin-clause-quiet : goal.returns-in-Latin-clause-quiet
+returns-in-Latin-clause-quiet c = λ none.
+    let v = c.args.self.now in
+    subst (λ (grade : Grade). IsQuietAlong (IsUnequalStruckBy v) grade c.args.line c.args.candidates.now) (sym c.in-Latin.is)
+    (latin_along (IsUnequalStruckBy v) c.args.line c.args.candidates.now)
+
 pub returns-in-Easy-clause-quiet : goal.returns-in-Easy-clause-quiet
 returns-in-Easy-clause-quiet c = λ none.
     let a = c.args.candidates.now in
     let b = c.strike_signs.new.candidates in
-    subst (λ (grade : Grade). are_unequal_quiet c.args.self.now grade c.args.line b) (sym c.in-Easy.is)
-    (c.strike_signs.ensures.quiet (stays_all c.args.line c.strike_signs.result c.args.line a b none c.strike_signs.ensures.loses))
+    subst (λ (grade : Grade). IsQuietAlong (IsUnequalStruckBy c.args.self.now) grade c.args.line b) (sym c.in-Easy.is)
+    (signs_along c.args.self.now Easy c.args.line b (c.strike_signs.ensures.quiet (stays_all c.args.line c.strike_signs.result c.args.line a b none c.strike_signs.ensures.loses)))
 
 pub returns-in-Hard-clause-leads : goal.returns-in-Hard-clause-leads
 returns-in-Hard-clause-leads c =
@@ -28,5 +35,5 @@ pub returns-in-Hard-clause-quiet : goal.returns-in-Hard-clause-quiet
 returns-in-Hard-clause-quiet c = λ none.
     let a = c.args.candidates.now in
     let b = c.strike_signs-in-Hard.new.candidates in
-    subst (λ (grade : Grade). are_unequal_quiet c.args.self.now grade c.args.line b) (sym c.in-Hard.is)
-    (c.strike_signs-in-Hard.ensures.quiet (stays_all c.args.line c.strike_signs-in-Hard.result c.args.line a b none c.strike_signs-in-Hard.ensures.loses))
+    subst (λ (grade : Grade). IsQuietAlong (IsUnequalStruckBy c.args.self.now) grade c.args.line b) (sym c.in-Hard.is)
+    (signs_along c.args.self.now Hard c.args.line b (c.strike_signs-in-Hard.ensures.quiet (stays_all c.args.line c.strike_signs-in-Hard.result c.args.line a b none c.strike_signs-in-Hard.ensures.loses)))

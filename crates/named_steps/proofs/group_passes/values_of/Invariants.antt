@@ -1,8 +1,0 @@
-use Rattle.std.proofs.Common.{◌≡◌, ◌↔◌, ℕ, ◌<◌, true, slice_index}
-use Rattle.number_sets.specs.Sets.{has_number}
-use Rattle.named_steps.proofs.group_passes.values_of.Given as goal
-
-abbrev pub invariant-loop-k : goal.invariant-loop-k
-invariant-loop-k l =
-    (v : ℕ) → (has_number l.values v ≡ true)
-    ↔ ((j : ℕ) × (j < l.k) × ((has_number l.places j ≡ true) × (has_number (slice_index l.sets j) v ≡ true)))

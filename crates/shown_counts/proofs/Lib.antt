@@ -1,0 +1,3 @@
+-- Lemmas on counts that are shown.
+pub mod CountLemmas
+pub mod ShownRows

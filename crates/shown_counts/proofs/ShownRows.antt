@@ -1,0 +1,45 @@
+-- What the counts of a row's fillings say of a reason's line.
+use Rattle.std.proofs.Common.{◌≡◌, ◌↔◌, ℕ, ◌<◌, ◌≤◌, true, List, take, slice_index, sym, ap, ◌∙◌, subst}
+use Rattle.number_sets.specs.Sets.{has_number}
+use Rattle.clue_rules.specs.Views.{view_cell}
+use Rattle.clue_rules.proofs.LineSquares.{view_cell_once}
+use Rattle.trail_solver.specs.Candidates.{CandidatesValue}
+use Rattle.named_steps.specs.Left.{IsLeft}
+use Rattle.named_steps.specs.Fillings.{Anything, Standing}
+use Rattle.named_steps.proofs.Supports.{filled_supported}
+use Rattle.named_steps.specs.declared.reason.Reason.{Reason}
+use Rattle.named_steps.specs.declared.reason.Reason.TheVariants.{Given, Peer, Place, Bound, Stand, Clue, Sign, Set}
+use Rattle.shown_counts.specs.Shown.{IsShown, AreShown, ClueRow, IsRowFrom, IsRowOf}
+use Rattle.shown_counts.specs.Inner.Counted.{AreCountsOf}
+
+row_shown : (w : ℕ) (May : ℕ → ℕ → Type 0) (place : ℕ) (row : ClueRow) (cell k values : ℕ) (shows : List ℕ) → row.size ≤ 9 → IsRowFrom w May place row
+    → k < row.size → view_cell row.size row.place k ≡ cell → AreCountsOf (take row.size row.row) k values shows
+    → (v count : ℕ) → has_number values v ≡ true → (has_number (slice_index shows v) count ≡ true) ↔ IsShown w May place cell v count
+row_shown w May place row cell k values shows small r inside at counts v count one =
+    let low : k < w = subst (λ n. k < n) r.size inside in
+    let here : view_cell w place k ≡ cell =
+    subst (λ n. view_cell w n k ≡ cell) r.from (subst (λ n. view_cell n row.place k ≡ cell) r.size at) in
+    let are : AreCountsOf (take w row.row) k values shows = subst (λ n. AreCountsOf (take n row.row) k values shows) r.size counts in
+    let fill = filled_supported w May place count k v row.row (subst (λ n. n ≤ 9) r.size small) low r.sets in (
+      λ has.
+          let f = fill.0 ((are v count one).0 has) in
+          record { edge = r.edge; index = k; inside = low; here = here; line = f.0; filling = f.1; there = f.2 },
+      λ s.
+          let same : k ≡ s.index = view_cell_once w place k s.index r.edge low s.inside (here ∙ sym s.here) in
+          (are v count one).1 (fill.1 (s.line, s.filling, ap (slice_index s.line) same ∙ s.there)),
+    )
+
+-- the counts in a square that is the k-th from the place
+pub told_shown : (c : CandidatesValue) (reason : Reason) (row : ClueRow) (cell k values : ℕ) (shows : List ℕ) → row.size ≤ 9 → IsRowOf c reason row
+    → k < row.size → view_cell row.size row.place k ≡ cell → AreCountsOf (take row.size row.row) k values shows → AreShown c reason cell values shows
+told_shown c (Given at) row cell k values shows small r inside here counts = absurd r
+told_shown c (Peer by) row cell k values shows small r inside here counts = absurd r
+told_shown c (Place line index other) row cell k values shows small r inside here counts = absurd r
+told_shown c (Bound place) row cell k values shows small r inside here counts =
+    row_shown c.size Anything place row cell k values shows small r inside here counts
+told_shown c (Stand place) row cell k values shows small r inside here counts =
+    row_shown c.size (Standing c) place row cell k values shows small r inside here counts
+told_shown c (Clue place) row cell k values shows small r inside here counts =
+    row_shown c.size (IsLeft c) place row cell k values shows small r inside here counts
+told_shown c (Sign from to) row cell k values shows small r inside here counts = absurd r
+told_shown c (Set line squares group) row cell k values shows small r inside here counts = absurd r

@@ -1,0 +1,211 @@
+//! The counts of a clue's line, by what a reason knows of its squares.
+ghost use Rattle.std.specs.Prelude.{◌≡◌, ◌≢◌, ◌↔◌, ℕ, ◌+◌, ◌*◌, ◌<◌, ◌≤◌, true, false, List, take, slice_index, ◌==◌, ◌||◌, ◌&&◌, IsTrue, MatchOption};
+ghost use Rattle.number_sets.specs.Sets.{has_number};
+ghost use Rattle.tower_lines.specs.LineFillings.{IsSupported};
+ghost use Rattle.clue_rules.specs.Views.{view_cell};
+ghost use Rattle.trail_solver.specs.Candidates.{CandidatesValue};
+ghost use Rattle.named_steps.specs.declared.reason.Reason.{Reason};
+ghost use Rattle.named_steps.specs.Inner.Rows.{May};
+ghost use Rattle.shown_counts.specs.Shown.{AreShown, IsRowFrom, IsRowOf, IsLineOf};
+ghost use Rattle.shown_counts.specs.Inner.Counted.{IsAlone, AreCountsOf, AreKeptBelow};
+
+use clue_rules::view_cell;
+use latin_board::Size;
+use named_steps::{Look, Reason, looked_row};
+use number_sets::NumberSet;
+use std::marker::Model;
+use tower_lines::{has_filling, supported};
+use trail_solver::Candidates;
+
+// For so many numbers of a line or more it takes less time to go over the line once for each count.
+const MANY: usize = 5;
+
+/// The squares of a clue's line, with what may stand in each of them, to be asked for counts.
+#[derive(Debug, Drop)]
+pub struct ClueCounts {
+    size: Size,
+    place: u8,
+    row: [NumberSet; 9],
+    // where many are asked for: for each count the values of each square that fillings with this count have there
+    kept: Option<[[NumberSet; 9]; 10]>,
+}
+
+impl Model for ClueCounts {
+    ghost use Rattle.shown_counts.specs.Shown.{ClueRow};
+    ghost use Rattle.shown_counts.specs.Inner.Counted.{IsFound};
+
+    ghost Value = { ClueRow };
+
+    ghost view = { λ k. record { size = k.size; place = k.place; row = k.row } };
+
+    ghost invariant = { λ k. IsFound k.size k.place k.row k.kept };
+}
+
+impl ClueCounts {
+    /// The line of a reason's clue, to be asked for so many numbers; none, where the reason looks from no place of the edge.
+    pub fn of(candidates: &Candidates, reason: Reason, asked: usize) -> Option<ClueCounts>
+        ensures { IsLineOf candidates.now reason result }
+    {
+        match reason {
+            Reason::Bound { place } => counts_from(candidates, Look::Alone, place, asked),
+            Reason::Stand { place } => counts_from(candidates, Look::Stands, place, asked),
+            Reason::Clue { place } => counts_from(candidates, Look::Marks, place, asked),
+            _ => None,
+        }
+    }
+
+    /// For each of these numbers of a square, at its own index, the counts of towers that are shown with it there.
+    pub fn shows(&self, cell: u8, values: NumberSet) -> [NumberSet; 10]
+        ensures { (c : CandidatesValue) (reason : Reason) → IsRowOf c reason self.now → AreShown c reason cell values result }
+    {
+        let _size = self.size.get();
+        match self.index_of(cell) {
+            Some(index) => self.shows_at(index, values),
+            None => [NumberSet::empty(); 10],
+        }
+    }
+
+    // Which square from the place on it is.
+    fn index_of(&self, cell: u8) -> Option<u8>
+        ensures { MatchOption result ((k : ℕ) → k < self.now.size → view_cell self.now.size self.now.place k ≢ cell)
+            (λ k. (k < self.now.size) × (view_cell self.now.size self.now.place k ≡ cell)) }
+    {
+        for index in 0..self.size.get() {
+            if view_cell(self.size, self.place, index as usize) == cell as usize {
+                return Some(index);
+            }
+        }
+        None
+    }
+
+    fn shows_at(&self, index: u8, values: NumberSet) -> [NumberSet; 10]
+        requires { index < self.now.size }
+        ensures { AreCountsOf (take self.now.size self.now.row) index values result }
+    {
+        let _size = self.size.get();
+        let mut shows = [NumberSet::empty(); 10];
+        for value in 0..10 {
+            if values.has(value) {
+                shows[value as usize] = self.counts(index, value);
+            }
+        }
+        shows
+    }
+
+    // The counts with a value at an index of the row.
+    fn counts(&self, index: u8, value: u8) -> NumberSet
+        requires index { index < self.now.size }
+        requires value { value < 16 }
+        ensures { (count : ℕ) → (has_number result count ≡ true) ↔ IsSupported (take self.now.size self.now.row) count index value }
+    {
+        let mut counts = NumberSet::empty();
+        for count in 1..self.size.get() + 1 {
+            let is_shown = self.is_shown(index, value, count);
+            counts = with_count(counts, count, is_shown);
+        }
+        counts
+    }
+
+    // Whether a filling of the row has the value there and shows this count.
+    fn is_shown(&self, index: u8, value: u8, count: u8) -> bool
+        requires index { index < self.now.size }
+        requires value { value < 16 }
+        requires some { 1 ≤ count }
+        requires most { count ≤ self.now.size }
+        ensures { IsTrue result ↔ IsSupported (take self.now.size self.now.row) count index value }
+    {
+        let width = self.size.get();
+        match &self.kept {
+            Some(rows) => rows[count as usize][index as usize].has(value),
+            None => has_alone(&self.row, width, index, value, count),
+        }
+    }
+}
+
+// The line from a place, if it is one of the edge's, as it is looked at.
+fn counts_from(
+    candidates: &Candidates,
+    look: Look,
+    place: usize,
+    asked: usize,
+) -> Option<ClueCounts>
+    ensures { MatchOption result (4 * candidates.now.size ≤ place)
+        (λ counts. IsRowFrom candidates.now.size (May look candidates.now) place counts) }
+{
+    let size = candidates.size();
+    let width = size.get();
+    if place >= 4 * width as usize {
+        return None;
+    }
+    let row = looked_row(candidates, look, place as u8);
+    Some(counts_of(size, place as u8, row, asked))
+}
+
+fn counts_of(size: Size, place: u8, row: [NumberSet; 9], asked: usize) -> ClueCounts
+    requires { place < 4 * size }
+    ensures size { result.size ≡ size }
+    ensures place { result.place ≡ place }
+    ensures row { result.row ≡ row }
+{
+    let kept = if asked < MANY {
+        None
+    } else {
+        Some(kept_rows(&row, size.get()))
+    };
+    ClueCounts {
+        size,
+        place,
+        row,
+        kept,
+    }
+}
+
+// For each count from 1 to the width the values of each square that fillings with this count have there.
+fn kept_rows(row: &[NumberSet; 9], width: u8) -> [[NumberSet; 9]; 10]
+    requires { width ≤ 9 }
+    ensures { AreKeptBelow (take width row.now) (width + 1) result }
+{
+    let mut rows = [[NumberSet::empty(); 9]; 10];
+    for count in 1..width + 1 {
+        rows[count as usize] = supported(&row[..width as usize], count);
+    }
+    rows
+}
+
+// Whether a filling of the row has the value at the index and shows this count: one of the row with the value alone there.
+fn has_alone(row: &[NumberSet; 9], width: u8, index: u8, value: u8, count: u8) -> bool
+    requires width { width ≤ 9 }
+    requires index { index < width }
+    requires value { value < 16 }
+    requires count { count ≤ width }
+    ensures { IsTrue result ↔ IsSupported (take width row.now) count index value }
+{
+    if !row[index as usize].has(value) {
+        return false;
+    }
+    let alone = with_alone(row, index, value);
+    has_filling(&alone[..width as usize], count)
+}
+
+// The row with the value alone at the index.
+fn with_alone(row: &[NumberSet; 9], index: u8, value: u8) -> [NumberSet; 9]
+    requires index { index < 9 }
+    requires value { value < 16 }
+    ensures { IsAlone row.now index value result }
+{
+    let mut alone = *row;
+    alone[index as usize] = NumberSet::one(value);
+    alone
+}
+
+// The counts with one more, if it is shown.
+fn with_count(counts: NumberSet, count: u8, is_shown: bool) -> NumberSet
+    requires { count < 16 }
+    ensures { (k : ℕ) → has_number result k ≡ (has_number counts k || (is_shown && k == count)) }
+{
+    if is_shown {
+        counts.union(NumberSet::one(count))
+    } else {
+        counts
+    }
+}

@@ -1,0 +1,65 @@
+//! The next hint of a grid: by the steps of the least grade that lead to one.
+ghost use Rattle.std.specs.Prelude.{◌≡◌, IfOk};
+ghost use Rattle.step_chains.specs.NextHints.{IsNextHint, IsLiveHint, IsNeededHint, IsRightHint, SaysForced};
+
+use crate::aims::Aim;
+use crate::chain::{Chain, Refutation};
+use crate::explaining::{chain_to, refutation_at};
+use crate::first_aims::first_aim;
+use latin_board::{Grid, OutOfMemory};
+use named_steps::{Grade, KnownRows, Steps, laws};
+use std::alloc::Global;
+use trail_solver::Rules;
+
+/// The next hint of a grid by steps.
+#[derive(Debug, Drop)]
+pub enum NextHint {
+    /// These steps of the grade show a number of an empty square, and those of no grade below show any.
+    Follows {
+        grade: Grade,
+        chain: Chain,
+    },
+    /// These steps of the grade refute the grid's numbers, and those of no grade below do: some number is wrong.
+    Refuted {
+        grade: Grade,
+        refutation: Refutation,
+    },
+    /// No steps show a number of an empty square, and none refute the grid's numbers.
+    Nothing,
+}
+
+/// The next hint of a grid: where steps refute the numbers, the steps of the least grade that do; otherwise the number that steps of the
+/// least grade show. `OutOfMemory` where a growth was refused. The grid has the puzzle's size.
+#[inline(never)]
+pub fn next_hint<P: Steps>(alloc: Global, p: &P, grid: &Grid) -> Result<NextHint, OutOfMemory>
+    requires { grid.now.size ≡ (P.puzzle p.now).size }
+    ensures least { IfOk result (IsNextHint (P.struck_by p.now) grid.now) }
+    ensures live { IfOk result (IsLiveHint grid.now) }
+    ensures needed { IfOk result (IsNeededHint (P.struck_by p.now) grid.now) }
+    ensures right { IfOk result (IsRightHint (P.puzzle p.now) grid.now) }
+    ensures forced { IfOk result (SaysForced (P.struck_by p.now) grid.now) }
+{
+    laws::<P>();
+    let _valid = p.size();
+    // One table for all that follows, since it takes ten kilobytes of the stack.
+    let mut known = KnownRows::none();
+    let Some(first) = first_aim(p, grid, &mut known) else {
+        return Ok(NextHint::Nothing);
+    };
+    match first.aim {
+        Aim::Number(goal) => {
+            let chain = chain_to(alloc, p, grid, first.grade, goal, &mut known)?;
+            Ok(NextHint::Follows {
+                grade: first.grade,
+                chain,
+            })
+        }
+        Aim::Nothing { cell } => {
+            let refutation = refutation_at(alloc, p, grid, first.grade, cell, &mut known)?;
+            Ok(NextHint::Refuted {
+                grade: first.grade,
+                refutation,
+            })
+        }
+    }
+}

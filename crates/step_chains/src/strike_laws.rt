@@ -1,0 +1,12 @@
+//! What narrowing strikes and what reasons strike: a square that narrowing forces is forced by reasons.
+
+ghost use Rattle.step_chains.specs.ForcedLaws.{TowersForcesMore, UnequalForcesMore};
+
+/// The laws that compare the strikes of narrowing with those of reasons.
+///
+/// Where narrowing strikes all numbers but one of an empty square at once, from the candidates that a grid's numbers leave, reasons do so
+/// from what is in view. So `next_hint` says something wherever narrowing forces a square.
+pub fn forced_laws()
+    ensures towers { TowersForcesMore }
+    ensures unequal { UnequalForcesMore }
+{}

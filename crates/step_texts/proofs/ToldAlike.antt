@@ -1,0 +1,76 @@
+-- What is told of steps is the same by candidates of which the same is left.
+use Rattle.std.proofs.Common.{◌≡◌, ℕ, List, [], ◌∷◌, sym, ap, ◌∙◌, subst, Option, Some, None}
+use Rattle.trail_solver.specs.Candidates.{CandidatesValue}
+use Rattle.named_steps.specs.Left.{IsLeft, IsFewer, AreAlike}
+use Rattle.named_steps.specs.Fillings.{Anything, Standing}
+use Rattle.named_steps.specs.declared.reason.Reason.{Reason}
+use Rattle.named_steps.specs.declared.reason.Reason.TheVariants.{Given, Peer, Place, Bound, Stand, Clue, Sign, Set}
+use Rattle.step_chains.specs.declared.chain.Step.{Step}
+use Rattle.shown_counts.specs.Shown.{IsShown, IsShownBy, is_at_clue}
+use Rattle.step_texts.specs.declared.told.Strike.{Strike}
+use Rattle.step_texts.specs.declared.told.ToldStep.{ToldStep}
+use Rattle.step_texts.specs.Told.{AreToldCounts, AreToldStrikes, IsToldOf}
+
+-- where more may stand, what was shown is shown
+shown_more : (w : ℕ) (May More : ℕ → ℕ → Type 0) (place cell v count : ℕ) → ((at n : ℕ) → May at n → More at n) → IsShown w May place cell v count
+    → IsShown w More place cell v count
+shown_more w May More place cell v count more s =
+    let f = s.filling in
+    record {
+      edge = s.edge;
+      index = s.index;
+      inside = s.inside;
+      here = s.here;
+      line = s.line;
+      filling = record { whole = f.whole; pairs = f.pairs; may = λ k low. more _ _ (f.may k low); apart = f.apart; shown = f.shown };
+      there = s.there;
+    }
+
+-- so where more is left
+shown_left : (c d : CandidatesValue) → c.size ≡ d.size → IsFewer d c → (reason : Reason) (cell v count : ℕ) → IsShownBy c reason cell v count
+    → IsShownBy d reason cell v count
+shown_left c d size fewer (Given at) cell v count s = s
+shown_left c d size fewer (Peer by) cell v count s = s
+shown_left c d size fewer (Place line index other) cell v count s = s
+shown_left c d size fewer (Bound place) cell v count s = subst (λ w. IsShown w Anything place cell v count) size s
+shown_left c d size fewer (Stand place) cell v count s =
+    shown_more d.size (Standing c) (Standing d) place cell v count (λ at n stands alone none. stands alone (λ other left. none other (fewer at other left)))
+    (subst (λ w. IsShown w (Standing c) place cell v count) size s)
+shown_left c d size fewer (Clue place) cell v count s =
+    shown_more d.size (IsLeft c) (IsLeft d) place cell v count fewer (subst (λ w. IsShown w (IsLeft c) place cell v count) size s)
+shown_left c d size fewer (Sign from to) cell v count s = s
+shown_left c d size fewer (Set line squares values) cell v count s = s
+
+counts_alike : (c d : CandidatesValue) → c.size ≡ d.size → AreAlike c d → (reason : Reason) (cell values : ℕ) (shows : Option (List ℕ))
+    → AreToldCounts c reason cell values shows → AreToldCounts d reason cell values shows
+counts_alike c d size alike reason cell values None told = ap (λ w. is_at_clue w reason) (sym size) ∙ told
+counts_alike c d size alike reason cell values (Some shows) told = (
+  ap (λ w. is_at_clue w reason) (sym size) ∙ told.0,
+  λ v count one. (
+    λ has. shown_left c d size alike.1 reason cell v count ((told.1 v count one).0 has),
+    λ s. (told.1 v count one).1 (shown_left d c (sym size) alike.0 reason cell v count s),
+  ),
+)
+
+strikes_alike : (c d : CandidatesValue) → c.size ≡ d.size → AreAlike c d → (reason : Reason) (steps : List Step) (strikes : List Strike)
+    → AreToldStrikes c reason steps strikes → AreToldStrikes d reason steps strikes
+strikes_alike c d size alike reason [] [] told = told
+strikes_alike c d size alike reason [] (strike ∷ strikes) told = told
+strikes_alike c d size alike reason (step ∷ steps) [] told = told
+strikes_alike c d size alike reason (step ∷ steps) (strike ∷ strikes) told = (
+  record {
+    cell = told.0.cell;
+    values = told.0.values;
+    low = told.0.low;
+    shows = counts_alike c d size alike reason step.cell step.values strike.shows told.0.shows;
+  },
+  strikes_alike c d size alike reason steps strikes told.1,
+)
+
+pub told_alike : (c d : CandidatesValue) → c.size ≡ d.size → AreAlike c d → (reason : Reason) (look : List Step) (told : ToldStep)
+    → IsToldOf c reason look told → IsToldOf d reason look told
+told_alike c d size alike reason look told t = record {
+  reason = t.reason;
+  strikes = strikes_alike c d size alike reason look told.strikes.items t.strikes;
+  short = t.short;
+}

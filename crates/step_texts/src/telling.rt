@@ -1,0 +1,107 @@
+//! The steps of a chain, told one after another.
+ghost use Rattle.std.specs.Prelude.{IfOk};
+ghost use Rattle.trail_solver.specs.Candidates.{CandidatesValue};
+ghost use Rattle.named_steps.specs.declared.reason.Reason.{Reason};
+ghost use Rattle.shown_counts.specs.Shown.{IsLineOf};
+ghost use Rattle.step_texts.specs.Told.{AreToldCounts, AreToldStrikes, IsToldOf, AreTold};
+
+use crate::looks::{joined_steps, strike_all};
+use crate::sentences::say_step;
+use crate::step_names::StepNames;
+use crate::told::{Strike, ToldStep};
+use crate::writing::Writing;
+use named_steps::KnownRows;
+use number_sets::NumberSet;
+use shown_counts::ClueCounts;
+use std::alloc::{AllocError, Global};
+use step_chains::Step;
+use trail_solver::{Candidates, Rules};
+
+/// The steps of a chain from candidates on, as they are told: those side by side that have one reason, hold at once and are in reading order
+/// are one.
+// What is known of rows is in this frame alone, so that it isn't on the stack of those who search for chains before they tell them.
+#[inline(never)]
+pub fn told_steps<P: StepNames>(
+    alloc: Global,
+    p: &P,
+    candidates: Candidates,
+    steps: &[Step],
+) -> Result<Vec<ToldStep>, AllocError>
+    ensures { IfOk result (λ told. AreTold (P.struck_by p.now) (P.Rules.puzzle p.now).size candidates steps.now told.items) }
+{
+    let mut candidates = candidates;
+    let mut known = KnownRows::none();
+    let mut told = Vec::new(alloc);
+    let mut rest = steps;
+    while let Some(first) = rest.first() {
+        let joined = joined_steps(p, &candidates, first, &rest[1..], &mut known);
+        let (look, more) = rest.split_at(joined + 1);
+        told.push(told_step(alloc, p, &candidates, first, look)?)?;
+        strike_all(&mut candidates, look);
+        rest = more;
+    }
+    Ok(told)
+}
+
+// Steps of the first one's reason as one, by the candidates before them.
+fn told_step<P: StepNames>(
+    alloc: Global,
+    p: &P,
+    candidates: &Candidates,
+    first: &Step,
+    look: &[Step],
+) -> Result<ToldStep, AllocError>
+    ensures { IfOk result (IsToldOf candidates.now first.now.reason look.now) }
+{
+    let strikes = told_strikes(alloc, candidates, first, look)?;
+    let mut text = Writing::new(alloc);
+    say_step(&mut text, p, candidates, first.reason, strikes.as_slice())?;
+    text.end()?;
+    Ok(ToldStep {
+        reason: first.reason,
+        strikes,
+        text: text.into_lines(),
+    })
+}
+
+// What steps of the first one's reason strike, square by square.
+fn told_strikes(
+    alloc: Global,
+    candidates: &Candidates,
+    first: &Step,
+    look: &[Step],
+) -> Result<Vec<Strike>, AllocError>
+    ensures { IfOk result (λ strikes. AreToldStrikes candidates.now first.now.reason look.now strikes.items) }
+{
+    let counts = ClueCounts::of(candidates, first.reason, numbers_in(look));
+    let mut strikes = Vec::new(alloc);
+    for step in look {
+        let _bits = step.values.bits();
+        strikes.push(Strike {
+            cell: step.cell,
+            values: step.values,
+            shows: shows_of(&counts, step),
+        })?;
+    }
+    Ok(strikes)
+}
+
+// The counts with each number of a step, where its reason looks from a clue.
+fn shows_of(counts: &Option<ClueCounts>, step: &Step) -> Option<[NumberSet; 10]>
+    ensures { (c : CandidatesValue) (reason : Reason) → IsLineOf c reason counts.now
+        → AreToldCounts c reason step.now.cell step.now.values result }
+{
+    match counts {
+        Some(counts) => Some(counts.shows(step.cell, step.values)),
+        None => None,
+    }
+}
+
+// How many numbers steps strike.
+fn numbers_in(steps: &[Step]) -> usize {
+    let mut numbers = 0usize;
+    for step in steps {
+        numbers = numbers.saturating_add(step.values.len() as usize);
+    }
+    numbers
+}

@@ -1,0 +1,82 @@
+// Today's game of a kind of one's own choice, and a calendar of the days whose games were solved.
+import {button, element, part} from './drawing.js';
+import {closeDialogs, openDialog} from './dialogs.js';
+import {KindLists} from './fresh.js';
+import {kindOfName, nameOfKind, numberOfDay} from './games.js';
+import {dayName, monthText} from './texts.js';
+
+/** @typedef {import('./games.js').Kind} Kind */
+/** @typedef {import('./games.js').Fair} Fair */
+/** @typedef {import('./shelf.js').Shelf} Shelf */
+
+const WEEKDAYS = ['Mo', 'Tu', 'We', 'Th', 'Fr', 'Sa', 'Su'];
+
+// The days of a monthText, each as its date.
+/** @param {Date} first */
+export function daysOf(first) {
+  const count = new Date(first.getFullYear(), first.getMonth() + 1, 0).getDate();
+  return Array.from({length: count}, (_, at) => new Date(first.getFullYear(), first.getMonth(), at + 1));
+}
+
+// The column of a day in a week that begins on Monday, from 1 on.
+/** @param {Date} day */
+export const column = (day) => ((day.getDay() + 6) % 7) + 1;
+
+export class Daily {
+  /** @param {Shelf} shelf @param {(fair: Fair) => void} begin */
+  constructor(shelf, begin) {
+    this.shelf = shelf;
+    this.begin = begin;
+    this.first = new Date();
+    this.lists = new KindLists('daily', (kind) => {
+      shelf.set({daily: nameOfKind(kind)});
+      this.show();
+    });
+    part('daily-before').addEventListener('click', () => this.turn(-1));
+    part('daily-after').addEventListener('click', () => this.turn(1));
+    part('daily-today').addEventListener('click', () => this.play(numberOfDay(new Date())));
+    part('daily-days').addEventListener('click', ({target}) => {
+      const day = target instanceof Element ? target.closest('button')?.dataset.day : '';
+      if (day) this.play(day);
+    });
+  }
+
+  open() {
+    const now = new Date(), kind = kindOfName(this.shelf.settings.daily);
+    this.first = new Date(now.getFullYear(), now.getMonth(), 1);
+    if (kind) this.lists.show(kind);
+    this.show();
+    openDialog('daily');
+  }
+
+  /** @param {number} months */
+  turn(months) {
+    this.first = new Date(this.first.getFullYear(), this.first.getMonth() + months, 1);
+    this.show();
+  }
+
+  /** @param {string} day */
+  play(day) {
+    closeDialogs();
+    this.begin({...this.lists.kind, number: day});
+  }
+
+  show() {
+    const kind = nameOfKind(this.lists.kind), today = numberOfDay(new Date());
+    const solved = new Set(this.shelf.solved().filter((one) => one.kind === kind).map(({number}) => number));
+    part('daily-month').textContent = monthText(this.first);
+    const days = daysOf(this.first).map((day) => this.day(day, solved.has(numberOfDay(day)), today));
+    part('daily-days').replaceChildren(...WEEKDAYS.map((name) => element('span', name, {'aria-hidden': true})), ...days);
+    /** @type {HTMLButtonElement} */ (part('daily-after')).disabled = Number(numberOfDay(this.first)) + 31 > Number(today);
+  }
+
+  /** @param {Date} day @param {boolean} isSolved @param {string} today */
+  day(day, isSolved, today) {
+    const number = numberOfDay(day), node = button(String(day.getDate()), {'data-day': number, 'aria-label': dayName(day, isSolved)});
+    node.classList.toggle('solved', isSolved);
+    node.disabled = Number(number) > Number(today);
+    if (number === today) node.setAttribute('aria-current', 'date');
+    node.style.gridColumn = String(column(day));
+    return node;
+  }
+}

@@ -1,0 +1,158 @@
+// Keys, mouse and finger: which action each of them asks for.
+import {isDialogOpen} from './dialogs.js';
+import {part} from './drawing.js';
+
+/** @typedef {import('./objects.js').Place} Place */
+/**
+ * What a player asks for, whichever way.
+ * @typedef {{isReady(): boolean, act(name: string): void, move(dx: number, dy: number): void, number(number: number, isOther: boolean): void, choose(place: Place): void,
+ *   done(place: Place): void, step(at: number): void, along(by: number): boolean, set(name: string): void}} Asked
+ */
+
+// Columns and rows by which a key moves.
+/** @type {Record<string, [number, number]>} */
+const STEPS = {
+  ArrowLeft: [-1, 0], ArrowRight: [1, 0], ArrowUp: [0, -1], ArrowDown: [0, 1],
+  l: [1, 0], k: [0, -1], j: [0, 1], L: [1, 0], K: [0, -1], J: [0, 1],
+};
+
+// What each key does, by the name of an action: the keys of the board in a terminal, and some more.
+/** @type {Record<string, string>} */
+export const KEYS = {
+  Enter: 'enter', p: 'marks', ' ': 'clear', 0: 'clear', Backspace: 'clear', Delete: 'clear', m: 'all', P: 'possible', M: 'tidy', u: 'undo', r: 'redo',
+  d: 'done', R: 'restart', h: 'hint', H: 'why', c: 'check', b: 'back', S: 'solve', n: 'new', o: 'games', t: 'daily', w: 'save', i: 'id', '?': 'rules',
+  ':': 'command', q: 'quit', Escape: 'escape',
+};
+
+// The same with Control.
+/** @type {Record<string, string>} */
+const CONTROL = {z: 'undo', y: 'redo'};
+
+/** For how many milliseconds a long press lasts, and how far the finger may go in it. */
+const LONG = 450, STILL = 12;
+
+/** @param {Asked} asked */
+export function listenToPlayer(asked) {
+  document.addEventListener('keydown', (event) => key(event, asked));
+  const press = new LongPress(asked);
+  const board = part('board');
+  board.addEventListener('pointerdown', (event) => {
+    const place = placeOf(event.target);
+    if (!place || !event.isPrimary || event.button) return;
+    event.preventDefault();
+    asked.choose(place);
+    press.begin(event, () => asked.act('enter'));
+  });
+  // After the right button WebKit tells of no pointer that is pressed, but of the mouse.
+  board.addEventListener('mousedown', (event) => {
+    const place = placeOf(event.target);
+    if (place && !event.button) asked.choose(place);
+  });
+  board.addEventListener('click', ({target}) => {
+    const place = placeOf(target);
+    if (place && isClue(target) && !press.isLong) asked.done(place);
+  });
+  board.addEventListener('contextmenu', (event) => {
+    const place = placeOf(event.target);
+    if (!place) return;
+    event.preventDefault();
+    if (/** @type {PointerEvent} */ (event).pointerType === 'touch') return;
+    asked.choose(place);
+    asked.act('enter');
+  });
+  buttons(asked, press);
+  fingers();
+}
+
+// Keys count where the board has the focus, or nothing has: they must not surprise a player who is in a field or on a button.
+/** @param {KeyboardEvent} event @param {Asked} asked */
+function key(event, asked) {
+  const at = document.activeElement;
+  if (!asked.isReady() || isDialogOpen() || !(part('board').contains(at) || at === document.body) || event.altKey || event.metaKey) return;
+  const action = event.ctrlKey ? CONTROL[event.key] : KEYS[event.key], step = event.ctrlKey ? undefined : STEPS[event.key];
+  if (step && !asked.along(step[0] + step[1])) asked.move(...step);
+  else if (/^[1-9]$/.test(event.key) && !event.ctrlKey) asked.number(Number(event.key), false);
+  else if (action) asked.act(action);
+  if (step || action || (/^[1-9]$/.test(event.key) && !event.ctrlKey)) event.preventDefault();
+}
+
+/** @param {Asked} asked @param {LongPress} press */
+function buttons(asked, press) {
+  const main = document.querySelector('main');
+  // A button leaves the focus where it was, so that keys and clicks go together. WebKit listens to the mouse alone.
+  for (const kind of ['pointerdown', 'mousedown']) {
+    main?.addEventListener(kind, (event) => { if (event.target instanceof Element && event.target.closest('button')) event.preventDefault(); });
+  }
+  main?.addEventListener('pointerdown', (event) => {
+    const node = event.target instanceof Element ? event.target.closest('button') : null, number = Number(node?.dataset.number);
+    if (number) press.begin(event, () => asked.number(number, true));
+  });
+  document.addEventListener('click', ({target}) => {
+    const node = target instanceof Element ? target.closest('button') : null;
+    const {isLong} = press;
+    press.isLong = false;
+    if (!node || node.disabled || isLong || !asked.isReady()) return;
+    const {do: name, number, step, set} = node.dataset;
+    if (number) asked.number(Number(number), false);
+    if (step) asked.step(Number(step));
+    if (set) asked.set(set);
+    if (name) asked.act(name);
+  });
+}
+
+/** A finger counts as it is lifted, and not by the click that comes of it: with that a browser shows the button pressed, and takes no answer meanwhile. */
+function fingers() {
+  /** @type {HTMLButtonElement | null} */
+  let lifted = null;
+  document.addEventListener('pointerup', ({pointerType, target, clientX, clientY}) => {
+    const node = target instanceof Element ? /** @type {HTMLButtonElement | null} */ (target.closest('#side button')) : null;
+    lifted = pointerType === 'touch' && node?.contains(document.elementFromPoint(clientX, clientY)) ? node : null;
+  });
+  document.addEventListener('touchend', (event) => {
+    if (lifted && event.cancelable) {
+      event.preventDefault();
+      lifted.click();
+    }
+    lifted = null;
+  }, {passive: false});
+}
+
+/** A press that lasts, of a finger or of the mouse. The click that ends it counts for nothing. */
+class LongPress {
+  /** @param {Asked} asked */
+  constructor(asked) {
+    this.asked = asked;
+    this.timer = 0;
+    /** Whether the press that a click ends is a long one. */
+    this.isLong = false;
+    this.from = {x: 0, y: 0};
+    document.addEventListener('pointermove', ({clientX, clientY}) => {
+      if (Math.hypot(clientX - this.from.x, clientY - this.from.y) > STILL) this.end();
+    });
+    document.addEventListener('pointerdown', () => { this.isLong = false; }, {capture: true});
+    for (const event of ['pointerup', 'pointercancel']) document.addEventListener(event, () => this.end());
+  }
+
+  /** @param {PointerEvent} event @param {() => void} act */
+  begin({clientX, clientY}, act) {
+    this.end();
+    this.from = {x: clientX, y: clientY};
+    this.timer = setTimeout(() => {
+      this.isLong = true;
+      act();
+    }, LONG);
+  }
+
+  end() {
+    clearTimeout(this.timer);
+  }
+}
+
+/** @param {EventTarget | null} target */
+const placeNode = (target) => (target instanceof Element ? /** @type {SVGElement | null} */ (target.closest('[data-place]')) : null);
+
+/** @param {EventTarget | null} target */
+const placeOf = (target) => placeNode(target)?.dataset.place ?? '';
+
+/** @param {EventTarget | null} target */
+const isClue = (target) => placeNode(target)?.classList.contains('clue') ?? false;

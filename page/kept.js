@@ -1,0 +1,85 @@
+// A game as it is kept: the text of its save, and what the list of games shows of it.
+import {NAMES, isGame, isOffered, numberIn} from './games.js';
+import {gameOf, isSolved, letterOf, progress} from './objects.js';
+
+/** @typedef {import('./turns.js').Game} Game */
+/** @typedef {import('./games.js').Fair} Fair */
+/** @typedef {import('./objects.js').Board} Board */
+/** @typedef {import('./objects.js').Session} Session */
+// How far a game is.
+/** @typedef {'playing' | 'solved' | 'filled'} State */
+
+/**
+ * `turn` counts the changes, so that a tab sees whether another one has moved; `joined` has the positions after several moves that undo takes
+ * back as one, with those before; `solved` is when it was solved first, in milliseconds.
+ * @typedef {{key: string, turn: number, game: Game, save: string, id: string, fair: Fair | null, begun: number, when: number,
+ *   seconds: number, hints: number, joined: [number, number][], solved: number, numbers: number[], givens: number[], state: State}} Kept
+ */
+
+// A game that begins.
+/** @param {Session} session @param {Board} board @param {string} save @param {Fair | null} fair @returns {Kept} */
+export function begunGame(session, board, save, fair) {
+  const now = Date.now(), game = gameOf(session), plain = {key: newKey(), turn: 1, game, fair, begun: now, seconds: 0, hints: 0, solved: 0};
+  return {...plain, ...seenOf(session, board, save), joined: []};
+}
+
+/** A name for a game that no other one has. */
+export const newKey = () => `${Date.now().toString(36)}-${Math.floor(Math.random() * 1e9).toString(36)}`;
+
+// What is seen of a state of the game.
+/** @param {Session} session @param {Board} board @param {string} save */
+export function seenOf(session, board, save) {
+  const {numbers, givens} = board;
+  return {save, id: session.id, when: Date.now(), numbers, givens, state: stateOf(session, board)};
+}
+
+/** @param {Session} session @param {Board} board @returns {State} */
+function stateOf(session, board) {
+  if (!isSolved(board)) return 'playing';
+  return session.status === 'helped' ? 'filled' : 'solved';
+}
+
+/** @param {Kept} kept */
+export const sizeOf = ({id}) => Number(id.charAt(0));
+
+// The class of the game.
+/** @param {Kept} kept */
+export const kindOf = (kept) => ({game: kept.game, size: sizeOf(kept), letter: letterOf(kept.id)});
+
+/** @param {Kept} kept */
+export const farOf = ({numbers, givens}) => progress({size: 0, numbers, givens, marks: [], clues: [], signs: [], errors: [], cheated: false});
+
+// The game of a text that is kept, or comes from a file; nothing where it is none.
+/** @param {unknown} text @returns {Kept | null} */
+export function keptIn(text) {
+  try {
+    return keptOf(typeof text === 'string' ? JSON.parse(text) : text);
+  } catch {
+    return null;
+  }
+}
+
+/** @param {any} value @returns {Kept | null} */
+function keptOf(value) {
+  const {key, game, save, id, state} = value, texts = [key, save, id];
+  const counts = [value.turn, value.begun, value.when, value.seconds, value.hints, value.solved];
+  if (!texts.every((text) => typeof text === 'string') || !isGame(game) || !/^[3-9]/.test(id)) return null;
+  if (!counts.every((count) => Number.isFinite(count) && count >= 0) || !['playing', 'solved', 'filled'].includes(state)) return null;
+  if (![value.numbers, value.givens].every((list) => isNumbers(list) && list.length === Number(id.charAt(0)) ** 2)) return null;
+  if (!Array.isArray(value.joined) || !value.joined.every((/** @type {unknown} */ pair) => isNumbers(pair) && pair.length === 2)) return null;
+  const [turn, begun, when, seconds, hints, solved] = counts, {joined, numbers, givens} = value;
+  return {key, turn, game, save, id, fair: fairOf(value.fair, game), begun, when, seconds, hints, joined, solved, numbers, givens, state};
+}
+
+/** @param {unknown} list @returns {list is number[]} */
+const isNumbers = (list) => Array.isArray(list) && list.every((one) => Number.isInteger(one) && one >= 0);
+
+/** @param {any} value @param {Game} game @returns {Fair | null} */
+function fairOf(value, game) {
+  if (!value || value.game !== game || !isOffered(value) || numberIn(String(value.number)) !== value.number) return null;
+  return {game, size: value.size, letter: value.letter, number: value.number};
+}
+
+// A name for the save's file.
+/** @param {Kept} kept @param {string} grade */
+export const fileName = (kept, grade) => `${[NAMES[kept.game].toLowerCase(), sizeOf(kept), grade].filter(Boolean).join('-')}.sav`;

@@ -1,0 +1,66 @@
+// What is said: a line that is seen, which fades, with an offer beside it; and one for readers of screens alone.
+import {part} from './drawing.js';
+
+// What can be done at once.
+/** @typedef {{text: string, run: () => void}} Offer */
+/** @typedef {{bad?: boolean, lasting?: boolean, offer?: Offer | null}} How */
+
+/** How long a sentence stays at least, and for each of its letters, in milliseconds. */
+const STAYS = 4000, A_LETTER = 60;
+
+export class Messages {
+  constructor() {
+    /** @type {Offer | null} */
+    this.offered = null;
+    this.timer = 0;
+    // What is to be seen where there is nothing else to say.
+    /** @type {{text: string, how: How}} */
+    this.rest = {text: '', how: {}};
+    part('offer').addEventListener('click', () => this.offered?.run());
+  }
+
+  /** @param {string} text @param {How} [how] */
+  tell(text, how = {}) {
+    clearTimeout(this.timer);
+    this.write(text, how);
+    if (text && !how.lasting && !how.offer) this.timer = setTimeout(() => this.fade(), STAYS + A_LETTER * text.length);
+  }
+
+  fade() {
+    if (this.rest.text) this.clear();
+    else part('message').classList.add('fading');
+  }
+
+  /** Nothing more of what was said, but what is to be seen then. */
+  clear() {
+    clearTimeout(this.timer);
+    this.write(this.rest.text, this.rest.how);
+  }
+
+  // What is to be seen from here on where there is nothing else to say.
+  /** @param {string} text @param {How} [how] */
+  stay(text, how = {}) {
+    const isNew = text !== this.rest.text;
+    this.rest = {text, how};
+    if (isNew) this.clear();
+  }
+
+  // The same sentence once more is announced only where it was gone in between.
+  /** @param {string} text @param {How} how */
+  write(text, {bad = false, offer = null}) {
+    const message = part('message'), told = part('told');
+    this.offered = offer;
+    message.classList.remove('fading');
+    told.replaceChildren();
+    told.append(text);
+    told.classList.toggle('bad', bad);
+    part('offer').textContent = offer?.text ?? '';
+    part('offer').hidden = !offer;
+  }
+
+  // For readers of screens.
+  /** @param {string} text */
+  say(text) {
+    part('said').textContent = text;
+  }
+}

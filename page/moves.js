@@ -1,0 +1,183 @@
+// What a player does to the present game, as lines of the module.
+import {cellOf, crossing, isFull, isSolved, placeOf} from './objects.js';
+import {
+  ALL_POSSIBLE, AT_START, COMPLETABLE, FILL_IN, FULL, NEVER_RIGHT, NO_HINT, NOT_A_CLUE, NOT_A_SQUARE, NOTHING_TO_CLEAR, SOLVED, STILL_RIGHT,
+  takenBackText,
+} from './texts.js';
+
+/** @typedef {import('./present.js').Present} Present */
+/** @typedef {import('./objects.js').Board} Board */
+/** @typedef {import('./objects.js').Place} Place */
+/** @typedef {import('./objects.js').Hint} Hint */
+
+export class Moves {
+  /** @param {Present} present @param {(question: string) => Promise<boolean>} confirm */
+  constructor(present, confirm) {
+    this.present = present;
+    this.confirm = confirm;
+  }
+
+  // Puts a number, or flips a pencil mark, in a square.
+  /** @param {Place} place @param {number} number @param {boolean} isMark */
+  put(place, number, isMark) {
+    return this.onSquare(place, (board, cell) => {
+      if (isMark) return [`move P${place},${number}`];
+      if (board.numbers[cell] === number && !board.givens[cell]) return [];
+      return [...this.marksThatGo(board, cell, number), `move R${place},${number}`];
+    });
+  }
+
+  /** @param {Place} place */
+  clear(place) {
+    return this.onSquare(place, ({numbers, marks}, cell) => (numbers[cell] || marks[cell].length ? [`move R${place},0`] : NOTHING_TO_CLEAR));
+  }
+
+  // What is done to a square depends on what is in it when its turn has come.
+  /** @param {Place} place @param {(board: Board, cell: number) => string[] | string} made */
+  onSquare(place, made) {
+    return this.present.inTurn(async () => {
+      const cell = cellOf(place, this.present.board.size), lines = cell < 0 ? NOT_A_SQUARE : made(this.present.board, cell);
+      if (typeof lines === 'string') this.present.front.tell(lines);
+      else if (lines.length) await this.present.play(lines);
+    });
+  }
+
+  // Where marks go with numbers: moves before the number that take its marks out of its row and column, so that it is the first to be undone.
+  /** @param {Board} board @param {number} cell @param {number} number */
+  marksThatGo(board, cell, number) {
+    if (!this.present.shelf.settings.tidy || board.givens[cell]) return [];
+    const cells = crossing(cell, board.size).filter((one) => one !== cell && board.marks[one].includes(number));
+    return cells.map((one) => `move P${placeOf(one, board.size)},${number}`);
+  }
+
+  // Plays a line as it is.
+  /** @param {string} line */
+  line(line) {
+    return this.present.inTurn(() => this.present.play([line]));
+  }
+
+  // One move back or forth, of however many states.
+  /** @param {'undo' | 'redo'} way */
+  walk(way) {
+    return this.present.inTurn(() => this.present.play(Array(this.present.statesOf(way, this.present.session.position)).fill(way), true));
+  }
+
+  /** @param {Place} place */
+  done(place) {
+    if (cellOf(place, this.present.board.size) < 0) return this.line(`move D${place}`);
+    this.present.front.tell(NOT_A_CLUE);
+    return Promise.resolve(null);
+  }
+
+  restart() {
+    return this.present.inTurn(async () => {
+      if (await this.present.play(['restart'])) this.present.front.tell(AT_START);
+    });
+  }
+
+  /** The marks become the numbers that are possible by what is in view, as the module says it. */
+  possible() {
+    return this.present.inTurn(async () => {
+      const {board} = this.present, {answer} = await this.present.ask('hint'), view = answer.hint?.view;
+      if (!view) return;
+      const lines = flips(board, view);
+      if (lines.length) await this.present.play(lines);
+      else this.present.front.tell(ALL_POSSIBLE);
+    });
+  }
+
+  /** Fills in the solution, after a question. */
+  async solve() {
+    if (!(await this.confirm(FILL_IN))) return null;
+    return this.present.inTurn(async () => {
+      const answer = await this.present.play(['solve']);
+      if (answer && !isSolved(this.present.board)) this.present.front.tell(`${answer.reply.join(' ')}.`);
+    });
+  }
+
+  // A line that the player has typed: what it says where it changes nothing.
+  /** @param {string} line @returns {Promise<string[] | null>} */
+  typed(line) {
+    return this.present.inTurn(async () => {
+      const answer = await this.present.play([line], line === 'undo' || line === 'redo');
+      return answer && answer.reply.join() !== 'ok' ? answer.reply : null;
+    });
+  }
+
+  /** Whether these numbers can be completed, as a sentence; `none` where they can't, and nothing where that isn't known. */
+  check() {
+    return this.present.inTurn(async () => {
+      const {board} = this.present, {answer} = await this.present.ask('completable');
+      if (this.present.isRefused('completable', answer) || !answer.completable) return null;
+      if (answer.completable === 'none') return 'none';
+      return isSolved(board) ? SOLVED : COMPLETABLE[answer.completable];
+    });
+  }
+
+  /** How many moves ago the numbers could be completed last; 0 where they never could, and nothing where that isn't known. */
+  sinceRight() {
+    return this.present.inTurn(async () => {
+      let {save} = this.present.kept, {position} = this.present.session, moves = 0;
+      while (position > 1) {
+        const states = this.present.statesOf('undo', position), turned = await this.present.askAll([...Array(states).fill('undo'), 'completable'], save);
+        if (!turned) return null;
+        [save, position, moves] = [turned.save, position - states, moves + 1];
+        if (turned.answer.completable !== 'none') return moves;
+      }
+      return 0;
+    });
+  }
+
+  // Takes so many moves back.
+  /** @param {number} moves */
+  takeBack(moves) {
+    return this.present.inTurn(async () => {
+      let {position} = this.present.session, states = 0;
+      for (let move = 0; move < moves; move++) {
+        const more = this.present.statesOf('undo', position);
+        [position, states] = [position - more, states + more];
+      }
+      if (await this.present.play(Array(states).fill('undo'), true)) this.present.front.tell(takenBackText(moves));
+    });
+  }
+
+  /** Takes moves back until the numbers can be completed. */
+  async back() {
+    const answer = await this.check(), moves = answer === 'none' ? await this.sinceRight() : null;
+    if (moves) await this.takeBack(moves);
+    else if (moves === 0) this.present.front.tell(NEVER_RIGHT, {bad: true});
+    else if (answer && answer !== 'none') this.present.front.tell(STILL_RIGHT);
+  }
+
+  // The hint of the board's numbers; nothing where none follows, and a sentence says so then.
+  /** @returns {Promise<Hint | null>} */
+  hint() {
+    return this.present.inTurn(async () => {
+      const {board, front} = this.present, {answer} = await this.present.ask('hint');
+      if (this.present.isRefused('hint', answer) || !answer.hint) return null;
+      const {kind} = answer.hint;
+      if (kind === 'nothing') front.tell(isSolved(board) ? SOLVED : isFull(board) ? FULL : NO_HINT);
+      return kind === 'nothing' ? null : answer.hint;
+    });
+  }
+
+  /** One hint more is counted. */
+  countHint() {
+    return this.present.inTurn(async () => {
+      const {kept, board, session} = this.present;
+      await this.present.keep({...kept, hints: kept.hints + 1}, {board, session});
+    });
+  }
+}
+
+// The moves by which the marks of all empty squares become these: one by one, or from all marks on, where that is shorter.
+/** @param {Board} board @param {number[][]} view */
+function flips({size, numbers, marks}, view) {
+  const empty = numbers.flatMap((number, cell) => (number ? [] : [cell])), all = Array.from({length: size}, (_, at) => at + 1);
+  const from = (/** @type {(cell: number) => number[]} */ there) => empty.flatMap((cell) => {
+    const other = all.filter((number) => there(cell).includes(number) !== view[cell].includes(number));
+    return other.map((number) => `move P${placeOf(cell, size)},${number}`);
+  });
+  const single = from((cell) => marks[cell]), whole = ['move M', ...from(() => all)];
+  return whole.length < single.length ? whole : single;
+}

@@ -1,0 +1,79 @@
+// What the module tells of a game: the objects of puzzles-json, by the names of docs/JSON.md.
+
+/** @typedef {import('./turns.js').Game} Game */
+/** @typedef {{game: string, id: string, position: number, states: number, status: 'playing' | 'solved' | 'helped'}} Session */
+/** @typedef {{clue: number, x: number, y: number, done: boolean, error: boolean}} Clue */
+/** @typedef {{greater: number, less: number, error: boolean}} Sign */
+/** @typedef {{size: number, numbers: number[], givens: number[], marks: number[][], clues: Clue[], signs: Sign[], errors: number[], cheated: boolean}} Board */
+/** @typedef {{cell: number, numbers: number[]}} Strike */
+/**
+ * @typedef {{reason: string, x: number | null, y: number | null, clue: number | null, greater: number | null, less: number | null,
+ *   cells: number[] | null, line: number | null, strikes: Strike[], text: string[]}} Step
+ */
+/**
+ * @typedef {{kind: 'follows' | 'nothing' | 'contradiction', cell: number | null, number: number | null, line: number | null, grade: string | null,
+ *   view?: number[][], steps: Step[], text: string[]}} Hint
+ */
+/**
+ * @typedef {{lost?: string, refused: string | null, reply: string[], session: Session | null, board?: Board, hint?: Hint, grade?: string | null,
+ *   completable?: 'none' | 'one' | 'several'}} Answer
+ */
+
+/**
+ * A place on a board: column and row of a square, counted from 0, or of a clue, which has -1 or the size in one of them.
+ * @typedef {string} Place
+ */
+
+/** @param {number} x @param {number} y @returns {Place} */
+export const placeAt = (x, y) => `${x},${y}`;
+
+/** @param {number} cell @param {number} size */
+export const placeOf = (cell, size) => placeAt(cell % size, Math.floor(cell / size));
+
+// The cell of a square; -1 of a clue.
+/** @param {Place} place @param {number} size */
+export function cellOf(place, size) {
+  const [x, y] = place.split(',').map(Number);
+  return x >= 0 && y >= 0 && x < size && y < size ? y * size + x : -1;
+}
+
+// The cells of a square's row and column, that square among them.
+/** @param {number} cell @param {number} size */
+export function crossing(cell, size) {
+  const x = cell % size, y = Math.floor(cell / size);
+  return Array.from({length: size * size}, (_, at) => at).filter((at) => at % size === x || Math.floor(at / size) === y);
+}
+
+// How many squares the player has filled, and how many there are to fill.
+/** @param {Board} board */
+export function progress({numbers, givens}) {
+  const given = givens.filter(Boolean).length;
+  return {filled: numbers.filter(Boolean).length - given, empty: numbers.length - given};
+}
+
+/** @param {Board} board */
+export const isFull = ({numbers}) => numbers.every(Boolean);
+
+// A full board on which nothing is an error is a solution: the program promises it.
+/** @param {Board} board */
+export const isSolved = (board) => isFull(board) && !board.errors.length && ![...board.clues, ...board.signs].some(({error}) => error);
+
+// The word of the page for a game that the module names.
+/** @param {Session} session @returns {Game} */
+export const gameOf = (session) => (session.game === 'Unequal' ? 'unequal' : 'towers');
+
+// The letter of the grade in an ID; nothing where it has none.
+/** @param {string} id */
+export const letterOf = (id) => /^[3-9]d([a-z])/.exec(id)?.[1] ?? '';
+
+// The sentences of a text, of which those lines go on that begin with blanks.
+/** @param {string[]} lines */
+export function sentences(lines) {
+  /** @type {string[]} */
+  const found = [];
+  for (const line of lines) {
+    if (line.startsWith(' ') && found.length) found[found.length - 1] += ` ${line.trim()}`;
+    else found.push(line);
+  }
+  return found;
+}

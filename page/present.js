@@ -1,0 +1,176 @@
+// The present game: lines go to the module with the text of its save, and what comes of them is kept. One thing at a time, whatever is asked for.
+import {begunGame, seenOf} from './kept.js';
+import {FAULTS, MOVED, refusal} from './texts.js';
+import {Unanswered} from './turns.js';
+
+/** @typedef {import('./turns.js').Turns} Turns */
+/** @typedef {import('./turns.js').Game} Game */
+/** @typedef {import('./games.js').Fair} Fair */
+/** @typedef {import('./kept.js').Kept} Kept */
+/** @typedef {import('./shelf.js').Shelf} Shelf */
+/** @typedef {import('./objects.js').Answer} Answer */
+/** @typedef {import('./objects.js').Board} Board */
+/** @typedef {import('./objects.js').Session} Session */
+// What the module answers a line, and the text of the save after it.
+/** @typedef {{answer: Answer, save: string}} Turned */
+// What can be shown: a board and the session that it is of.
+/** @typedef {{board: Board, session: Session}} Looked */
+/**
+ * Whoever shows the game: another one has begun; it has changed, by this tab or another one; there is something to say; the program takes long.
+ * @typedef {{begins(): void, changes(before: Board, isOwn: boolean): void, tell(text: string, how?: {bad?: boolean}): void, busy(isBusy: boolean): void}} Front
+ */
+
+/** After so many milliseconds the player learns that the program is at work. */
+const PATIENCE = 400;
+
+export class Present {
+  /** @param {Turns} turns @param {Shelf} shelf @param {Front} front */
+  constructor(turns, shelf, front) {
+    this.turns = turns;
+    this.shelf = shelf;
+    this.front = front;
+    /** @type {Promise<unknown>} */
+    this.queue = Promise.resolve();
+    /** @type {(Looked & {kept: Kept}) | null} */
+    this.there = null;
+    this.isBusy = false;
+  }
+
+  get kept() { return this.game().kept; }
+  get board() { return this.game().board; }
+  get session() { return this.game().session; }
+
+  game() {
+    if (!this.there) throw new Error('no game has begun');
+    return this.there;
+  }
+
+  // Does something when its turn has come. Where the module fails nothing has changed, and a sentence says so.
+  /** @template T @param {() => Promise<T>} work @returns {Promise<T | null>} */
+  inTurn(work) {
+    const done = this.queue.then(async () => {
+      const timer = setTimeout(() => this.busy(true), PATIENCE);
+      try {
+        return await work();
+      } catch (fault) {
+        if (!(fault instanceof Unanswered)) throw fault;
+        this.front.tell(FAULTS[fault.fault], {bad: fault.fault !== 'stopped'});
+        return null;
+      } finally {
+        clearTimeout(timer);
+        if (this.isBusy) this.busy(false);
+      }
+    });
+    this.queue = done.catch(() => null);
+    return done;
+  }
+
+  /** @param {boolean} isBusy */
+  busy(isBusy) {
+    this.isBusy = isBusy;
+    this.front.busy(isBusy);
+  }
+
+  // One line to the session of a save, in a game.
+  /** @param {string} line @param {string} [save] @param {Game} [game] @returns {Promise<Turned>} */
+  async ask(line, save = this.kept.save, game = this.kept.game) {
+    const {said, saved} = await this.turns.turn(game, save, line);
+    return {answer: said ? JSON.parse(said) : {refused: null, reply: [], session: null}, save: saved};
+  }
+
+  // One line after the other; the answer to the last, or to the first that is refused.
+  /** @param {string[]} lines @param {string} [save] */
+  async askAll(lines, save = this.kept.save) {
+    /** @type {Turned} */
+    let turned = {answer: {refused: null, reply: [], session: null}, save};
+    for (const line of lines) {
+      turned = await this.ask(line, turned.save);
+      if (this.isRefused(line, turned.answer)) return null;
+    }
+    return turned;
+  }
+
+  // Whether the module refuses a line, which is said then.
+  /** @param {string} line @param {Answer} answer @param {Game} [game] */
+  isRefused(line, {refused, lost}, game = this.kept.game) {
+    const name = lost ?? refused;
+    if (name) this.front.tell(refusal(line, name, game));
+    return Boolean(name);
+  }
+
+  // The board of a save.
+  /** @param {string} save @param {Game} game @returns {Promise<Looked>} */
+  async look(save, game) {
+    const {answer} = await this.ask('board', save, game), {board, session} = answer;
+    if (!board || !session) throw new Unanswered(answer.lost ? 'memory' : 'unread');
+    return {board, session};
+  }
+
+  // Plays lines as one move, and keeps the game that comes of them; the last answer.
+  /** @param {string[]} lines @param {boolean} isWalk  back or forth */
+  async play(lines, isWalk = false) {
+    if (await this.isBehind()) return null;
+    const before = this.session.position, turned = await this.askAll(lines);
+    if (!turned) return null;
+    const {board, session} = await this.look(turned.save, this.kept.game), after = session.position, {joined} = this.kept;
+    /** @type {[number, number][]} */
+    const added = after - before > 1 ? [[after, before]] : [];
+    const stays = isWalk || after <= before ? joined : [...joined.filter(([last]) => last <= before), ...added];
+    await this.keep({...this.kept, ...seenOf(session, board, turned.save), joined: stays}, {board, session});
+    return turned.answer;
+  }
+
+  // How many states the last move, or the next one, is.
+  /** @param {'undo' | 'redo'} way @param {number} position */
+  statesOf(way, position) {
+    const {joined} = this.kept, [last, first] = joined.find(([last, first]) => (way === 'undo' ? last : first) === position) ?? [1, 0];
+    return last - first;
+  }
+
+  /** Whether another tab has moved in between; its game is shown then, and a sentence says so. */
+  async isBehind() {
+    const isBehind = await this.catchUp();
+    if (isBehind) this.front.tell(MOVED, {bad: true});
+    return isBehind;
+  }
+
+  // Shows what another tab has made of this game, where it has; whether it has.
+  /** @param {Kept | null} there */
+  async catchUp(there = this.shelf.game(this.kept.key)) {
+    if (!there || there.key !== this.kept.key || there.turn === this.kept.turn) return false;
+    this.change(there, await this.look(there.save, there.game), false);
+    return true;
+  }
+
+  // Keeps the game as it is now, and shows it.
+  /** @param {Kept} kept @param {Looked} looked */
+  async keep(kept, looked) {
+    const next = {...kept, turn: this.kept.turn + 1, seconds: this.kept.seconds};
+    if (!this.shelf.keep(next)) await this.isBehind();
+    else this.change(next, looked, true);
+  }
+
+  /** @param {Kept} kept @param {Looked} looked @param {boolean} isOwn */
+  change(kept, looked, isOwn) {
+    const before = this.board;
+    this.there = {...looked, kept};
+    this.front.changes(before, isOwn);
+  }
+
+  // Goes on with a game.
+  /** @param {Kept} kept @param {Looked} looked */
+  take(kept, looked) {
+    if (this.there) this.shelf.keepTime(this.kept);
+    this.there = {...looked, kept};
+    this.shelf.now = kept.key;
+    this.front.begins();
+  }
+
+  // Begins a game that isn't kept yet.
+  /** @param {string} save @param {Game} game @param {Fair | null} fair */
+  async begin(save, game, fair) {
+    const looked = await this.look(save, game), kept = begunGame(looked.session, looked.board, save, fair);
+    this.shelf.keep(kept);
+    this.take(kept, looked);
+  }
+}

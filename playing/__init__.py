@@ -1,0 +1,27 @@
+"""What the board, the lines of text and the sheets have in common: the talk with the program, and the games that are kept.
+
+There is no rule of play here. What is wrong, what is full and what follows comes from the program `puzzles-json`, one object a line. From below
+upwards:
+
+naming       how squares, lines and clues are called
+steps        the steps of a hint, as the program tells them
+board        what the program tells of a game
+typed        numbers as they are typed
+printable    text from outside, as a terminal may be sent it
+files        reads, makes and locks files: regular ones alone
+saves        what a front end itself sees in a save
+program      talks to the program
+fair         fair games: which there are, and the line for one
+beside       what is kept beside a save: how many hints a game had, and its number
+state        where games are kept, and what was chosen last
+games        games worth playing: fair ones, and the stored puzzles, which lie in `bank/`; and a line on a game
+texts        a sentence for each refusal
+choices      which new game: size, grade, number or ID
+hint_walk    a hint as a walk along its steps
+present      the present game, and what can be done with it
+game         how a game begins, and what becomes of the one before
+version      what is said of the version
+command      how the commands begin and end
+
+Linux and Python 3.8 or later, with nothing beside its standard library.
+"""

@@ -1,0 +1,136 @@
+"""A browser that plays as a person does, by the actions that WebDriver and its younger kin, BiDi, have in common."""
+
+from __future__ import annotations
+
+import json
+import time
+from typing import Any, Dict, List, Sequence, Tuple
+
+Point = Tuple[float, float]
+
+#: Keys that are no letters, by what a page calls them, as both protocols have them.
+KEYS = {
+    'Enter': '\ue007', 'Escape': '\ue00c', 'Backspace': '\ue003', 'Delete': '\ue017', 'Tab': '\ue004',
+    'ArrowLeft': '\ue012', 'ArrowRight': '\ue014', 'ArrowUp': '\ue013', 'ArrowDown': '\ue015', 'Control': '\ue009', 'Shift': '\ue008',
+}  # fmt: skip
+
+#: What each button of the mouse is called by its number.
+LEFT, RIGHT = 0, 2
+
+#: A long press lasts so many milliseconds.
+LONG = 700
+
+
+class Driver:
+    """One browser. Those below say how it is asked."""
+
+    #: Whether it can be touched with a finger.
+    has_touch = True
+
+    def __init__(self, seconds: float = 60) -> None:
+        self._seconds = seconds
+
+    # --- how it is asked ---
+
+    def go(self, url: str) -> None:
+        raise NotImplementedError
+
+    def value(self, expression: str) -> Any:
+        """What an expression is worth in the page; where it is a promise, what it promises."""
+        raise NotImplementedError
+
+    def perform(self, actions: Sequence[Dict[str, Any]]) -> None:
+        raise NotImplementedError
+
+    def size(self, width: int, height: int) -> None:
+        """What is seen of the page, as far as the browser can be so small."""
+        raise NotImplementedError
+
+    def picture(self) -> bytes:
+        raise NotImplementedError
+
+    def open(self) -> str:
+        """One more tab, which is asked from here on."""
+        raise NotImplementedError
+
+    def turn_to(self, tab: str) -> None:
+        raise NotImplementedError
+
+    def close_tab(self) -> None:
+        raise NotImplementedError
+
+    def end(self) -> None:
+        raise NotImplementedError
+
+    @property
+    def tab(self) -> str:
+        raise NotImplementedError
+
+    # --- what a player sees and does ---
+
+    def __enter__(self) -> Driver:
+        return self
+
+    def __exit__(self, *_: object) -> None:
+        self.end()
+
+    def wait_for(self, condition: str) -> None:
+        """Until an expression is true in the page."""
+        end = time.monotonic() + self._seconds
+        while not self.value(f'Boolean({condition})'):
+            assert time.monotonic() < end, f'{condition} in vain'
+            time.sleep(0.02)
+
+    def press(self, *keys: str, control: bool = False) -> None:
+        """Keys, one after the other: characters, or names of `KEYS`."""
+        actions: List[Dict[str, Any]] = [{'type': 'keyDown', 'value': KEYS['Control']}] if control else []
+        for key in keys:
+            press = [{'type': kind, 'value': KEYS.get(key, key)} for kind in ('keyDown', 'keyUp')]
+            # A capital letter is one with Shift; WebKit's driver doesn't press that by itself.
+            shift = [{'type': kind, 'value': KEYS['Shift']} for kind in ('keyDown', 'keyUp')] if len(key) == 1 and key.isupper() else []
+            actions += [*shift[:1], *press, *shift[1:]]
+        actions += [{'type': 'keyUp', 'value': KEYS['Control']}] if control else []
+        self.perform([{'type': 'key', 'id': 'keys', 'actions': actions}])
+
+    def type(self, text: str) -> None:
+        self.press(*text)
+
+    def middle(self, selector: str) -> Point:
+        """Of an element, which is scrolled to."""
+        found = self.value(
+            f'(node => {{ node.scrollIntoView({{block: "nearest"}}); const box = node.getBoundingClientRect();'
+            f' return [box.left + box.width / 2, box.top + box.height / 2] }})(document.querySelector({json.dumps(selector)}))'
+        )
+        return found[0], found[1]
+
+    def click(self, selector: str, button: int = LEFT) -> None:
+        self._point('mouse', selector, button, 0)
+
+    def tap(self, selector: str, milliseconds: int = 0) -> None:
+        """With a finger, which may stay for a while."""
+        self._point('touch', selector, LEFT, milliseconds)
+
+    def hold(self, selector: str) -> None:
+        """A long press, of a finger where the browser takes one."""
+        self._point('touch' if self.has_touch else 'mouse', selector, LEFT, LONG)
+
+    def _point(self, kind: str, selector: str, button: int, milliseconds: int) -> None:
+        x, y = self.middle(selector)
+        actions: List[Dict[str, Any]] = [
+            {'type': 'pointerMove', 'x': round(x), 'y': round(y), 'origin': 'viewport', 'duration': 0},
+            {'type': 'pointerDown', 'button': button},
+            *([{'type': 'pause', 'duration': milliseconds}] if milliseconds else []),
+            {'type': 'pointerUp', 'button': button},
+        ]
+        self.perform([{'type': 'pointer', 'id': kind, 'parameters': {'pointerType': kind}, 'actions': actions}])
+
+
+def until(is_so: Any, seconds: float = 30) -> Any:
+    """What comes of a call, as soon as it is something."""
+    end = time.monotonic() + seconds
+    while True:
+        found = is_so()
+        if found:
+            return found
+        assert time.monotonic() < end, 'in vain'
+        time.sleep(0.02)

@@ -1,0 +1,72 @@
+"""What desktops read of us: what stands in their menu, and what a centre for software tells. The desktop's own tools find nothing wrong with it."""
+
+import os
+import re
+import shutil
+import xml.etree.ElementTree as xml
+from configparser import ConfigParser
+from typing import List
+
+import pytest
+
+from tests.harness import Room, run
+from tests.harness.builds import TOP
+
+FOLDER = TOP / 'desktop'
+ENTRIES = sorted(path.name for path in FOLDER.glob('*.desktop'))
+METAINFO = FOLDER / 'verified-puzzles.metainfo.xml'
+
+COMMANDS = {'puzzles', 'puzzles-json', 'puzzles-page', 'puzzles-play', 'puzzles-sheet'}
+
+
+def validated(room: Room, words: List[str]) -> None:
+    if not shutil.which(words[0]):
+        pytest.skip(f'there is no {words[0]}')
+    ended = run([shutil.which(words[0]) or '', *words[1:]], room)
+    assert ended.status == 0, ended.said
+
+
+@pytest.mark.parametrize('name', ENTRIES)
+def test_entry(room: Room, name: str) -> None:
+    validated(room, ['desktop-file-validate', '--warn-kde', str(FOLDER / name)])
+    told = ConfigParser(interpolation=None)
+    told.read(FOLDER / name, encoding='utf-8')
+    entry = told['Desktop Entry']
+    assert entry['Exec'] in COMMANDS
+    assert entry['TryExec'] == entry['Exec']
+    assert entry['Icon'] == 'verified-puzzles'
+
+
+def test_metainfo(room: Room) -> None:
+    validated(room, ['appstreamcli', 'validate', '--no-net', str(METAINFO)])
+
+
+def test_metainfo_is_true() -> None:
+    """It leads to what is installed, and its versions are those of the changes."""
+    told = xml.parse(METAINFO).getroot()
+    assert {one.text for one in told.iter('binary')} == COMMANDS
+    assert [one.text for one in told.iter('launchable')] == ['verified-puzzles.desktop']
+    changes = (TOP / 'CHANGELOG.md').read_text(encoding='utf-8')
+    released = re.findall(r'^## ([\d.]+), (\d{4}-\d\d-\d\d)$', changes, re.MULTILINE)
+    assert [(one.get('version'), one.get('date')) for one in told.iter('release')] == released
+
+
+@pytest.mark.parametrize(('name', 'width'), [('icon-180.png', 180), ('icon-192.png', 192), ('icon-512.png', 512)])
+def test_icon(name: str, width: int) -> None:
+    """A picture says its width and its height behind the first 16 bytes."""
+    head = (TOP / 'page' / name).read_bytes()[:24]
+    assert head[:8] == b'\x89PNG\r\n\x1a\n'
+    assert [int.from_bytes(head[at:at + 4], 'big') for at in (16, 20)] == [width, width]
+
+
+def test_page_opens(room: Room) -> None:
+    """The command opens the file that it prints, where there is a screen; where there is none it says so, and prints it."""
+    command, page = str(TOP / 'page' / 'puzzles-page'), f'{TOP}/programs/web/puzzles.html\n'
+    assert run([command, '--path'], room) == (0, page.encode(), b'')
+    none = run([command], room)
+    assert (none.status, none.output, none.error) == (1, page.encode(), b'puzzles-page: there is no screen here: open this file in a browser:\n')
+    room.put('xdg-open', b'#!/bin/sh\necho "$@" > opened.part && mv opened.part opened\n')
+    os.chmod(f'{room.path}/xdg-open', 0o755)
+    opened = run(['sh', '-c', f'PATH={room.path}:$PATH DISPLAY=:9 "$0" && until [ -e opened ]; do sleep 0.05; done', command], room)
+    assert (opened.status, opened.said) == (0, '')
+    assert room.read('opened') == page.encode()

@@ -1,0 +1,99 @@
+"""Hints of boards of all sizes and classes, right ones and wrong ones: each step holds where it stands by the second implementation.
+
+It is a sample of boards. HINT_BOARDS in the environment says how many there are to be, as HINT_BOARDS=20000.
+"""
+
+import os
+from random import Random
+from typing import Dict, Iterator, List, NamedTuple, Sequence, Tuple
+
+import pytest
+
+from tests.harness import Room, run
+from tests.objects.boards import puzzle_of
+from tests.objects.reading import Object, read_answers
+from tests.objects.solutions import expect_hint
+from tests.objects.steps import expect_steps
+from tests.second_implementation.grades import HARD, LETTERS
+
+#: Game, size and letter of each class of fair games.
+CLASSES = [
+    (game, size, letter) for game, letters in LETTERS.items() for size in range(3, 10) for letter, grade in letters.items() if grade < HARD or size > 3
+]
+
+BOARDS = int(os.environ.get('HINT_BOARDS', '400'))
+
+#: How many boards are asked in one run of the program, and how many of a board's numbers are wrong.
+EACH, WRONG = 20, [0, 0, 0, 1, 2, 3]
+
+
+class Asked(NamedTuple):
+    """A board, by the line that begins its game and its moves; and the numbers of the steps that are looked at, square by square."""
+
+    game: str
+    lines: List[str]
+    ends: List[Dict[int, List[int]]]
+
+
+#: Numbers that a clue strikes with what stands, and only when an earlier one of them is struck: they are steps of their own.
+ONE_BY_ONE = [
+    Asked('towers', ['new 4:////2///////////2,c2b4i'], [{15: [1]}, {13: [4]}]),
+    Asked(
+        'towers',
+        ['new 7dh:/3///4/2//3///2//3/1/4//5/3///4//3/////,j1g2c4o2j', 'move R3,0,7', 'move R0,1,7', 'move R1,1,5', 'move R0,2,1', 'move R1,2,3', 'move R6,2,6', 'move R0,3,2'],
+        [{0: [4], 1: [1]}, {0: [3]}],
+    ),
+]
+
+
+def answers(objects: str, room: Room, game: str, lines: Sequence[str]) -> List[Object]:
+    script = ''.join(f'{line}\n' for line in lines).encode()
+    ended = run([objects, game], room, input=script, seconds=100)
+    assert (ended.status, ended.error) == (0, b'')
+    return [answer.found for answer in read_answers(script, ended.output)]
+
+
+def expect_hint_of(game: str, board: Object, hint: Object) -> None:
+    puzzle = puzzle_of(game.title(), board['session']['id'])
+    numbers = tuple(board['board']['numbers'])
+    expect_hint(puzzle, numbers, hint['hint'])
+    expect_steps(puzzle, numbers, hint['hint'])
+
+
+@pytest.mark.parametrize('asked', ONE_BY_ONE, ids=lambda asked: f'{asked.lines[0]}')
+def test_one_by_one(objects: str, room: Room, asked: Asked) -> None:
+    *_, board, hint = answers(objects, room, asked.game, [*asked.lines, 'board', 'hint'])
+    expect_hint_of(asked.game, board, hint)
+    told = [{strike['cell']: strike['numbers'] for strike in step['strikes']} for step in hint['hint']['steps']]
+    assert any(told[at:at + len(asked.ends)] == asked.ends for at in range(len(told))), told
+
+
+def runs() -> Iterator[Tuple[str, int, str, int]]:
+    """A class and a seed for each run: all classes come, and a few runs have both games and sizes from the least to the greatest."""
+    for at in range(-(-BOARDS // EACH)):
+        yield (*CLASSES[10 * at % len(CLASSES)], at)
+
+
+@pytest.mark.parametrize(('game', 'size', 'letter', 'seed'), runs())
+def test_boards(objects: str, room: Room, game: str, size: int, letter: str, seed: int) -> None:
+    """Parts of the solution, with some wrong numbers; and the boards between, as they come in play."""
+    random = Random(seed)
+    begun = f'fair {size} {letter} {seed}'
+    solution = [int(digit) for digit in answers(objects, room, game, [begun, 'solve'])[1]['reply'][0][1:]]
+    lines = [begun]
+    for _ in range(EACH):
+        lines += ['restart', *moves_to(random, size, solution), 'board', 'hint']
+    told = answers(objects, room, game, lines)
+    for board, hint in zip(told, told[1:]):
+        if 'hint' in hint:
+            expect_hint_of(game, board, hint)
+
+
+def moves_to(random: Random, size: int, solution: Sequence[int]) -> List[str]:
+    """Moves that put some numbers of the solution into their squares, and a few wrong ones."""
+    # Half of the boards are at the beginning of a game, where it takes more steps.
+    cells = random.sample(range(size * size), random.randrange(random.choice([size * size, size + 2])))
+    wrong = random.choice(WRONG)
+    return [
+        f'move R{cell % size},{cell // size},{solution[cell] if at >= wrong else random.randint(1, size)}' for at, cell in enumerate(cells)
+    ]

@@ -1,0 +1,92 @@
+"""How fast the page is in Chromium: python3 -m tests.page.speed FILE. It prints a line for each kind, with the median and the 95th per cent."""
+
+from __future__ import annotations
+
+import statistics
+import sys
+import time
+from typing import Callable, List
+
+from tests.harness import Room
+from tests.harness.browser import Browser
+from tests.page.browsers import Piped
+from tests.page.playing import PHONE, Player, at
+
+#: Set before the page begins: when its first board was painted, counted from the navigation; and how long after a finger was lifted the board had changed.
+WATCH = """
+const painted = (then) => requestAnimationFrame(() => { const {port1, port2} = new MessageChannel(); port1.onmessage = then; port2.postMessage(0); });
+new MutationObserver((_, watch) => {
+  if (!document.querySelector('[data-place]')) return;
+  watch.disconnect();
+  painted(() => { window.firstBoard = performance.now(); });
+}).observe(document, {childList: true, subtree: true});
+addEventListener('touchend', ({timeStamp}) => {
+  window.last = 0;
+  new MutationObserver((_, watch) => { watch.disconnect(); painted(() => { window.last = performance.now() - timeStamp; }); })
+    .observe(document.querySelector('#board'), {attributes: true, childList: true, subtree: true});
+}, {capture: true});
+"""
+
+#: From a change of the address to the game of it, and from a hint that is asked for to its first sentence.
+NEW_GAME = """new Promise((done) => {{
+  const begin = performance.now();
+  new MutationObserver((_, watch) => {{ watch.disconnect(); done(performance.now() - begin); }}).observe(document.querySelector('#board'), {{childList: true}});
+  location.hash = '#{link}';
+}})"""
+HINT = """new Promise((done) => {
+  const begin = performance.now();
+  new MutationObserver((_, watch) => {
+    if (!/^Look|^Only/.test(document.querySelector('#told').textContent)) return;
+    watch.disconnect(); done(performance.now() - begin);
+  }).observe(document.querySelector('#told'), {childList: true});
+  document.querySelector('[data-do=hint]').click();
+})"""
+
+RUNS = 20
+
+
+def told(name: str, times: List[float]) -> None:
+    ordered = sorted(times)
+    print(f'{name}: median {statistics.median(ordered):.1f} ms, 95 % {ordered[int(len(ordered) * 0.95) - 1]:.1f} ms, of {len(ordered)}')
+
+
+def times(count: int, one: Callable[[int], float]) -> List[float]:
+    return [one(number) for number in range(count)]
+
+
+def main(page: str) -> None:
+    with Room() as room, Browser(room) as browser:
+        browser.ask('Page.addScriptToEvaluateOnNewDocument', source=WATCH)
+        player = Player(Piped(browser), f'file://{page}').sit('', PHONE)
+
+        def load(_: int) -> float:
+            player.load('towers-5-easy-7')
+            player.driver.wait_for('window.firstBoard')
+            return float(player.value('window.firstBoard'))
+
+        def tap(number: int) -> float:
+            player.driver.tap(at(number % 9, number // 9 % 9))
+            player.settles()
+            player.value('(window.last = 0, true)')
+            player.driver.tap(f'[data-number="{1 + number % 9}"]')
+            player.driver.wait_for('window.last || document.querySelector("#told").textContent')
+            time.sleep(0.02)
+            return float(player.value('window.last'))
+
+        def hint(_: int) -> float:
+            taken = float(player.value(HINT))
+            player.press('h', 'h')
+            player.driver.wait_for('!document.querySelector("#told").textContent')
+            return taken
+
+        told('file to playable board', times(RUNS, load))
+        for link in ('towers-9-easy', 'towers-9-hard', 'unequal-9-trivial', 'unequal-9-easy', 'unequal-9-tricky'):
+            told(f'new game {link}', times(RUNS, lambda number, kind=link: float(player.value(NEW_GAME.format(link=f'{kind}-{1000 + number}')))))  # type: ignore[misc]
+        player.load('unequal-9-tricky-7')
+        told('tap to painted square', [found for found in times(5 * RUNS, tap) if found])
+        player.load('towers-9-hard-7')
+        told('hint', times(RUNS, hint))
+
+
+if __name__ == '__main__':
+    main(sys.argv[1])

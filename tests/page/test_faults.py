@@ -1,0 +1,167 @@
+"""What may go wrong: the module ends in a trap, works for too long, or has no memory; and links, saves and names from people who mean ill."""
+
+from __future__ import annotations
+
+import json
+from pathlib import Path
+from typing import Iterator, List, Tuple
+
+import pytest
+
+from tests.harness import Room
+from tests.harness.driver import Driver
+from tests.harness.game import save_text
+from tests.page.playing import PHONE, Player
+from tests.page.test_games import TOWERS, UNEQUAL, choose
+
+#: Before and after the text of the worker: some lines fail as the engine fails, and one takes forever.
+BEFORE = """
+const make = WebAssembly.instantiate;
+let line = '';
+WebAssembly.instantiate = async (...words) => {
+  const {module, instance} = await make(...words), exports = {...instance.exports}, turn = exports.puzzles_turn;
+  exports.puzzles_turn = (...all) => { if (line === 'move R1,0,2') throw new WebAssembly.RuntimeError('unreachable'); return turn(...all); };
+  return {module, instance: {exports}};
+};
+"""
+AFTER = """
+const answer = self.onmessage;
+self.onmessage = (event) => { line = event.data.line; while (line === 'completable') Math.random(); return answer(event); };
+"""
+
+WORKER = '<script type="text/plain" id="worker">'
+
+
+@pytest.fixture
+def failing(driver: Driver, page: Path, room: Room) -> Iterator[Player]:
+    """At a page whose worker fails."""
+    before, _, rest = page.read_text(encoding='utf-8').partition(WORKER)
+    worker, _, after = rest.partition('</script>')
+    room.put('failing.html', f'{before}{WORKER}{BEFORE}{worker}{AFTER}</script>{after}'.encode())
+    player = Player(driver, f'file://{room.path}/failing.html')
+    yield player
+    player.forget()
+    driver.go('about:blank')
+
+
+def test_trap(failing: Player) -> None:
+    """It is said, nothing has changed, and play goes on in a new worker."""
+    failing.sit(TOWERS)
+    failing.press('1', 'ArrowRight', '2')
+    failing.told('The program failed at that. It has begun anew, and the game is as it was.')
+    failing.press('3', 'ArrowDown', '1')
+    failing.is_called(1, 0, 'row 1, column 2, 3')
+    failing.is_called(1, 1, 'row 2, column 2, 1')
+    assert failing.moves() == ['R0,0,1', 'R1,0,3', 'R1,1,1']
+
+
+@pytest.mark.gate
+def test_stopped(failing: Player) -> None:
+    """A search that takes long is said to, the page isn't stopped by it, and its player ends it."""
+    failing.sit(TOWERS, PHONE)
+    failing.press('1', 'c')
+    failing.told('The program is at work.')
+    failing.press('ArrowRight')
+    assert failing.chosen() == (1, 0)
+    failing.driver.click('#offer')
+    failing.told('Stopped. Nothing has changed.')
+    failing.press('3')
+    failing.is_called(1, 0, 'row 1, column 2, 3')
+
+
+#: Links that name no game, or one that is none: the page begins all the same.
+HOSTILE = [
+    '<img src=x onerror=alert(1)>',
+    '%3Cscript%3Ealert(1)%3C/script%3E',
+    'towers:5dh:%3Cimg%20src=x%3E',
+    'towers-9-hard-99999999999999999999999',
+    'towers-99-hard-1',
+    'javascript:alert(1)',
+    'towers:' + '1' * 5000,
+    '%E0%A4%A',
+    '__proto__-5-easy-1',
+    'unequal:constructor',
+]
+
+
+@pytest.mark.gate
+def test_links(player: Player) -> None:
+    for link in HOSTILE:
+        player.load(link)
+        assert player.value('document.images.length + document.scripts.length') == 3, link
+    assert len(player.kept()) == 1
+    player.load('what')
+    player.told('That names no game')
+
+
+@pytest.mark.gate
+def test_names_are_text(player: Player) -> None:
+    """Whatever a save or a file of games has in it, stands on the page as text."""
+    player.sit(TOWERS, PHONE)
+    player.drop(save_text(2).replace(b'NSTATES', b'AUXINFO :13:<img onerror>\nNSTATES', 1))
+    player.is_called(1, 0, 'row 1, column 2, 2')
+    player.press(':')
+    player.is_shown('#ask')
+    player.driver.type('save')
+    player.press('Enter')
+    player.is_shown('#page')
+    assert '<img onerror>' in player.text('#page-text') and player.text('#page-title') == 'save'
+    player.press('Escape')
+    player.closes('#page')
+    player.press(':')
+    player.is_shown('#ask')
+    player.driver.type('<img src=x onerror=alert(1)>')
+    player.press('Enter')
+    player.told('There is no such command.')
+    assert player.value('document.images.length') == 0 and player.value('document.title') == 'Towers 3×3'
+
+
+#: What another page from the same disk may have written where ours keeps its games.
+SPOILED: List[Tuple[str, str]] = [
+    ('puzzles:now', '<img src=x>'),
+    ('puzzles:game:a', 'no object'),
+    ('puzzles:game:b', '{"key": "b", "save": 7}'),
+    ('puzzles:game:c', 'null'),
+    ('puzzles:settings', '[1'),
+    ('puzzles:settings', '{"kind": "<b>", "tidy": "yes"}'),
+    ('puzzles:solved', '{}'),
+    ('puzzles:solved', '[null, {"kind": "<img src=x>", "number": "", "when": 1, "seconds": 2, "hints": 0}]'),
+]
+
+
+@pytest.mark.gate
+def test_spoiled(player: Player) -> None:
+    """It is passed over, and stays."""
+    player.sit(TOWERS, PHONE)
+    for name, text in SPOILED:
+        player.value(f'(localStorage[{json.dumps(name)}] = {json.dumps(text)}, true)')
+        player.load()
+        player.menu('Statistics')
+        player.is_shown('#statistics')
+        player.press('Escape')
+        player.closes('#statistics')
+        player.press('o')
+        player.is_shown('#games')
+        assert player.value('document.images.length') == 0
+        player.press('Escape')
+        player.closes('#games')
+    choose(player, id=UNEQUAL)
+    player.called('Unequal 3×3')
+    assert player.value('localStorage["puzzles:game:a"]') == 'no object'
+
+
+def test_policy(piped: Player) -> None:
+    """Nothing goes out, no other script runs, and no text becomes markup."""
+    piped.sit(TOWERS)
+    policy = piped.value('document.querySelector("meta[http-equiv]").content')
+    assert policy.startswith("default-src 'none';") and 'unsafe-inline' not in policy and 'connect-src' not in policy
+    tried = {
+        'document.body.innerHTML = "<b>"': 'TypeError',
+        'document.body.insertAdjacentHTML("beforeend", "<b>")': 'TypeError',
+        'document.createElement("script").text = "1"': 'TypeError',
+    }
+    for script, fault in tried.items():
+        assert piped.value(f'(() => {{ try {{ {script}; return "done"; }} catch (fault) {{ return fault.name; }} }})()') == fault, script
+    assert piped.value('fetch("data:,x").then(() => "came", () => "refused")') == 'refused'
+    assert piped.value('performance.getEntriesByType("resource").length') == 0
+    piped.driver.browser.complaints.clear()  # type: ignore[attr-defined]

@@ -1,0 +1,282 @@
+"""What the browser keeps: every game that was begun, the settings, and what was solved; in several tabs, as files, and where it keeps nothing."""
+
+from __future__ import annotations
+
+import datetime
+import json
+from typing import Any, List, Mapping
+
+import pytest
+
+from tests.conftest import Programs
+from tests.harness import Room
+from tests.harness.driver import until
+from tests.harness.game import save_text
+from tests.harness.program import run
+from tests.page.playing import LAPTOP, PHONE, Player
+from tests.page.test_games import TOWERS, UNEQUAL, choose
+
+
+def test_comes_back(player: Player) -> None:
+    """After a reload, and on the next day, with its moves, hints and time; undo goes on where it was."""
+    player.sit(TOWERS, LAPTOP)
+    player.press('1', 'ArrowRight', 'p', '2', '3')
+    player.is_called(1, 0, 'row 1, column 2, empty, marks 2 3')
+    player.driver.value('location.reload()')
+    player.driver.wait_for('performance.getEntriesByType("navigation")[0].type === "reload" && document.querySelector("[data-place]")')
+    player.is_called(1, 0, 'row 1, column 2, empty, marks 2 3')
+    player.load()
+    player.press('u', 'u', 'u')
+    player.is_called(0, 0, 'row 1, column 1, empty')
+    player.press('r')
+    player.is_called(0, 0, 'row 1, column 1, 1')
+
+
+@pytest.mark.gate
+def test_each_game_is_kept(player: Player) -> None:
+    """Until it is deleted, after a question; the list shows how far each is, and goes on with one."""
+    player.sit(TOWERS, PHONE)
+    player.press('1')
+    player.is_called(0, 0, 'row 1, column 1, 1')
+    choose(player, id=UNEQUAL)
+    player.called('Unequal 3×3')
+    choose(player, id='towers-9-hard-20261127')
+    player.called('Towers 9×9')
+    assert [game['id'].split(':')[0] for game in player.kept()] == ['9dh', '3', '3']
+    player.press('o')
+    player.is_shown('#games')
+    listed = player.value('[...document.querySelectorAll("#games-list .pictured")].map((node) => node.textContent)')
+    assert 'number 20261127' in listed[0] and 'Unequal 3×3 · 0 of 9' in listed[1] and 'Towers 3×3 · 1 of 9' in listed[2]
+    assert player.value('[...document.querySelectorAll(".small-board")].map((node) => node.querySelectorAll("text").length)')[1:] == [0, 1]
+    player.driver.click('#games-list li:nth-child(3) .pictured')
+    player.begins(0, 0, 'row 1, column 1, 1')
+    player.press('o')
+    player.is_shown('#games')
+    player.driver.click('#games-list li:nth-child(2) [data-gone]')
+    player.answer_once('No')
+    assert len(player.kept()) == 3
+    player.is_shown('#games')
+    player.driver.click('#games-list li:nth-child(2) [data-gone]')
+    player.answer_once('Yes')
+    player.driver.wait_for('document.querySelectorAll("#games-list li").length === 2')
+    assert sorted(game['game'] for game in player.kept()) == ['towers', 'towers']
+
+
+@pytest.mark.gate
+def test_link_keeps_the_present_game(player: Player) -> None:
+    """A link begins its game, the present one stays in the list, and goes on where its own link is opened."""
+    player.sit(TOWERS)
+    player.press('1')
+    player.is_called(0, 0, 'row 1, column 1, 1')
+    player.load(UNEQUAL)
+    player.called('Unequal 3×3')
+    assert player.value('location.hash') == ''
+    player.value('(location.hash = "#towers-4-easy-5", true)')
+    player.called('Towers 4×4')
+    # A reload goes on with the last game, and not with that of the link.
+    player.load()
+    player.called('Towers 4×4')
+    player.load(TOWERS)
+    player.begins(0, 0, 'row 1, column 1, 1')
+    player.told('You have begun this game before.')
+    assert len(player.kept()) == 3
+
+
+def test_two_tabs(player: Player) -> None:
+    """The second sees the moves of the first, and neither loses one."""
+    player.sit(TOWERS)
+    first, key = player.driver.tab, player.value('sessionStorage["puzzles:now"]')
+    other = player.driver.open()
+    try:
+        until(lambda: goes_on(player, key), 60)
+        player.press('1')
+        player.is_called(0, 0, 'row 1, column 1, 1')
+        player.driver.turn_to(first)
+        player.begins(0, 0, 'row 1, column 1, 1')
+        player.press('ArrowRight', '2')
+        player.is_called(1, 0, 'row 1, column 2, 2')
+        player.driver.turn_to(other)
+        player.begins(1, 0, 'row 1, column 2, 2')
+        assert player.moves() == ['R0,0,1', 'R1,0,2']
+    finally:
+        player.driver.turn_to(other)
+        player.driver.close_tab()
+        player.driver.turn_to(first)
+
+
+def goes_on(player: Player, key: str) -> bool:
+    """Opens the page in this tab; whether it goes on with the game of that key, of which a browser may tell a new process a moment later."""
+    player.driver.go('about:blank')
+    player.driver.go(player.address)
+    player.there()
+    is_it = player.value('sessionStorage["puzzles:now"]') == key
+    if not is_it:
+        player.value(f'(sessionStorage.clear(), localStorage["puzzles:now"] = {json.dumps(key)}, true)')
+    return bool(is_it)
+
+
+@pytest.mark.gate
+def test_behind(player: Player) -> None:
+    """A tab that hasn't heard of another one's move does nothing, says so, and shows the move."""
+    player.sit(TOWERS)
+    player.press('1')
+    player.is_called(0, 0, 'row 1, column 1, 1')
+    # Another tab has moved, and the browser hasn't said so yet when a key is pressed.
+    text = json.dumps(save_text(3).decode())
+    player.value(
+        '((name) => { const game = JSON.parse(localStorage[name]);'
+        f' localStorage[name] = JSON.stringify({{...game, save: {text}, turn: game.turn + 5}});'
+        ' document.activeElement.dispatchEvent(new KeyboardEvent("keydown", {key: "3", bubbles: true})); return true; })'
+        '(Object.keys(localStorage).find((name) => name.startsWith("puzzles:game:")))'
+    )
+    player.told('Another tab has moved in between')
+    player.is_called(2, 0, 'row 1, column 3, 3')
+    assert player.moves() == ['R0,0,1', 'R1,0,2', 'R2,0,3']
+
+
+#: The browser refuses to keep anything; or it has no room left.
+REFUSED = 'Object.defineProperty(window, "localStorage", {get() { throw new DOMException("", "SecurityError"); }});'
+FULL = 'Storage.prototype.setItem = () => { throw new DOMException("", "QuotaExceededError"); };'
+
+
+@pytest.mark.gate
+@pytest.mark.parametrize('script, said', [(REFUSED, 'keeps nothing for this page'), (FULL, 'has no room left')], ids=['refused', 'full'])
+def test_nothing_is_kept(piped: Player, script: str, said: str) -> None:
+    """It is said, and play goes on."""
+    browser = piped.driver.browser  # type: ignore[attr-defined]
+    known = browser.ask('Page.addScriptToEvaluateOnNewDocument', source=script)['identifier']
+    try:
+        piped.load(TOWERS)
+        piped.told(said)
+        piped.press('1', 'ArrowRight', '2', 'u')
+        piped.is_called(0, 0, 'row 1, column 1, 1')
+        piped.is_called(1, 0, 'row 1, column 2, empty')
+        piped.told(said)
+        choose(piped, id=UNEQUAL)
+        piped.called('Unequal 3×3')
+        piped.press('o')
+        piped.driver.wait_for('document.querySelectorAll("#games-list li").length === 2')
+    finally:
+        browser.ask('Page.removeScriptToEvaluateOnNewDocument', identifier=known)
+        piped.load()
+
+
+@pytest.mark.gate
+def test_save_files(player: Player, programs: Programs, room: Room) -> None:
+    """What is saved the program reads, and what the program saved the page does; the bytes are the same."""
+    player.sit(TOWERS)
+    player.press('1', 'ArrowRight', '2')
+    player.is_called(1, 0, 'row 1, column 2, 2')
+    player.catch_files()
+    player.press('w')
+    assert player.caught().encode() == save_text(2)
+    room.put('a.sav', player.caught().encode())
+    assert b'3 1 2 . -' in run([programs.puzzles, 'towers', '--load', 'a.sav'], room, input=b'show\n').output
+    player.drop(save_text(3))
+    player.is_called(2, 0, 'row 1, column 3, 3')
+    assert len(player.kept()) == 2
+
+
+#: What is dropped that is no save of these games, and what is said.
+BAD_FILES: List[Any] = [
+    (b'no save', 'That is no save file of the collection'),
+    (save_text(0).replace(b'6:Towers', b'28:<img src=x onerror=alert(1)>'), 'That is a save of <img src=x onerror=alert(1)>, which is not played here.'),
+    (save_text(2).replace(b'R1,0,2', b'R9,0,2'), 'Move 2 of that save can’t be made on its board.'),
+    (17_000_000, 'That file has too many bytes'),
+]
+
+
+@pytest.mark.gate
+def test_bad_files(player: Player) -> None:
+    """The game stays."""
+    player.sit(TOWERS)
+    player.press('1')
+    player.is_called(0, 0, 'row 1, column 1, 1')
+    for content, said in BAD_FILES:
+        if isinstance(content, int):
+            player.drop(size=content)
+        else:
+            player.drop(content)
+        player.told(said)
+    assert player.moves() == ['R0,0,1'] and len(player.kept()) == 1
+    assert player.value('document.images.length') == 0
+
+
+@pytest.mark.gate
+def test_all_in_one_file(player: Player) -> None:
+    """All games go out as one file, and come in again where they are gone; a damaged one is counted, and what stands there already is passed over."""
+    player.sit(TOWERS, LAPTOP)
+    player.press('1')
+    player.is_called(0, 0, 'row 1, column 1, 1')
+    choose(player, id=UNEQUAL)
+    player.called('Unequal 3×3')
+    player.press('o')
+    player.is_shown('#games')
+    player.catch_files()
+    player.click('All to one file')
+    told: Mapping[str, Any] = json.loads(player.caught())
+    player.forget()
+    player.load('towers-4-easy-1')
+    player.drop(json.dumps({**told, 'games': [*told['games'], {'key': 'x'}, {**told['games'][0], 'key': 'y', 'save': 'none'}]}).encode(), 'games.json')
+    player.told('2 games brought in. 2 can’t be read.')
+    assert len(player.kept()) == 3
+    player.drop(json.dumps(told).encode(), 'games.json')
+    player.told('0 games brought in. 2 stood here already.')
+    player.drop(b'{"format": 1}', 'games.json')
+    player.told('That is no file of games')
+    player.load(TOWERS)
+    player.begins(0, 0, 'row 1, column 1, 1')
+
+
+@pytest.mark.gate
+def test_solved_days(player: Player) -> None:
+    """Today's game, once solved, has its day in the calendar; its time is in the statistics, where that isn't switched off."""
+    player.sit('unequal-3-trivial-5', PHONE)
+    player.press('t')
+    player.is_shown('#daily')
+    player.write('#daily-size', '3')
+    player.click('Today’s game')
+    player.called('Towers 3×3')
+    today = datetime.date.today()
+    player.press('i')
+    player.is_shown('#page')
+    assert f'number {today:%Y%m%d}.' in player.text('#page-text')
+    player.press('Escape')
+    player.closes('#page')
+    solve_by_hints(player)
+    player.told('Solved')
+    player.press('t')
+    player.is_shown('#daily')
+    assert player.value('document.querySelector("#daily-days .solved").ariaLabel').endswith(', solved')
+    assert player.value('document.querySelector("#daily-days .solved").textContent') == str(today.day)
+    player.press('Escape')
+    player.closes('#daily')
+    player.menu('Statistics')
+    player.is_shown('#statistics')
+    assert player.value('[...document.querySelectorAll("#statistics td")].map((node) => node.textContent)')[:2] == ['1', '0']
+    player.press('Escape')
+    player.closes('#statistics')
+    player.menu('Time and statistics')
+    player.press('Escape')
+    player.closes('#menu')
+    assert ':' not in player.text('#count')
+
+
+def solve_by_hints(player: Player) -> None:
+    for _ in range(9):
+        if 'solved' in player.text('#count'):
+            return
+        before = player.text('#count').split(' of')[0]
+        player.press('h', 'h', 'h')
+        player.driver.wait_for(f'!document.querySelector("#count").textContent.startsWith({json.dumps(before)} + " of")')
+
+
+@pytest.mark.gate
+def test_settings_last(player: Player) -> None:
+    player.sit(TOWERS)
+    player.press('M')
+    player.told('Marks go now')
+    player.load()
+    player.click('Menu')
+    player.is_shown('#menu')
+    assert player.value('document.querySelector("[data-set=tidy]").ariaPressed') == 'true'

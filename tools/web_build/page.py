@@ -1,0 +1,125 @@
+"""The page as one file: the template with the policy, the style, the icon, the scripts and the module in it."""
+
+from __future__ import annotations
+
+import base64
+import hashlib
+import re
+import zlib
+from pathlib import Path
+from typing import Dict, NamedTuple, Sequence
+
+from building.listing import TOP
+from web_build.scripts import Unfit, script, shorter
+
+#: What the page is made from, besides the module.
+SOURCES = Path(TOP) / 'page'
+
+#: The most bytes that the page may have.
+MOST_BYTES = 350_000
+
+MARK = re.compile(r'\{\{(\w+)\}\}')
+
+#: The marks that stand once in the template. Those of the others may stand anywhere.
+ONCE = ['policy', 'style', 'site', 'worker', 'module', 'script']
+
+#: zlib's word for the form of gzip, which has no date then.
+GZIP = 31
+
+#: In the letters of base 85 this stands in the place of the one that may begin an element.
+INSTEAD = ','
+
+
+#: What a browser lets the page do, besides its own scripts and style, which are named by their sums: it connects to nothing.
+RULES = {
+    'default-src': "'none'",
+    'img-src': 'data: blob:',
+    'worker-src': 'blob:',
+    'base-uri': "'none'",
+    'form-action': "'none'",
+    'require-trusted-types-for': "'script'",
+    'trusted-types': 'puzzles',
+}
+
+
+class Extra(NamedTuple):
+    """What the page has besides where a web server hands it out: more in its head, a script, and the rules of its policy that are others."""
+
+    head: str
+    script: str
+    rules: Dict[str, str]
+
+
+NOTHING = Extra('', '', {})
+
+
+def page_of(packed: str, extra: Extra = NOTHING) -> bytes:
+    """The page with the module that was packed so: the same bytes for the same sources. Raises Unfit."""
+    parts = {
+        'style': shorter(text_of('style.css')),
+        'icon': 'data:image/svg+xml;base64,' + base64.b64encode((SOURCES / 'icon.svg').read_bytes()).decode(),
+        'site': extra.head + (f'<script>{extra.script}</script>' if extra.script else ''),
+        'worker': script(str(SOURCES), 'worker.js'),
+        'module': packed,
+        'script': script(str(SOURCES), 'main.js'),
+        'version': (Path(TOP) / 'VERSION').read_text(encoding='utf-8').strip(),
+    }
+    scripts = [text for text in (extra.script, parts['script']) if text]
+    parts['policy'] = policy(scripts, parts['style'], {**RULES, **extra.rules})
+    page = filled(text_of('index.html'), parts).encode()
+    if len(page) > MOST_BYTES:
+        raise Unfit(f'the page has {len(page):,} bytes, and may have {MOST_BYTES:,}')
+    return page
+
+
+def write_page(module: str, file: str) -> None:
+    """Makes a page of the module in one file, in another. Raises Unfit."""
+    page = page_of(packed(Path(module).read_bytes()))
+    Path(file).write_bytes(page)
+    print(f'{file}: {len(page):,} bytes')
+
+
+def policy(scripts: Sequence[str], style: str, rules: Dict[str, str]) -> str:
+    own = {'script-src': f"{' '.join(map(hash_of, scripts))} 'wasm-unsafe-eval'", 'style-src': hash_of(style)}
+    return '; '.join(f'{name} {sources}' for name, sources in {**rules, **own}.items())
+
+
+def hash_of(text: str) -> str:
+    """What names a script or a style in a policy."""
+    return f"'sha256-{base64.b64encode(hashlib.sha256(text.encode()).digest()).decode()}'"
+
+
+def filled(template: str, parts: Dict[str, str]) -> str:
+    """The template with a part in the place of each mark. Raises Unfit where a mark lacks, stands twice or is unknown."""
+    found = MARK.findall(template)
+    for name in ONCE:
+        if found.count(name) != 1:
+            raise Unfit(f'index.html has the mark {name} {found.count(name)} times, and should have it once')
+    unknown = sorted(set(found) - set(parts))
+    if unknown:
+        raise Unfit(f'index.html has the unknown mark {unknown[0]}')
+    return MARK.sub(lambda mark: parts[mark[1]], template)
+
+
+def packed(module: bytes) -> str:
+    """The module as the page has it. Other versions of zlib may pack it otherwise."""
+    zipped = zlib.compressobj(9, zlib.DEFLATED, GZIP)
+    return base64.b85encode(zipped.compress(module) + zipped.flush()).decode().replace('<', INSTEAD)
+
+
+def unpacked(text: str) -> bytes:
+    """The module that was packed so. Raises Unfit."""
+    try:
+        return zlib.decompress(base64.b85decode(text.replace(INSTEAD, '<')), GZIP)
+    except (ValueError, zlib.error) as error:
+        raise Unfit(f'the module is not packed as it should be: {error}') from None
+
+
+def packed_in(page: bytes) -> str:
+    """How the module is packed in a page; nothing where there is none."""
+    found = re.search(rb'<script type="text/plain" id="module">([^<]*)</script>', page)
+    return found[1].decode() if found else ''
+
+
+def text_of(name: str) -> str:
+    return (SOURCES / name).read_text(encoding='utf-8')
