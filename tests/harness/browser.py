@@ -12,6 +12,7 @@ import subprocess
 import time
 from typing import Any, Dict, List, Mapping, Optional, Tuple
 
+from tests.harness.driver import PageLeft
 from tests.harness.room import Room
 from tests.harness.skips import need
 
@@ -23,6 +24,9 @@ TOLD, ANSWERS = 3, 4
 
 #: Each message ends with this.
 END = b'\0'
+
+#: How an expression fails whose page goes away before it is worth something.
+LEAVING = ['Inspected target navigated or closed', 'Execution context was destroyed.', 'Cannot find context with specified id']
 
 
 def pipe() -> Tuple[int, int]:
@@ -199,6 +203,8 @@ class Browser:
             answer = self._next()
             self._note(answer)
             if answer.get('id') == self._number:
+                if answer.get('error', {}).get('message') in LEAVING:
+                    raise PageLeft(f'{method}: {answer["error"]}')
                 assert 'error' not in answer, f'{method}: {answer["error"]}'
                 result: Mapping[str, Any] = answer['result']
                 return result

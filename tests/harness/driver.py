@@ -21,6 +21,10 @@ LEFT, RIGHT = 0, 2
 LONG = 700
 
 
+class PageLeft(AssertionError):
+    """The page was left while it was asked, as by a reload."""
+
+
 class Driver:
     """One browser. Those below say how it is asked."""
 
@@ -75,11 +79,17 @@ class Driver:
         self.end()
 
     def wait_for(self, condition: str) -> None:
-        """Until an expression is true in the page."""
+        """Until an expression is true in the page, or in the one that comes after it."""
         end = time.monotonic() + self._seconds
-        while not self.value(f'Boolean({condition})'):
+        while not self._holds(condition):
             assert time.monotonic() < end, f'{condition} in vain'
             time.sleep(0.02)
+
+    def _holds(self, condition: str) -> bool:
+        try:
+            return bool(self.value(f'Boolean({condition})'))
+        except PageLeft:
+            return False
 
     def press(self, *keys: str, control: bool = False) -> None:
         """Keys, one after the other: characters, or names of `KEYS`."""

@@ -45,7 +45,8 @@ CHECKS: Dict[str, str] = {
     'no width to scroll': '[document.documentElement.scrollWidth - innerWidth].filter(more => more > 0)',
     # Seven days of a week stand side by side, in the narrowest window too.
     'buttons for fingers': SEEN.format('button, select, input')
-    + '.map(node => [node.getBoundingClientRect(), node]).filter(([box, node]) => box.width < (node.dataset.day ? 35 : 43.8) || box.height < 43.8).map(([box, node]) => [box.width, box.height, node.outerHTML])',
+    + '.map(node => [node.getBoundingClientRect(), node]).filter(([box, node]) => box.width < (node.dataset.day ? 35 : 43.8) || box.height < 43.8)'
+    + '.map(([box, node]) => [box.width, box.height, node.outerHTML])',
     'squares that can be met': SEEN.format('.square rect') + '.map(node => node.getBoundingClientRect().width).filter(width => width < 24)',
 }
 
