@@ -17,11 +17,11 @@ import {
 /** @typedef {import('./objects.js').Place} Place */
 /** @typedef {import('./objects.js').Hint} Hint */
 /** @typedef {import('./games.js').Kind} Kind */
-/** @typedef {import('./shelf.js').Settings} Settings */
+/** @typedef {import('./keeping.js').Settings} Settings */
 /**
  * What the actions work on.
  * @typedef {{present: import('./present.js').Present, moves: import('./moves.js').Moves, beginning: import('./beginning.js').Beginning,
- *   screen: import('./screen.js').Screen, walk: import('./walk.js').Walk, messages: import('./messages.js').Messages, shelf: import('./shelf.js').Shelf,
+ *   screen: import('./screen.js').Screen, walk: import('./walk.js').Walk, messages: import('./messages.js').Messages, keeping: import('./keeping.js').Keeping,
  *   turns: import('./turns.js').Turns}} Page
  */
 
@@ -34,7 +34,7 @@ export class Actions {
     this.page = page;
     /** @type {Promise<unknown>} */
     this.parts = Promise.resolve();
-    const {present, beginning, messages, shelf} = page, tell = (/** @type {string} */ text) => messages.tell(text);
+    const {present, beginning, messages, keeping} = page, tell = (/** @type {string} */ text) => messages.tell(text);
     this.fresh = new Fresh({
       kind: (kind) => this.begin(kind),
       numbered: (fair) => beginning.numbered(fair),
@@ -42,8 +42,8 @@ export class Actions {
       file: (file) => this.file(file),
       tell,
     });
-    this.daily = new Daily(shelf, (fair) => beginning.numbered(fair));
-    this.list = new List(shelf, (key) => beginning.goOn(key), (key) => { if (key === present.there?.kept.key) this.act('next'); });
+    this.daily = new Daily(keeping, (fair) => beginning.numbered(fair));
+    this.list = new List(keeping, (key) => beginning.goOn(key), (key) => { if (key === present.there?.kept.key) this.act('next'); });
     const games = inputOf('games-file');
     games.addEventListener('change', () => { if (games.files?.[0]) this.bringIn(games.files[0]); });
     document.addEventListener('dragover', (event) => event.preventDefault());
@@ -74,7 +74,7 @@ export class Actions {
   /** The hint of the board's numbers is there then. Where they contradict one another it is said first how many moves to take back. */
   async learn() {
     const {moves, walk, present} = this.page;
-    if (walk.lesson) return true;
+    if (walk.walked) return true;
     const hint = await moves.hint(), {numbers} = present.board;
     if (!hint) return false;
     if (hint.kind === 'follows') await moves.countHint();
@@ -102,26 +102,26 @@ export class Actions {
   async hint() {
     const {walk, messages, screen} = this.page;
     if (walk.isOpen) return this.along(1);
-    if (!(await this.learn()) || !walk.lesson) return;
-    if (walk.lesson.hint.kind !== 'follows') return this.why();
+    if (!(await this.learn()) || !walk.walked) return;
+    if (walk.walked.hint.kind !== 'follows') return this.why();
     const text = walk.next();
     if (!text) return this.take();
     messages.tell(text, {lasting: true});
-    if (walk.stage === 'reason' && walk.lesson.goal) screen.choose(walk.lesson.goal);
+    if (walk.stage === 'reason' && walk.walked.goal) screen.choose(walk.walked.goal);
     screen.paint();
   }
 
   async why() {
     const {walk, messages} = this.page;
     if (!(await this.learn())) return;
-    if (walk.lesson?.hint.kind === 'follows') messages.clear();
+    if (walk.walked?.hint.kind === 'follows') messages.clear();
     walk.open();
     this.page.screen.paint();
   }
 
   /** Puts the number of the hint in. */
   take() {
-    const {walk, moves, screen} = this.page, {goal, hint} = walk.lesson ?? {};
+    const {walk, moves, screen} = this.page, {goal, hint} = walk.walked ?? {};
     walk.forget();
     if (!goal || !hint?.number) return null;
     screen.choose(goal);
@@ -151,7 +151,7 @@ export class Actions {
   // A new game of a kind, which is the kind of the next one, too.
   /** @param {Kind} kind */
   async begin(kind) {
-    this.page.shelf.set({kind: nameOfKind(kind)});
+    this.page.keeping.set({kind: nameOfKind(kind)});
     await this.page.beginning.byChance(kind);
   }
 
@@ -160,10 +160,10 @@ export class Actions {
 
   /** A game that was solved for the first time is noted, if not with the program's help. */
   noteSolved() {
-    const {present, shelf} = this.page, {kept, board, session} = present;
+    const {present, keeping} = this.page, {kept, board, session} = present;
     if (kept.state !== 'solved' || kept.solved) return;
-    const when = Date.now(), seconds = shelf.settings.time ? kept.seconds : 0;
-    shelf.addSolved([{kind: nameOfKind(kindOf(kept)), number: kept.fair?.number ?? '', when, seconds, hints: kept.hints}]);
+    const when = Date.now(), seconds = keeping.settings.time ? kept.seconds : 0;
+    keeping.addSolved([{kind: nameOfKind(kindOf(kept)), number: kept.fair?.number ?? '', when, seconds, hints: kept.hints}]);
     present.inTurn(() => present.keep({...present.kept, solved: when}, {board, session}));
   }
 
@@ -184,7 +184,7 @@ export class Actions {
 
   /** @param {File} file */
   async bringIn(file) {
-    const said = await bringIn(file, this.page.shelf, this.page.beginning);
+    const said = await bringIn(file, this.page.keeping, this.page.beginning);
     inputOf('games-file').value = '';
     closeDialogs();
     this.page.messages.tell(said);
@@ -230,17 +230,17 @@ export class Actions {
 
   /** @param {string} name */
   set(name) {
-    const known = SWITCHES.find((one) => one === name), {shelf, screen, messages, present} = this.page;
+    const known = SWITCHES.find((one) => one === name), {keeping, screen, messages, present} = this.page;
     if (!known) return;
-    shelf.set({[known]: !shelf.settings[known]});
+    keeping.set({[known]: !keeping.settings[known]});
     this.showSettings();
     screen.paint();
     // After the moves that were asked for before, which would take the sentence away.
-    if (known === 'tidy') present.inTurn(async () => messages.tell(shelf.settings.tidy ? MARKS_GO : MARKS_STAY));
+    if (known === 'tidy') present.inTurn(async () => messages.tell(keeping.settings.tidy ? MARKS_GO : MARKS_STAY));
   }
 
   showSettings() {
-    const {settings} = this.page.shelf;
+    const {settings} = this.page.keeping;
     for (const name of SWITCHES) part('menu').querySelector(`[data-set=${name}]`)?.setAttribute('aria-pressed', String(settings[name]));
   }
 }
@@ -248,7 +248,7 @@ export class Actions {
 // What each name stands for.
 /** @type {Record<string, (actions: Actions, page: Page) => unknown>} */
 const ACTIONS = {
-  new: ({fresh, page}) => fresh.open(kindOfName(page.shelf.settings.kind) ?? nearest(kindOf(page.present.kept))),
+  new: ({fresh, page}) => fresh.open(kindOfName(page.keeping.settings.kind) ?? nearest(kindOf(page.present.kept))),
   next: (actions, {present}) => actions.begin(nearest(kindOf(present.kept))),
   menu(actions) {
     actions.showSettings();
@@ -258,11 +258,11 @@ const ACTIONS = {
   games: ({list}) => list.open(),
   daily: ({daily}) => daily.open(),
   rules: (_, {present}) => openRules(present.kept.game, matchMedia('(any-hover: hover) and (any-pointer: fine)').matches),
-  statistics: (_, {shelf}) => openStatistics(shelf.solved()),
+  statistics: (_, {keeping}) => openStatistics(keeping.solved()),
   link: (actions) => actions.link(),
   id: (actions) => actions.id(),
   save: (_, {present}) => give(fileName(present.kept, gradeOf(kindOf(present.kept))), present.kept.save),
-  export: (_, {shelf}) => give(`puzzles-games-${numberOfDay(new Date())}.json`, allGames(shelf)),
+  export: (_, {keeping}) => give(`puzzles-games-${numberOfDay(new Date())}.json`, allGames(keeping)),
   print: () => print(),
   command: (actions) => actions.command(),
   quit: (_, {messages}) => messages.tell(KEPT),

@@ -62,7 +62,7 @@ export class Beginning {
       if (!isSilent) this.present.isRefused(line, answer, game);
       return false;
     }
-    const before = this.present.shelf.games().find((kept) => kept.game === game && kept.id === session.id && kept.state !== 'filled');
+    const before = this.present.keeping.games().find((kept) => kept.game === game && kept.id === session.id && kept.state !== 'filled');
     if (before) await this.goOnWith(before.key);
     else await this.present.begin(save, game, fair);
     if (before?.state === 'playing') this.present.front.tell(GOES_ON);
@@ -87,7 +87,7 @@ export class Beginning {
 
   /** @param {string} key */
   async goOnWith(key) {
-    const kept = this.present.shelf.game(key);
+    const kept = this.present.keeping.game(key);
     if (kept) this.present.take(kept, await this.present.look(kept.save, kept.game));
     else this.present.front.tell(GONE);
     return Boolean(kept);

@@ -7,7 +7,7 @@ import {dayName, monthText} from './texts.js';
 
 /** @typedef {import('./games.js').Kind} Kind */
 /** @typedef {import('./games.js').Fair} Fair */
-/** @typedef {import('./shelf.js').Shelf} Shelf */
+/** @typedef {import('./keeping.js').Keeping} Keeping */
 
 const WEEKDAYS = ['Mo', 'Tu', 'We', 'Th', 'Fr', 'Sa', 'Su'];
 
@@ -23,13 +23,13 @@ export function daysOf(first) {
 export const column = (day) => ((day.getDay() + 6) % 7) + 1;
 
 export class Daily {
-  /** @param {Shelf} shelf @param {(fair: Fair) => void} begin */
-  constructor(shelf, begin) {
-    this.shelf = shelf;
+  /** @param {Keeping} keeping @param {(fair: Fair) => void} begin */
+  constructor(keeping, begin) {
+    this.keeping = keeping;
     this.begin = begin;
     this.first = new Date();
     this.lists = new KindLists('daily', (kind) => {
-      shelf.set({daily: nameOfKind(kind)});
+      keeping.set({daily: nameOfKind(kind)});
       this.show();
     });
     part('daily-before').addEventListener('click', () => this.turn(-1));
@@ -42,7 +42,7 @@ export class Daily {
   }
 
   open() {
-    const now = new Date(), kind = kindOfName(this.shelf.settings.daily);
+    const now = new Date(), kind = kindOfName(this.keeping.settings.daily);
     this.first = new Date(now.getFullYear(), now.getMonth(), 1);
     if (kind) this.lists.show(kind);
     this.show();
@@ -63,7 +63,7 @@ export class Daily {
 
   show() {
     const kind = nameOfKind(this.lists.kind), today = numberOfDay(new Date());
-    const solved = new Set(this.shelf.solved().filter((one) => one.kind === kind).map(({number}) => number));
+    const solved = new Set(this.keeping.solved().filter((one) => one.kind === kind).map(({number}) => number));
     part('daily-month').textContent = monthText(this.first);
     const days = daysOf(this.first).map((day) => this.day(day, solved.has(numberOfDay(day)), today));
     part('daily-days').replaceChildren(...WEEKDAYS.map((name) => element('span', name, {'aria-hidden': true})), ...days);

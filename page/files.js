@@ -1,11 +1,11 @@
 // Files: what a player saves, opens or drops onto the page; and all games as one file.
 import {element} from './drawing.js';
-import {isSolvedGame} from './shelf.js';
+import {isSolvedGame} from './keeping.js';
 import {keptIn, newKey, seenOf} from './kept.js';
 import {DROP_FILE, NOT_OUR_FILE, brought} from './texts.js';
 
 /** @typedef {import('./beginning.js').Beginning} Beginning */
-/** @typedef {import('./shelf.js').Shelf} Shelf */
+/** @typedef {import('./keeping.js').Keeping} Keeping */
 /** @typedef {import('./kept.js').Kept} Kept */
 
 /** The most bytes that a save has, and the most that all games in one file may have. */
@@ -31,25 +31,25 @@ export async function saveIn(file, tell) {
 }
 
 // All games, and what was solved, as the text of one file.
-/** @param {Shelf} shelf */
-export const allGames = (shelf) => JSON.stringify({format: FORMAT, games: shelf.games(), solved: shelf.solved()});
+/** @param {Keeping} keeping */
+export const allGames = (keeping) => JSON.stringify({format: FORMAT, games: keeping.games(), solved: keeping.solved()});
 
 // Brings such a file in; what came of it, as a sentence.
-/** @param {File} file @param {Shelf} shelf @param {Beginning} beginning */
-export async function bringIn(file, shelf, beginning) {
+/** @param {File} file @param {Keeping} keeping @param {Beginning} beginning */
+export async function bringIn(file, keeping, beginning) {
   const told = file.size <= ALL ? parsed(await file.text()) : null;
   if (!told) return NOT_OUR_FILE;
   let [taken, refused, there] = [0, 0, 0];
   for (const one of told.games) {
     const kept = await readAgain(keptIn(one), beginning);
     if (!kept) refused++;
-    else if (shelf.games().some(({game, save}) => game === kept.game && save === kept.save)) there++;
+    else if (keeping.games().some(({game, save}) => game === kept.game && save === kept.save)) there++;
     else {
-      shelf.keep(shelf.game(kept.key) ? {...kept, key: newKey()} : kept);
+      keeping.keep(keeping.game(kept.key) ? {...kept, key: newKey()} : kept);
       taken++;
     }
   }
-  shelf.addSolved(told.solved.filter(isSolvedGame));
+  keeping.addSolved(told.solved.filter(isSolvedGame));
   return brought(taken, refused, there);
 }
 

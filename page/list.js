@@ -6,7 +6,7 @@ import {farOf, kindOf, sizeOf} from './kept.js';
 import {clockText, dayAndTime, deleteGameText, farText, NO_GAMES, titleText} from './texts.js';
 
 /** @typedef {import('./kept.js').Kept} Kept */
-/** @typedef {import('./shelf.js').Shelf} Shelf */
+/** @typedef {import('./keeping.js').Keeping} Keeping */
 
 // What there is to say of how far a game is.
 /** @type {Record<import('./kept.js').State, string>} */
@@ -27,9 +27,9 @@ function picture({id, numbers, givens}) {
 }
 
 export class List {
-  /** @param {Shelf} shelf @param {(key: string) => void} goOn @param {(key: string) => void} deleted */
-  constructor(shelf, goOn, deleted) {
-    this.shelf = shelf;
+  /** @param {Keeping} keeping @param {(key: string) => void} goOn @param {(key: string) => void} deleted */
+  constructor(keeping, goOn, deleted) {
+    this.keeping = keeping;
     this.goOn = goOn;
     this.deleted = deleted;
     part('games-list').addEventListener('click', ({target}) => {
@@ -48,7 +48,7 @@ export class List {
   }
 
   show() {
-    const games = this.shelf.games();
+    const games = this.keeping.games();
     part('games-none').textContent = NO_GAMES;
     part('games-none').hidden = games.length > 0;
     part('games-list').replaceChildren(...games.map((kept) => this.item(kept)));
@@ -68,9 +68,9 @@ export class List {
 
   /** @param {string} key */
   async delete(key) {
-    const kept = this.shelf.game(key);
+    const kept = this.keeping.game(key);
     if (kept && (await confirmed(deleteGameText(`${titleText(kept.game, sizeOf(kept))}, ${farText(farOf(kept).filled, farOf(kept).empty)}`)))) {
-      this.shelf.delete(key);
+      this.keeping.delete(key);
       this.deleted(key);
     }
     this.open();

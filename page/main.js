@@ -10,14 +10,14 @@ import {Messages} from './messages.js';
 import {Moves} from './moves.js';
 import {Present} from './present.js';
 import {Screen} from './screen.js';
-import {Shelf, storeOf} from './shelf.js';
+import {Keeping, storeOf} from './keeping.js';
 import {AT_WORK, DELETED_ELSEWHERE, NO_SUCH_LINK, STOP, WELCOME, unableText} from './texts.js';
 import {Turns} from './turns.js';
 import {Walk} from './walk.js';
 
 /** @typedef {import('./objects.js').Board} Board */
 
-const messages = new Messages(), shelf = new Shelf(storeOf('localStorage'), storeOf('sessionStorage'));
+const messages = new Messages(), keeping = new Keeping(storeOf('localStorage'), storeOf('sessionStorage'));
 const turns = new Turns(part('module').textContent ?? '', part('worker').textContent ?? '');
 const walk = new Walk((text) => messages.say(text));
 
@@ -47,17 +47,17 @@ const front = {
   },
 };
 
-const present = new Present(turns, shelf, front), screen = new Screen(present, messages, walk);
+const present = new Present(turns, keeping, front), screen = new Screen(present, messages, walk);
 const beginning = new Beginning(present), moves = new Moves(present, confirmed);
-const actions = new Actions({present, moves, beginning, screen, walk, messages, shelf, turns});
+const actions = new Actions({present, moves, beginning, screen, walk, messages, keeping, turns});
 const rest = () => screen.rest(() => actions.act('next'));
 
 /** The game of the address, the one that was shown last, or a first one. */
 async function start() {
-  const {hash} = location, link = named(hash), kind = kindOfName(shelf.settings.kind);
+  const {hash} = location, link = named(hash), kind = kindOfName(keeping.settings.kind);
   forgetLink();
   if (link) await beginning.named(link);
-  if (!present.there && shelf.game(shelf.now)) await beginning.goOn(shelf.now);
+  if (!present.there && keeping.game(keeping.now)) await beginning.goOn(keeping.now);
   if (!present.there && kind) {
     await beginning.byChance(kind);
     messages.tell(WELCOME);
@@ -78,7 +78,7 @@ function attend() {
     if (hash.length > 1) actions.named(hash);
   });
   addEventListener('storage', ({key, newValue}) => {
-    if (!present.there || shelf.keyOf(key) !== present.kept.key) return;
+    if (!present.there || keeping.keyOf(key) !== present.kept.key) return;
     if (newValue === null) messages.tell(DELETED_ELSEWHERE, {bad: true});
     // Not as the store has it: WebKit may tell of a change before this tab can read it.
     else present.inTurn(() => present.catchUp(keptIn(newValue)));
@@ -89,12 +89,12 @@ function attend() {
     if (!present.isBusy) present.inTurn(() => present.catchUp());
     if (document.visibilityState !== 'visible' || present.kept.state !== 'playing') return;
     present.kept.seconds++;
-    if (shelf.settings.time) screen.paintCount();
+    if (keeping.settings.time) screen.paintCount();
   }, 1000);
   for (const event of ['pagehide', 'visibilitychange']) {
     addEventListener(event, () => {
       if (!present.there) return;
-      if (event === 'pagehide' || document.visibilityState === 'hidden') shelf.keepTime(present.kept);
+      if (event === 'pagehide' || document.visibilityState === 'hidden') keeping.keepTime(present.kept);
       else present.inTurn(() => present.catchUp());
     });
   }

@@ -45,7 +45,7 @@ export class Moves {
   // Where marks go with numbers: moves before the number that take its marks out of its row and column, so that it is the first to be undone.
   /** @param {Board} board @param {number} cell @param {number} number */
   marksThatGo(board, cell, number) {
-    if (!this.present.shelf.settings.tidy || board.givens[cell]) return [];
+    if (!this.present.keeping.settings.tidy || board.givens[cell]) return [];
     const cells = crossing(cell, board.size).filter((one) => one !== cell && board.marks[one].includes(number));
     return cells.map((one) => `move P${placeOf(one, board.size)},${number}`);
   }

@@ -9,7 +9,7 @@ import {cellOf, crossing, placeAt, placeOf} from './objects.js';
 /** @typedef {import('./objects.js').Clue} Clue */
 /** @typedef {import('./objects.js').Sign} Sign */
 /** @typedef {import('./objects.js').Place} Place */
-/** @typedef {import('./lesson.js').Shown} Shown */
+/** @typedef {import('./walked_hint.js').Shown} Shown */
 
 /**
  * What is seen beside the board itself: the chosen place, whether digits are marks, what a hint points at, and what is tinted.

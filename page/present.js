@@ -7,7 +7,7 @@ import {Unanswered} from './turns.js';
 /** @typedef {import('./turns.js').Game} Game */
 /** @typedef {import('./games.js').Fair} Fair */
 /** @typedef {import('./kept.js').Kept} Kept */
-/** @typedef {import('./shelf.js').Shelf} Shelf */
+/** @typedef {import('./keeping.js').Keeping} Keeping */
 /** @typedef {import('./objects.js').Answer} Answer */
 /** @typedef {import('./objects.js').Board} Board */
 /** @typedef {import('./objects.js').Session} Session */
@@ -24,10 +24,10 @@ import {Unanswered} from './turns.js';
 const PATIENCE = 400;
 
 export class Present {
-  /** @param {Turns} turns @param {Shelf} shelf @param {Front} front */
-  constructor(turns, shelf, front) {
+  /** @param {Turns} turns @param {Keeping} keeping @param {Front} front */
+  constructor(turns, keeping, front) {
     this.turns = turns;
-    this.shelf = shelf;
+    this.keeping = keeping;
     this.front = front;
     /** @type {Promise<unknown>} */
     this.queue = Promise.resolve();
@@ -136,7 +136,7 @@ export class Present {
 
   // Shows what another tab has made of this game, where it has; whether it has.
   /** @param {Kept | null} there */
-  async catchUp(there = this.shelf.game(this.kept.key)) {
+  async catchUp(there = this.keeping.game(this.kept.key)) {
     if (!there || there.key !== this.kept.key || there.turn === this.kept.turn) return false;
     this.change(there, await this.look(there.save, there.game), false);
     return true;
@@ -146,7 +146,7 @@ export class Present {
   /** @param {Kept} kept @param {Looked} looked */
   async keep(kept, looked) {
     const next = {...kept, turn: this.kept.turn + 1, seconds: this.kept.seconds};
-    if (!this.shelf.keep(next)) await this.isBehind();
+    if (!this.keeping.keep(next)) await this.isBehind();
     else this.change(next, looked, true);
   }
 
@@ -160,9 +160,9 @@ export class Present {
   // Goes on with a game.
   /** @param {Kept} kept @param {Looked} looked */
   take(kept, looked) {
-    if (this.there) this.shelf.keepTime(this.kept);
+    if (this.there) this.keeping.keepTime(this.kept);
     this.there = {...looked, kept};
-    this.shelf.now = kept.key;
+    this.keeping.now = kept.key;
     this.front.begins();
   }
 
@@ -170,7 +170,7 @@ export class Present {
   /** @param {string} save @param {Game} game @param {Fair | null} fair */
   async begin(save, game, fair) {
     const looked = await this.look(save, game), kept = begunGame(looked.session, looked.board, save, fair);
-    this.shelf.keep(kept);
+    this.keeping.keep(kept);
     this.take(kept, looked);
   }
 }

@@ -60,7 +60,7 @@ export class Screen {
   }
 
   paint() {
-    const {board, session, shelf} = this.present, {equal, lanes} = shelf.settings;
+    const {board, session, keeping} = this.present, {equal, lanes} = keeping.settings;
     this.picture?.paint(board, {chosen: this.chosen, marking: this.marking, shown: this.walk.shown, equal, lanes});
     this.paintCount();
     this.paintPad(board);
@@ -72,8 +72,8 @@ export class Screen {
 
   /** The line below the title. */
   paintCount() {
-    const {kept, board, shelf} = this.present, {filled, empty} = progress(board);
-    const clock = shelf.settings.time ? clockText(kept.seconds) : '', grade = this.found || gradeOf(kindOf(kept));
+    const {kept, board, keeping} = this.present, {filled, empty} = progress(board);
+    const clock = keeping.settings.time ? clockText(kept.seconds) : '', grade = this.found || gradeOf(kindOf(kept));
     part('count').textContent = [grade, isSolved(board) ? 'solved' : farText(filled, empty), clock].filter(Boolean).join(' · ');
   }
 
@@ -118,8 +118,8 @@ export class Screen {
   // What lasts: how the game has ended, or what hinders it from being kept.
   /** @param {() => void} next */
   rest(next) {
-    const {board, kept, shelf} = this.present, {trouble} = shelf, offer = {text: NEXT_GAME, run: next};
-    const seconds = shelf.settings.time ? kept.seconds : 0;
+    const {board, kept, keeping} = this.present, {trouble} = keeping, offer = {text: NEXT_GAME, run: next};
+    const seconds = keeping.settings.time ? kept.seconds : 0;
     if (trouble) this.messages.stay(trouble === 'full' ? NO_ROOM : NO_STORAGE, {bad: true});
     else if (kept.state === 'filled') this.messages.stay(FILLED_IN, {offer});
     else if (kept.state === 'solved') this.messages.stay(solvedText(kept.hints, seconds), {offer});

@@ -4,7 +4,7 @@ import {openDialog} from './dialogs.js';
 import {kindOfName} from './games.js';
 import {NO_STATISTICS, clockText, kindText} from './texts.js';
 
-/** @typedef {import('./shelf.js').Solved} Solved */
+/** @typedef {import('./keeping.js').Solved} Solved */
 /** @typedef {{kind: string, solved: number, alone: number, best: number, mean: number}} Row */
 
 // A row for each class, by its name.

@@ -25,29 +25,29 @@ export const FILL_IN = 'Fill in the solution? Undo takes it back.';
 export const NEXT_GAME = 'Next game';
 export const STILL_RIGHT = 'These numbers can still be completed: there is nothing to take back.';
 export const NEVER_RIGHT = 'Not even the board at the start can be completed.';
-export const MARKS_GO = 'Marks go now when their number is put into their row or column.';
-export const MARKS_STAY = 'Marks stay now when a number is put in.';
+export const MARKS_GO = 'From now on, marks go when their number is put into their row or column.';
+export const MARKS_STAY = 'From now on, marks stay when a number is put in.';
 export const AT_WORK = 'The program is at work.';
 export const STOP = 'Stop';
-export const MOVED = 'Another tab has moved in between: look again.';
+export const MOVED = 'Another tab has made a move in between. Look again.';
 export const DELETED_ELSEWHERE = 'Another tab has deleted this game. It is kept again with your next move.';
-export const GOES_ON = 'You have begun this game before. It goes on.';
+export const GOES_ON = 'You have begun this game before. Here it is.';
 export const GONE = 'That game is no longer kept.';
 const CANNOT_BE_READ = 'That kept game can’t be read. It stays as it is.';
 export const NO_STORAGE = 'This browser keeps nothing for this page. Save the game to a file before you close it.';
 export const NO_ROOM = 'The browser has no room left, so this game is not kept. Delete other games, or save this one to a file.';
-export const KEPT = 'Each game is kept in this browser after each change. You may close this page when you like.';
+export const KEPT = 'Each game is kept in this browser after each change. You can close this page at any time.';
 export const LINK_COPIED = 'The link to this game is copied.';
 export const LINK_HERE = 'Copy this link to the game:';
-export const NO_SUCH_LINK = 'That names no game: a link, an ID or a number from 0 to 18446744073709551615.';
+export const NO_SUCH_LINK = 'That is no game. Type a link, an ID or a number from 0 to 18446744073709551615.';
 export const NO_NUMBER = 'The number of a game goes from 0 to 18446744073709551615.';
 export const NO_GAMES = 'There is no game yet.';
-export const NO_STATISTICS = 'Solve a game, and its time stands here.';
-export const DROP_FILE = 'That file has too many bytes: a save has 16,777,216 at most.';
+export const NO_STATISTICS = 'Solve a game to see its time here.';
+export const DROP_FILE = 'That file is too large. A save has at most 16,777,216 bytes.';
 export const NOT_OUR_FILE = 'That is no file of games that this page has written.';
 export const ID_OF = 'The ID of this puzzle';
 export const COMMAND = 'A command of the program:';
-export const NO_HINT = 'No number follows by steps alone: try one, or mark what may be there.';
+export const NO_HINT = 'No number follows by steps alone. Try one, or mark the possible numbers.';
 
 // Where the module can't run at all.
 /** @param {string} why */
@@ -75,35 +75,35 @@ export const COMPLETABLE = {
 /** @type {Record<string, string>} */
 const MOVES = {
   BadMove: 'That is no move.',
-  Unsupported: 'Hints and spent signs, moves with H and F, are not played here.',
+  Unsupported: 'Moves with H or F (hints and spent signs) are not played here.',
   OffGrid: 'There is no square and no clue at that place.',
   OffRange: 'Numbers go from 1 to the size.',
   GivenSquare: 'That number was given with the puzzle, and stays.',
-  FilledSquare: 'There is a number. Clear it, then set pencil marks.',
+  FilledSquare: 'The square has a number. Clear it before you set pencil marks.',
   BadSolution: 'Those numbers are no solution of this puzzle.',
-  HistoryFull: 'A game has 100,000 states at most: undo some, then go on.',
+  HistoryFull: 'A game has at most 100,000 states. Undo some moves first.',
   NothingToUndo: 'This is the first state: there is nothing to undo.',
   NothingToRedo: 'This is the last state: there is nothing to redo.',
   NothingToRestart: 'The game is at its start already.',
   LongLine: 'A line has 1,024 bytes at most.',
   BadCommand: 'There is no such command.',
   OutOfMemory: 'There is no memory left for that. Nothing has changed.',
-  NoneFound: 'That number gives no such game: another one does.',
+  NoneFound: 'That number gives no such game. Try another one.',
 };
 
 // Refusals of IDs.
 /** @type {Record<string, string>} */
 const IDS = {
-  BadSize: 'An ID begins with the size, one digit from 3 to 9, as 5 in 5!7.',
+  BadSize: 'An ID begins with the size, one digit from 3 to 9, like the 5 in 5!7.',
   AdjacentMode: 'The adjacent mode of Unequal, with an a after the size, is not played here.',
-  BadParams: 'Between the size and : or ! there is nothing, or d and a letter.',
+  BadParams: 'Only d and a letter may stand between the size and : or !.',
   ForeignSeed: 'A seed after # is the usual program’s. Copy its game ID with a : from there.',
-  NoDescription: 'An ID has a : and a description, or a ! and a seed, after the size, as 5!7.',
+  NoDescription: 'An ID has a : and a description, or a ! and a seed, after the size, as in 5!7.',
   BadSeed: 'A seed goes from 0 to 18446744073709551615, without leading zeros.',
   SizeTooLarge: 'Seeded games have the sizes 3 to 6.',
   Graded: 'A seeded game has no difficulty letter, as in 5!7.',
-  BadClue: 'The ID has a clue that is none of this game.',
-  BadSquares: 'The ID has a square that is none of this game.',
+  BadClue: 'The ID has a clue that this game doesn’t have.',
+  BadSquares: 'The ID has a square that this game doesn’t have.',
   TooFew: 'The ID has too few clues or squares.',
   TooMany: 'The ID has too many clues or squares.',
   OffGrid: 'A sign of the ID points out of the grid.',
@@ -121,13 +121,13 @@ export function refusal(line, name, game) {
 /** @type {Record<string, string>} */
 const SAVES = {
   NotASave: 'That is no save file of the collection: one begins with SAVEFILE:41:.',
-  Version: 'That save is of another version: version 1 is read.',
+  Version: 'That save is of another version. Only version 1 can be read.',
   TooLarge: 'A save has 16,777,216 bytes at most.',
   BadParams: 'That save is of a size or a mode that is not played here: sizes go from 3 to 9.',
   BadDesc: 'That save’s puzzle, its record DESC, can’t be read.',
-  BadCount: 'That save has no right number of states: from 1 to 100000, and the position among them.',
+  BadCount: 'That save has a wrong number of states, or a wrong position among them.',
   BadState: 'Move NUMBER of that save can’t be made on its board.',
-  Unsupported: 'Hints and spent signs, moves with H and F, are not played here: undo them there and go on otherwise.',
+  Unsupported: 'Moves with H or F (hints and spent signs) are not played here. Undo them there and make another move.',
 };
 
 // What there is to say of a text that is no save of these games, and of the name by which the module refuses it.
@@ -177,7 +177,7 @@ export const sinceText = (moves) => `These numbers can’t be completed since th
 export const takeBackText = (moves) => `Take back ${counted(moves, 'move')}`;
 
 /** @param {number} moves */
-export const takenBackText = (moves) => `${capital(counted(moves, 'move'))} back. Redo brings what came after.`;
+export const takenBackText = (moves) => `${capital(counted(moves, 'move'))} taken back. Redo makes ${moves === 1 ? 'it' : 'them'} again.`;
 
 // Where a step looks: a clue, a sign, or squares by their rows and columns.
 /** @param {Step} step @param {number} size */
@@ -216,7 +216,7 @@ export const deleteGameText = (title) => `Delete this game, ${title}? It can’t
 
 /** @param {number} taken @param {number} refused @param {number} there */
 export function brought(taken, refused, there) {
-  return [`${capital(counted(taken, 'game'))} brought in.`, there ? `${there} stood here already.` : '', refused ? `${refused} can’t be read.` : ''].filter(Boolean).join(' ');
+  return [`${capital(counted(taken, 'game'))} imported.`, there ? `${there} were here already.` : '', refused ? `${refused} can’t be read.` : ''].filter(Boolean).join(' ');
 }
 
 /** @param {number} filled @param {number} empty */
@@ -245,7 +245,7 @@ export const KEYS = [
   ['h, H', 'hint; all steps'],
   ['c, b, S', 'can it be completed; back until it can; solve'],
   ['R', 'back to the start'],
-  ['n, o, t', 'new game; games to go on with; the daily games'],
+  ['n, o, t', 'new game; games to continue; the daily games'],
   ['w, i', 'save to a file; the link and the ID'],
   [':', 'a command of the program'],
   ['?', 'rules and keys'],

@@ -1,11 +1,11 @@
 // A hint as it is shown: where to look, why, and the number; or all its steps one by one, in place of the buttons.
 import {button, element, part} from './drawing.js';
-import {Lesson} from './lesson.js';
+import {WalkedHint} from './walked_hint.js';
 import {inSteps, lookAt, lookAtGoal, stepOf} from './texts.js';
 
 /** @typedef {import('./objects.js').Hint} Hint */
 /** @typedef {import('./objects.js').Place} Place */
-/** @typedef {import('./lesson.js').Shown} Shown */
+/** @typedef {import('./walked_hint.js').Shown} Shown */
 // How far a hint is shown.
 /** @typedef {'nothing' | 'look' | 'reason'} Stage */
 
@@ -13,8 +13,8 @@ export class Walk {
   /** @param {(text: string) => void} say */
   constructor(say) {
     this.say = say;
-    /** @type {Lesson | null} */
-    this.lesson = null;
+    /** @type {WalkedHint | null} */
+    this.walked = null;
     /** @type {Stage} */
     this.stage = 'nothing';
     /** @type {Shown | null} */
@@ -25,7 +25,7 @@ export class Walk {
 
   /** Nothing is shown of a hint any more. */
   forget() {
-    [this.lesson, this.stage, this.shown, this.at] = [null, 'nothing', null, -1];
+    [this.walked, this.stage, this.shown, this.at] = [null, 'nothing', null, -1];
     part('walk').hidden = true;
     part('play').hidden = false;
   }
@@ -34,43 +34,43 @@ export class Walk {
 
   /** @param {Hint} hint @param {number} size */
   begin(hint, size) {
-    this.lesson = new Lesson(hint, size);
+    this.walked = new WalkedHint(hint, size);
   }
 
   /** The next part of a hint: what is said then; nothing where the number is to be put in. */
   next() {
-    const {lesson} = this;
-    if (!lesson || this.stage === 'reason') return '';
+    const {walked} = this;
+    if (!walked || this.stage === 'reason') return '';
     if (this.stage === 'nothing') {
       this.stage = 'look';
-      this.shown = lesson.look();
-      return lesson.steps.length ? lookAt(lesson.steps[0], lesson.size) : lookAtGoal(lesson.hint.line, lesson.size);
+      this.shown = walked.look();
+      return walked.steps.length ? lookAt(walked.steps[0], walked.size) : lookAtGoal(walked.hint.line, walked.size);
     }
     this.stage = 'reason';
-    this.shown = lesson.shown(lesson.steps.length === 1 ? 0 : lesson.steps.length);
-    return lesson.steps.length === 1 ? lesson.sentences.join(' ') : [lesson.sentences[lesson.steps.length], inSteps(lesson.steps.length)].filter(Boolean).join(' ');
+    this.shown = walked.shown(walked.steps.length === 1 ? 0 : walked.steps.length);
+    return walked.steps.length === 1 ? walked.sentences.join(' ') : [walked.sentences[walked.steps.length], inSteps(walked.steps.length)].filter(Boolean).join(' ');
   }
 
   /** All steps, in place of the buttons. */
   open() {
-    const {lesson} = this;
-    if (!lesson) return;
-    part('steps').replaceChildren(...lesson.sentences.map((text, at) => element('li', '', {}, button(text, {'data-step': at}))));
+    const {walked} = this;
+    if (!walked) return;
+    part('steps').replaceChildren(...walked.sentences.map((text, at) => element('li', '', {}, button(text, {'data-step': at}))));
     part('walk').hidden = false;
     part('play').hidden = true;
-    part('walk').querySelector('[data-do=take]')?.toggleAttribute('hidden', !lesson.move);
+    part('walk').querySelector('[data-do=take]')?.toggleAttribute('hidden', !walked.move);
     this.go(0);
   }
 
   // Shows a sentence.
   /** @param {number} at */
   go(at) {
-    const {lesson} = this;
-    if (!lesson) return;
-    this.at = Math.max(0, Math.min(at, lesson.sentences.length - 1));
-    this.shown = lesson.shown(this.at);
+    const {walked} = this;
+    if (!walked) return;
+    this.at = Math.max(0, Math.min(at, walked.sentences.length - 1));
+    this.shown = walked.shown(this.at);
     part('steps').querySelectorAll('button').forEach((node, index) => node.setAttribute('aria-current', index === this.at ? 'step' : 'false'));
     part('steps').children[this.at].scrollIntoView({block: 'nearest'});
-    this.say(`${stepOf(this.at, lesson.sentences.length)}. ${lesson.sentences[this.at]}`);
+    this.say(`${stepOf(this.at, walked.sentences.length)}. ${walked.sentences[this.at]}`);
   }
 }

@@ -265,7 +265,7 @@ def test_contradiction(player: Player) -> None:
     player.told('can’t be completed since the last')
     player.is_shown('#walk')
     player.driver.click('#offer')
-    player.told('back. Redo brings what came after.')
+    player.told('taken back. Redo makes')
     player.press('c')
     player.told('can still be completed')
 
@@ -275,7 +275,7 @@ def test_marks_go(player: Player) -> None:
     """Marks go with a number where that is wanted, and undo brings both back at once, on the next day too."""
     player.sit(TOWERS, LAPTOP)
     player.press('m', 'M')
-    player.told('Marks go now')
+    player.told('From now on, marks go')
     player.press('1')
     player.is_called(0, 0, 'row 1, column 1, 1')
     player.is_called(2, 0, 'row 1, column 3, empty, marks 2 3')
@@ -307,7 +307,7 @@ def test_back(player: Player) -> None:
     player.press('c')
     player.told('can’t be completed since the last move.')
     player.press('b')
-    player.told('1 move back.')
+    player.told('1 move taken back.')
     player.is_called(0, 0, 'row 1, column 1, 1')
 
 
@@ -349,7 +349,7 @@ def test_new_games(player: Player) -> None:
         player.called(title)
     for typed, said in [
         ({'id': '3:4///////////'}, 'The ID has'),
-        ({'id': 'what'}, 'That names no game'),
+        ({'id': 'what'}, 'That is no game'),
         ({'number': '18446744073709551616'}, 'The number of a game goes'),
     ]:
         choose(player, **typed)

@@ -129,7 +129,7 @@ def test_behind(player: Player) -> None:
         ' document.activeElement.dispatchEvent(new KeyboardEvent("keydown", {key: "3", bubbles: true})); return true; })'
         '(Object.keys(localStorage).find((name) => name.startsWith("puzzles:game:")))'
     )
-    player.told('Another tab has moved in between')
+    player.told('Another tab has made a move in between')
     player.is_called(2, 0, 'row 1, column 3, 3')
     assert player.moves() == ['R0,0,1', 'R1,0,2', 'R2,0,3']
 
@@ -182,7 +182,7 @@ BAD_FILES: List[Any] = [
     (b'no save', 'That is no save file of the collection'),
     (save_text(0).replace(b'6:Towers', b'28:<img src=x onerror=alert(1)>'), 'That is a save of <img src=x onerror=alert(1)>, which is not played here.'),
     (save_text(2).replace(b'R1,0,2', b'R9,0,2'), 'Move 2 of that save can’t be made on its board.'),
-    (17_000_000, 'That file has too many bytes'),
+    (17_000_000, 'That file is too large'),
 ]
 
 
@@ -213,15 +213,15 @@ def test_all_in_one_file(player: Player) -> None:
     player.press('o')
     player.is_shown('#games')
     player.catch_files()
-    player.click('All to one file')
+    player.click('Export all to one file')
     told: Mapping[str, Any] = json.loads(player.caught())
     player.forget()
     player.load('towers-4-easy-1')
     player.drop(json.dumps({**told, 'games': [*told['games'], {'key': 'x'}, {**told['games'][0], 'key': 'y', 'save': 'none'}]}).encode(), 'games.json')
-    player.told('2 games brought in. 2 can’t be read.')
+    player.told('2 games imported. 2 can’t be read.')
     assert len(player.kept()) == 3
     player.drop(json.dumps(told).encode(), 'games.json')
-    player.told('0 games brought in. 2 stood here already.')
+    player.told('0 games imported. 2 were here already.')
     player.drop(b'{"format": 1}', 'games.json')
     player.told('That is no file of games')
     player.load(TOWERS)
@@ -275,7 +275,7 @@ def solve_by_hints(player: Player) -> None:
 def test_settings_last(player: Player) -> None:
     player.sit(TOWERS)
     player.press('M')
-    player.told('Marks go now')
+    player.told('From now on, marks go')
     player.load()
     player.click('Menu')
     player.is_shown('#menu')

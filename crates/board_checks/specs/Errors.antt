@@ -3,8 +3,8 @@ use Rattle.std.specs.Prelude.{ℕ, Bool, false, IsTrue, ◌⊎◌, List, slice_i
 use Rattle.board_checks.specs.declared.spot.Spot.{Spot}
 use Rattle.board_checks.specs.declared.spot.Spot.TheVariants.{Edge, RightOf, Below}
 
--- whether the number of each square is repeated, and whether what is demanded at each spot is broken: at the edge places, on
--- the right of each square and below it
+-- whether the number of each square is repeated, and whether what is demanded at each spot is broken: at the edge
+-- places, on the right of each square and below it
 pub record ErrorsValue : Type 0 where
   pub repeated : List Bool
   pub edges : List Bool

@@ -12,4 +12,5 @@ before c bs = before_first (λ b. b == c) bs
 
 -- the bytes after the first c, where there is one
 abbrev pub behind : ℕ → List ℕ → Option (List ℕ)
-behind c bs = if nat_lt (position_or_len (λ b. b == c) bs) (length bs) then Some (after_first (λ b. b == c) bs) else None
+behind c bs =
+    if nat_lt (position_or_len (λ b. b == c) bs) (length bs) then Some (after_first (λ b. b == c) bs) else None

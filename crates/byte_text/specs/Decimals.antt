@@ -1,5 +1,6 @@
 -- Digits, and numbers that are written in decimal without leading zeros.
-use Rattle.std.specs.Prelude.{ℕ, ◌+◌, ◌-◌, ◌*◌, Bool, false, List, [], ◌∷◌, Option, Some, None, option_and_then, if◌then◌else◌, ◌==◌, ◌&&◌, nat_le}
+use Rattle.std.specs.Prelude.{ℕ, ◌+◌, ◌-◌, ◌*◌, Bool, false, List, [], ◌∷◌, Option, Some, None, option_and_then}
+use Rattle.std.specs.Prelude.{if◌then◌else◌, ◌==◌, ◌&&◌, nat_le}
 use Rattle.byte_text.specs.Bytes.{digit_zero, digit_nine}
 
 -- the byte is one of `0` to `9`
@@ -16,7 +17,8 @@ abbrev pub digit_onto : ℕ → ℕ → ℕ → Option ℕ
 digit_onto greatest n b =
     if is_digit b && nat_le (n * 10 + (b - digit_zero)) greatest then Some (n * 10 + (b - digit_zero)) else None
 
--- the number whose first digits have this value and whose others follow, or none where it gets above the greatest or a byte is no digit
+-- the number whose first digits have this value and whose others follow, or none where it gets above the greatest or a
+-- byte is no digit
 abbrev pub number_from : ℕ → ℕ → List ℕ → Option ℕ
 number_from greatest n [] = Some n
 number_from greatest n (b ∷ bs) = option_and_then (λ m. number_from greatest m bs) (digit_onto greatest n b)

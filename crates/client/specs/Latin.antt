@@ -1,5 +1,6 @@
 -- Latin squares with givens: the items of a puzzle, and its description.
-use Rattle.std.specs.Prelude.{ℕ, ◌-◌, ◌*◌, ◌&&◌, ◌++◌, Bool, nat_le, nat_lt, if◌then◌else◌, zero, List, [], ◌∷◌, map, Option, Some, None, option_map, option_and_then, Result, ok_or}
+use Rattle.std.specs.Prelude.{ℕ, ◌-◌, ◌*◌, ◌&&◌, ◌++◌, Bool, nat_le, nat_lt, if◌then◌else◌, zero, List, [], ◌∷◌, map}
+use Rattle.std.specs.Prelude.{Option, Some, None, option_map, option_and_then, Result, ok_or}
 use Rattle.byte_text.specs.Bytes.{digit, digit_zero, line_feed}
 use Rattle.byte_text.specs.Reading.{◌>>=◌}
 use Rattle.latin_board.specs.Squares.{GridValue, number_at}

@@ -1,12 +1,14 @@
 -- The laws of the items, by those of lists of which only some items are kept.
-use Rattle.std.proofs.Common.{◌≡◌, ℕ, zero, ◌*◌, ◌<◌, ◌≤◌, Bool, true, false, ◌&&◌, not, ◌==◌, nat_lt, set, slice_index, refl, arith}
+use Rattle.std.proofs.Common.{◌≡◌, ℕ, zero, ◌*◌, ◌<◌, ◌≤◌, Bool, true, false, ◌&&◌, not, ◌==◌, nat_lt, set, slice_index}
+use Rattle.std.proofs.Common.{refl, arith}
 use Rattle.std.proofs.lemmas.Bool.{lt-ltb}
 use Rattle.latin_board.specs.Squares.{GridValue, IsGrid, IsLatin, number_at}
 use Rattle.latin_board.proofs.LatinLines.{latin_full}
 use Rattle.latin_board.proofs.Numbers.{number_within}
 use Rattle.trail_solver.specs.Puzzles.{Solves}
 use Rattle.clue_rules.specs.Givens.{given_puzzle}
-use Rattle.clue_rules.specs.Laws.KeptItems.{entry-kept, kept-all, kept-kept, kept-same, IsGrid-kept, still_asked, none_asked, present_kept, not_positive}
+use Rattle.clue_rules.specs.Laws.KeptItems.{entry-kept, kept-all, kept-kept, kept-same, IsGrid-kept, still_asked}
+use Rattle.clue_rules.specs.Laws.KeptItems.{none_asked, present_kept, not_positive}
 use Rattle.clue_rules.proofs.KeptItemLemmas.{kept-but_one}
 use Rattle.client.specs.Latin.{items_of, has_given, cut_givens}
 
@@ -21,7 +23,8 @@ cut_valid p keep h = IsGrid-kept p keep 0 h
 -- a cut has the givens that were there and are in the set
 pub cut_has : (p : GridValue) (keep : ℕ → Bool) (i : ℕ) → has_given (cut_givens p keep) i ≡ (has_given p i && keep i)
 cut_has p keep i =
-    rw (entry-kept zero keep 0 p.numbers i i (omega arith)) (present_kept (nat_lt 0) zero refl (keep i) (slice_index p.numbers i))
+    rw (entry-kept zero keep 0 p.numbers i i (omega arith))
+    (present_kept (nat_lt 0) zero refl (keep i) (slice_index p.numbers i))
 
 -- to keep every given changes nothing
 pub cut_all : (p : GridValue) → cut_givens p (λ i. true) ≡ p
@@ -36,7 +39,8 @@ cut_cut p first second = rw (kept-kept zero first second 0 p.numbers) refl
 pub cut_agrees : (p : GridValue) (a b : ℕ → Bool) → IsGrid p
     → ((i : ℕ) → i < items_of p.size → has_given p i ≡ true → a i ≡ b i) → cut_givens p a ≡ cut_givens p b
 cut_agrees p a b h same =
-    let kept = kept-same zero (nat_lt 0) not_positive a b p.numbers (λ k inside here. same k (omega (arith, h.count)) here) in
+    let kept =
+    kept-same zero (nat_lt 0) not_positive a b p.numbers (λ k inside here. same k (omega (arith, h.count)) here) in
     rw kept refl
 
 -- to blank a square is the cut that leaves its given out
@@ -44,11 +48,16 @@ pub given_dropped : (old new : GridValue) (i : ℕ) → new.size ≡ old.size �
     → new ≡ cut_givens old (λ j. not (j == i))
 given_dropped old new i size numbers =
     let kept = kept-but_one zero 0 i i old.numbers (omega arith) in
-    let whole : new ≡ record { size = old.size; numbers = set old.numbers i 0 } = λ t. record { size = size t; numbers = numbers t } in
+    let whole : new
+    ≡ record { size = old.size; numbers = set old.numbers i 0 } = λ t. record {
+      size = size t;
+      numbers = numbers t;
+    } in
     rw kept whole
 
 -- a cut loses no solution
-pub cut_solved : (p : GridValue) (keep : ℕ → Bool) (g : GridValue) → Solves (given_puzzle p) g → Solves (given_puzzle (cut_givens p keep)) g
+pub cut_solved : (p : GridValue) (keep : ℕ → Bool) (g : GridValue) → Solves (given_puzzle p) g
+    → Solves (given_puzzle (cut_givens p keep)) g
 cut_solved p keep g h = record {
   is_grid = h.is_grid;
   same_size = h.same_size;

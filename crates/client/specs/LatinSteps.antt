@@ -6,16 +6,16 @@ use Rattle.trail_solver.specs.Puzzles.{Solves}
 use Rattle.clue_rules.specs.Givens.{given_puzzle}
 use Rattle.named_steps.specs.Along.{LooksAlong, StandsAlong}
 use Rattle.named_steps.specs.Grades.{is_of_clues, is_of_lines}
-use Rattle.named_steps.specs.Left.{IsFewer}
+use Rattle.clue_rules.specs.Left.{IsFewer}
 use Rattle.named_steps.specs.Passes.{StaysOn}
-use Rattle.named_steps.specs.Reasons.{IsByGiven, IsByLine}
+use Rattle.clue_rules.specs.Reasons.{IsByGiven, IsByLine}
 use Rattle.named_steps.specs.Laws.Cuts.{given_whole, kept_number}
 use Rattle.named_steps.specs.Laws.Sound.{given_sound, line_sound}
 use Rattle.named_steps.proofs.LinePasses.{line_less}
 use Rattle.named_steps.specs.declared.grade.Grade.{Grade}
 use Rattle.named_steps.specs.declared.grade.Grade.TheVariants.{Latin, Easy, Hard}
-use Rattle.named_steps.specs.declared.reason.Reason.{Reason}
-use Rattle.named_steps.specs.declared.reason.Reason.TheVariants.{Given, Peer, Place, Bound, Stand, Clue, Sign, Set}
+use Rattle.clue_rules.specs.declared.reason.Reason.{Reason}
+use Rattle.clue_rules.specs.declared.reason.Reason.TheVariants.{Given, Peer, Place, Bound, Stand, Clue, Sign, Set}
 use Rattle.fair_games.specs.declared.trial.Trial.{Trial}
 use Rattle.fair_games.specs.declared.trial.Trial.TheVariants.{GivensAlone}
 use Rattle.client.specs.Latin.{cut_givens, items_of}
@@ -44,8 +44,10 @@ lines p c (Sign from to) cell value is = absurd (cc)
 lines p c (Set line squares values) cell value is = (λ h. h, λ h. h)
 
 -- no clue and no sign strikes
-pub looks : (p : GridValue) (c d : CandidatesValue) (reason : Reason) (cell value line : ℕ) → c.size ≡ p.size → line < 2 * c.size
-    → LooksAlong c.size line reason cell → StaysOn line c d → IsLatinStruckBy p d reason cell value → IsLatinStruckBy p c reason cell value
+pub looks : (p : GridValue) (c d : CandidatesValue) (reason : Reason) (cell value line : ℕ) → c.size ≡ p.size
+    → line < 2 * c.size
+    → LooksAlong c.size line reason cell → StaysOn line c d → IsLatinStruckBy p d reason cell value
+    → IsLatinStruckBy p c reason cell value
 looks p c d (Given at) cell value line size low along stays h = absurd along
 looks p c d (Peer by) cell value line size low along stays h = absurd along
 looks p c d (Place at index other) cell value line size low along stays h = absurd along
@@ -68,22 +70,29 @@ stands p c (Sign from to) cell value is h = absurd h
 stands p c (Set at squares values) cell value is h = absurd (cc)
 
 -- what is struck from candidates is struck from fewer
-pub less : (p : GridValue) (c d : CandidatesValue) (reason : Reason) (cell value : ℕ) → IsFewer c d → IsLatinStruckBy p c reason cell value
+pub less : (p : GridValue) (c d : CandidatesValue) (reason : Reason) (cell value : ℕ) → IsFewer c d
+    → IsLatinStruckBy p c reason cell value
     → IsLatinStruckBy p d reason cell value
 less p c d (Given at) cell value fewer h = h
 less p c d (Peer by) cell value fewer h = line_less p.size c d (Peer by) cell value fewer h
-less p c d (Place line index other) cell value fewer h = line_less p.size c d (Place line index other) cell value fewer h
+less p c d (Place line index other) cell value fewer h =
+    line_less p.size c d (Place line index other) cell value fewer h
 less p c d (Bound place) cell value fewer h = absurd h
 less p c d (Stand place) cell value fewer h = absurd h
 less p c d (Clue place) cell value fewer h = absurd h
 less p c d (Sign from to) cell value fewer h = absurd h
-less p c d (Set line squares values) cell value fewer h = line_less p.size c d (Set line squares values) cell value fewer h
+less p c d (Set line squares values) cell value fewer h =
+    line_less p.size c d (Set line squares values) cell value fewer h
 
 -- and it is in no solution
-pub sound : (p : GridValue) (c : CandidatesValue) (reason : Reason) (cell value : ℕ) (g : GridValue) → IsGrid p → c.size ≡ p.size
-    → Solves (given_puzzle p) g → IsWithin c g → cell < p.size * p.size → IsLatinStruckBy p c reason cell value → number_at g cell ≢ value
-sound p c (Given at) cell value g valid size solved within inside h = given_sound (given_puzzle p) g at cell value solved.givens inside h
-sound p c (Peer by) cell value g valid size solved within inside h = line_sound (given_puzzle p) c (Peer by) cell value g size solved within h
+pub sound : (p : GridValue) (c : CandidatesValue) (reason : Reason) (cell value : ℕ) (g : GridValue) → IsGrid p
+    → c.size ≡ p.size
+    → Solves (given_puzzle p) g → IsWithin c g → cell < p.size * p.size → IsLatinStruckBy p c reason cell value
+    → number_at g cell ≢ value
+sound p c (Given at) cell value g valid size solved within inside h =
+    given_sound (given_puzzle p) g at cell value solved.givens inside h
+sound p c (Peer by) cell value g valid size solved within inside h =
+    line_sound (given_puzzle p) c (Peer by) cell value g size solved within h
 sound p c (Place line index other) cell value g valid size solved within inside h =
     line_sound (given_puzzle p) c (Place line index other) cell value g size solved within h
 sound p c (Bound place) cell value g valid size solved within inside h = absurd h
@@ -108,7 +117,8 @@ whole p keep c (Set line squares values) cell value h = h
 
 -- ---- fair games
 
--- easy games follow by rows and columns, and normal ones ask for groups of squares; the grade between has the same steps as the first
+-- easy games follow by rows and columns, and normal ones ask for groups of squares; the grade between has the same
+-- steps as the first
 abbrev pub latin_letter : Grade → Option ℕ
 latin_letter Latin = Some 101
 latin_letter Easy = None

@@ -1,5 +1,7 @@
 -- The laws of the description: what is read is spelled so, and what is spelled so is read.
-use Rattle.std.proofs.Common.{◌≡◌, ℕ, ◌+◌, ◌-◌, ◌*◌, ◌≤◌, true, false, ◌&&◌, nat_le, nat_lt, cond, codes, List, [], ◌∷◌, ◌++◌, length, map, Option, Some, None, option_map, option_and_then, Result, Ok, Err, ok_or, refl, sym, ap, ◌∙◌, subst, arith}
+use Rattle.std.proofs.Common.{◌≡◌, ℕ, ◌+◌, ◌-◌, ◌*◌, ◌≤◌, true, false, ◌&&◌, nat_le, nat_lt, cond, codes, List, [], ◌∷◌}
+use Rattle.std.proofs.Common.{◌++◌, length, map, Option, Some, None, option_map, option_and_then, Result, Ok, Err}
+use Rattle.std.proofs.Common.{ok_or, refl, sym, ap, ◌∙◌, subst, arith}
 use Rattle.std.specs.List.{AllByRecursion}
 use Rattle.std.proofs.lemmas.List.{length-map}
 use Rattle.std.proofs.lemmas.List.Elements.{All-from_recursion, recursion_from_All}
@@ -19,7 +21,8 @@ use Rattle.client.specs.Latin.{items_of, latin_text, number_in, numbers_in, give
 
 -- the widths that are generated have few squares
 pub few_items : (w : ℕ) → 3 ≤ w → w ≤ 6 → items_of w ≤ MOST_ITEMS
-few_items w low high = small_widths (λ n. items_of n ≤ MOST_ITEMS) (omega arith) (omega arith) (omega arith) (omega arith) w low high
+few_items w low high =
+    small_widths (λ n. items_of n ≤ MOST_ITEMS) (omega arith) (omega arith) (omega arith) (omega arith) w low high
 
 -- no letter is one that ends the parameters of an ID
 pub letters_lack : LacksSeparators (codes "en")
@@ -32,15 +35,17 @@ read_onto front more = option_map (λ ns. front ++ ns) more
 -- a byte that is read is the digit of its number
 number_taken : (w b n : ℕ) → number_in w b ≡ Some n → (n ≤ w) × (b ≡ digit n)
 number_taken w b n =
-    elim (nat_le 48 b) as (λ t. nat_le 48 b ≡ t → cond (t && nat_le b (48 + w)) (Some (b - 48)) None ≡ Some n → (n ≤ w) × (b ≡ 48 + n)) [
-      | true ↦ λ low. elim (nat_le b (48 + w)) as (λ t. nat_le b (48 + w) ≡ t → cond t (Some (b - 48)) None ≡ Some n → (n ≤ w) × (b ≡ 48 + n)) [
-        | true ↦ λ high read.
-            let e : b - 48 ≡ n = cc in
-            let l = leb-true _ _ low in
-            let h = leb-true _ _ high in
-            (omega arith, omega arith)
-        | false ↦ λ high read. cc
-      ] refl
+    elim (nat_le 48 b) as
+    (λ t. nat_le 48 b ≡ t → cond (t && nat_le b (48 + w)) (Some (b - 48)) None ≡ Some n → (n ≤ w) × (b ≡ 48 + n)) [
+      | true ↦ λ low. elim (nat_le b (48 + w)) as
+          (λ t. nat_le b (48 + w) ≡ t → cond t (Some (b - 48)) None ≡ Some n → (n ≤ w) × (b ≡ 48 + n)) [
+            | true ↦ λ high read.
+                let e : b - 48 ≡ n = cc in
+                let l = leb-true _ _ low in
+                let h = leb-true _ _ high in
+                (omega arith, omega arith)
+            | false ↦ λ high read. cc
+          ] refl
       | false ↦ λ low read. cc
     ] refl
 
@@ -58,16 +63,21 @@ numbers_taken : (w : ℕ) (text ns : List ℕ) → numbers_in w text ≡ Some ns
 numbers_taken w [] ns = λ read.
     let e : [] ≡ ns = cc in subst (λ (xs : List ℕ). AllByRecursion (λ n. n ≤ w) xs × ([] ≡ map digit xs)) e (tt, refl)
 numbers_taken w (b ∷ bs) ns =
-    elim (number_in w b) as (λ o. number_in w b ≡ o → option_and_then (λ n. option_map (λ xs. n ∷ xs) (numbers_in w bs)) o ≡ Some ns → AllByRecursion (λ n. n ≤ w) ns × (b ∷ bs ≡ map digit ns)) [
+    elim (number_in w b) as
+    (λ o. number_in w b ≡ o → option_and_then (λ n. option_map (λ xs. n ∷ xs) (numbers_in w bs)) o ≡ Some ns
+    → AllByRecursion (λ n. n ≤ w) ns × (b ∷ bs ≡ map digit ns)) [
       | None ↦ λ is read. cc
-      | Some n ↦ λ is. elim (numbers_in w bs) as (λ o. numbers_in w bs ≡ o → option_map (λ xs. n ∷ xs) o ≡ Some ns → AllByRecursion (λ n. n ≤ w) ns × (b ∷ bs ≡ map digit ns)) [
-        | None ↦ λ are read. cc
-        | Some xs ↦ λ are read.
-            let first = number_taken w b n is in
-            let rest = numbers_taken w bs xs are in
-            let e : n ∷ xs ≡ ns = cc in
-            subst (λ (ys : List ℕ). AllByRecursion (λ n. n ≤ w) ys × (b ∷ bs ≡ map digit ys)) e ((first.0, rest.0), ap (λ x. x ∷ bs) first.1 ∙ ap (λ xs. digit n ∷ xs) rest.1)
-      ] refl
+      | Some n ↦ λ is. elim (numbers_in w bs) as
+          (λ o. numbers_in w bs ≡ o → option_map (λ xs. n ∷ xs) o ≡ Some ns
+          → AllByRecursion (λ n. n ≤ w) ns × (b ∷ bs ≡ map digit ns)) [
+            | None ↦ λ are read. cc
+            | Some xs ↦ λ are read.
+                let first = number_taken w b n is in
+                let rest = numbers_taken w bs xs are in
+                let e : n ∷ xs ≡ ns = cc in
+                subst (λ (ys : List ℕ). AllByRecursion (λ n. n ≤ w) ys × (b ∷ bs ≡ map digit ys)) e
+                ((first.0, rest.0), ap (λ x. x ∷ bs) first.1 ∙ ap (λ xs. digit n ∷ xs) rest.1)
+          ] refl
     ] refl
 
 -- the digits of numbers are read as the numbers
@@ -81,7 +91,8 @@ Described w text p = (text ≡ latin_text p) × IsGrid p × (p.size ≡ w)
 
 -- the digits of numbers of the width describe the puzzle of these numbers
 described : (w : ℕ) (text ns : List ℕ) (p : GridValue) → 3 ≤ w → w ≤ 9 → length text ≡ w * w
-    → AllByRecursion (λ n. n ≤ w) ns × (text ≡ map digit ns) → record { size = w; numbers = ns } ≡ p → Described w text p
+    → AllByRecursion (λ n. n ≤ w) ns × (text ≡ map digit ns) → record { size = w; numbers = ns } ≡ p
+    → Described w text p
 described w text ns p low high count read e =
     let long : length ns ≡ w * w = sym (length-map ns digit) ∙ (ap length (sym read.1) ∙ count) in
     let is_grid : IsGrid (record { size = w; numbers = ns }) = record {
@@ -93,9 +104,13 @@ described w text ns p low high count read e =
     subst (Described w text) e (read.1, is_grid, refl)
 
 -- bytes that are read describe the puzzle
-givens_taken : (w : ℕ) (text : List ℕ) (p : GridValue) → 3 ≤ w → w ≤ 9 → length text ≡ w * w → givens_in w text ≡ Ok p → Described w text p
+givens_taken : (w : ℕ) (text : List ℕ) (p : GridValue) → 3 ≤ w → w ≤ 9 → length text ≡ w * w → givens_in w text ≡ Ok p
+    → Described w text p
 givens_taken w text p low high count =
-    elim (numbers_in w text) as (λ o. numbers_in w text ≡ o → ok_or (option_map (λ ns. let r : GridValue = record { size = w; numbers = ns } in r) o) BadSquares ≡ Ok p → Described w text p) [
+    elim (numbers_in w text) as
+    (λ o. numbers_in w text ≡ o
+    → ok_or (option_map (λ ns. let r : GridValue = record { size = w; numbers = ns } in r) o) BadSquares ≡ Ok p
+    → Described w text p) [
       | None ↦ λ are read. cc
       | Some ns ↦ λ are read.
           let e : record { size = w; numbers = ns } ≡ p = cc in
@@ -107,7 +122,8 @@ pub latin_taken : (w : ℕ) (text : List ℕ) (p : GridValue) → 3 ≤ w → w 
     → (text ≡ latin_text p) × IsGrid p × (p.size ≡ w)
 unfolding latin_at
 latin_taken w text p low high =
-    elim (exactly (w * w) text) as (λ (r : Result (List ℕ) IdFault). exactly (w * w) text ≡ r → (r >>= givens_in w) ≡ Ok p → Described w text p) [
+    elim (exactly (w * w) text) as
+    (λ (r : Result (List ℕ) IdFault). exactly (w * w) text ≡ r → (r >>= givens_in w) ≡ Ok p → Described w text p) [
       | Err fault ↦ λ is read. cc
       | Ok bytes ↦ λ is read.
           let taken = exactly_taken (w * w) text bytes is in
@@ -125,7 +141,9 @@ latin_again text p h is =
 -- squares are never refused for memory
 givens_not_for_memory : (w : ℕ) (text : List ℕ) → NotForMemory (givens_in w text)
 givens_not_for_memory w text =
-    elim (numbers_in w text) as (λ o. NotForMemory (ok_or (option_map (λ ns. let r : GridValue = record { size = w; numbers = ns } in r) o) BadSquares)) [
+    elim (numbers_in w text) as
+    (λ o. NotForMemory
+    (ok_or (option_map (λ ns. let r : GridValue = record { size = w; numbers = ns } in r) o) BadSquares)) [
       | None ↦ λ e. cc
       | Some ns ↦ tt
     ]

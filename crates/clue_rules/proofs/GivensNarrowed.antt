@@ -1,15 +1,15 @@
 -- Givens first, and then rows and columns: no grid with the givens is lost.
-use Rattle.std.proofs.Common.{◌≡◌, ℕ, ◌⊎◌, Bool, true, inl, inr, sym, ◌∙◌}
+use Rattle.std.proofs.Common.{◌≡◌, ℕ, Bool, true, inl, inr, refl, sym, ◌∙◌}
 use Rattle.std.specs.Bool.{OnFalse, OnTrue}
 use Rattle.latin_board.specs.Squares.{GridValue}
 use Rattle.trail_solver.specs.Candidates.{CandidatesValue, IsEarlier}
 use Rattle.trail_solver.specs.Puzzles.{Solves}
 use Rattle.trail_solver.specs.Solutions.{HasNoSolutionWithin, KeepsSolutions}
 use Rattle.clue_rules.specs.Givens.{given_puzzle}
-use Rattle.clue_rules.specs.Inner.Narrowing.{Agrees, IsSquare, IsStruckByLines, KeepsEach, LacksStruck, Narrows, NoneStruck}
+use Rattle.clue_rules.specs.Inner.Narrowing.{Agrees, IsGivenStruck, IsSquare, IsStruckByLines, KeepsEach, LacksStruck, Narrows, NoneStruck}
 use Rattle.clue_rules.specs.Inner.QuietLines.{NotesIn, Strikes}
-use Rattle.clue_rules.specs.Struck.{IsGivenStruck, IsGivensStruck, NoneLeft}
-use Rattle.clue_rules.proofs.Narrowings.{on_false, on_true, struck_gone}
+use Rattle.clue_rules.specs.Struck.{IsGivensStruck, NoneLeft}
+use Rattle.clue_rules.proofs.Narrowings.{given_struck, on_false, on_true, struck_gone}
 use Rattle.clue_rules.proofs.QuietSteps.{same_refl}
 use Rattle.trail_solver.proofs.Earlier.{earlier_refl, earlier_trans}
 
@@ -39,7 +39,7 @@ gone_by : (givens : GridValue) (a b c k : CandidatesValue) (r : Bool) → IsEarl
 gone_by givens a b c k r first given lines quiet e =
     on_true r
     (λ gone cell value pair s. gone cell value pair (elim s [
-      | inl by ↦ inl by
+      | inl by ↦ inl (given_struck (given_puzzle givens) givens (λ i. refl) by.0 cell value by.1)
       | inr by ↦ inr (inl by)
     ]))
     (struck_gone (IsStruckByLines (λ line. NoneStruck)) r a b c k given first lines.less e quiet)

@@ -9,8 +9,7 @@ use Rattle.trail_solver.specs.Candidates.{CandidatesValue, IsCandidates, IsSetOf
 use Rattle.trail_solver.proofs.Earlier.{earlier_refl, earlier_trans, stays_gone}
 use Rattle.trail_solver.proofs.SetPairs.{to_less}
 use Rattle.trail_solver.proofs.StruckSets.{AreMissing, gone_missing, missing_are, missing_strikes, rest_missing, struck_earlier}
-use Rattle.clue_rules.specs.Inner.Narrowing.{KeepsInSquare, KeepsInView, Agrees, AreSetsOf, KeepsEach}
-use Rattle.clue_rules.specs.Struck.{IsGivenStruck}
+use Rattle.clue_rules.specs.Inner.Narrowing.{KeepsInSquare, KeepsInView, Agrees, AreSetsOf, IsGivenStruck, KeepsEach}
 use Rattle.clue_rules.specs.Views.{view_cell}
 
 -- ---- one square
@@ -76,16 +75,6 @@ up_to_none at Stays c = record {
   rest = λ k v inside or. refl;
 }
 
--- where all may stay, nothing has to be taken
-pub up_to_all : (at : ℕ → ℕ) (Stays : ℕ → ℕ → Type 0) (n : ℕ) (c : CandidatesValue)
-    → ((k v : ℕ) → k < n → IsPair c.size (at k) v → may_be c (at k) v ≡ true → Stays k v) → KeepsUpTo at Stays n c c
-up_to_all at Stays n c all = record {
-  less = earlier_refl c;
-  keeps = λ g size stay w. w;
-  gone = λ k v below pair goes. false_from_ne_true (may_be c (at k) v) (λ left. goes (all k v below pair left));
-  rest = λ k v inside or. refl;
-}
-
 -- what is kept in the next square takes nothing from the others
 rest_more : (at : ℕ → ℕ) (Stays : ℕ → ℕ → Type 0) (n kept : ℕ) (first now new : CandidatesValue) → AreOnce at first.size → n < first.size
     → KeepsUpTo at Stays n first now → IsStaying Stays n kept → KeepsInSquare now new (at n) kept → (k v : ℕ) → k < first.size
@@ -131,16 +120,6 @@ up_to_more at Stays n kept first now new once low h is step = record {
   ];
   rest = rest_more at Stays n kept first now new once low h is step;
 }
-
--- the candidates of a square that comes later are those that it had at first
-pub set_before : (at : ℕ → ℕ) (Stays : ℕ → ℕ → Type 0) (n set : ℕ) (first now : CandidatesValue) → n < first.size → KeepsUpTo at Stays n first now
-    → IsSetOf now (at n) set → IsSetOf first (at n) set
-set_before at Stays n set first now low h is v =
-    let same = h.rest n v low (inl (omega arith)) in
-    let Pair : ℕ → Type 0 = λ w. IsPair w (at n) v in (
-      λ has. let p = (is v).0 has in (subst Pair h.less.size p.0, sym same ∙ p.1),
-      λ p. (is v).1 (subst Pair (sym h.less.size) p.0, same ∙ p.1),
-    )
 
 -- the answer that a set is empty
 pub none_in : (set : ℕ) → not (set == 0) ≡ false → set ≡ 0

@@ -6,7 +6,7 @@ pub mod GivensFilled
 pub mod GivensNarrowed
 pub mod KeptCandidates
 pub mod KeptItemLemmas
-pub mod LineCandidates
+pub mod LineBits
 pub mod LineSets
 pub mod LineSquares
 pub mod LineSteps
@@ -14,6 +14,7 @@ pub mod LineTallying
 pub mod LowTowers
 pub mod Narrowings
 pub mod NotedSquares
+pub mod OtherNumbers
 pub mod ParameterLemmas
 pub mod PieceLemmas
 pub mod QuietSteps
@@ -22,6 +23,8 @@ pub mod SettledLines
 pub mod SignLemmas
 pub mod SignOrders
 pub mod SignSteps
+pub mod TakenLines
+pub mod Takes
 pub mod TowersKept
 pub mod TowersTables
 pub mod UnequalFullLemmas

@@ -1,5 +1,5 @@
 -- Sets of lines, as the numbers whose bits they are.
-use Rattle.std.proofs.Common.{◌≡◌, ◌≢◌, ℕ, ◌^◌, ◌%◌, ◌<◌, ◌≤◌, ◌⊎◌, true, false, inl, inr, refl, sym, ◌∙◌, subst, arith, bit_and, nat_lt}
+use Rattle.std.proofs.Common.{◌≡◌, ◌≢◌, ℕ, ◌+◌, ◌-◌, ◌*◌, ◌^◌, ◌%◌, ◌<◌, ◌≤◌, ◌⊎◌, true, false, inl, inr, refl, sym, ◌∙◌, subst, arith, bit_and, nat_lt}
 use Rattle.std.specs.Int.{trailing_zeros}
 use Rattle.std.specs.Int.Width.{w32}
 use Rattle.std.proofs.lemmas.Bool.{and_from, and_parts, both_ways, cases_Bool, cases_eq, cases_lt, false_from_ne_true, lt-ltb, ltb-true, ne_eqb}
@@ -7,7 +7,7 @@ use Rattle.std.proofs.lemmas.Nat.{and_le_r, mod_below, pow_pos}
 use Rattle.std.proofs.lemmas.Nat.Bits.{bit_at-trailing_zeros}
 use Rattle.number_sets.specs.Sets.{has_number, IsSubset}
 use Rattle.number_sets.proofs.Members.{below_from_numbers, has_number-above, has_number-and, has_number-mod, has_number-none, number-from_bit, subset_test}
-use Rattle.clue_rules.specs.Inner.ChangedLines.{HasNoneBelow, IsOneBelow}
+use Rattle.clue_rules.specs.ChangedLines.{HasNoneBelow, IsOneBelow}
 
 -- ---- the next one of the first lines
 
@@ -72,3 +72,12 @@ set_less line s t low was fewer =
     both_ways (has_number (t % 2 ^ 32) line) (has_number-mod t 32 line low ∙ fewer line (inl refl))
     (subst (λ (set : ℕ). has_number set line ≡ true) (sym same) (has_number-mod s 32 line low ∙ was)) in
     omega (arith, le, differ)
+
+-- ---- how long it can go on
+
+-- work is nearer to its end where the trail has grown, or the sets of lines are lesser
+pub nearer : (old new m n : ℕ) → old ≤ new → old ≤ 729 → n < 2 ^ 33 → (new ≡ old → n < m) → (730 - new) * 2 ^ 33 + n < (730 - old) * 2 ^ 33 + m
+nearer old new m n longer bound small less = elim (cases_eq new old) [
+  | inl same ↦ let fewer = less same in omega (arith, same, fewer)
+  | inr grown ↦ omega (arith, longer, grown, bound, small)
+]

@@ -1,171 +1,235 @@
--- The tally of a line's sets, set by set, and what it says of the numbers that they can hold.
-use Rattle.std.proofs.Common.{◌≡◌, ◌≢◌, ℕ, ◌+◌, ◌<◌, ◌≤◌, ◌↔◌, ◌⊎◌, Bool, true, false, not, ◌&&◌, ◌||◌, nat_le, List, inl, inr, sym, ap, ◌∙◌, subst, arith, slice_index}
-use Rattle.std.proofs.lemmas.Bool.{cases_Bool, cases_lt, cases_eq, cases_order, both_ways, false_from_ne_true, and_parts, and_from, le-leb, leb-true, or_left, or_right, not-true, or_cases}
-use Rattle.number_sets.specs.Sets.{has_number, no_numbers, IsEmpty, IsShared, IsSingle, IsSubset}
+-- The tally of a line's squares: one square more, and what the whole tally says of what the squares strike in one another.
+use Rattle.std.proofs.Common.{◌≡◌, ℕ, ◌+◌, ◌^◌, ◌<◌, ◌≤◌, ◌↔◌, ◌⊎◌, Bool, true, false, not, ◌&&◌, ◌||◌, nat_le, inl, inr, sym, ap, ◌∙◌, subst, arith}
+use Rattle.std.proofs.lemmas.Bool.{cases_Bool, cases_eq, cases_order, both_ways, false_from_ne_true, and_parts, and_from, le-leb, leb-true, or_left, or_right, not-true, or_cases}
+use Rattle.number_sets.specs.Sets.{has_number, no_numbers, IsEmpty, IsShared, IsSingle}
 use Rattle.number_sets.proofs.Members.{has_number-none}
-use Rattle.clue_rules.specs.Inner.LineTallies.{IsInTwo, IsPossible, IsTally, IsWholeTally, IsSinglesOf, IsCounted, IsClash, IsForced, IsFree, IsHidden, IsQuietTally, MayStay, IsKeptOf, HoldValuesTo}
+use Rattle.latin_board.specs.Lines.{line_cell}
+use Rattle.trail_solver.specs.Candidates.{CandidatesValue, IsSetOf, may_be}
+use Rattle.clue_rules.specs.Left.{IsLeft, HasNoOtherPlace}
+use Rattle.clue_rules.specs.LineStrikes.{IsAlone, IsByRest, IsLeftByRest, IsRestQuiet, IsVoid, IsClash}
+use Rattle.clue_rules.specs.Inner.LineTallies.{AreTallied, IsTallyOf, IsSinglesOf, IsCounted, IsAloneBefore, IsClashing, IsForced, IsFree, IsHidden, IsQuietTally, Goes, IsKeptOf}
+use Rattle.clue_rules.proofs.OtherNumbers.{another, has_rest}
 use Rattle.clue_rules.specs.declared.lines.latin.LineTally.{LineTally}
-use Rattle.clue_rules.proofs.RangeLemmas.{below_one_more}
 
--- ---- one set more
+-- ---- squares and their sets
 
--- two of some sets are two of so many as they are among
-two_of : {m : ℕ} (sets : List ℕ) (n v : ℕ) (two : IsInTwo sets m v) → two.second < n → IsInTwo sets n v
-two_of sets n v two inside = record {
-  first = two.first;
-  second = two.second;
-  order = two.order;
-  inside = inside;
-  in_first = two.in_first;
-  in_second = two.in_second;
-}
+-- what is left of a square, by its set
+left_is : (c : CandidatesValue) (cell set : ℕ) → IsSetOf c cell set → (v : ℕ) → (has_number set v ≡ true) ↔ IsLeft c cell v
+left_is c cell set is v = (
+  λ has. let h = (is v).0 has in record { pair = h.0; may = h.1 },
+  λ left. (is v).1 (left.pair, left.may),
+)
 
-pub tally_more : (sets : List ℕ) (n : ℕ) (t u : LineTally) → IsTally sets n t → IsCounted t (slice_index sets n) u → IsTally sets (n + 1) u
-tally_more sets n t u h more =
-    let At : ℕ → ℕ → Type 0 = λ k v. has_number (slice_index sets k) v ≡ true in
-    let Alone : ℕ → ℕ → Type 0 = λ k v. IsSingle (slice_index sets k) v in
+-- the only number of a square's set is alone in the square
+alone_is : (c : CandidatesValue) (cell set : ℕ) → IsSetOf c cell set → (v : ℕ) → IsSingle set v ↔ IsAlone c cell v
+alone_is c cell set is v =
+    let left = left_is c cell set is in (
+      λ h. record { left = (left v).0 h.has; alone = λ other there. h.alone other ((left other).1 there) },
+      λ h. record { has = (left v).1 h.left; alone = λ other there. h.alone other ((left other).0 there) },
+    )
+
+-- ---- one square more
+
+-- what is so of one of the squares before, or of this one
+found_more : (P : ℕ → Type 0) (k : ℕ) {Before Here Now : Type 0} → Before ↔ ((j : ℕ) × (j < k) × P j) → Here ↔ P k
+    → Now ↔ (Before ⊎ Here) → Now ↔ ((j : ℕ) × (j < k + 1) × P j)
+found_more P k before here now = (
+  λ n. elim (now.0 n) [
+    | inl old ↦ let h = before.0 old in (h.0, omega (arith, h.1), h.2)
+    | inr new ↦ (k, omega arith, here.0 new)
+  ],
+  λ h. now.1 (elim (cases_eq h.0 k) [
+    | inl same ↦ inr (here.1 (subst P same h.2))
+    | inr other ↦ inl (before.1 (h.0, omega (arith, h.1, other), h.2))
+  ]),
+)
+
+-- what is so of two of the squares before, or of one of them and this one
+twice_more : (P : ℕ → Type 0) (k : ℕ) {Once Before Here Now : Type 0} → Once ↔ ((j : ℕ) × (j < k) × P j)
+    → Before ↔ ((i : ℕ) × (j : ℕ) × (i < j) × (j < k) × P i × P j) → Here ↔ P k → Now ↔ (Before ⊎ (Once × Here))
+    → Now ↔ ((i : ℕ) × (j : ℕ) × (i < j) × (j < k + 1) × P i × P j)
+twice_more P k once before here now = (
+  λ n. elim (now.0 n) [
+    | inl old ↦ let h = before.0 old in (h.0, h.1, h.2, omega (arith, h.3), h.4, h.5)
+    | inr new ↦ let h = once.0 new.0 in (h.0, k, h.1, omega arith, h.2, here.0 new.1)
+  ],
+  λ h. now.1 (elim (cases_eq h.1 k) [
+    | inl same ↦ inr (once.1 (h.0, omega (arith, h.2, same), h.4), here.1 (subst P same h.5))
+    | inr other ↦ inl (before.1 (h.0, h.1, h.2, omega (arith, h.3, other), h.4, h.5))
+  ]),
+)
+
+pub tally_more : (c : CandidatesValue) (line k set : ℕ) (t u : LineTally) → IsSetOf c (line_cell c.size line k) set → AreTallied c line k t
+    → IsCounted t set u → AreTallied c line (k + 1) u
+tally_more c line k set t u is h more =
+    let cell = line_cell c.size line k in
+    let left = left_is c cell set is in
+    let own = alone_is c cell set is in
     record {
-      once = λ v. below_one_more (λ k. At k v) n (h.once v) (more.once v);
-      twice = λ v. (
-        λ e. elim ((more.twice v).0 e) [
-          | inl old ↦ let two = (h.twice v).0 old in two_of sets (n + 1) v two (omega (arith, two.inside))
-          | inr new ↦
-              let one = (h.once v).0 new.0 in
-              record { first = one.index; second = n; order = one.inside; inside = omega arith; in_first = one.holds; in_second = new.1 }
-        ],
-        λ two. elim (cases_lt two.second n) [
-          | inl low ↦ (more.twice v).1 (inl ((h.twice v).1 (two_of sets n v two low)))
-          | inr high ↦
-              let last : two.second ≡ n = omega (arith, two.inside) in
-              let before : two.first < n = omega (arith, two.order) in
-              (more.twice v).1
-              (inr ((h.once v).1 (record { index = two.first; inside = before; holds = two.in_first }), subst (λ k. At k v) last two.in_second))
-        ],
-      );
-      singles = λ v. below_one_more (λ k. Alone k v) n (h.singles v) (more.singles v);
-      some = λ k low. elim (cases_lt k n) [
-        | inl below ↦ h.some k below
-        | inr high ↦
-            let last : n ≡ k = omega arith in
-            let P : ℕ → Type 0 = λ i. (v : ℕ) × At i v in
-            subst P last more.some
+      once = λ v. found_more (λ j. IsLeft c (line_cell c.size line j) v) k (h.once v) (left v) (more.once v);
+      twice = λ v. twice_more (λ j. IsLeft c (line_cell c.size line j) v) k (h.once v) (h.twice v) (left v) (more.twice v);
+      singles = λ v. found_more (λ j. IsAlone c (line_cell c.size line j) v) k (h.singles v) (own v) (more.singles v);
+      some = λ j low. elim (cases_eq j k) [
+        | inl same ↦
+            let v = more.some.0 in
+            (v, subst (λ (i : ℕ). IsLeft c (line_cell c.size line i) v) (sym same) ((left v).0 more.some.1))
+        | inr other ↦ h.some j (omega (arith, low, other))
       ];
-      apart = λ i j v before low one two. elim (cases_lt j n) [
-        | inl below ↦ h.apart i j v before below one two
-        | inr high ↦
-            let last : j ≡ n = omega arith in
-            both_ways (has_number t.singles v) (more.fresh v (subst (λ k. Alone k v) last two))
-            ((h.singles v).1 (record { index = i; inside = omega arith; holds = one }))
+      apart = λ i j v before low one two. elim (cases_eq j k) [
+        | inl same ↦
+            let here = (own v).1 (subst (λ (n : ℕ). IsAlone c (line_cell c.size line n) v) same two) in
+            both_ways (has_number t.singles v) (more.fresh v here) ((h.singles v).1 (i, omega (arith, before, same), one))
+        | inr other ↦ h.apart i j v before (omega (arith, low, other)) one two
       ];
     }
 
--- ---- what is refuted
+-- ---- lines that can't hold their numbers
 
-pub clash_refutes : (sets : List ℕ) (n w : ℕ) (t : LineTally) → IsTally sets n t → n < w → IsClash t (slice_index sets n)
-    → (number : ℕ → ℕ) → IsPossible sets w number → ⊥
-clash_refutes sets n w t h inside clash number p =
-    elim clash [
-      | inl empty ↦ both_ways (has_number (slice_index sets n) (number n)) (empty (number n)) (p.within n inside)
-      | inr twice ↦
-          let v = twice.value in
-          let first = (h.singles v).0 twice.before in
-          let here : number n ≡ v = twice.here.alone (number n) (p.within n inside) in
-          let low : first.index < w = omega (arith, first.inside) in
-          let there : number first.index ≡ v = first.holds.alone (number first.index) (p.within first.index low) in
-          p.apart first.index n low inside (λ same. omega (arith, first.inside)) (there ∙ sym here)
-    ]
+-- nothing is left of a square with an empty set
+pub empty_square : (c : CandidatesValue) (cell set : ℕ) → IsSetOf c cell set → IsEmpty set → (v : ℕ) → IsLeft c cell v → ⊥
+empty_square c cell set is none v left = both_ways (has_number set v) (none v) ((left_is c cell set is v).1 left)
 
--- every is the set of the values from 1 to w
-pub record AreAll (every w : ℕ) : Type 0 where
-  pub is : (v : ℕ) → has_number every v ≡ (nat_le 1 v && nat_le v w)
+-- its only value is alone in an earlier one
+pub alone_clash : (c : CandidatesValue) (line k set : ℕ) (t : LineTally) → k < c.size → IsSetOf c (line_cell c.size line k) set
+    → AreTallied c line k t → IsAloneBefore t set → IsClash line k c
+alone_clash c line k set t low is h again =
+    let (j, before, alone) = (h.singles again.value).0 again.before in
+    (low, (j, before, (again.value, alone, (alone_is c (line_cell c.size line k) set is again.value).0 again.here)))
 
-pub whole_tally : (sets : List ℕ) (w every : ℕ) (t : LineTally) → IsTally sets w t → AreAll every w → IsSubset every t.once
-    → IsWholeTally sets w t
-whole_tally sets w every t h all placed = record {
+-- a value is left of no square
+pub lost_void : (c : CandidatesValue) (line every lost : ℕ) (t : LineTally) → AreTallied c line c.size t
+    → ((v : ℕ) → has_number every v ≡ (nat_le 1 v && nat_le v c.size))
+    → ((v : ℕ) → has_number lost v ≡ (has_number every v && not (has_number t.once v))) → (v : ℕ) × (has_number lost v ≡ true) → IsVoid line c
+lost_void c line every lost t h all lost_is (v, has) =
+    let (here, none) = (has_rest every t.once lost v lost_is).0 has in
+    let both = and_parts (nat_le 1 v) (nat_le v c.size) (sym (all v) ∙ here) in
+    inr (v, leb-true 1 v both.0, leb-true v c.size both.1, λ k low left. none ((h.once v).1 (k, low, left)))
+
+-- each value is left of some
+pub whole_tally : (c : CandidatesValue) (line every lost : ℕ) (t : LineTally) → AreTallied c line c.size t
+    → ((v : ℕ) → has_number every v ≡ (nat_le 1 v && nat_le v c.size))
+    → ((v : ℕ) → has_number lost v ≡ (has_number every v && not (has_number t.once v))) → IsEmpty lost → IsTallyOf line c t
+whole_tally c line every lost t h all lost_is none = record {
   tally = h;
-  placed = λ v low high. placed v (all.is v ∙ and_from (nat_le 1 v) (nat_le v w) (le-leb 1 v low) (le-leb v w high));
+  placed = λ v low high. elim (cases_Bool (has_number t.once v)) [
+    | inl has ↦ has
+    | inr lacks ↦ absurd (both_ways (has_number lost v) (none v) ((has_rest every t.once lost v lost_is).1
+        (all v ∙ and_from (nat_le 1 v) (nat_le v c.size) (le-leb 1 v low) (le-leb v c.size high), both_ways (has_number t.once v) lacks)))
+  ];
 }
 
-pub lacking_refutes : (sets : List ℕ) (w every : ℕ) (t : LineTally) → IsTally sets w t → AreAll every w → (IsSubset every t.once → ⊥)
-    → (number : ℕ → ℕ) → IsPossible sets w number → ⊥
-lacking_refutes sets w every t h all lacks number p =
-    lacks (λ v has.
-    let both = and_parts (nat_le 1 v) (nat_le v w) (sym (all.is v) ∙ has) in
-    let at = p.all v (leb-true 1 v both.0) (leb-true v w both.1) in
-    let P : ℕ → Type 0 = λ u. has_number (slice_index sets at.index) u ≡ true in
-    (h.once v).1 (record { index = at.index; inside = at.inside; holds = subst P at.holds (p.within at.index at.inside) }))
+-- ---- what the squares strike
 
--- ---- what may stay
+-- a value that is left of no two squares has no place but this one
+no_other : (c : CandidatesValue) (line k u : ℕ) (t : LineTally) → k < c.size → AreTallied c line c.size t → IsLeft c (line_cell c.size line k) u
+    → has_number t.twice u ≡ false → HasNoOtherPlace c line u k
+no_other c line k u t low h here once j j_is there = elim (cases_order j k) [
+  | inl same ↦ same
+  | inr order ↦ absurd (both_ways (has_number t.twice u) once ((h.twice u).1 (elim order [
+    | inl before ↦ (j, k, before, low, there, here)
+    | inr after ↦ (k, j, after, j_is, here, there)
+  ])))
+]
 
--- numbers that the line can hold may stay
-pub possible_stays : (sets : List ℕ) (w : ℕ) (t : LineTally) (number : ℕ → ℕ) (k : ℕ) → IsWholeTally sets w t → IsPossible sets w number
-    → HoldValuesTo w sets → k < w → MayStay t (slice_index sets k) (number k)
-possible_stays sets w t number k h p values inside =
-    elim (cases_Bool (has_number t.singles (number k))) [
+-- a value that has no other place is left here, and of no two squares
+only_place : (c : CandidatesValue) (line k u : ℕ) (t : LineTally) → IsTallyOf line c t → 1 ≤ u → u ≤ c.size → HasNoOtherPlace c line u k
+    → IsLeft c (line_cell c.size line k) u × IsHidden t u
+only_place c line k u t h low high one =
+    let once = h.placed u low high in
+    let at = (h.tally.once u).0 once in (
+      subst (λ (i : ℕ). IsLeft c (line_cell c.size line i) u) (one at.0 at.1 at.2) at.2,
+      record {
+        once = once;
+        lone = false_from_ne_true (has_number t.twice u) (λ twice.
+            let two = (h.tally.twice u).0 twice in
+            let first = one two.0 (omega (arith, two.2, two.3)) two.4 in
+            let second = one two.1 two.3 two.5 in
+            omega (arith, first, second, two.2));
+      },
+    )
+
+-- of a square of which nothing but the value is left, it is left
+alone_there : (c : CandidatesValue) (line j v : ℕ) (t : LineTally) → IsTallyOf line c t → j < c.size
+    → ((other : ℕ) → IsLeft c (line_cell c.size line j) other → other ≡ v) → IsAlone c (line_cell c.size line j) v
+alone_there c line j v t h low alone =
+    let x = h.tally.some j low in
+    record { left = subst (λ (n : ℕ). IsLeft c (line_cell c.size line j) n) (alone x.0 x.1) x.1; alone = alone }
+
+-- what the other squares strike can't stay
+rest_goes : (c : CandidatesValue) (line k set v : ℕ) (t : LineTally) → k < c.size → IsSetOf c (line_cell c.size line k) set → IsTallyOf line c t
+    → IsByRest c line k v → Goes t set v
+rest_goes c line k set v t low is h by =
+    let cell = line_cell c.size line k in elim by [
+      | inl other ↦
+          let there = alone_there c line other.0 v t h other.1 other.3 in
+          inl (
+            (h.tally.singles v).1 (other.0, other.1, there),
+            λ single.
+                let here = (alone_is c cell set is v).0 single in
+                elim (cases_order other.0 k) [
+                  | inl same ↦ other.2 same
+                  | inr order ↦ elim order [
+                    | inl before ↦ h.tally.apart other.0 k v before low there here
+                    | inr after ↦ h.tally.apart k other.0 v after other.1 here there
+                  ]
+                ],
+          )
+      | inr last ↦
+          let place = only_place c line k last.0 t h last.1 last.2 last.4 in
+          inr (last.0, (left_is c cell set is last.0).1 place.0, place.1, last.3)
+    ]
+
+-- and what can't stay they strike
+goes_rest : (c : CandidatesValue) (line k set v : ℕ) (t : LineTally) → k < c.size → IsSetOf c (line_cell c.size line k) set → IsTallyOf line c t
+    → Goes t set v → IsByRest c line k v
+goes_rest c line k set v t low is h goes =
+    let cell = line_cell c.size line k in elim goes [
       | inl alone ↦
-          let by = (h.tally.singles (number k)).0 alone in
-          elim (cases_eq by.index k) [
-            | inl same ↦ let P : ℕ → Type 0 = λ i. IsSingle (slice_index sets i) (number k) in inl (subst P same by.holds)
-            | inr other ↦
-                let there : number by.index ≡ number k = by.holds.alone (number by.index) (p.within by.index by.inside) in
-                absurd (p.apart by.index k by.inside inside other there)
-          ]
-      | inr free ↦ inr (
-        λ u has hidden.
-            let range = values k u inside has in
-            let at = p.all u range.0 range.1 in
-            let P : ℕ → Type 0 = λ v. has_number (slice_index sets at.index) v ≡ true in
-            let there : has_number (slice_index sets at.index) u ≡ true = subst P at.holds (p.within at.index at.inside) in
-            elim (cases_order at.index k) [
-              | inl same ↦ sym at.holds ∙ ap number same
-              | inr order ↦ elim order [
-                | inl before ↦
-                    let two : IsInTwo sets w u =
-                    record { first = at.index; second = k; order = before; inside = inside; in_first = there; in_second = has } in
-                    absurd (both_ways (has_number t.twice u) hidden.lone ((h.tally.twice u).1 two))
-                | inr after ↦
-                    let two : IsInTwo sets w u =
-                    record { first = k; second = at.index; order = after; inside = at.inside; in_first = has; in_second = there } in
-                    absurd (both_ways (has_number t.twice u) hidden.lone ((h.tally.twice u).1 two))
-              ]
-            ],
-        free,
-      )
+          let by = (h.tally.singles v).0 alone.0 in
+          inl (
+            by.0,
+            by.1,
+            λ same. alone.1 ((alone_is c cell set is v).1 (subst (λ (i : ℕ). IsAlone c (line_cell c.size line i) v) same by.2)),
+            by.2.alone,
+          )
+      | inr hidden ↦
+          let u = hidden.0 in
+          let here = (left_is c cell set is u).0 hidden.1 in
+          inr (u, here.pair.low, here.pair.high, hidden.3, no_other c line k u t low h.tally here hidden.2.lone)
     ]
 
--- a value that is alone in another set may not stay
-pub taken_goes : (sets : List ℕ) (w : ℕ) (t : LineTally) (k by v : ℕ) → IsWholeTally sets w t → k < w → by < w → by ≢ k
-    → IsSingle (slice_index sets by) v → MayStay t (slice_index sets k) v → ⊥
-taken_goes sets w t k by v h inside there apart single stays =
-    elim stays [
-      | inl own ↦ elim (cases_order by k) [
-        | inl same ↦ apart same
-        | inr order ↦ elim order [
-          | inl before ↦ h.tally.apart by k v before inside single own
-          | inr after ↦ h.tally.apart k by v after there own single
-        ]
-      ]
-      | inr free ↦ both_ways (has_number t.singles v) free.1 ((h.tally.singles v).1 (record { index = by; inside = there; holds = single }))
-    ]
+-- what is struck of a square's set is what its values that can stay leave
+pub tally_struck : (c : CandidatesValue) (line k set kept struck : ℕ) (t : LineTally) → k < c.size → IsSetOf c (line_cell c.size line k) set
+    → IsTallyOf line c t → IsKeptOf t set kept → ((n : ℕ) → has_number struck n ≡ (has_number set n && not (has_number kept n)))
+    → (v : ℕ) → (has_number struck v ≡ true) ↔ IsLeftByRest c line k v
+tally_struck c line k set kept struck t low is h keeps struck_is v =
+    let rest = has_rest set kept struck v struck_is in
+    let left = left_is c (line_cell c.size line k) set is v in (
+      λ has.
+          let both = rest.0 has in
+          (goes_rest c line k set v t low is h (keeps.rest v both.0 (false_from_ne_true (has_number kept v) both.1)), left.0 both.0),
+      λ by. rest.1 (left.1 by.1, λ has. (keeps.only v has).1 (rest_goes c line k set v t low is h by.0)),
+    )
 
--- nor may a value where another has its one place
-pub displaced_goes : (sets : List ℕ) (w : ℕ) (t : LineTally) (k v other : ℕ) → IsWholeTally sets w t → k < w → v ≢ other → 1 ≤ other
-    → other ≤ w → ((j : ℕ) → j < w → has_number (slice_index sets j) other ≡ true → j ≡ k) → MayStay t (slice_index sets k) v → ⊥
-displaced_goes sets w t k v other h inside apart low high one stays =
-    let once = h.placed other low high in
-    let at = (h.tally.once other).0 once in
-    let P : ℕ → Type 0 = λ j. has_number (slice_index sets j) other ≡ true in
-    let here : has_number (slice_index sets k) other ≡ true = subst P (one at.index at.inside at.holds) at.holds in
-    let lone : has_number t.twice other ≡ false = false_from_ne_true (has_number t.twice other) (λ e.
-    let two = (h.tally.twice other).0 e in
-    let first : two.first < w = omega (arith, two.order, two.inside) in
-    let i_is = one two.first first two.in_first in
-    let j_is = one two.second two.inside two.in_second in
-    omega (arith, two.order)) in
-    elim stays [
-      | inl own ↦ apart (sym (own.alone other here))
-      | inr free ↦ apart (sym (free.0 other here (record { once = once; lone = lone })))
-    ]
+-- where the values that are left of just one square are those that are alone in one, nothing is struck
+pub quiet_tally : (c : CandidatesValue) (line : ℕ) (t : LineTally) → IsTallyOf line c t → IsQuietTally t → IsRestQuiet line c
+quiet_tally c line t h quiet k v low pair by = false_from_ne_true (may_be c (line_cell c.size line k) v) (λ may.
+    let here : IsLeft c (line_cell c.size line k) v = record { pair = pair; may = may } in
+    elim by [
+      | inl other ↦
+          let there = alone_there c line other.0 v t h other.1 other.3 in
+          let single = (h.tally.singles v).1 (other.0, other.1, there) in
+          let lone = not-true (has_number t.twice v) (and_parts (has_number t.once v) (not (has_number t.twice v)) (quiet v ∙ single)).1 in
+          other.2 (no_other c line k v t low h.tally here lone other.0 other.1 there.left)
+      | inr last ↦
+          let u = last.0 in
+          let place = only_place c line k u t h last.1 last.2 last.4 in
+          let single : has_number t.singles u ≡ true =
+          sym (quiet u) ∙ and_from (has_number t.once u) (not (has_number t.twice u)) place.1.once (ap not place.1.lone) in
+          let by = (h.tally.singles u).0 single in
+          let same = last.4 by.0 by.1 by.2.left in
+          last.3 (by.2.alone v (subst (λ (i : ℕ). IsLeft c (line_cell c.size line i) v) (sym same) here))
+    ])
 
 -- ---- the values that are kept
 
@@ -188,22 +252,13 @@ free_from t set free v f e =
 free_to : (t : LineTally) (set free v : ℕ) → IsFree t set free → has_number set v ≡ true → has_number t.singles v ≡ false → has_number free v ≡ true
 free_to t set free v f has none = f.is v ∙ and_from _ _ has (ap not none)
 
-pub kept_free : (t : LineTally) (set forced free : ℕ) → ((v : ℕ) → IsSingle set v → ⊥) → IsForced t set forced → IsFree t set free
-    → IsEmpty forced → IsKeptOf t set free
-kept_free t set forced free many f r none = record {
-  only = λ v e.
-      let parts = free_from t set free v r e in (
-        parts.0,
-        inr (
-          λ u has hidden. absurd (both_ways (has_number forced u) (none u) (forced_to t set forced u f has hidden)),
-          parts.1,
-        ),
-      );
-  all = λ v has stays. elim stays [
-    | inl single ↦ absurd (many v single)
-    | inr other ↦ free_to t set free v r has other.1
-  ];
-}
+-- what isn't free is alone in another square
+not_free : (t : LineTally) (set free v : ℕ) → ((v : ℕ) → IsSingle set v → ⊥) → IsFree t set free → has_number set v ≡ true
+    → has_number free v ≡ false → Goes t set v
+not_free t set free v many r has lacks = elim (cases_Bool (has_number t.singles v)) [
+  | inl alone ↦ inl (alone, many v)
+  | inr none ↦ absurd (both_ways (has_number free v) lacks (free_to t set free v r has none))
+]
 
 pub kept_forced : (t : LineTally) (set forced free kept value : ℕ) → ((v : ℕ) → IsSingle set v → ⊥) → IsForced t set forced
     → IsFree t set free → IsSingle forced value → ((v : ℕ) → has_number kept v ≡ (has_number forced v && has_number free v))
@@ -213,67 +268,38 @@ kept_forced t set forced free kept value many f r one is = record {
       let both = and_parts _ _ (sym (is v) ∙ e) in
       let parts = free_from t set free v r both.1 in (
         parts.0,
-        inr (
-          λ u has hidden. one.alone u (forced_to t set forced u f has hidden) ∙ sym (one.alone v both.0),
-          parts.1,
-        ),
+        λ goes. elim goes [
+          | inl alone ↦ both_ways (has_number t.singles v) parts.1 alone.0
+          | inr hidden ↦ hidden.3 (one.alone v both.0 ∙ sym (one.alone hidden.0 (forced_to t set forced hidden.0 f hidden.1 hidden.2)))
+        ],
       );
-  all = λ v has stays. elim stays [
-    | inl single ↦ absurd (many v single)
-    | inr other ↦
-        let there = forced_from t set forced value f one.has in
-        let same : value ≡ v = other.0 value there.0 there.1 in
-        let P : ℕ → Type 0 = λ u. has_number forced u ≡ true in
-        is v ∙ and_from _ _ (subst P same one.has) (free_to t set free v r has other.1)
+  rest = λ v has lacks. elim (cases_Bool (has_number free v)) [
+    | inl there ↦
+        let from = forced_from t set forced value f one.has in
+        inr (
+          value,
+          from.0,
+          from.1,
+          λ same.
+              both_ways (has_number kept v) lacks
+              (is v ∙ and_from _ _ (subst (λ (u : ℕ). has_number forced u ≡ true) (sym same) one.has) there),
+        )
+    | inr none ↦ not_free t set free v many r has none
   ];
 }
 
-pub kept_nothing : (t : LineTally) (set forced kept : ℕ) → ((v : ℕ) → IsSingle set v → ⊥) → IsForced t set forced
+pub kept_nothing : (t : LineTally) (set forced kept : ℕ) → forced < 2 ^ 16 → IsForced t set forced
     → (v : ℕ) × (has_number forced v ≡ true) → ((v : ℕ) → IsSingle forced v → ⊥) → kept ≡ no_numbers → IsKeptOf t set kept
-kept_nothing t set forced kept many f there two none = rw none (record {
-  only = λ v e. absurd (both_ways (has_number 0 v) (has_number-none v) e);
-  all = λ v has stays. elim stays [
-    | inl single ↦ absurd (many v single)
-    | inr other ↦
-        let is : (u : ℕ) → has_number forced u ≡ true → u ≡ v =
-        λ u e. let h = forced_from t set forced u f e in other.0 u h.0 h.1 in
-        let P : ℕ → Type 0 = λ u. has_number forced u ≡ true in
-        absurd (two v (record { has = subst P (is there.0 there.1) there.1; alone = is }))
+kept_nothing t set forced kept small f there two none = record {
+  only = λ v e. absurd (both_ways (has_number kept v) (ap (λ (m : ℕ). has_number m v) none ∙ has_number-none v) e);
+  rest = λ v has lacks. elim (cases_eq v there.0) [
+    | inl same ↦
+        let (u, apart, other) = another forced there.0 small there.1 two in
+        let from = forced_from t set forced u f other in
+        inr (u, from.0, from.1, λ e. apart (sym e ∙ same))
+    | inr apart ↦ let from = forced_from t set forced there.0 f there.1 in inr (there.0, from.0, from.1, apart)
   ];
-})
-
--- where the values that just one set has are those that are alone in one, every value may stay
-pub quiet_kept : (sets : List ℕ) (w : ℕ) (t : LineTally) → IsWholeTally sets w t → IsQuietTally t → (k : ℕ) → k < w → (v : ℕ)
-    → has_number (slice_index sets k) v ≡ true → (has_number (slice_index sets k) v ≡ true) × MayStay t (slice_index sets k) v
-quiet_kept sets w t h settled k inside v has =
-    let own : (u : ℕ) → has_number (slice_index sets k) u ≡ true → has_number t.singles u ≡ true → IsSingle (slice_index sets k) u =
-    λ u has alone.
-    let by = (h.tally.singles u).0 alone in
-    let lone = not-true (has_number t.twice u) (and_parts _ _ (settled u ∙ alone)).1 in
-    elim (cases_order by.index k) [
-      | inl same ↦ let P : ℕ → Type 0 = λ i. IsSingle (slice_index sets i) u in subst P same by.holds
-      | inr order ↦ elim order [
-        | inl before ↦
-            let two : IsInTwo sets w u =
-            record { first = by.index; second = k; order = before; inside = inside; in_first = by.holds.has; in_second = has } in
-            absurd (both_ways (has_number t.twice u) lone ((h.tally.twice u).1 two))
-        | inr after ↦
-            let two : IsInTwo sets w u =
-            record { first = k; second = by.index; order = after; inside = by.inside; in_first = has; in_second = by.holds.has } in
-            absurd (both_ways (has_number t.twice u) lone ((h.tally.twice u).1 two))
-      ]
-    ] in (
-      has,
-      elim (cases_Bool (has_number t.singles v)) [
-        | inl alone ↦ inl (own v has alone)
-        | inr free ↦ inr (
-          λ u there hidden.
-              let alone : has_number t.singles u ≡ true = sym (settled u) ∙ and_from _ _ hidden.once (ap not hidden.lone) in
-              sym ((own u there alone).alone v has),
-          free,
-        )
-      ],
-    )
+}
 
 -- ---- one set counted
 
@@ -293,7 +319,7 @@ singles_none set many = record {
   );
 }
 
-pub clash_twice : (t : LineTally) (set single : ℕ) → IsSinglesOf set single → IsShared t.singles single → IsClash t set
+pub clash_twice : (t : LineTally) (set single : ℕ) → IsSinglesOf set single → IsShared t.singles single → IsClashing t set
 clash_twice t set single s (value, before, here) = inr (record { value = value; here = (s.is value).0 here; before = before })
 
 -- what is so of one of two

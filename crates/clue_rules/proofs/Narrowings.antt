@@ -1,13 +1,15 @@
 -- Steps of narrowing, one after another.
-use Rattle.std.proofs.Common.{◌≡◌, ℕ, ◌+◌, ◌*◌, ◌≤◌, ◌⊎◌, Bool, true, false, inl, inr, sym, ◌∙◌, subst, arith}
+use Rattle.std.proofs.Common.{◌≡◌, ℕ, ◌+◌, ◌*◌, ◌≤◌, ◌⊎◌, Bool, true, false, inl, inr, sym, ap, ◌∙◌, subst, arith}
 use Rattle.std.specs.Bool.{OnTrue, OnFalse}
 use Rattle.std.proofs.Math.Nat.{mul-le-mul_left}
-use Rattle.latin_board.specs.Squares.{GridValue}
+use Rattle.latin_board.specs.Squares.{GridValue, number_at}
 use Rattle.trail_solver.specs.Pairs.{IsPair}
+use Rattle.trail_solver.specs.Puzzles.{Puzzle}
 use Rattle.trail_solver.specs.Candidates.{CandidatesValue, IsEarlier}
 use Rattle.trail_solver.proofs.Earlier.{earlier_trans, stays_gone}
-use Rattle.clue_rules.specs.Inner.Narrowing.{LacksStruck, Narrows, NoneStruck, StruckBelow}
-use Rattle.clue_rules.specs.Struck.{IsGivenStruck, NoneLeft}
+use Rattle.clue_rules.specs.Inner.Narrowing.{IsGivenStruck, LacksStruck, Narrows, NoneStruck, StruckBelow}
+use Rattle.clue_rules.specs.Reasons.{IsByGiven}
+use Rattle.clue_rules.specs.Struck.{NoneLeft}
 use Rattle.clue_rules.proofs.RangeLemmas.{below_cases}
 
 -- what follows of a fact holds where the fact does, for an answer that is true
@@ -77,11 +79,19 @@ below_more {T = T} {n = n} one two = narrows_then (λ first cell v s. below_case
 
 -- ---- how long it can go on
 
+-- no size has more pairs than the widest
 pub cube_most : (w : ℕ) → w ≤ 9 → w * w * w ≤ 729
 cube_most w small =
     let square = mul-le-mul_left w small in
     let cube = mul-le-mul_left (w * w) small in
     omega (arith, square, cube)
+
+-- what a given strikes is struck by that of the square
+pub given_struck : (p : Puzzle) (givens : GridValue) → ((i : ℕ) → p.given i ≡ number_at givens i) → (at cell value : ℕ) → IsByGiven p at cell value
+    → IsGivenStruck givens cell value
+given_struck p givens is at cell value h =
+    let there : p.given at ≡ number_at givens cell = is at ∙ ap (number_at givens) (sym h.here) in
+    record { given = omega (arith, h.given, there); apart = λ same. h.apart (same ∙ sym there) }
 
 -- what the givens rule out is gone after the first step, and what is struck in the end
 pub struck_gone : (T : CandidatesValue → ℕ → ℕ → Type 0) {givens : GridValue} (r : Bool) (first old new c : CandidatesValue)

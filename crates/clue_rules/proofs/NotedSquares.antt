@@ -4,7 +4,7 @@ use Rattle.std.proofs.lemmas.Bool.{both_ways, cases_Bool, eq-eqb, or_left, or_ri
 use Rattle.number_sets.specs.Sets.{has_number}
 use Rattle.latin_board.specs.Lines.{line_cell}
 use Rattle.trail_solver.specs.Candidates.{CandidatesValue}
-use Rattle.clue_rules.specs.Inner.ChangedLines.{GainsBoth}
+use Rattle.clue_rules.specs.ChangedLines.{GainsBoth}
 use Rattle.clue_rules.specs.Inner.Narrowing.{KeepsInSquare}
 use Rattle.clue_rules.specs.Inner.QuietLines.{Notes, NotesIn}
 use Rattle.clue_rules.specs.Inner.ViewSquares.{IsCrossed}

@@ -8,7 +8,7 @@ use Rattle.latin_board.specs.Lines.{line_cell}
 use Rattle.trail_solver.specs.Pairs.{IsPair, IsPrefix}
 use Rattle.trail_solver.specs.Candidates.{CandidatesValue, IsEarlier, may_be}
 use Rattle.trail_solver.proofs.Earlier.{earlier_refl, prefix_length, stays_gone, was_left}
-use Rattle.clue_rules.specs.Inner.ChangedLines.{LosesLine}
+use Rattle.clue_rules.specs.ChangedLines.{LosesLine}
 use Rattle.clue_rules.specs.Inner.Narrowing.{LacksStruck}
 use Rattle.clue_rules.specs.Inner.QuietLines.{AreSameAlong, IsOfLine, AreQuietBut, IsUntouched, Notes, NotesBut, NotesIn, Strikes}
 use Rattle.clue_rules.specs.declared.lines.changed.ChangedLines.{ChangedLines}
@@ -162,7 +162,7 @@ strikes_both First Second Struck w line s t u a b c own either size inside h k o
 }
 
 -- a set without a line has the other lines as before
-lost_other : (line k s t : ℕ) → LosesLine line s t → k ≢ line → has_number t k ≡ has_number s k
+pub lost_other : (line k s t : ℕ) → LosesLine line s t → k ≢ line → has_number t k ≡ has_number s k
 lost_other line k s t loses apart = loses k ∙ rw (ne_eqb k line apart) (and-true (has_number s k))
 
 lost_itself : (line s t : ℕ) → LosesLine line s t → has_number t line ≡ false

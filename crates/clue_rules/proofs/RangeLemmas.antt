@@ -1,8 +1,7 @@
 -- One number more in a range.
-use Rattle.std.proofs.Common.{◌≡◌, ℕ, ◌+◌, Bool, false, inl, inr, arith, ◌<◌, ◌⊎◌, ◌↔◌, subst}
+use Rattle.std.proofs.Common.{◌≡◌, ℕ, ◌+◌, Bool, false, inl, inr, arith, ◌<◌, ◌⊎◌, subst}
 use Rattle.std.specs.List.{list_any, range_with_len}
 use Rattle.std.proofs.lemmas.Bool.{cases_lt}
-use Rattle.clue_rules.specs.Inner.LineTallies.{SomeBelow}
 use Rattle.clue_rules.specs.Laws.RangeTests.{none_in_range, range_none}
 
 pub none_more : (p : ℕ → Bool) (n : ℕ) → list_any p (range_with_len 0 n) ≡ false → p n ≡ false
@@ -18,15 +17,3 @@ below_cases P n (k, inside, here) = elim (cases_lt k n) [
   | inl low ↦ inl (k, low, here)
   | inr high ↦ let last : k ≡ n = omega (arith, inside) in inr (subst P last here)
 ]
-
-pub below_one_more : {A B : Type 0} (P : ℕ → Type 0) (n : ℕ) → A ↔ SomeBelow n P → B ↔ (A ⊎ P n) → B ↔ SomeBelow (n + 1) P
-below_one_more P n before more = (
-  λ b. elim (more.0 b) [
-    | inl old ↦ let found = before.0 old in record { index = found.index; inside = omega (arith, found.inside); holds = found.holds }
-    | inr new ↦ record { index = n; inside = omega arith; holds = new }
-  ],
-  λ h. more.1 (elim (cases_lt h.index n) [
-    | inl low ↦ inl (before.1 (record { index = h.index; inside = low; holds = h.holds }))
-    | inr high ↦ let last : h.index ≡ n = omega (arith, h.inside) in inr (subst P last h.holds)
-  ]),
-)

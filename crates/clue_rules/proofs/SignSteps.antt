@@ -8,18 +8,19 @@ use Rattle.number_sets.proofs.Members.{has_number-none}
 use Rattle.trail_solver.specs.Pairs.{IsPair}
 use Rattle.trail_solver.specs.Candidates.{CandidatesValue, IsSetOf, IsEarlier, IsWithin, may_be}
 use Rattle.trail_solver.specs.Puzzles.{Solves}
-use Rattle.trail_solver.proofs.Earlier.{was_left}
-use Rattle.clue_rules.specs.Inner.Narrowing.{IsStruckByLines, KeepsInSquare, Narrows, StruckBelow}
+use Rattle.clue_rules.specs.Inner.Narrowing.{IsGivenStruck, IsStruckByLines, KeepsInSquare, Narrows, StruckBelow}
 use Rattle.clue_rules.specs.Unequal.{UnequalValue, IsUnequal, IsGreater, unequal_puzzle, unequal_given_grid}
 use Rattle.clue_rules.specs.Laws.Neighbours.{IsNext, next_line, next_inside}
 use Rattle.clue_rules.specs.Laws.Signs.{greater_next}
 use Rattle.clue_rules.proofs.SignLemmas.{signs_held}
-use Rattle.clue_rules.specs.Struck.{IsGivenStruck, IsUnequalStruck}
+use Rattle.clue_rules.specs.Reasons.{IsByPeer, IsByPlace}
+use Rattle.clue_rules.specs.Struck.{IsUnequalStruck}
+use Rattle.clue_rules.specs.declared.reason.Reason.TheVariants.{Given, Peer, Place, Bound, Stand, Clue, Sign, Set}
 use Rattle.clue_rules.specs.Inner.UnequalLines.{AreEnds, IsStruckAt, IsStruckOn, IsStruckAlong, HoldsGreater, AreInside, IsLesserStruck, IsGreaterStruck, IsEndStruck, SignEnds, AreCrossed, ends_of}
 use Rattle.clue_rules.specs.declared.unequal.sign.Sign.TheVariants.{FirstGreater, SecondGreater}
 use Rattle.clue_rules.proofs.KeptCandidates.{within_kept}
-use Rattle.clue_rules.proofs.LineSteps.{grid_pair, in_set}
-use Rattle.clue_rules.proofs.Narrowings.{narrows_by, narrows_for, on_either}
+use Rattle.clue_rules.proofs.LineSteps.{grid_pair, in_set, left_was}
+use Rattle.clue_rules.proofs.Narrowings.{given_struck, narrows_by, narrows_for, on_either}
 use Rattle.clue_rules.specs.declared.unequal.lines.SignSquares.{SignSquares}
 
 -- ---- a step at one square
@@ -71,7 +72,7 @@ lesser_narrows old new ends set kept left inside is below k answer =
       false_from_ne_true (has_number kept v) (λ has.
           let (u, more, there) = (below v).0 has in
           let (own, left) = (is u).0 there in
-          both_ways (may_be first ends.greater u) (s.none u more (omega (arith, own.high, e.size))) (was_left first old ends.greater u e left)),
+          omega (arith, more, s.none u (left_was first old ends.greater u e (record { pair = own; may = left })))),
     ))
     k answer
 
@@ -91,7 +92,7 @@ greater_narrows old new ends set kept left small inside is above k answer =
       false_from_ne_true (has_number kept v) (λ has.
           let (u, less, there) = (above v (omega (arith, pair.high, e.size))).0 has in
           let (own, left) = (is u).0 there in
-          both_ways (may_be first ends.lesser u) (s.none u own.low less) (was_left first old ends.lesser u e left)),
+          omega (arith, less, s.none u (left_was first old ends.lesser u e (record { pair = own; may = left })))),
     ))
     k answer
 
@@ -154,13 +155,16 @@ struck_along v c a b cell value valid size greater struck =
 pub unequal_by_lines : (v : UnequalValue) (c : CandidatesValue) (cell value : ℕ) → IsUnequal v → c.size ≡ v.size
     → IsUnequalStruck v c cell value
     → IsGivenStruck (unequal_given_grid v) cell value ⊎ IsStruckByLines (IsStruckAlong v) c cell value
-unequal_by_lines v c cell value valid size struck = elim struck [
-  | inl given ↦ inl given
-  | inr by ↦ inr (elim by [
-    | inl latin ↦ inl latin
-    | inr sign ↦ inr (elim sign.why [
-      | inl lower ↦ struck_along v c sign.other cell cell value valid size lower.0 (inl (record { here = refl; none = lower.1 }))
-      | inr upper ↦ struck_along v c cell sign.other cell value valid size upper.0 (inr (record { here = refl; none = upper.1 }))
-    ])
-  ])
-]
+unequal_by_lines v c cell value valid size (Given at, is, h) =
+    inl (given_struck (unequal_puzzle v) (unequal_given_grid v) (λ i. refl) at cell value h)
+unequal_by_lines v c cell value valid size (Peer by, is, h) = inr (inl (inl (by, subst (λ (w : ℕ). IsByPeer w c by cell value) (sym size) h)))
+unequal_by_lines v c cell value valid size (Place line index other, is, h) =
+    inr (inl (inr (line, index, other, subst (λ (w : ℕ). IsByPlace w c line index other cell value) (sym size) h)))
+unequal_by_lines v c cell value valid size (Bound place, is, h) = absurd h
+unequal_by_lines v c cell value valid size (Stand place, is, h) = absurd h
+unequal_by_lines v c cell value valid size (Clue place, is, h) = absurd h
+unequal_by_lines v c cell value valid size (Sign from to, is, h) = inr (inr (elim h.why [
+  | inl lower ↦ struck_along v c from to cell value valid size lower.0 (inl (record { here = h.here; none = lower.1 }))
+  | inr upper ↦ struck_along v c to from cell value valid size upper.0 (inr (record { here = h.here; none = upper.1 }))
+]))
+unequal_by_lines v c cell value valid size (Set line squares values, is, h) = absurd (cc)

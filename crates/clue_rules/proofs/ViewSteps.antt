@@ -13,17 +13,21 @@ use Rattle.trail_solver.specs.Candidates.{CandidatesValue, IsEarlier, IsWithin, 
 use Rattle.trail_solver.specs.Puzzles.{Solves}
 use Rattle.trail_solver.proofs.Earlier.{was_left}
 use Rattle.std.specs.Bool.{OnTrue}
-use Rattle.clue_rules.specs.Inner.Narrowing.{AreSetsOf, IsSquare, IsStruckByLines, KeepsInView, LacksStruck, Narrows, NoneStruck}
+use Rattle.clue_rules.specs.Inner.Narrowing.{AreSetsOf, IsGivenStruck, IsSquare, IsStruckByLines, KeepsInView, LacksStruck, Narrows, NoneStruck, StruckBelow}
 use Rattle.clue_rules.specs.Inner.QuietLines.{NotesBut, NotesIn, Strikes}
 use Rattle.clue_rules.specs.Laws.OwnLines.{end_own}
 use Rattle.clue_rules.specs.Laws.TowersItems.{length-view_of, clues_decide}
 use Rattle.clue_rules.specs.Towers.{towers_puzzle, TowersValue, clue_of, towers_given_grid}
-use Rattle.clue_rules.specs.Struck.{IsGivenStruck, IsViewFilling, IsViewStruck, IsTowersStruck}
-use Rattle.clue_rules.specs.Inner.TowersLines.{IsStruckAlong, IsStruckAt, ShowsClue, AreSupported, KeepSupported}
+use Rattle.clue_rules.specs.Fillings as Fills
+use Rattle.clue_rules.specs.Left.{IsLeft}
+use Rattle.clue_rules.specs.Reasons.{IsByClue, IsByPeer, IsByPlace}
+use Rattle.clue_rules.specs.Struck.{IsTowersStruck}
+use Rattle.clue_rules.specs.declared.reason.Reason.TheVariants.{Given, Peer, Place, Bound, Stand, Clue, Sign, Set}
+use Rattle.clue_rules.specs.Inner.TowersLines.{IsStruckAlong, IsStruckAt, IsViewStruck, ShowsClue, AreSupported, KeepSupported}
 use Rattle.clue_rules.specs.Views.{view_of, view_cell, view_line, view_index, front_place}
 use Rattle.clue_rules.proofs.LineSquares.{view_index_apart, view_inside}
 use Rattle.clue_rules.proofs.LineSteps.{along_narrows, grid_pair, in_set}
-use Rattle.clue_rules.proofs.Narrowings.{narrows_for, on_true}
+use Rattle.clue_rules.proofs.Narrowings.{given_struck, narrows_for, on_true}
 use Rattle.clue_rules.proofs.QuietSteps.{strikes_both}
 use Rattle.clue_rules.proofs.ViewLines.{view_of-numbers}
 use Rattle.clue_rules.specs.Laws.Edges.{edge_cases, view_index_low, view_line_low}
@@ -105,7 +109,7 @@ view_solved c place clue sets kept g inside is small supported s shown size with
 -- each of its values is in some filling, so it stays
 filling_stays : (old new : CandidatesValue) (place clue : ℕ) (sets kept line : List ℕ) (left : Bool) → AreSetsOf old place sets → old.size ≤ 9
     → KeepSupported old.size clue sets kept → KeepsInView place kept old new left → IsFilling (take old.size sets) clue line
-    → IsViewFilling new place clue line
+    → Fills.IsFilling new.size (IsLeft new) place clue line
 filling_stays old new place clue sets kept line left is small keeps h f =
     let long : length (take old.size sets) ≡ old.size = length-take-le old.size sets (omega (arith, is.count)) in
     let size : new.size ≡ old.size = h.less.size in
@@ -121,21 +125,21 @@ filling_stays old new place clue sets kept line left is small keeps h f =
     record {
       whole = f.whole ∙ long ∙ sym size;
       pairs = λ k low. (now k low).0;
-      candidates = λ k low. (now k low).1;
+      may = λ k low. record { pair = (now k low).0; may = (now k low).1 };
       apart = λ i j before low. f.start.apart i j before (omega (arith, size));
       shown = f.shown;
     }
 
-filling_was : (first c : CandidatesValue) (place clue : ℕ) (line : List ℕ) → IsEarlier first c → IsViewFilling c place clue line
-    → IsViewFilling first place clue line
+filling_was : (first c : CandidatesValue) (place clue : ℕ) (line : List ℕ) → IsEarlier first c → Fills.IsFilling c.size (IsLeft c) place clue line
+    → Fills.IsFilling first.size (IsLeft first) place clue line
 filling_was first c place clue line e f =
     let Left : ℕ → Type 0 = λ w. (k : ℕ) → k < w → IsPair w (view_cell w place k) (slice_index line k) × (may_be first (view_cell w place k) (slice_index line k) ≡ true) in
-    let left : Left c.size = λ k low. (f.pairs k low, was_left first c (view_cell c.size place k) (slice_index line k) e (f.candidates k low)) in
+    let left : Left c.size = λ k low. (f.pairs k low, was_left first c (view_cell c.size place k) (slice_index line k) e (f.may k low).may) in
     let there : Left first.size = subst Left e.size left in
     record {
       whole = f.whole ∙ e.size;
       pairs = λ k low. (there k low).0;
-      candidates = λ k low. (there k low).1;
+      may = λ k low. record { pair = (there k low).0; may = (there k low).1 };
       apart = λ i j before low. f.apart i j before (omega (arith, e.size));
       shown = f.shown;
     }
@@ -153,7 +157,7 @@ view_quiet old new place clue sets kept left is small supported keeps h = on_tru
       let lost : has_number (slice_index kept k) v ≡ false =
       false_from_ne_true (has_number (slice_index kept k) v) (λ has.
       let found = supported k v low has in
-      s.unfilled.none found.line
+      s.none found.line
       (filling_was first new place clue found.line e (filling_stays old new place clue sets kept found.line left is small keeps h found.filling))
       found.here) in
       let P : ℕ → Type 0 = λ c. IsPair old.size c v → may_be new c v ≡ false in
@@ -240,22 +244,43 @@ front_line w line inside = elim (cases_lt line w) [
 
 -- ---- all that a puzzle strikes
 
-pub towers_by_lines : (v : TowersValue) (c : CandidatesValue) (cell value : ℕ) → IsTowersStruck v c cell value
-    → IsGivenStruck (towers_given_grid v) cell value ⊎ IsStruckByLines (IsStruckAlong v) c cell value
-towers_by_lines v c cell value struck = elim struck [
-  | inl given ↦ inl given
-  | inr by ↦ inr (elim by [
-    | inl latin ↦ inl latin
-    | inr tower ↦ inr (
-      view_line c.size tower.place,
-      view_line_low c.size tower.place tower.place_is,
+-- a clue that strikes by what may stand in its squares strikes along its line by what is left of them
+clue_by_line : (v : TowersValue) (c : CandidatesValue) (May : ℕ → ℕ → Type 0) (place cell value : ℕ) → c.size ≡ v.size
+    → ((at u : ℕ) → IsLeft c at u → May at u) → IsByClue v May place cell value → StruckBelow (IsStruckAlong v) (2 * c.size) c cell value
+clue_by_line v c May place cell value size may h =
+    let low : place < 4 * c.size = omega (arith, h.place_is, size) in
+    let struck : Fills.IsUnfilled v.size (IsLeft c) place (clue_of v place) cell value = record {
+      index = h.unfilled.index;
+      inside = h.unfilled.inside;
+      here = h.unfilled.here;
+      none = λ line f. h.unfilled.none line (record {
+        whole = f.whole;
+        pairs = f.pairs;
+        may = λ k inside. may (view_cell v.size place k) (slice_index line k) (f.may k inside);
+        apart = f.apart;
+        shown = f.shown;
+      });
+    } in (
+      view_line c.size place,
+      view_line_low c.size place low,
       record {
-        place = tower.place;
-        place_is = tower.place_is;
+        place = place;
+        place_is = low;
         line_is = refl;
-        clued = tower.clued;
-        struck = tower.struck;
+        clued = h.clued;
+        struck = subst (λ (w : ℕ). Fills.IsUnfilled w (IsLeft c) place (clue_of v place) cell value) (sym size) struck;
       },
     )
-  ])
-]
+
+pub towers_by_lines : (v : TowersValue) (c : CandidatesValue) (cell value : ℕ) → c.size ≡ v.size → IsTowersStruck v c cell value
+    → IsGivenStruck (towers_given_grid v) cell value ⊎ IsStruckByLines (IsStruckAlong v) c cell value
+towers_by_lines v c cell value size (Given at, is, h) = inl (given_struck (towers_puzzle v) (towers_given_grid v) (λ i. refl) at cell value h)
+towers_by_lines v c cell value size (Peer by, is, h) = inr (inl (inl (by, subst (λ (w : ℕ). IsByPeer w c by cell value) (sym size) h)))
+towers_by_lines v c cell value size (Place line index other, is, h) =
+    inr (inl (inr (line, index, other, subst (λ (w : ℕ). IsByPlace w c line index other cell value) (sym size) h)))
+towers_by_lines v c cell value size (Bound place, is, h) = inr (inr (clue_by_line v c Fills.Anything place cell value size (λ at u left. tt) h))
+towers_by_lines v c cell value size (Stand place, is, h) =
+    inr (inr (clue_by_line v c (Fills.Standing c) place cell value size (λ at u left alone none. none u left) h))
+towers_by_lines v c cell value size (Clue place, is, h) = inr (inr (clue_by_line v c (IsLeft c) place cell value size (λ at u left. left) h))
+towers_by_lines v c cell value size (Sign from to, is, h) = absurd h
+towers_by_lines v c cell value size (Set line squares values, is, h) = absurd (cc)

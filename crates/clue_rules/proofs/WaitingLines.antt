@@ -1,17 +1,16 @@
 -- Looks along lines that wait, one after another, until none does.
 use Rattle.std.proofs.Common.{◌≡◌, ℕ, ◌+◌, ◌-◌, ◌*◌, ◌^◌, ◌%◌, ◌<◌, ◌≤◌, true, length, inl, inr, refl, subst, arith}
-use Rattle.std.proofs.lemmas.Bool.{cases_eq}
 use Rattle.std.proofs.lemmas.Nat.{mod_below, pow_pos}
 use Rattle.latin_board.specs.Squares.{GridValue}
 use Rattle.trail_solver.specs.Candidates.{CandidatesValue, IsEarlier}
 use Rattle.trail_solver.proofs.Earlier.{prefix_length}
-use Rattle.clue_rules.specs.Inner.ChangedLines.{HasNoneBelow, IsTaken, LosesLine}
+use Rattle.clue_rules.specs.ChangedLines.{HasNoneBelow, IsTaken, LosesLine}
 use Rattle.clue_rules.specs.Inner.LineTallies.{IsLineStruck}
 use Rattle.clue_rules.specs.Inner.Narrowing.{IsSquare, IsStruckByLines, LacksStruck, Narrows, NoneStruck}
 use Rattle.clue_rules.specs.Inner.QuietLines.{AreQuietBut, IsOfLine, Notes, NotesIn, Strikes}
 use Rattle.clue_rules.specs.Laws.OwnLines.{line_own}
 use Rattle.clue_rules.specs.declared.lines.changed.ChangedLines.{ChangedLines}
-use Rattle.clue_rules.proofs.LineSets.{set_less, set_most}
+use Rattle.clue_rules.proofs.LineSets.{nearer, set_less, set_most}
 use Rattle.clue_rules.proofs.LineSteps.{latin_by_lines}
 use Rattle.clue_rules.proofs.Narrowings.{cube_most, narrows_by, narrows_for, narrows_on}
 use Rattle.clue_rules.proofs.QuietSteps.{lost_one, quiet_noted, quiet_struck, strikes_noted}
@@ -87,22 +86,18 @@ trail_most a b len less small is bound =
     omega (arith, is, bound, most)
 
 -- it is nearer to its end where the trail has grown, or the same trail goes with lesser sets
-nearer : (a b : CandidatesValue) (s u : ChangedLines) → IsEarlier a b → length a.trail ≤ 729
+looks_nearer : (a b : CandidatesValue) (s u : ChangedLines) → IsEarlier a b → length a.trail ≤ 729
     → (length b.trail ≡ length a.trail → u.latin % 2 ^ 32 + u.rule % 2 ^ 32 < s.latin % 2 ^ 32 + s.rule % 2 ^ 32) → left_to_do b u < left_to_do a s
-nearer a b s u less bound idle =
-    let most = prefix_length a.trail b.trail less.adds in
+looks_nearer a b s u less bound idle =
     let latin : u.latin % 2 ^ 32 < 2 ^ 32 = mod_below u.latin (2 ^ 32) (pow_pos 32) in
     let rule : u.rule % 2 ^ 32 < 2 ^ 32 = mod_below u.rule (2 ^ 32) (pow_pos 32) in
-    elim (cases_eq (length b.trail) (length a.trail)) [
-      | inl same ↦ let fewer = idle same in omega (arith, same, fewer)
-      | inr grown ↦ omega (arith, most, grown, bound, latin, rule)
-    ]
+    nearer (length a.trail) (length b.trail) _ _ (prefix_length a.trail b.trail less.adds) bound (omega (arith, latin, rule)) idle
 
 -- a look along a line, for what it says as a row or column
 pub latin_nearer : (count line : ℕ) (a b : CandidatesValue) (s t u : ChangedLines) → count ≤ 32 → length a.trail ≤ 729 → IsEarlier a b
     → IsTaken count s.latin t.latin line → t.rule ≡ s.rule → Notes a b t u → left_to_do b u < left_to_do a s
 latin_nearer count line a b s t u small bound less taken other notes =
-    nearer a b s u less bound (λ same.
+    looks_nearer a b s u less bound (λ same.
     let mine = set_less line s.latin u.latin (omega (arith, taken.one.0)) taken.one.1
     (λ k out. notes.latin.gains same k (lost_one line k s.latin t.latin taken.rest out)) in
     let others = set_most s.rule u.rule (λ k lacks. notes.rule.gains same k (rw other lacks)) in
@@ -113,7 +108,7 @@ pub rule_nearer : (T : CandidatesValue → ℕ → ℕ → Type 0) (count line :
     → length a.trail ≤ 729 → IsEarlier a b → t.latin ≡ s.latin → IsTaken count s.rule t.rule line → NotesIn a b t.latin u.latin
     → Strikes T line a b t.rule u.rule → left_to_do b u < left_to_do a s
 rule_nearer T count line a b s t u small bound less other taken notes struck =
-    nearer a b s u less bound (λ same.
+    looks_nearer a b s u less bound (λ same.
     let mine = set_less line s.rule u.rule (omega (arith, taken.one.0)) taken.one.1
     (λ k out. struck.gains same k (lost_one line k s.rule t.rule taken.rest out)) in
     let others = set_most s.latin u.latin (λ k lacks. notes.gains same k (rw other lacks)) in

@@ -1,5 +1,6 @@
 -- Game IDs: their texts, and reading one.
-use Rattle.std.specs.Prelude.{◌≡◌, ℕ, ◌^◌, ◌<◌, List, ◌∷◌, ◌++◌, Bool, false, All, ◌==◌, ◌||◌, if◌then◌else◌, [], Option, Some, None, Result, Ok, Err}
+use Rattle.std.specs.Prelude.{◌≡◌, ℕ, ◌^◌, ◌<◌, List, ◌∷◌, ◌++◌, Bool, false, All, ◌==◌, ◌||◌, if◌then◌else◌, []}
+use Rattle.std.specs.Prelude.{Option, Some, None, Result, Ok, Err}
 use Rattle.std.specs.Fmt.{decimal}
 use Rattle.clue_rules.specs.declared.game_id.GameId.{GameId}
 use Rattle.clue_rules.specs.declared.game_id.GameId.TheVariants.{Described, Seeded}
@@ -59,12 +60,14 @@ id_parts_at letters has_adjacent text =
     params_at letters has_adjacent (params_part text) >>= λ p. behind_params p (from_separator text)
 
 -- the ID with its description read at the size of its parameters
-abbrev pub with_description : {D : Type 0} → (ℕ → List ℕ → Result D IdFault) → GameId (List ℕ) → Result (GameId D) IdFault
+abbrev pub with_description : {D : Type 0} → (ℕ → List ℕ → Result D IdFault) → GameId (List ℕ)
+    → Result (GameId D) IdFault
 with_description desc_at (Described p desc) = desc_at p.size desc >>= λ d. Ok (Described p d)
 with_description desc_at (Seeded p seed) = Ok (Seeded p seed)
 
 -- the ID that a text says, or its first fault
-unfoldable pub id_at : {D : Type 0} → List ℕ → Bool → (ℕ → List ℕ → Result D IdFault) → List ℕ → Result (GameId D) IdFault
+unfoldable pub id_at : {D : Type 0} → List ℕ → Bool → (ℕ → List ℕ → Result D IdFault) → List ℕ
+    → Result (GameId D) IdFault
 id_at letters has_adjacent desc_at text = id_parts_at letters has_adjacent text >>= with_description desc_at
 
 -- the same ID, with f of what stands for the puzzle

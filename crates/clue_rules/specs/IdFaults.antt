@@ -1,8 +1,11 @@
--- The faults of game IDs, parameters and descriptions: the number and the name of each, and the two of a list that has too
--- few or too many members.
+-- The faults of game IDs, parameters and descriptions: the number and the name of each, and the two of a list that has
+-- too few or too many members.
 use Rattle.std.specs.Prelude.{◌≢◌, ℕ, List, codes, Result, IfErr, length, Ok, Err, nat_lt, if◌then◌else◌}
 use Rattle.clue_rules.specs.declared.id_fault.IdFault.{IdFault}
-use Rattle.clue_rules.specs.declared.id_fault.IdFault.TheVariants.{BadSize, BadLetter, AdjacentMode, BadParams, ForeignSeed, NoDescription, BadSeed, BadClue, BadSquares, TooFew, TooMany, OffGrid, Contradiction, OutOfMemory}
+use Rattle.clue_rules.specs.declared.id_fault.IdFault.TheVariants.{BadSize, BadLetter, AdjacentMode, BadParams}
+use Rattle.clue_rules.specs.declared.id_fault.IdFault.TheVariants.{ForeignSeed, NoDescription, BadSeed, BadClue}
+use Rattle.clue_rules.specs.declared.id_fault.IdFault.TheVariants.{BadSquares, TooFew, TooMany, OffGrid, Contradiction}
+use Rattle.clue_rules.specs.declared.id_fault.IdFault.TheVariants.{OutOfMemory}
 
 -- a fault's number
 abbrev pub id_fault_number : IdFault → ℕ

@@ -1,5 +1,4 @@
 -- Words that the contracts of private functions alone use.
-pub mod ChangedLines
 pub mod Filled
 pub mod LineTallies
 pub mod Narrowing

@@ -9,6 +9,15 @@ pub mod Unequal
 -- puzzles of givens alone, and what narrowing rules out
 pub mod Givens
 pub mod Struck
+-- what each reason strikes: by the pairs that are left of candidates, and by the lines of squares that a clue allows
+pub mod Left
+pub mod Fillings
+pub mod Reasons
+-- what is taken from candidates, what the squares of a line strike in one another, and which lines are to be looked at
+-- again
+pub mod Takes
+pub mod LineStrikes
+pub mod ChangedLines
 -- the texts: for each its grammar, the form that is written, and what is read; and the faults of reading
 pub mod IdFaults
 pub mod Parameters

@@ -1,5 +1,6 @@
 -- Parameters of a game: their text, and reading it.
-use Rattle.std.specs.Prelude.{◌≡◌, ℕ, ◌+◌, ◌≤◌, List, [], ◌∷◌, Contains, Option, Some, None, IfSome, ◌-◌, Bool, ◌==◌, ◌&&◌, not, nat_le, codes, bytes_eq, if◌then◌else◌, Result, Ok, Err}
+use Rattle.std.specs.Prelude.{◌≡◌, ℕ, ◌+◌, ◌≤◌, List, [], ◌∷◌, Contains, Option, Some, None, IfSome, ◌-◌, Bool, ◌==◌}
+use Rattle.std.specs.Prelude.{◌&&◌, not, nat_le, codes, bytes_eq, if◌then◌else◌, Result, Ok, Err}
 use Rattle.clue_rules.specs.declared.params.Params.{Params}
 use Rattle.std.specs.List.{list_any}
 use Rattle.byte_text.specs.Decimals.{begins_digit}
@@ -36,7 +37,8 @@ if_no_more p (b ∷ bs) = Err BadParams
 abbrev pub letter_at : List ℕ → ℕ → List ℕ → Result Params IdFault
 letter_at letters w [] = Err BadLetter
 letter_at letters w (letter ∷ bs) =
-    if list_any (λ l. l == letter) letters then if_no_more (record { size = w; letter = Some letter }) bs else Err BadLetter
+    if list_any (λ l. l == letter) letters then if_no_more (record { size = w; letter = Some letter }) bs
+    else Err BadLetter
 
 -- of the collection's games Unequal alone has an adjacent mode
 abbrev pub has_adjacent_mode : List ℕ → Bool

@@ -1,8 +1,9 @@
 -- Towers puzzles: clues and givens, the grids that hold the clues, and the items.
 --
--- A clue stands before its line, at an edge place. The places are numbered in description order: the columns from above, the
--- columns from below, the rows from the left, the rows from the right.
-use Rattle.std.specs.Prelude.{◌≡◌, ℕ, ◌*◌, ◌≤◌, List, length, All, ◌+◌, ◌-◌, ◌<◌, Bool, ◌==◌, ◌||◌, nat_lt, if◌then◌else◌, slice_index, zero, map}
+-- A clue stands before its line, at an edge place. The places are numbered in description order: the columns from
+-- above, the columns from below, the rows from the left, the rows from the right.
+use Rattle.std.specs.Prelude.{◌≡◌, ℕ, ◌*◌, ◌≤◌, List, length, All, ◌+◌, ◌-◌, ◌<◌, Bool, ◌==◌, ◌||◌, nat_lt}
+use Rattle.std.specs.Prelude.{if◌then◌else◌, slice_index, zero, map}
 use Rattle.std.specs.List.{range_with_len, list_all}
 use Rattle.latin_board.specs.Squares.{GridValue, IsGrid}
 use Rattle.tower_lines.specs.TowersSeen.{seen}
@@ -69,7 +70,8 @@ cut_towers v keep = record {
   givens = kept_items zero keep (4 * v.size) v.givens;
 }
 
--- the puzzle that has every item of a grid: at each place as many towers as are seen from there, and each square's number
+-- the puzzle that has every item of a grid: at each place as many towers as are seen from there, and each square's
+-- number
 abbrev pub full_towers : GridValue → TowersValue
 full_towers g = record {
   size = g.size;

@@ -1,5 +1,7 @@
 -- The descriptions of Towers puzzles: the grammar, the written form, and reading one.
-use Rattle.std.specs.Prelude.{◌≡◌, ℕ, ◌+◌, ◌-◌, ◌*◌, ◌/◌, ◌%◌, ◌≤◌, ◌⊎◌, Bool, true, false, ◌==◌, ◌&&◌, not, if◌then◌else◌, List, [], ◌∷◌, ◌++◌, map, replicate, ◌||◌, nat_le, Option, Some, None, Result, Ok, Err}
+use Rattle.std.specs.Prelude.{◌≡◌, ℕ, ◌+◌, ◌-◌, ◌*◌, ◌/◌, ◌%◌, ◌≤◌, ◌⊎◌, Bool, true, false, ◌==◌, ◌&&◌, not}
+use Rattle.std.specs.Prelude.{if◌then◌else◌, List, [], ◌∷◌, ◌++◌, map, replicate, ◌||◌, nat_le, Option, Some, None}
+use Rattle.std.specs.Prelude.{Result, Ok, Err}
 use Rattle.std.specs.List.{join_with_byte, list_any, slice_split, list_all, flat_map}
 use Rattle.byte_text.specs.Decimals.{begins_digit, is_digit}
 use Rattle.clue_rules.specs.Towers.{TowersValue, IsTowers}
@@ -22,13 +24,14 @@ clue_part clues = join_with_byte slash (map clue_field clues)
 abbrev pub blanks_of : ℕ → ℕ
 blanks_of b = b + 1 - letter_a
 
--- The text says the squares: a letter is a run of 1 to 26 blank ones, a digit that ends its run of digits is a given, and
--- `_` is nothing.
+-- The text says the squares: a letter is a run of 1 to 26 blank ones, a digit that ends its run of digits is a given,
+-- and `_` is nothing.
 abbrev pub IsSquareText : ℕ → List ℕ → List ℕ → Type 0
 IsSquareText w [] squares = squares ≡ []
 IsSquareText w (b ∷ bs) squares =
     ((b ≡ underscore) × IsSquareText w bs squares)
-    ⊎ ((letter_a ≤ b) × (b ≤ letter_z) × ((more : List ℕ) × (squares ≡ replicate (blanks_of b) 0 ++ more) × IsSquareText w bs more))
+    ⊎ ((letter_a ≤ b) × (b ≤ letter_z)
+    × ((more : List ℕ) × (squares ≡ replicate (blanks_of b) 0 ++ more) × IsSquareText w bs more))
     ⊎ ((digit_zero + 1 ≤ b) × (b ≤ digit_zero + w) × (begins_digit bs ≡ false)
     × ((more : List ℕ) × (squares ≡ (b - digit_zero) ∷ more) × IsSquareText w bs more))
 
@@ -98,7 +101,8 @@ is_blank_letter b = nat_le letter_a b && nat_le b letter_z
 -- the byte may stand before these others
 abbrev pub is_square_byte : ℕ → ℕ → List ℕ → Bool
 is_square_byte w b bs =
-    (b == underscore) || (is_blank_letter b || (nat_le (digit_zero + 1) b && (nat_le b (digit_zero + w) && not (begins_digit bs))))
+    (b == underscore)
+    || (is_blank_letter b || (nat_le (digit_zero + 1) b && (nat_le b (digit_zero + w) && not (begins_digit bs))))
 
 -- each byte may stand before those after it
 abbrev pub is_square_part : ℕ → List ℕ → Bool
@@ -107,7 +111,8 @@ is_square_part w (b ∷ bs) = is_square_byte w b bs && is_square_part w bs
 
 -- the squares that a byte stands for
 abbrev pub squares_of : ℕ → List ℕ
-squares_of b = if is_blank_letter b then replicate (blanks_of b) 0 else (if is_digit b then ((b - digit_zero) ∷ []) else [])
+squares_of b =
+    if is_blank_letter b then replicate (blanks_of b) 0 else (if is_digit b then ((b - digit_zero) ∷ []) else [])
 
 -- the givens that the part after the comma says at a width, or its first fault
 unfoldable pub givens_at : ℕ → List ℕ → Result (List ℕ) IdFault

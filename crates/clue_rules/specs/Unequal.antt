@@ -1,7 +1,8 @@
 -- Unequal puzzles: signs between neighbouring squares and givens, the grids that hold the signs, and the items.
 --
 -- A sign stands between a square and its right or its lower neighbour. That square is the sign's first one.
-use Rattle.std.specs.Prelude.{◌≡◌, ℕ, ◌+◌, ◌-◌, ◌*◌, ◌/◌, ◌%◌, ◌<◌, ◌⊎◌, ◌==◌, ◌&&◌, ◌||◌, nat_lt, Bool, true, false, if◌then◌else◌, List, length, slice_index_or, Option, Some, None, zero, map, slice_index}
+use Rattle.std.specs.Prelude.{◌≡◌, ℕ, ◌+◌, ◌-◌, ◌*◌, ◌/◌, ◌%◌, ◌<◌, ◌⊎◌, ◌==◌, ◌&&◌, ◌||◌, nat_lt, Bool, true, false}
+use Rattle.std.specs.Prelude.{if◌then◌else◌, List, length, slice_index_or, Option, Some, None, zero, map, slice_index}
 use Rattle.std.specs.Option.{option_map_or}
 use Rattle.std.specs.List.{range_with_len, list_all}
 use Rattle.latin_board.specs.Squares.{GridValue, IsGrid, number_at}
@@ -14,8 +15,8 @@ use Rattle.clue_rules.specs.declared.unequal.sign.Sign.TheVariants.{Absent, Firs
 use Rattle.clue_rules.specs.Items.{kept_items}
 use Rattle.trail_solver.specs.Puzzles.{Puzzle}
 
--- a width, and for each square the sign towards its right neighbour, that towards its lower neighbour, and its number, 0 where
--- none is given
+-- a width, and for each square the sign towards its right neighbour, that towards its lower neighbour, and its number,
+-- 0 where none is given
 pub record UnequalValue : Type 0 where
   pub size : ℕ
   pub right : List Sign
@@ -58,7 +59,8 @@ pub record IsUnequal (v : UnequalValue) : Type 0 where
 -- the sign between two squares, absent where the second is neither the right nor the lower neighbour of the first
 abbrev pub sign_between : UnequalValue → ℕ → ℕ → Sign
 sign_between v first second =
-    if second == first + 1 then right_sign v first else (if second == first + v.size then lower_sign v first else Absent)
+    if second == first + 1 then right_sign v first
+    else (if second == first + v.size then lower_sign v first else Absent)
 
 -- the sign between the squares a and b, of which either may be the first, says that a holds the greater number
 abbrev pub IsGreater : UnequalValue → ℕ → ℕ → Type 0
@@ -93,11 +95,13 @@ holds_sign SecondGreater x y = nat_lt x y
 -- the numbers of a square and of its neighbour in a direction, where it has one, are as the sign between them says
 abbrev pub holds_towards : UnequalValue → GridValue → ℕ → Direction → Bool
 holds_towards v g cell d =
-    option_map_or (λ other. holds_sign (sign_between v cell other) (number_at g cell) (number_at g other)) (neighbour v.size cell d) true
+    option_map_or (λ other. holds_sign (sign_between v cell other) (number_at g cell) (number_at g other))
+    (neighbour v.size cell d) true
 
 -- `HoldsSigns` as a test that computes
 abbrev pub holds_signs : UnequalValue → GridValue → Bool
-holds_signs v g = list_all (λ cell. holds_towards v g cell Right && holds_towards v g cell Down) (range_with_len 0 (v.size * v.size))
+holds_signs v g =
+    list_all (λ cell. holds_towards v g cell Right && holds_towards v g cell Down) (range_with_len 0 (v.size * v.size))
 
 -- what generic code knows of the puzzle: no edge has a clue
 abbrev pub unequal_puzzle : UnequalValue → Puzzle

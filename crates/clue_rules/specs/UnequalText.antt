@@ -1,5 +1,7 @@
 -- The descriptions of Unequal puzzles: the grammar, the written form, and reading one.
-use Rattle.std.specs.Prelude.{◌≡◌, ◌↔◌, ℕ, ◌+◌, ◌-◌, ◌*◌, ◌⊎◌, ◌==◌, Bool, false, if◌then◌else◌, List, [], ◌∷◌, ◌++◌, map, filter, slice_index, slice_index_or, Option, Some, None, Contains, IsSome, unwrap_or, ◌&&◌, nat_le, true, not, drop, is_some, option_and_then, Result, Ok, Err}
+use Rattle.std.specs.Prelude.{◌≡◌, ◌↔◌, ℕ, ◌+◌, ◌-◌, ◌*◌, ◌⊎◌, ◌==◌, Bool, false, if◌then◌else◌, List, [], ◌∷◌, ◌++◌}
+use Rattle.std.specs.Prelude.{map, filter, slice_index, slice_index_or, Option, Some, None, Contains, IsSome, unwrap_or}
+use Rattle.std.specs.Prelude.{◌&&◌, nat_le, true, not, drop, is_some, option_and_then, Result, Ok, Err}
 use Rattle.std.specs.Option.{option_map_or}
 use Rattle.std.specs.List.{join_with_byte, flat_map, range_with_len, list_all, list_any, slice_split}
 use Rattle.clue_rules.specs.declared.unequal.direction.Direction.{Direction}
@@ -45,8 +47,8 @@ pub record Says (w : ℕ) (pieces : List Piece) (a b : ℕ) : Type 0 where
 abbrev pub ArePiecesOf : List ℕ → List (List ℕ) → Type 0
 ArePiecesOf text pieces = (text ≡ join_with_byte comma pieces) ⊎ (text ≡ join_with_byte comma pieces ++ comma ∷ [])
 
--- The text describes the puzzle: a piece for each square in reading order. Letters stand in any order and may repeat, and
--- none points out of the grid.
+-- The text describes the puzzle: a piece for each square in reading order. Letters stand in any order and may repeat,
+-- and none points out of the grid.
 pub record IsUnequalText (v : UnequalValue) (text : List ℕ) : Type 0 where
   pub puzzle : IsUnequal v
   pub pieces : List Piece

@@ -3,7 +3,8 @@
 ghost use Rattle.std.specs.Prelude.{◌≡◌, Ok, Err, IfOk, Result};
 ghost use Rattle.byte_text.specs.Reading.{Gives};
 ghost use Rattle.clue_rules.specs.declared.game_id.GameId.{GameId};
-ghost use Rattle.clue_rules.specs.GameIds.{IsIdText, id_at, describes_at, is_separator, params_part, from_separator, id_parts_at, id_map};
+ghost use Rattle.clue_rules.specs.GameIds.{IsIdText, id_at, describes_at, is_separator, params_part, from_separator};
+ghost use Rattle.clue_rules.specs.GameIds.{id_parts_at, id_map};
 ghost use Rattle.clue_rules.specs.IdFaults.{NotForMemory};
 ghost use Rattle.clue_rules.specs.Parameters.{has_adjacent_mode};
 

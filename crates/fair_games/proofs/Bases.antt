@@ -4,17 +4,18 @@ use Rattle.latin_board.specs.Squares.{GridValue, number_at}
 use Rattle.trail_solver.specs.Candidates.{CandidatesValue, IsOnly, IsWithin}
 use Rattle.trail_solver.specs.Pairs.{IsPair}
 use Rattle.trail_solver.specs.Puzzles.{Puzzle, Solves}
-use Rattle.named_steps.specs.Left.{IsLeft, IsFewer, all_of, without}
+use Rattle.clue_rules.specs.Left.{IsLeft, IsFewer, all_of, without}
 use Rattle.named_steps.specs.Chains.{StepValue, IsChain, AreOfGrade, left_by}
 use Rattle.named_steps.specs.Following.{IsClosure, Follows}
 use Rattle.named_steps.proofs.Antitone.{IsAntitone, chain_less, chain_settled, left_size}
 use Rattle.named_steps.proofs.Kept.{IsSoundFor, number_left, chain_keeps}
-use Rattle.named_steps.specs.declared.reason.Reason.{Reason}
+use Rattle.clue_rules.specs.declared.reason.Reason.{Reason}
 use Rattle.named_steps.specs.declared.grade.Grade.{Grade}
 use Rattle.fair_games.specs.Inner.Bases.{IsBase}
+use Rattle.clue_rules.specs.Reasons.{Striking}
 
 -- all pairs are one
-pub base_all : (Struck : CandidatesValue → Reason → ℕ → ℕ → Type 0) (grade : Grade) (g : GridValue) (c : CandidatesValue) → c.size ≡ g.size
+pub base_all : (Struck : Striking) (grade : Grade) (g : GridValue) (c : CandidatesValue) → c.size ≡ g.size
     → c.trail ≡ [] → IsBase Struck grade g c
 base_all Struck grade g c size none =
     let all : c ≡ all_of g.size = λ i. record { size = size i; trail = none i } in
@@ -29,7 +30,7 @@ base_all Struck grade g c size none =
 
 -- ---- more items
 
-chain_more : (Less More : CandidatesValue → Reason → ℕ → ℕ → Type 0)
+chain_more : (Less More : Striking)
     → ((c : CandidatesValue) (reason : Reason) (cell value : ℕ) → Less c reason cell value → More c reason cell value)
     → (c : CandidatesValue) (steps : List StepValue) → IsChain Less c steps → IsChain More c steps
 chain_more Less More more c [] h = tt
@@ -38,7 +39,7 @@ chain_more Less More more c (step ∷ steps) h = (
   chain_more Less More more (without c step.strikes) steps h.1,
 )
 
-pub base_more : (Less More : CandidatesValue → Reason → ℕ → ℕ → Type 0)
+pub base_more : (Less More : Striking)
     → ((c : CandidatesValue) (reason : Reason) (cell value : ℕ) → Less c reason cell value → More c reason cell value)
     → (grade : Grade) (g : GridValue) (c : CandidatesValue) → IsBase Less grade g c → IsBase More grade g c
 base_more Less More more grade g c base = record {
@@ -58,14 +59,14 @@ allowed_both grade [] second h k = k
 allowed_both grade (step ∷ first) second h k = (h.0, allowed_both grade first second h.1 k)
 
 -- a chain, and one of what it leaves, are one chain
-pub chain_both : (Struck : CandidatesValue → Reason → ℕ → ℕ → Type 0) (c : CandidatesValue) (first second : List StepValue) → IsChain Struck c first
+pub chain_both : (Struck : Striking) (c : CandidatesValue) (first second : List StepValue) → IsChain Struck c first
     → IsChain Struck (left_by c first) second → IsChain Struck c (first ++ second) × (left_by c (first ++ second) ≡ left_by (left_by c first) second)
 chain_both Struck c [] second h k = (k, refl)
 chain_both Struck c (step ∷ first) second h k =
     let rest = chain_both Struck (without c step.strikes) first second h.1 k in ((h.0, rest.0), rest.1)
 
 -- what a grade leaves of a base is one
-pub base_settled : (p : Puzzle) (Struck : CandidatesValue → Reason → ℕ → ℕ → Type 0) → IsSoundFor p Struck → IsAntitone Struck → (grade : Grade)
+pub base_settled : (p : Puzzle) (Struck : Striking) → IsSoundFor p Struck → IsAntitone Struck → (grade : Grade)
     (g : GridValue) (c d : CandidatesValue) → Solves p g → IsBase Struck grade g c → IsClosure Struck grade c d → IsBase Struck grade g d
 base_settled p Struck sound less grade g c d s base h =
     let all = all_of g.size in
@@ -90,7 +91,7 @@ base_settled p Struck sound less grade g c d s base h =
     }
 
 -- where the square's numbers alone are left, it follows
-pub base_follows : (Struck : CandidatesValue → Reason → ℕ → ℕ → Type 0) (grade : Grade) (g : GridValue) (d : CandidatesValue) → IsBase Struck grade g d
+pub base_follows : (Struck : Striking) (grade : Grade) (g : GridValue) (d : CandidatesValue) → IsBase Struck grade g d
     → ((cell : ℕ) → cell < d.size * d.size → IsOnly d cell (number_at g cell)) → Follows Struck grade g
 base_follows Struck grade g d base only = record {
   steps = base.steps;
@@ -105,7 +106,7 @@ all_fewer : (w : ℕ) (c : CandidatesValue) → c.size ≡ w → IsFewer (all_of
 all_fewer w c size = λ cell value h. record { pair = subst (λ (n : ℕ). IsPair n cell value) size h.pair; may = refl }
 
 -- where it follows, its numbers alone are left
-pub follows_base : (p : Puzzle) (Struck : CandidatesValue → Reason → ℕ → ℕ → Type 0) → IsSoundFor p Struck → IsAntitone Struck → (grade : Grade)
+pub follows_base : (p : Puzzle) (Struck : Striking) → IsSoundFor p Struck → IsAntitone Struck → (grade : Grade)
     (g : GridValue) (c d : CandidatesValue) → Solves p g → IsBase Struck grade g c → IsClosure Struck grade c d → Follows Struck grade g
     → (cell : ℕ) → cell < d.size * d.size → IsOnly d cell (number_at g cell)
 follows_base p Struck sound less grade g c d s base h f = λ cell inside.

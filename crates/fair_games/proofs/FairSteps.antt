@@ -2,7 +2,6 @@
 use Rattle.std.proofs.Common.{◌≡◌, ℕ, zero, suc, ◌+◌, ◌<◌, Bool, true, false, if◌then◌else◌, List, [], Option, Some, None, Result, Ok, Err, inl, inr, refl, sym, ◌∙◌, ap, subst, arith, ◌-◌, ◌*◌, ◌≤◌, ◌&&◌}
 use Rattle.std.proofs.lemmas.Bool.{both_ways, cases_eq, cases_order}
 use Rattle.latin_board.specs.Squares.{GridValue, latin_test}
-use Rattle.trail_solver.specs.Candidates.{CandidatesValue}
 use Rattle.trail_solver.specs.Puzzles.{Puzzle}
 use Rattle.trail_solver.specs.Solutions.{IsOnlySolution}
 use Rattle.trail_solver.specs.declared.rules.Rules.{Ghosts}
@@ -11,7 +10,6 @@ use Rattle.puzzle_gen.proofs.ItemLaws.{ItemLaws, cuts_of_full}
 use Rattle.named_steps.specs.Following.{Follows}
 use Rattle.named_steps.specs.Graded.{FollowsBy, IsGradeOf}
 use Rattle.named_steps.proofs.Followed.{follows_only}
-use Rattle.named_steps.specs.declared.reason.Reason.{Reason}
 use Rattle.named_steps.specs.declared.grade.Grade.{Grade}
 use Rattle.named_steps.specs.declared.grade.Grade.TheVariants.{Latin, Easy, Hard}
 use Rattle.puzzle_gen.specs.SeededSquares.{drawn_order, square_of}
@@ -26,6 +24,7 @@ use Rattle.fair_games.specs.declared.fair_fault.FairFault.{FairFault}
 use Rattle.fair_games.specs.declared.fair_fault.FairFault.TheVariants.{NotOffered, NoneFound}
 use Rattle.fair_games.proofs.PrunedOnce.{needed_by, pruned_once}
 use Rattle.fair_games.proofs.PruneSteps.{HasSteps, IsCutOf, cut_of, fewer_fail}
+use Rattle.clue_rules.specs.Reasons.{Striking}
 
 -- ---- draws
 
@@ -40,7 +39,7 @@ drawn_now : (trial : Trial) (w items k : ℕ) (s now : Stream) → now ≡ strea
     → (drawn_game trial w items now).0 ≡ draw_at trial w items s k
 drawn_now trial w items k s now so_far = ap (λ (t : Stream). (drawn_game trial w items t).0) so_far
 
-pub next_passed : {P : Type 0} (f : Ghosts P) (Struck : P → CandidatesValue → Reason → ℕ → ℕ → Type 0) (grade : Grade) (trial : Trial) (w items k : ℕ)
+pub next_passed : {P : Type 0} (f : Ghosts P) (Struck : P → Striking) (grade : Grade) (trial : Trial) (w items k : ℕ)
     (s now : Stream) (p : P) → now ≡ stream_after trial w items k s → IsPrunedGame f Struck grade (drawn_game trial w items now).0 p
     → (IsOfGrade f Struck grade p → ⊥) → ((n : ℕ) → n < k → IsPassedOver f Struck grade (draw_at trial w items s n))
     → (n : ℕ) → n < k + 1 → IsPassedOver f Struck grade (draw_at trial w items s n)
@@ -54,7 +53,7 @@ next_passed f Struck grade trial w items k s now p so_far pruned other before n 
       | inr apart ↦ before n (omega (arith, below, apart))
     ]
 
-pub found_fair : {P : Type 0} (f : Ghosts P) (Struck : P → CandidatesValue → Reason → ℕ → ℕ → Type 0) (grade : Grade) (trial : Trial) (w items k : ℕ)
+pub found_fair : {P : Type 0} (f : Ghosts P) (Struck : P → Striking) (grade : Grade) (trial : Trial) (w items k : ℕ)
     (s now : Stream) (p : P) → now ≡ stream_after trial w items k s → IsPrunedGame f Struck grade (drawn_game trial w items now).0 p
     → IsOfGrade f Struck grade p → ((n : ℕ) → n < k → IsPassedOver f Struck grade (draw_at trial w items s n)) → k < 512
     → IsFair f Struck grade (draw_at trial w items s) p
@@ -69,14 +68,14 @@ found_fair f Struck grade trial w items k s now p so_far pruned graded before fe
 -- ---- there is just one
 
 -- a draw that gives a game of the grade isn't passed over
-not_passed : {P : Type 0} (f : Ghosts P) (Struck : P → CandidatesValue → Reason → ℕ → ℕ → Type 0) (grade : Grade) (draw : GridValue × List ℕ) (p : P)
+not_passed : {P : Type 0} (f : Ghosts P) (Struck : P → Striking) (grade : Grade) (draw : GridValue × List ℕ) (p : P)
     → ItemLaws f → IsPrunedGame f Struck grade draw p → IsOfGrade f Struck grade p → IsPassedOver f Struck grade draw → ⊥
 not_passed f Struck grade draw p laws pruned graded passed =
     let same = pruned_once f (FailsBy Struck grade draw.0) draw.0 draw.1 p passed.puzzle (cuts_of_full f draw.0 laws pruned.is_grid pruned.is_latin)
     pruned passed.pruned in
     passed.other (subst (IsOfGrade f Struck grade) same graded)
 
-fair_same : {P : Type 0} (f : Ghosts P) (Struck : P → CandidatesValue → Reason → ℕ → ℕ → Type 0) (grade : Grade) (draws : ℕ → GridValue × List ℕ) (p q : P)
+fair_same : {P : Type 0} (f : Ghosts P) (Struck : P → Striking) (grade : Grade) (draws : ℕ → GridValue × List ℕ) (p q : P)
     → ItemLaws f → IsFair f Struck grade draws p → IsFair f Struck grade draws q → p ≡ q
 fair_same f Struck grade draws p q laws first second =
     elim (cases_order first.draw second.draw) [
@@ -91,7 +90,7 @@ fair_same f Struck grade draws p q laws first second =
     ]
 
 -- two results of the same draws are the same
-pub fair_once : {P : Type 0} (f : Ghosts P) (Struck : P → CandidatesValue → Reason → ℕ → ℕ → Type 0) (grade : Grade) (offered : Bool)
+pub fair_once : {P : Type 0} (f : Ghosts P) (Struck : P → Striking) (grade : Grade) (offered : Bool)
     (draws : ℕ → GridValue × List ℕ) (r s : Result P FairFault) → ItemLaws f → IsFairResult f Struck grade offered draws r
     → IsFairResult f Struck grade offered draws s → r ≡ s
 fair_once f Struck grade offered draws (Ok p) (Ok q) laws first second = ap Ok (fair_same f Struck grade draws p q laws first.1 second.1)
@@ -110,19 +109,19 @@ fair_once f Struck grade offered draws (Err NoneFound) (Err NoneFound) laws firs
 
 -- ---- what a fair game is
 
-graded_follows : (p : Puzzle) (Struck : CandidatesValue → Reason → ℕ → ℕ → Type 0) (grade : Grade) → IsGradeOf p Struck (Some grade) → FollowsBy p Struck grade
+graded_follows : (p : Puzzle) (Struck : Striking) (grade : Grade) → IsGradeOf p Struck (Some grade) → FollowsBy p Struck grade
 graded_follows p Struck Latin graded = graded
 graded_follows p Struck Easy graded = graded.0
 graded_follows p Struck Hard graded = graded.0
 
 -- a fair game is a cut of its draw's square
-pub fair_puzzle : {P : Type 0} (f : Ghosts P) (Struck : P → CandidatesValue → Reason → ℕ → ℕ → Type 0) (grade : Grade) (draws : ℕ → GridValue × List ℕ) (p : P)
+pub fair_puzzle : {P : Type 0} (f : Ghosts P) (Struck : P → Striking) (grade : Grade) (draws : ℕ → GridValue × List ℕ) (p : P)
     → ItemLaws f → (fair : IsFair f Struck grade draws p) → IsCutOf f (draws fair.draw).0 p
 fair_puzzle f Struck grade draws p laws fair =
     cut_of f (draws fair.draw).0 p (f.has p) laws fair.pruned.is_grid fair.pruned.is_latin fair.pruned.is_cut
 
 -- its only solution follows by the grade
-pub fair_solved : {P : Type 0} (f : Ghosts P) (Struck : P → CandidatesValue → Reason → ℕ → ℕ → Type 0) → HasSteps f Struck → (grade : Grade)
+pub fair_solved : {P : Type 0} (f : Ghosts P) (Struck : P → Striking) → HasSteps f Struck → (grade : Grade)
     (draws : ℕ → GridValue × List ℕ) (p : P) → IsFair f Struck grade draws p
     → (g : GridValue) × (IsOnlySolution (f.puzzle p) g × Follows (Struck p) grade g)
 fair_solved f Struck steps grade draws p fair =
@@ -165,7 +164,7 @@ no_grade Is latin easy hard Hard is = hard is
 
 -- ---- the items that are needed
 
-pub game_needs : {P : Type 0} (f : Ghosts P) (Struck : P → CandidatesValue → Reason → ℕ → ℕ → Type 0) → HasSteps f Struck → (grade : Grade)
+pub game_needs : {P : Type 0} (f : Ghosts P) (Struck : P → Striking) → HasSteps f Struck → (grade : Grade)
     (trial : Trial) (w : ℕ) (g : GridValue) (order : List ℕ) (p : P) → g.size ≡ w → IsPrunedBy f (FailsBy Struck grade g) g order p
     → ((i : ℕ) → i < f.items_of w → (trial ≡ GivensAlone → f.items_of w - w * w ≤ i) → IsTried i order)
     → NeedsItems f Struck grade trial w p

@@ -8,14 +8,13 @@ use Rattle.trail_solver.specs.Candidates.{CandidatesValue, may_be}
 use Rattle.trail_solver.specs.Pairs.{has_pair}
 use Rattle.trail_solver.specs.declared.rules.Rules.{Ghosts}
 use Rattle.puzzle_gen.proofs.ItemLaws.{ItemLaws}
-use Rattle.named_steps.specs.Reasons.{IsByGiven}
-use Rattle.named_steps.specs.Left.{IsLeft, all_of, without}
+use Rattle.clue_rules.specs.Reasons.{IsByGiven, Striking}
+use Rattle.clue_rules.specs.Left.{IsLeft, all_of, without}
 use Rattle.named_steps.specs.Following.{Follows}
-use Rattle.named_steps.specs.Inner.Takes.{Takes}
+use Rattle.clue_rules.specs.Takes.{Takes}
 use Rattle.named_steps.proofs.Antitone.{IsAntitone}
-use Rattle.named_steps.proofs.Takes.{leads_taken}
-use Rattle.named_steps.specs.declared.reason.Reason.{Reason}
-use Rattle.named_steps.specs.declared.reason.Reason.TheVariants.{Given}
+use Rattle.named_steps.proofs.Leads.{leads_taken}
+use Rattle.clue_rules.specs.declared.reason.Reason.TheVariants.{Given}
 use Rattle.named_steps.specs.declared.grade.Grade.{Grade}
 
 -- the pairs of a square and the numbers from 1 on, but for one of them
@@ -125,7 +124,7 @@ before_has g (suc n) x y below low high apart =
     ]
 
 -- the full puzzle follows by each grade, since each of its squares is given
-pub full_follows : {P : Type 0} (f : Ghosts P) (Struck : P → CandidatesValue → Reason → ℕ → ℕ → Type 0) → ItemLaws f → (grade : Grade) (g : GridValue)
+pub full_follows : {P : Type 0} (f : Ghosts P) (Struck : P → Striking) → ItemLaws f → (grade : Grade) (g : GridValue)
     → IsAntitone (Struck (f.full_of g))
     → ((c : CandidatesValue) (at cell value : ℕ) → IsByGiven (f.puzzle (f.full_of g)) at cell value → Struck (f.full_of g) c (Given at) cell value)
     → IsGrid g → IsLatin g → Follows (Struck (f.full_of g)) grade g

@@ -11,16 +11,17 @@ use Rattle.named_steps.specs.Following.{IsClosure, Follows}
 use Rattle.named_steps.proofs.Antitone.{IsAntitone}
 use Rattle.named_steps.proofs.Kept.{IsSoundFor}
 use Rattle.named_steps.proofs.Followed.{follows_more}
-use Rattle.named_steps.specs.declared.reason.Reason.{Reason}
+use Rattle.clue_rules.specs.declared.reason.Reason.{Reason}
 use Rattle.named_steps.specs.declared.grade.Grade.{Grade}
 use Rattle.fair_games.specs.Fair.{FailsBy}
 use Rattle.fair_games.specs.Inner.PrunedTo.{outside, IsPrunedTo}
 use Rattle.fair_games.specs.Inner.Bases.{IsBase}
 use Rattle.fair_games.proofs.PrunedItems.{cut_again, kept_of_cut, outside_before, outside_within, outside_after, pruned_goes}
 use Rattle.fair_games.proofs.Bases.{base_more, base_settled, base_follows, follows_base}
+use Rattle.clue_rules.specs.Reasons.{Striking}
 
 -- what a game owes of its items and of its steps
-pub record HasSteps {P : Type 0} (f : Ghosts P) (Struck : P → CandidatesValue → Reason → ℕ → ℕ → Type 0) : Type 0 where
+pub record HasSteps {P : Type 0} (f : Ghosts P) (Struck : P → Striking) : Type 0 where
   pub items : ItemLaws f
   pub less : (p : P) → IsAntitone (Struck p)
   pub sound : (p : P) → f.valid p → IsSoundFor (f.puzzle p) (Struck p)
@@ -28,7 +29,7 @@ pub record HasSteps {P : Type 0} (f : Ghosts P) (Struck : P → CandidatesValue 
       → Struck (f.cut p keep) c reason cell value → Struck p c reason cell value
 
 -- what fails with some items fails with fewer
-pub fewer_fail : {P : Type 0} (f : Ghosts P) (Struck : P → CandidatesValue → Reason → ℕ → ℕ → Type 0) → HasSteps f Struck → (grade : Grade) (g : GridValue)
+pub fewer_fail : {P : Type 0} (f : Ghosts P) (Struck : P → Striking) → HasSteps f Struck → (grade : Grade) (g : GridValue)
     (r : P) (keep : ℕ → Bool) → FailsBy Struck grade g r → FailsBy Struck grade g (f.cut r keep)
 fewer_fail f Struck steps grade g r keep fails follows =
     fails (follows_more (Struck (f.cut r keep)) (Struck r) (steps.cut r keep) grade g follows)
@@ -51,7 +52,7 @@ cut_of {P} f g p keep laws grid latin is_cut =
     })
 
 -- the square solves the puzzle without some items
-pub solves_without : {P : Type 0} (f : Ghosts P) (Struck : P → CandidatesValue → Reason → ℕ → ℕ → Type 0) → ItemLaws f → (grade : Grade) (g : GridValue)
+pub solves_without : {P : Type 0} (f : Ghosts P) (Struck : P → Striking) → ItemLaws f → (grade : Grade) (g : GridValue)
     (order : List ℕ) (first last : ℕ) (p q : P) → IsGrid g → IsLatin g → IsPrunedTo f (FailsBy Struck grade g) g order first p
     → q ≡ f.cut p (outside order first last) → Solves (f.puzzle q) g
 solves_without {P} f Struck items grade g order first last p q grid latin so_far gone =
@@ -59,7 +60,7 @@ solves_without {P} f Struck items grade g order first last p q grid latin so_far
     (gone ∙ cut_again f (FailsBy Struck grade g) g order first p (outside order first last) (cuts_of_full f g items grid latin) so_far)).solves
 
 -- what a grade's steps leave of a base without some items: it is a base, and it tells whether the items go
-pub record IsLeftWithout {P : Type 0} (f : Ghosts P) (Struck : P → CandidatesValue → Reason → ℕ → ℕ → Type 0) (grade : Grade) (g : GridValue)
+pub record IsLeftWithout {P : Type 0} (f : Ghosts P) (Struck : P → Striking) (grade : Grade) (g : GridValue)
     (order : List ℕ) (first last : ℕ) (p : P) (left : CandidatesValue) : Type 0 where
   pub base : IsBase (Struck (f.cut p (outside order first last))) grade g left
   pub follows : ((cell : ℕ) → cell < left.size * left.size → IsOnly left cell (number_at g cell))
@@ -70,7 +71,7 @@ pub record IsLeftWithout {P : Type 0} (f : Ghosts P) (Struck : P → CandidatesV
       → FailsBy Struck grade g (f.cut p (outside order first last))
 
 -- the candidates of a base, settled
-pub left_without : {P : Type 0} (f : Ghosts P) (Struck : P → CandidatesValue → Reason → ℕ → ℕ → Type 0) → HasSteps f Struck
+pub left_without : {P : Type 0} (f : Ghosts P) (Struck : P → Striking) → HasSteps f Struck
     → (grade : Grade) (g : GridValue) (order : List ℕ) (first last : ℕ) (p q : P)
     (base left : CandidatesValue) → IsGrid g → IsLatin g → first ≤ last → IsPrunedTo f (FailsBy Struck grade g) g order first p
     → q ≡ f.cut p (outside order first last) → IsBase (Struck (f.cut p (outside order first last))) grade g base
@@ -166,7 +167,7 @@ second_half {P} f Fails g order first middle last p half cuts low high so_far ha
     none true b = refl
     none false b = refl
 
-cut_base : {P : Type 0} (f : Ghosts P) (Struck : P → CandidatesValue → Reason → ℕ → ℕ → Type 0) → HasSteps f Struck → (grade : Grade)
+cut_base : {P : Type 0} (f : Ghosts P) (Struck : P → Striking) → HasSteps f Struck → (grade : Grade)
     (g : GridValue) (r q : P) (keep : ℕ → Bool) (left : CandidatesValue) → f.cut r keep ≡ q → IsBase (Struck q) grade g left
     → IsBase (Struck r) grade g left
 cut_base {P} f Struck steps grade g r q keep left is base =
@@ -174,7 +175,7 @@ cut_base {P} f Struck steps grade g r q keep left is base =
     (subst (λ (s : P). IsBase (Struck s) grade g left) (sym is) base)
 
 -- what is left without all those items is a base for the first half
-pub first_base : {P : Type 0} (f : Ghosts P) (Struck : P → CandidatesValue → Reason → ℕ → ℕ → Type 0) → HasSteps f Struck → (grade : Grade)
+pub first_base : {P : Type 0} (f : Ghosts P) (Struck : P → Striking) → HasSteps f Struck → (grade : Grade)
     (g : GridValue) (order : List ℕ) (first middle last : ℕ) (p : P) (left : CandidatesValue) → IsGrid g → IsLatin g → first ≤ middle → middle ≤ last
     → IsPrunedTo f (FailsBy Struck grade g) g order first p → IsBase (Struck (f.cut p (outside order first last))) grade g left
     → IsBase (Struck (f.cut p (outside order first middle))) grade g left
@@ -183,7 +184,7 @@ first_base f Struck steps grade g order first middle last p left grid latin low 
     (first_half f (FailsBy Struck grade g) g order first middle last p (cuts_of_full f g steps.items grid latin) low high so_far) base
 
 -- and for the second
-pub second_base : {P : Type 0} (f : Ghosts P) (Struck : P → CandidatesValue → Reason → ℕ → ℕ → Type 0) → HasSteps f Struck → (grade : Grade)
+pub second_base : {P : Type 0} (f : Ghosts P) (Struck : P → Striking) → HasSteps f Struck → (grade : Grade)
     (g : GridValue) (order : List ℕ) (first middle last : ℕ) (p half : P) (left : CandidatesValue) → IsGrid g → IsLatin g → first ≤ middle → middle ≤ last
     → IsPrunedTo f (FailsBy Struck grade g) g order first p → IsPrunedTo f (FailsBy Struck grade g) g order middle half
     → ((j : ℕ) → j < f.items_of g.size → place_in j order < first → f.has half j ≡ f.has p j)

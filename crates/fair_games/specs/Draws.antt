@@ -7,7 +7,8 @@ use Rattle.fair_games.specs.Squares.{drawn_latin}
 use Rattle.fair_games.specs.declared.trial.Trial.{Trial}
 use Rattle.fair_games.specs.declared.trial.Trial.TheVariants.{GivensAlone, GivensFirst, HalfFirst}
 
--- the items of a trial, from orders of the marks (clues or signs) and of the givens, which are the items from a place on
+-- the items of a trial, from orders of the marks (clues or signs) and of the givens, which are the items from a place
+-- on
 abbrev pub in_turn : Trial → ℕ → List ℕ → List ℕ → List ℕ
 in_turn GivensAlone marks signs givens = map (λ i. marks + i) givens
 in_turn GivensFirst marks signs givens = map (λ i. marks + i) givens ++ signs

@@ -1,39 +1,40 @@
 -- Fair games: the first draw whose pruned puzzle is of the grade.
 use Rattle.std.specs.Prelude.{◌≡◌, ℕ, ◌-◌, ◌*◌, ◌<◌, ◌≤◌, Bool, true, false, List, Result, Ok, Err, Some, IsTrue}
 use Rattle.latin_board.specs.Squares.{GridValue}
-use Rattle.trail_solver.specs.Candidates.{CandidatesValue}
 use Rattle.trail_solver.specs.declared.rules.Rules.{Ghosts}
 use Rattle.named_steps.specs.Following.{Follows}
 use Rattle.named_steps.specs.Graded.{FollowsBy, IsGradeOf}
-use Rattle.named_steps.specs.declared.reason.Reason.{Reason}
 use Rattle.named_steps.specs.declared.grade.Grade.{Grade}
 use Rattle.fair_games.specs.Pruned.{IsPrunedBy}
 use Rattle.fair_games.specs.declared.trial.Trial.{Trial}
 use Rattle.fair_games.specs.declared.trial.Trial.TheVariants.{GivensAlone}
 use Rattle.fair_games.specs.declared.fair_fault.FairFault.{FairFault}
 use Rattle.fair_games.specs.declared.fair_fault.FairFault.TheVariants.{NotOffered, NoneFound}
+use Rattle.clue_rules.specs.Reasons.{Striking}
 
 -- the square doesn't follow by the puzzle's steps of the grade
-abbrev pub FailsBy : {P : Type 0} → (P → CandidatesValue → Reason → ℕ → ℕ → Type 0) → Grade → GridValue → P → Type 0
+abbrev pub FailsBy : {P : Type 0} → (P → Striking) → Grade → GridValue → P → Type 0
 FailsBy Struck grade g p = Follows (Struck p) grade g → ⊥
 
 -- the pruned puzzle of a draw, by the grade
-abbrev pub IsPrunedGame : {P : Type 0} → Ghosts P → (P → CandidatesValue → Reason → ℕ → ℕ → Type 0) → Grade → GridValue × List ℕ → P → Type 0
+abbrev pub IsPrunedGame : {P : Type 0} → Ghosts P → (P → Striking) → Grade → GridValue × List ℕ → P → Type 0
 IsPrunedGame f Struck grade draw p = IsPrunedBy f (FailsBy Struck grade draw.0) draw.0 draw.1 p
 
 -- the puzzle follows by the grade, and not by the one below
-abbrev pub IsOfGrade : {P : Type 0} → Ghosts P → (P → CandidatesValue → Reason → ℕ → ℕ → Type 0) → Grade → P → Type 0
+abbrev pub IsOfGrade : {P : Type 0} → Ghosts P → (P → Striking) → Grade → P → Type 0
 IsOfGrade f Struck grade p = IsGradeOf (f.puzzle p) (Struck p) (Some grade)
 
--- without any set of its items that has one that was tried, the puzzle doesn't follow by the grade; all were tried, but for the clues
--- where the givens alone are, which are the last items
-abbrev pub NeedsItems : {P : Type 0} → Ghosts P → (P → CandidatesValue → Reason → ℕ → ℕ → Type 0) → Grade → Trial → ℕ → P → Type 0
+-- without any set of its items that has one that was tried, the puzzle doesn't follow by the grade; all were tried, but
+-- for the clues where the givens alone are, which are the last items
+abbrev pub NeedsItems : {P : Type 0} → Ghosts P → (P → Striking) → Grade → Trial → ℕ → P → Type 0
 NeedsItems f Struck grade trial w p =
-    (keep : ℕ → Bool) (i : ℕ) → i < f.items_of w → IsTrue (f.has p i) → (trial ≡ GivensAlone → f.items_of w - w * w ≤ i) → keep i ≡ false
+    (keep : ℕ → Bool) (i : ℕ) → i < f.items_of w → IsTrue (f.has p i) → (trial ≡ GivensAlone → f.items_of w - w * w ≤ i)
+    → keep i ≡ false
     → FollowsBy (f.puzzle (f.cut p keep)) (Struck (f.cut p keep)) grade → ⊥
 
 -- the pruned puzzle of a draw is of another grade
-pub record IsPassedOver {P : Type 0} (f : Ghosts P) (Struck : P → CandidatesValue → Reason → ℕ → ℕ → Type 0) (grade : Grade) (draw : GridValue × List ℕ) : Type 0 where
+pub record IsPassedOver {P : Type 0} (f : Ghosts P) (Struck : P → Striking) (grade : Grade)
+    (draw : GridValue × List ℕ) : Type 0 where
   pub puzzle : P
   pub pruned : IsPrunedGame f Struck grade draw puzzle
   pub other : IsOfGrade f Struck grade puzzle → ⊥
@@ -43,7 +44,8 @@ abbrev pub most_draws : ℕ
 most_draws = 512
 
 -- the pruned puzzle of the first draw that gives one of the grade
-pub record IsFair {P : Type 0} (f : Ghosts P) (Struck : P → CandidatesValue → Reason → ℕ → ℕ → Type 0) (grade : Grade) (draws : ℕ → GridValue × List ℕ) (p : P) : Type 0 where
+pub record IsFair {P : Type 0} (f : Ghosts P) (Struck : P → Striking) (grade : Grade) (draws : ℕ → GridValue × List ℕ)
+    (p : P) : Type 0 where
   pub draw : ℕ
   pub few : draw < most_draws
   pub pruned : IsPrunedGame f Struck grade (draws draw) p
@@ -51,7 +53,8 @@ pub record IsFair {P : Type 0} (f : Ghosts P) (Struck : P → CandidatesValue �
   pub earlier : (n : ℕ) → n < draw → IsPassedOver f Struck grade (draws n)
 
 -- a fair game where its size and grade are offered; or none, where all draws were passed over
-abbrev pub IsFairResult : {P : Type 0} → Ghosts P → (P → CandidatesValue → Reason → ℕ → ℕ → Type 0) → Grade → Bool → (ℕ → GridValue × List ℕ) → Result P FairFault → Type 0
+abbrev pub IsFairResult : {P : Type 0} → Ghosts P → (P → Striking) → Grade → Bool → (ℕ → GridValue × List ℕ)
+    → Result P FairFault → Type 0
 IsFairResult f Struck grade offered draws (Ok p) = (offered ≡ true) × IsFair f Struck grade draws p
 IsFairResult f Struck grade offered draws (Err NotOffered) = offered ≡ false
 IsFairResult f Struck grade offered draws (Err NoneFound) =

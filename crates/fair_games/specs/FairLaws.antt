@@ -1,15 +1,15 @@
 -- The laws of fair games.
 use Rattle.std.specs.Prelude.{◌≡◌, ℕ, ◌<◌, Bool, false, List, IsTrue}
 use Rattle.latin_board.specs.Squares.{GridValue}
-use Rattle.trail_solver.specs.Candidates.{CandidatesValue}
 use Rattle.trail_solver.specs.declared.rules.Rules.{Ghosts}
-use Rattle.named_steps.specs.declared.reason.Reason.{Reason}
 use Rattle.named_steps.specs.declared.grade.Grade.{Grade}
 use Rattle.fair_games.specs.Pruned.{IsTried}
 use Rattle.fair_games.specs.Fair.{FailsBy, IsPrunedGame}
+use Rattle.clue_rules.specs.Reasons.{Striking}
 
 -- without any set of items that has one that was tried, the pruned puzzle of a draw doesn't follow
-abbrev pub ItemsAreNeeded : {P : Type 0} → Ghosts P → (P → CandidatesValue → Reason → ℕ → ℕ → Type 0) → Type 0
+abbrev pub ItemsAreNeeded : {P : Type 0} → Ghosts P → (P → Striking) → Type 0
 ItemsAreNeeded {P} f Struck =
     (grade : Grade) (draw : GridValue × List ℕ) (p : P) (keep : ℕ → Bool) (i : ℕ) → IsPrunedGame f Struck grade draw p
-    → i < f.items_of draw.0.size → IsTrue (f.has p i) → IsTried i draw.1 → keep i ≡ false → FailsBy Struck grade draw.0 (f.cut p keep)
+    → i < f.items_of draw.0.size → IsTrue (f.has p i) → IsTried i draw.1 → keep i ≡ false
+    → FailsBy Struck grade draw.0 (f.cut p keep)

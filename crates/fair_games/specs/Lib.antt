@@ -1,5 +1,5 @@
--- Puzzles that are pruned by a test, squares row by row, draws, fair games, and their laws. Each file is one subject, and has
--- definitions alone.
+-- Puzzles that are pruned by a test, squares row by row, draws, fair games, and their laws. Each file is one subject,
+-- and has definitions alone.
 
 -- the pruned puzzle of a square, an order and a test
 pub mod Pruned

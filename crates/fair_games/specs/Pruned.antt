@@ -1,4 +1,5 @@
--- The pruned puzzle of a Latin square, an order of some of its items, and a test that a puzzle with fewer items fails too.
+-- The pruned puzzle of a Latin square, an order of some of its items, and a test that a puzzle with fewer items fails
+-- too.
 use Rattle.std.specs.Prelude.{◌≡◌, ◌↔◌, ℕ, ◌<◌, ◌≤◌, true, List, length, slice_index, IsTrue}
 use Rattle.latin_board.specs.Squares.{GridValue, IsGrid, IsLatin}
 use Rattle.trail_solver.specs.declared.rules.Rules.{Ghosts}
@@ -15,9 +16,11 @@ pub record IsTrial (n : ℕ) (order : List ℕ) : Type 0 where
 abbrev pub IsTried : ℕ → List ℕ → Type 0
 IsTried i order = place_in i order < length order
 
--- a cut of the square's full puzzle that has each item that isn't tried, and of the others just those without which the rest fails
--- the test. The pruned puzzle of `puzzle_gen` is this with all items tried, and with several solutions as the failure
-pub record IsPrunedBy {P : Type 0} (f : Ghosts P) (Fails : P → Type 0) (g : GridValue) (order : List ℕ) (p : P) : Type 0 where
+-- a cut of the square's full puzzle that has each item that isn't tried, and of the others just those without which the
+-- rest fails the test. The pruned puzzle of `puzzle_gen` is this with all items tried, and with several solutions as
+-- the failure
+pub record IsPrunedBy {P : Type 0} (f : Ghosts P) (Fails : P → Type 0) (g : GridValue) (order : List ℕ)
+    (p : P) : Type 0 where
   pub is_grid : IsGrid g
   pub is_latin : IsLatin g
   pub is_trial : IsTrial (f.items_of g.size) order

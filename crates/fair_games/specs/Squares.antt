@@ -1,5 +1,6 @@
 -- The stream of random words of a game, and the Latin square that is drawn from it, row by row.
-use Rattle.std.specs.Prelude.{ℕ, zero, suc, ◌+◌, ◌*◌, ◌==◌, Bool, false, not, ◌||◌, ◌&&◌, if◌then◌else◌, Option, Some, None, List, [], ◌∷◌, ◌++◌, replicate, slice_index, slice_set}
+use Rattle.std.specs.Prelude.{ℕ, zero, suc, ◌+◌, ◌*◌, ◌==◌, Bool, false, not, ◌||◌, ◌&&◌, if◌then◌else◌, Option, Some}
+use Rattle.std.specs.Prelude.{None, List, [], ◌∷◌, ◌++◌, replicate, slice_index, slice_set}
 use Rattle.std.specs.List.{list_any}
 use Rattle.std.specs.Int.{w64, to_be_bytes}
 use Rattle.latin_board.specs.Squares.{GridValue, blank_grid, number_at, latin_test}
@@ -8,7 +9,8 @@ use Rattle.rand_core.specs.Steps.{stream_of, steps_u32}
 use Rattle.rand_chacha.specs.ChaCha.{of_seed, next_word}
 use Rattle.puzzle_gen.specs.SeededSquares.{drawn_order, square_of}
 
--- the key of the cipher: the seed's 8 bytes, greatest first, the size, the grade's letter, the game's initial, and 21 zero bytes
+-- the key of the cipher: the seed's 8 bytes, greatest first, the size, the grade's letter, the game's initial, and 21
+-- zero bytes
 abbrev pub fair_key : ℕ → ℕ → ℕ → ℕ → List ℕ
 fair_key w letter initial seed = to_be_bytes w64 seed ++ w ∷ letter ∷ initial ∷ replicate 21 0
 
@@ -47,7 +49,10 @@ abbrev pub with_row : GridValue → ℕ → List ℕ → List ℕ → ℕ → Gr
 with_row g row columns chosen zero = g
 with_row g row columns chosen (suc k) =
     let before = with_row g row columns chosen k in
-    record { size = g.size; numbers = slice_set before.numbers (row * g.size + slice_index columns k) (slice_index chosen k + 1) }
+    record {
+      size = g.size;
+      numbers = slice_set before.numbers (row * g.size + slice_index columns k) (slice_index chosen k + 1);
+    }
 
 -- the grid with the first row that fits, or as it was where none does
 abbrev pub with_first : GridValue → ℕ → List ℕ → Option (List ℕ) → GridValue

@@ -10,7 +10,8 @@ ghost use Rattle.fair_games.specs.declared.fair_fault.FairFault.{FairFault};
 ghost use Rattle.fair_games.specs.Squares.{fair_stream};
 ghost use Rattle.fair_games.specs.Draws.{drawn_game, draw_at};
 ghost use Rattle.fair_games.specs.Offers.{is_offered, letter_code};
-ghost use Rattle.fair_games.specs.Fair.{IsPrunedGame, IsOfGrade, IsPassedOver, IsFair, IsFairResult, NeedsItems, most_draws};
+ghost use Rattle.fair_games.specs.Fair.{IsPrunedGame, IsOfGrade, IsPassedOver, IsFair, IsFairResult, NeedsItems};
+ghost use Rattle.fair_games.specs.Fair.{most_draws};
 
 use crate::draws::{draw_trial, rng_of};
 use crate::fair_fault::FairFault;
@@ -42,7 +43,8 @@ pub fn is_offered<P: FairGame>(size: Size, grade: Grade) -> bool
 
 /// The grade that a letter stands for in the game's parameters, where fair games have one.
 pub fn grade_of_letter<P: FairGame>(letter: u8) -> Option<Grade>
-    ensures { MatchOption result ((grade : Grade) → P.letter_of grade ≢ Some letter) (λ grade. P.letter_of grade ≡ Some letter) }
+    ensures { MatchOption result ((grade : Grade) → P.letter_of grade ≢ Some letter)
+        (λ grade. P.letter_of grade ≡ Some letter) }
 {
     if has_letter::<P>(Grade::Latin, letter) {
         return Some(Grade::Latin);
@@ -72,18 +74,21 @@ fn has_letter<P: FairGame>(grade: Grade, letter: u8) -> bool
 /// solution. Refused as `NotOffered`, or else as `NoneFound` where no draw gives a game of the grade. It takes no memory.
 pub fn fair<P: FairGame>(size: Size, grade: Grade, seed: u64) -> Result<P, FairFault>
     ensures fair { IsFairResult ⟦<P as Rules>⟧ P.struck_by grade (is_offered size (P.letter_of grade) grade)
-        (draw_at (P.trial_of grade) size (P.items_of size) (fair_stream size (letter_code (P.letter_of grade)) P.initial_code seed)) result }
+        (draw_at (P.trial_of grade) size (P.items_of size)
+        (fair_stream size (letter_code (P.letter_of grade)) P.initial_code seed)) result }
 
     // There is no other.
     ensures just_one { (other : Result P FairFault)
         → IsFairResult ⟦<P as Rules>⟧ P.struck_by grade (is_offered size (P.letter_of grade) grade)
-        (draw_at (P.trial_of grade) size (P.items_of size) (fair_stream size (letter_code (P.letter_of grade)) P.initial_code seed)) other
+        (draw_at (P.trial_of grade) size (P.items_of size)
+        (fair_stream size (letter_code (P.letter_of grade)) P.initial_code seed)) other
         → other ≡ result }
     ensures valid { IfOk result (λ p. P.valid p) }
     ensures size { IfOk result (λ p. (P.puzzle p).size ≡ size) }
 
     // A chain of the grade's steps leads from all pairs to its only solution.
-    ensures solved { IfOk result (λ p. (g : GridValue) × (IsOnlySolution (P.puzzle p) g × Follows (P.struck_by p) grade g)) }
+    ensures solved { IfOk result
+        (λ p. (g : GridValue) × (IsOnlySolution (P.puzzle p) g × Follows (P.struck_by p) grade g)) }
     ensures graded { IfOk result (λ p. IsOfGrade ⟦<P as Rules>⟧ P.struck_by grade p) }
     ensures needed { IfOk result (NeedsItems ⟦<P as Rules>⟧ P.struck_by grade (P.trial_of grade) size) }
 {
@@ -101,9 +106,11 @@ pub fn seeded<P: FairGame>(size: Size, grade: Grade, seed: u64) -> Option<P>
     ensures needed { IfSome result (NeedsItems ⟦<P as Rules>⟧ P.struck_by grade (P.trial_of grade) size) }
     ensures fair { MatchOption result
         ((n : ℕ) → n < most_draws → IsPassedOver ⟦<P as Rules>⟧ P.struck_by grade
-        (draw_at (P.trial_of grade) size (P.items_of size) (fair_stream size (letter_code (P.letter_of grade)) P.initial_code seed) n))
+        (draw_at (P.trial_of grade) size (P.items_of size)
+        (fair_stream size (letter_code (P.letter_of grade)) P.initial_code seed) n))
         (IsFair ⟦<P as Rules>⟧ P.struck_by grade
-        (draw_at (P.trial_of grade) size (P.items_of size) (fair_stream size (letter_code (P.letter_of grade)) P.initial_code seed))) }
+        (draw_at (P.trial_of grade) size (P.items_of size)
+        (fair_stream size (letter_code (P.letter_of grade)) P.initial_code seed))) }
 {
     let mut rng = rng_of(size, letter_byte::<P>(grade), P::initial(), seed);
     find_game(&mut rng, size, grade)
@@ -123,8 +130,11 @@ fn letter_byte<P: FairGame>(grade: Grade) -> u8
 fn find_game<P: FairGame, R: Rng>(rng: &mut R, size: Size, grade: Grade) -> Option<P>
     ensures needed { IfSome result (NeedsItems ⟦<P as Rules>⟧ P.struck_by grade (P.trial_of grade) size) }
     ensures fair { MatchOption result
-        ((n : ℕ) → n < most_draws → IsPassedOver ⟦<P as Rules>⟧ P.struck_by grade (draw_at (P.trial_of grade) size (P.items_of size) (R.stream rng.old) n))
-        (IsFair ⟦<P as Rules>⟧ P.struck_by grade (draw_at (P.trial_of grade) size (P.items_of size) (R.stream rng.old))) }
+        ((n : ℕ) → n < most_draws
+        → IsPassedOver ⟦<P as Rules>⟧ P.struck_by grade
+        (draw_at (P.trial_of grade) size (P.items_of size) (R.stream rng.old) n))
+        (IsFair ⟦<P as Rules>⟧ P.struck_by grade
+        (draw_at (P.trial_of grade) size (P.items_of size) (R.stream rng.old))) }
 {
     let mut known = KnownRows::none();
     for _draw in 0..MOST_DRAWS {
@@ -138,7 +148,8 @@ fn find_game<P: FairGame, R: Rng>(rng: &mut R, size: Size, grade: Grade) -> Opti
 
 // Draws a square and an order, and prunes by the grade.
 fn draw_game<P: FairGame, R: Rng>(rng: &mut R, size: Size, grade: Grade, known: &mut KnownRows) -> P
-    ensures pruned { IsPrunedGame ⟦<P as Rules>⟧ P.struck_by grade (drawn_game (P.trial_of grade) size (P.items_of size) (R.stream rng.old)).0 result }
+    ensures pruned { IsPrunedGame ⟦<P as Rules>⟧ P.struck_by grade
+        (drawn_game (P.trial_of grade) size (P.items_of size) (R.stream rng.old)).0 result }
     ensures follows { FollowsBy (P.puzzle result) (P.struck_by result) grade }
     ensures needed { NeedsItems ⟦<P as Rules>⟧ P.struck_by grade (P.trial_of grade) size result }
     ensures left { R.stream rng.new ≡ (drawn_game (P.trial_of grade) size (P.items_of size) (R.stream rng.old)).1 }

@@ -1,6 +1,7 @@
 //! The removal of items: each is tried once, and goes where the rest still follows by the grade.
 
-ghost use Rattle.std.specs.Prelude.{◌≡◌, ◌≢◌, ◌↔◌, ℕ, ◌+◌, ◌*◌, ◌<◌, ◌≤◌, length, slice_index, IfSome, IsTrue, MatchOption};
+ghost use Rattle.std.specs.Prelude.{◌≡◌, ◌≢◌, ◌↔◌, ℕ, ◌+◌, ◌*◌, ◌<◌, ◌≤◌, length, slice_index, IfSome, IsTrue};
+ghost use Rattle.std.specs.Prelude.{MatchOption};
 ghost use Rattle.latin_board.specs.Squares.{IsLatin, number_at};
 ghost use Rattle.trail_solver.specs.Candidates.{IsEarlier, IsOnly};
 ghost use Rattle.puzzle_gen.specs.Orders.{place_in};
@@ -60,7 +61,8 @@ fn without_all<P: Steps>(
         trying.now.grade trying.now.grid.now left.old }
     ensures cut { IfSome result (λ fewer. fewer ≡ P.cut puzzle (outside trying.now.order.now first last)) }
     ensures pruned { MatchOption result
-        (FailsBy P.struck_by trying.now.grade trying.now.grid.now (P.cut puzzle (outside trying.now.order.now first last)))
+        (FailsBy P.struck_by trying.now.grade trying.now.grid.now
+        (P.cut puzzle (outside trying.now.order.now first last)))
         (IsPrunedTo ⟦<P as Rules>⟧ (FailsBy P.struck_by trying.now.grade trying.now.grid.now) trying.now.grid.now
         trying.now.order.now last) }
     ensures follows { IfSome result (λ fewer. Follows (P.struck_by fewer) trying.now.grade trying.now.grid.now) }
@@ -159,7 +161,9 @@ fn without<P: Steps>(puzzle: P, order: &[u8], first: usize, last: usize) -> P
 // Whether nothing but a grid's numbers is left.
 fn are_numbers(candidates: &Candidates, grid: &Grid) -> bool
     requires { candidates.now.size ≡ grid.now.size }
-    ensures { IsTrue result ↔ ((cell : ℕ) → cell < candidates.now.size * candidates.now.size → IsOnly candidates.now cell (number_at grid.now cell)) }
+    ensures { IsTrue result
+        ↔ ((cell : ℕ) → cell < candidates.now.size * candidates.now.size
+        → IsOnly candidates.now cell (number_at grid.now cell)) }
 {
     let width = candidates.size().get() as usize;
     let _size = grid.size();

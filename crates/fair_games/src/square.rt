@@ -61,11 +61,13 @@ fn find_row(grid: &Grid, numbers: &[u8], columns: &[u8], chosen: &mut ArrayVec<u
     requires columns { (k : ℕ) → k < length columns.now → slice_index columns.now k < grid.now.size }
     requires chosen { (k : ℕ) → k < length chosen.old.items → slice_index chosen.old.items k < grid.now.size }
     requires room { length chosen.old.items + length columns.now ≤ 9 }
-    ensures found { OnTrue result (first_row grid.now numbers.now columns.now chosen.old.items ≡ Some chosen.new.items) }
+    ensures found { OnTrue result
+        (first_row grid.now numbers.now columns.now chosen.old.items ≡ Some chosen.new.items) }
     ensures none { OnFalse result (first_row grid.now numbers.now columns.now chosen.old.items ≡ None) }
     ensures same { OnFalse result (chosen.new.items ≡ chosen.old.items) }
     ensures count { OnTrue result (length chosen.new.items ≡ length chosen.old.items + length columns.now) }
-    ensures fits { OnTrue result ((k : ℕ) → k < length chosen.new.items → slice_index chosen.new.items k < grid.now.size) }
+    ensures fits { OnTrue result
+        ((k : ℕ) → k < length chosen.new.items → slice_index chosen.new.items k < grid.now.size) }
 {
     let [column, rest @ ..] = columns else {
         return true;

@@ -13,7 +13,6 @@ use Rattle.named_steps.specs.StepLaws.{GradesAreNested}
 use Rattle.named_steps.specs.declared.goal.Goal.TheVariants.{OnlyValue}
 use Rattle.named_steps.specs.declared.grade.Grade.{Grade}
 use Rattle.named_steps.specs.declared.grade.Grade.TheVariants.{Latin, Easy, Hard}
-use Rattle.named_steps.specs.declared.reason.Reason.{Reason}
 use Rattle.named_steps.proofs.Antitone.{IsAntitone}
 use Rattle.named_steps.proofs.Followed.{boards_lead, boards_refuted}
 use Rattle.step_chains.specs.Explanations.{NothingIsShown, IsRefutedGrid}
@@ -24,8 +23,9 @@ use Rattle.puzzle_cli.specs.GameFacts.{GameFacts}
 use Rattle.json_replies.specs.FairLaws.{IsContradiction, IsExplainedBy, IsWrongAt, HintsLeadOn}
 use Rattle.json_replies.specs.FurtherLines.{BoardFacts}
 use Rattle.json_replies.specs.ToldHints.{IsHint}
+use Rattle.clue_rules.specs.Reasons.{Striking}
 
-module _ (p : Puzzle) (Struck : CandidatesValue → Reason → ℕ → ℕ → Type 0) (less : IsAntitone Struck)
+module _ (p : Puzzle) (Struck : Striking) (less : IsAntitone Struck)
     (nested : (h : GridValue) → (Follows Struck Latin h → Follows Struck Easy h) × (Follows Struck Easy h → Follows Struck Hard h))
     (s g : GridValue) (view : CandidatesValue) (cell : ℕ) (solves : Solves p s) (size : g.size ≡ s.size) (in_view : IsView g view)
     (inside : cell < g.size * g.size) (empty : number_at g cell ≡ 0) where

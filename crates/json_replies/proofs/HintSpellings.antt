@@ -11,8 +11,8 @@ use Rattle.serde_json.specs.Data.{Data, null, number, string}
 use Rattle.serde_json.specs.Find.{of_integer}
 use Rattle.serde_json.specs.Written.{has_float}
 use Rattle.named_steps.specs.Chains.{goal_cell, goal_value}
-use Rattle.named_steps.specs.declared.reason.Reason.{Reason}
-use Rattle.named_steps.specs.declared.reason.Reason.TheVariants.{Given, Peer, Place, Bound, Stand, Clue, Sign, Set}
+use Rattle.clue_rules.specs.declared.reason.Reason.{Reason}
+use Rattle.clue_rules.specs.declared.reason.Reason.TheVariants.{Given, Peer, Place, Bound, Stand, Clue, Sign, Set}
 use Rattle.named_steps.specs.declared.goal.Goal.{Goal}
 use Rattle.named_steps.specs.declared.goal.Goal.TheVariants.{OnlyValue, OnlyPlace}
 use Rattle.named_steps.specs.declared.grade.Grade.{Grade}
@@ -30,6 +30,7 @@ use Rattle.json_replies.specs.Reasons.{ReasonParts, one_data, squares_data, part
 use Rattle.json_replies.specs.Steps.{x_data, y_data, clue_data, greater_data, less_data, shows_data, strike_data, look_data, step_data, steps_data}
 use Rattle.json_replies.specs.HintObjects.{SaidData, by_word, goal_line_data, grade_data, said_of, left_data, view_data, hint_data, IsHintValue}
 use Rattle.json_replies.specs.Laws.Spellings.{no_float_or, list_fits, listed_fits, when_fits, text_fits}
+use Rattle.clue_rules.specs.Reasons.{Striking}
 
 -- what fits fits deeper down
 pub deeper : (m n : ℕ) (d : Data) → Fits m d → m ≤ n → Fits n d
@@ -229,7 +230,7 @@ object_fits said steps text seen fit f h i =
       flat = omega arith;
     }
 
-pub hint_value_fits : (w : ℕ) (letter : Grade → List ℕ) (clue : ℕ → ℕ) (is_over : ℕ → ℕ → Bool) (Struck : CandidatesValue → Reason → ℕ → ℕ → Type 0)
+pub hint_value_fits : (w : ℕ) (letter : Grade → List ℕ) (clue : ℕ → ℕ) (is_over : ℕ → ℕ → Bool) (Struck : Striking)
     (g : GridValue) (hint : NextHint) (value : Data) → IsHintValue w letter clue is_over Struck g hint value → Fits 7 value
 hint_value_fits w letter clue is_over Struck g hint value told =
     subst (Fits 7) (sym told.is)

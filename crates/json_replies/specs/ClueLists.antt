@@ -24,7 +24,8 @@ clue_data p b e place = object
 
 -- the clues that the puzzle has, in the order of descriptions
 abbrev pub clues_data : TowersValue → BoardValue → ErrorsValue → Data
-clues_data p b e = listed (λ place. when (nat_lt 0 (clue_of p place)) (clue_data p b e place)) (range_with_len 0 (4 * p.size))
+clues_data p b e =
+    listed (λ place. when (nat_lt 0 (clue_of p place)) (clue_data p b e place)) (range_with_len 0 (4 * p.size))
 
 -- a sign: whether it is an error, and of its squares the one that holds the greater number, and the other
 abbrev pub sign_data : Bool → ℕ → ℕ → Data
@@ -44,7 +45,8 @@ sign_at v error a b =
 -- the signs of a square to its right and below it
 abbrev pub signs_at : UnequalValue → ErrorsValue → ℕ → List Data
 signs_at v e cell =
-    sign_at v (has_broken e (RightOf cell)) cell (cell + 1) ++ sign_at v (has_broken e (Below cell)) cell (cell + v.size)
+    sign_at v (has_broken e (RightOf cell)) cell (cell + 1)
+    ++ sign_at v (has_broken e (Below cell)) cell (cell + v.size)
 
 -- the signs that the puzzle has, square by square
 abbrev pub signs_data : UnequalValue → ErrorsValue → Data

@@ -24,8 +24,10 @@ use Rattle.json_replies.specs.FurtherLines.{BoardFacts}
 use Rattle.json_replies.specs.JsonReplies.{JsonReply}
 use Rattle.json_replies.specs.ToldHints.{IsHint}
 
--- a new session of the fair game of a request: its puzzle has one solution, which follows by the grade, and not by the one below
-pub record IsFairStart {P : Type 0} (f : GameFacts P) (b : BoardFacts P) (r : FairRequest) (h : History P) : Type 0 where
+-- a new session of the fair game of a request: its puzzle has one solution, which follows by the grade, and not by the
+-- one below
+pub record IsFairStart {P : Type 0} (f : GameFacts P) (b : BoardFacts P) (r : FairRequest)
+    (h : History P) : Type 0 where
   pub fair : IsFairGame f b r h.puzzle
   pub start : h ≡ new_game (fair_params b r) h.puzzle
   pub solution : GridValue
@@ -58,8 +60,8 @@ IsContradiction Nothing = ⊥
 abbrev pub IsWrongAt : GridValue → GridValue → ℕ → Type 0
 IsWrongAt g s cell = (cell < g.size * g.size) × (number_at g cell ≢ 0) × (number_at g cell ≢ number_at s cell)
 
--- Where a solution follows by a grade and the grid has an empty square, steps of that grade or of one below explain a number as long as no
--- square is wrong, and otherwise it is a contradiction.
+-- Where a solution follows by a grade and the grid has an empty square, steps of that grade or of one below explain a
+-- number as long as no square is wrong, and otherwise it is a contradiction.
 abbrev pub HintsLeadOn : {P : Type 0} → GameFacts P → BoardFacts P → Type 0
 HintsLeadOn {P} f b =
     (p : P) (grade : Grade) (s g : GridValue) (view : CandidatesValue) (cell : ℕ) (hint : NextHint)

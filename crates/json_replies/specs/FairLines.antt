@@ -1,5 +1,6 @@
 -- The line `fair SIZE GRADE SEED`: its words, and what they ask for.
-use Rattle.std.specs.Prelude.{◌≡◌, ◌≢◌, ℕ, ◌≤◌, true, Contains, List, [], ◌∷◌, ◌++◌, codes, Option, Some, Result, Ok, Err}
+use Rattle.std.specs.Prelude.{◌≡◌, ◌≢◌, ℕ, ◌≤◌, true, Contains, List, [], ◌∷◌, ◌++◌, codes, Option, Some, Result, Ok}
+use Rattle.std.specs.Prelude.{Err}
 use denote.Ref.{Bor}
 use Rattle.byte_text.specs.Bytes.{space, digit}
 use Rattle.byte_text.specs.Cuts.{Lacks}
@@ -43,7 +44,8 @@ IsSeedWord seed word = decimal_value largest_seed word ≡ Some seed
 
 -- the words ask for this game, or the first of them that says nothing is refused by its name
 abbrev pub IsAsked : (Grade → Option ℕ) → FairWords (List ℕ) → Result FairRequest FairRefusal → Type 0
-IsAsked letter words (Ok r) = IsSizeWord r.size words.size × IsGradeWord letter r.size r.grade words.grade × IsSeedWord r.seed words.seed
+IsAsked letter words (Ok r) =
+    IsSizeWord r.size words.size × IsGradeWord letter r.size r.grade words.grade × IsSeedWord r.seed words.seed
 IsAsked letter words (Err BadSize) = (w : ℕ) → IsSizeWord w words.size → ⊥
 IsAsked letter words (Err BadLetter) =
     (w : ℕ) × IsSizeWord w words.size × ((grade : Grade) → IsGradeWord letter w grade words.grade → ⊥)

@@ -15,7 +15,7 @@ use Rattle.board_checks.specs.Spots.{IsBrokenAt}
 use Rattle.board_checks.specs.Errors.{ErrorsValue, has_repeated, has_broken}
 use Rattle.board_checks.specs.declared.spot.Spot.{Spot}
 use Rattle.named_steps.specs.Graded.{IsGradeOf}
-use Rattle.named_steps.specs.declared.reason.Reason.{Reason}
+use Rattle.clue_rules.specs.declared.reason.Reason.{Reason}
 use Rattle.named_steps.specs.declared.grade.Grade.{Grade}
 use Rattle.fair_games.specs.declared.trial.Trial.{Trial}
 use Rattle.puzzle_cli.specs.declared.command.line_fault.LineFault.TheVariants.{NoGame}
@@ -25,7 +25,8 @@ use Rattle.puzzle_cli.specs.GameFacts.{GameFacts}
 use Rattle.puzzle_cli.specs.Inner.CommandReading.{entry_at}
 use Rattle.puzzle_cli.specs.SessionReplies.{shown_board}
 use Rattle.json_replies.specs.declared.further_line.FurtherLine.{FurtherLine}
-use Rattle.json_replies.specs.declared.further_line.FurtherLine.TheVariants.{Board, Completable, Hint as AskHint, Grade as AskGrade}
+use Rattle.json_replies.specs.declared.further_line.FurtherLine.TheVariants.{Board, Completable, Hint as AskHint}
+use Rattle.json_replies.specs.declared.further_line.FurtherLine.TheVariants.{Grade as AskGrade}
 use Rattle.json_replies.specs.Boards.{board_data}
 use Rattle.step_chains.specs.declared.hints.NextHint.{NextHint}
 use Rattle.json_replies.specs.HintObjects.{IsHintValue, grade_data}
@@ -33,10 +34,13 @@ use Rattle.json_replies.specs.ToldHints.{IsHint}
 use Rattle.json_replies.specs.ObjectLines.{IsLineOf}
 use Rattle.json_replies.specs.Replies.{reply_members, IsReplyLine}
 use Rattle.json_replies.specs.Sessions.{game_data}
+use Rattle.clue_rules.specs.Reasons.{Striking}
 
 -- each of these lines by its word
 abbrev pub further_words : List (List ℕ × FurtherLine)
-further_words = (codes "board", Board) ∷ (codes "completable", Completable) ∷ (codes "hint", AskHint) ∷ (codes "grade", AskGrade) ∷ []
+further_words =
+    (codes "board", Board) ∷ (codes "completable", Completable) ∷ (codes "hint", AskHint) ∷ (codes "grade", AskGrade)
+    ∷ []
 
 -- which of them a line is, if any
 abbrev pub further_at : Line → Option FurtherLine
@@ -50,9 +54,9 @@ further_key Completable = codes "completable"
 further_key AskHint = codes "hint"
 further_key AskGrade = codes "grade"
 
--- what these answers know of a game: what it demands at which spots, its clues and signs as data; what its steps strike, the letters of its
--- grades, the clue at a place of the edge, and which signs it has; and of its fair games the letters of their grades, the orders of trial,
--- and the game's initial
+-- what these answers know of a game: what it demands at which spots, its clues and signs as data; what its steps
+-- strike, the letters of its grades, the clue at a place of the edge, and which signs it has; and of its fair games the
+-- letters of their grades, the orders of trial, and the game's initial
 pub record BoardFacts (P : Type 0) : Type 1 where
   pub demand : P → Spot → Option Demand
   pub clues : P → BoardValue → ErrorsValue → Data
@@ -77,7 +81,7 @@ answer_data (One g) = string (codes "one")
 answer_data (Several g h) = string (codes "several")
 
 -- a hint of a grid is told in this answer
-abbrev pub IsHintAnswer : Puzzle → (Grade → List ℕ) → (CandidatesValue → Reason → ℕ → ℕ → Type 0) → (ℕ → ℕ) → (ℕ → ℕ → Bool) → GridValue → Data
+abbrev pub IsHintAnswer : Puzzle → (Grade → List ℕ) → Striking → (ℕ → ℕ) → (ℕ → ℕ → Bool) → GridValue → Data
     → Type 0
 IsHintAnswer p letter Struck clue is_over g answer =
     (hint : NextHint) × IsHint p Struck g hint × IsHintValue p.size letter clue is_over Struck g hint answer
@@ -86,17 +90,22 @@ IsHintAnswer p letter Struck clue is_over g answer =
 abbrev pub IsAnswer : {P : Type 0} → GameFacts P → BoardFacts P → History P → FurtherLine → Data → Type 0
 IsAnswer f b h Board answer =
     (e : ErrorsValue) × AreErrors (b.demand h.puzzle) (grid_of (shown_board f h)) e
-    × (answer ≡ board_data (f.rules.puzzle h.puzzle) (shown_board f h) e (b.clues h.puzzle (shown_board f h) e) (b.signs h.puzzle (shown_board f h) e))
+    × (answer ≡ board_data (f.rules.puzzle h.puzzle) (shown_board f h) e (b.clues h.puzzle (shown_board f h) e)
+    (b.signs h.puzzle (shown_board f h) e))
 IsAnswer f b h Completable answer =
-    (found : Answer) × Fits (Completes (f.rules.puzzle h.puzzle) (grid_of (shown_board f h))) found × (answer ≡ answer_data found)
+    (found : Answer) × Fits (Completes (f.rules.puzzle h.puzzle) (grid_of (shown_board f h))) found
+    × (answer ≡ answer_data found)
 IsAnswer f b h AskHint answer =
-    IsHintAnswer (f.rules.puzzle h.puzzle) b.letter (b.struck_by h.puzzle) (b.edge_clue h.puzzle) (b.says_greater h.puzzle)
+    IsHintAnswer (f.rules.puzzle h.puzzle) b.letter (b.struck_by h.puzzle) (b.edge_clue h.puzzle)
+    (b.says_greater h.puzzle)
     (grid_of (shown_board f h)) answer
 IsAnswer f b h AskGrade answer =
-    (grade : Option Grade) × IsGradeOf (f.rules.puzzle h.puzzle) (b.struck_by h.puzzle) grade × (answer ≡ grade_data b.letter grade)
+    (grade : Option Grade) × IsGradeOf (f.rules.puzzle h.puzzle) (b.struck_by h.puzzle) grade
+    × (answer ≡ grade_data b.letter grade)
 
 -- the line of the object: NoGame where there is no session, else the answer beside what each object has
-abbrev pub IsFurtherLine : {P : Type 0} → GameFacts P → BoardFacts P → FurtherLine → Option (History P) → List ℕ → Type 0
+abbrev pub IsFurtherLine : {P : Type 0} → GameFacts P → BoardFacts P → FurtherLine → Option (History P) → List ℕ
+    → Type 0
 IsFurtherLine f b which None bytes = IsReplyLine f (Err (OfLine NoGame)) None bytes
 IsFurtherLine f b which (Some h) bytes =
     (answer : Data) × IsAnswer f b h which answer

@@ -8,7 +8,6 @@ use Rattle.named_steps.specs.Chains.{IsView, goal_cell, goal_value, IsGoalOf}
 use Rattle.named_steps.specs.declared.goal.Goal.{Goal}
 use Rattle.named_steps.specs.declared.goal.Goal.TheVariants.{OnlyValue, OnlyPlace}
 use Rattle.named_steps.specs.declared.grade.Grade.{Grade}
-use Rattle.named_steps.specs.declared.reason.Reason.{Reason}
 use Rattle.step_chains.specs.declared.chain.Step.{Step}
 use Rattle.step_chains.specs.declared.hints.NextHint.{NextHint}
 use Rattle.step_chains.specs.declared.hints.NextHint.TheVariants.{Follows, Refuted, Nothing}
@@ -21,6 +20,7 @@ use Rattle.json_replies.specs.Boards.{listed, when, squares}
 use Rattle.json_replies.specs.Counts.{count_data}
 use Rattle.json_replies.specs.Texts.{text_data, list_data}
 use Rattle.json_replies.specs.Steps.{steps_data}
+use Rattle.clue_rules.specs.Reasons.{Striking}
 
 -- ---- what it says
 
@@ -35,7 +35,15 @@ pub record SaidData : Type 0 where
 
 -- the same of a value of the code
 abbrev pub said_data : Said → SaidData
-said_data s = record { by = view s.by; cell = view s.cell; grade = view s.grade; kind = s.kind.now; line = view s.line; number = view s.number }
+said_data s =
+    record {
+      by = view s.by;
+      cell = view s.cell;
+      grade = view s.grade;
+      kind = s.kind.now;
+      line = view s.line;
+      number = view s.number;
+    }
 
 -- by what a goal is shown: the only value left of its square, or the only place in a row or column
 abbrev pub by_word : Goal → List ℕ
@@ -105,16 +113,18 @@ IsTextOf (Follows grade chain) text = AreShort text
 IsTextOf (Refuted grade refutation) text = AreShort text
 IsTextOf Nothing text = text ≡ []
 
--- a hint of a grid, as an object of a puzzle of a width with these letters, clues and signs: its steps are told from what is in view
+-- a hint of a grid, as an object of a puzzle of a width with these letters, clues and signs: its steps are told from
+-- what is in view
 pub record IsHintValue (w : ℕ) (letter : Grade → List ℕ) (clue : ℕ → ℕ) (is_over : ℕ → ℕ → Bool)
-    (Struck : CandidatesValue → Reason → ℕ → ℕ → Type 0) (g : GridValue) (hint : NextHint) (value : Data) : Type 0 where
+    (Struck : Striking) (g : GridValue) (hint : NextHint) (value : Data) : Type 0 where
   pub view : CandidatesValue
   pub in_view : IsView g view
   pub steps : List ToldStep
   pub told : AreTold Struck w view (steps_in hint) steps
   pub text : List (List ℕ)
   pub lines : IsTextOf hint text
-  pub is : value ≡ hint_data (said_of w letter hint) (steps_data w clue is_over steps) (list_data text_data text) (view_data view)
+  pub is : value
+      ≡ hint_data (said_of w letter hint) (steps_data w clue is_over steps) (list_data text_data text) (view_data view)
 
 -- the goal of its chain, if it has one, is one of the size
 abbrev pub IsGoalTold : ℕ → NextHint → Type 0

@@ -29,22 +29,24 @@ abbrev pub PlainGives : {P : Type 0} → GameFacts P → Option (History P) → 
 PlainGives f old line (Ok outcome) = LineGives f old line outcome
 PlainGives f old line (Err refusal) = ⊥
 
--- what comes of a line that isn't one of those beside the commands: of `fair` and three words a fair game, of any other what it is to the
--- plain program
+-- what comes of a line that isn't one of those beside the commands: of `fair` and three words a fair game, of any other
+-- what it is to the plain program
 abbrev pub AnswerGives : {P : Type 0} → GameFacts P → BoardFacts P → Option (History P) → Line → Answer P → Type 0
 AnswerGives f b old line answer =
     ((words : FairWords (List ℕ)) × IsFairLine words line × FairGives f b old words answer)
     ⊎ (((words : FairWords (List ℕ)) → IsFairLine words line → ⊥) × PlainGives f old line answer)
 
 -- what is said to one of the lines beside the commands, which leaves the session, or else to a line by what comes of it
-abbrev pub TellsLine : {P : Type 0} → GameFacts P → BoardFacts P → Option (History P) → Line → Option FurtherLine → List ℕ → Option (History P) → Type 0
+abbrev pub TellsLine : {P : Type 0} → GameFacts P → BoardFacts P → Option (History P) → Line → Option FurtherLine
+    → List ℕ → Option (History P) → Type 0
 TellsLine f b old line (Some which) bytes new = (new ≡ old) × OrLost (IsFurtherLine f b which old) bytes
 TellsLine {P} f b old line None bytes new =
     (answer : Answer P) × AnswerGives f b old line answer × (new ≡ left_by old answer) × TellsAnswer f answer new bytes
 
--- so it is told, and the session is one that an answer to some line leaves: to the line itself, which the plain program refuses where it
--- is one of those beside the commands; or to the line `new` that `fair` stands for
-pub record JsonReply {P : Type 0} (f : GameFacts P) (b : BoardFacts P) (old : Option (History P)) (line : Line) (bytes : List ℕ)
+-- so it is told, and the session is one that an answer to some line leaves: to the line itself, which the plain program
+-- refuses where it is one of those beside the commands; or to the line `new` that `fair` stands for
+pub record JsonReply {P : Type 0} (f : GameFacts P) (b : BoardFacts P) (old : Option (History P)) (line : Line)
+    (bytes : List ℕ)
     (new : Option (History P)) : Type 0 where
   pub leaves : (asked : Line) × Leaves f old asked new
   pub told : TellsLine f b old line (further_at line) bytes new

@@ -1,7 +1,7 @@
--- What is told as JSON. Bytes, lines and counts: Texts, Counts; an object's line: ObjectLines; the session that is left: Sessions; a reply:
--- Replies; the board, its clues and signs: Boards, ClueLists; a hint, with the steps that explain it: Reasons, Steps, ToldHints, HintObjects; the
--- lines beside the commands: FurtherLines; the line `fair`: FairLines, FairRefusals, FairReplies; what may be said to a line:
--- JsonReplies; its laws: ReplyLaws, FairLaws.
+-- What is told as JSON. Bytes, lines and counts: Texts, Counts; an object's line: ObjectLines; the session that is
+-- left: Sessions; a reply: Replies; the board, its clues and signs: Boards, ClueLists; a hint, with the steps that
+-- explain it: Reasons, Steps, ToldHints, HintObjects; the lines beside the commands: FurtherLines; the line `fair`:
+-- FairLines, FairRefusals, FairReplies; what may be said to a line: JsonReplies; its laws: ReplyLaws, FairLaws.
 pub mod Texts
 pub mod Counts
 pub mod ObjectLines

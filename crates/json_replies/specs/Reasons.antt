@@ -5,8 +5,8 @@ use Rattle.serde_json.specs.Data.{Data, null, array}
 use Rattle.serde_json.specs.View.{items_of, view}
 use Rattle.number_sets.specs.Sets.{has_number}
 use Rattle.latin_board.specs.Lines.{line_cell}
-use Rattle.named_steps.specs.declared.reason.Reason.{Reason}
-use Rattle.named_steps.specs.declared.reason.Reason.TheVariants.{Given, Peer, Place, Bound, Stand, Clue, Sign, Set}
+use Rattle.clue_rules.specs.declared.reason.Reason.{Reason}
+use Rattle.clue_rules.specs.declared.reason.Reason.TheVariants.{Given, Peer, Place, Bound, Stand, Clue, Sign, Set}
 use Rattle.json_replies.specs.declared.reason_parts.Ends.{Ends}
 use Rattle.json_replies.specs.declared.reason_parts.Parts.{Parts}
 use Rattle.json_replies.specs.Boards.{listed, when, mark_set_data}
@@ -23,7 +23,15 @@ pub record ReasonParts : Type 0 where
 
 -- the same of a value of the code
 abbrev pub parts_data : Parts → ReasonParts
-parts_data p = record { word = p.word.now; edge = p.edge; ends = p.ends; line = view p.line; cells = view p.cells; numbers = view p.numbers }
+parts_data p =
+    record {
+      word = p.word.now;
+      edge = p.edge;
+      ends = p.ends;
+      line = view p.line;
+      cells = view p.cells;
+      numbers = view p.numbers;
+    }
 
 -- ---- the four forms of reasons
 
@@ -33,7 +41,8 @@ one_data n = array (items_of (count_data n ∷ []))
 
 -- one that rests on a square
 abbrev pub parts_of_square : List ℕ → ℕ → ReasonParts
-parts_of_square word cell = record { word = word; edge = None; ends = None; line = null; cells = one_data cell; numbers = null }
+parts_of_square word cell =
+    record { word = word; edge = None; ends = None; line = null; cells = one_data cell; numbers = null }
 
 -- one that looks from a clue at the edge
 abbrev pub parts_of_edge : List ℕ → Option ℕ → ReasonParts
@@ -45,7 +54,8 @@ parts_of_sign word ends = record { word = word; edge = None; ends = ends; line =
 
 -- one that looks at squares and numbers of a row or column
 abbrev pub parts_of_line : List ℕ → ℕ → Data → Data → ReasonParts
-parts_of_line word line cells numbers = record { word = word; edge = None; ends = None; line = count_data line; cells = cells; numbers = numbers }
+parts_of_line word line cells numbers =
+    record { word = word; edge = None; ends = None; line = count_data line; cells = cells; numbers = numbers }
 
 -- ---- what they speak of
 
@@ -57,7 +67,8 @@ edge_at w place = if nat_lt place (4 * w) then Some place else None
 abbrev pub ends_at : ℕ → (ℕ → ℕ → Bool) → ℕ → ℕ → Option Ends
 ends_at w is_over a b =
     if nat_lt a (w * w) && nat_lt b (w * w)
-    then (if is_over a b then Some (record { greater = a; less = b }) else (if is_over b a then Some (record { greater = b; less = a }) else None))
+    then (if is_over a b then Some (record { greater = a; less = b })
+    else (if is_over b a then Some (record { greater = b; less = a }) else None))
     else None
 
 -- the square at a place of a line, if the grid has it
@@ -66,7 +77,8 @@ place_data w line index = if nat_lt line (2 * w) && nat_lt index w then one_data
 
 -- the squares at some places of a line
 abbrev pub line_cells_data : ℕ → ℕ → ℕ → Data
-line_cells_data w line places = listed (λ k. when (has_number places k) (count_data (line_cell w line k))) (range_with_len 0 w)
+line_cells_data w line places =
+    listed (λ k. when (has_number places k) (count_data (line_cell w line k))) (range_with_len 0 w)
 
 -- the same where the grid has the line
 abbrev pub squares_data : ℕ → ℕ → ℕ → Data
@@ -78,9 +90,11 @@ squares_data w line places = if nat_lt line (2 * w) then line_cells_data w line 
 abbrev pub parts_of : ℕ → (ℕ → ℕ → Bool) → Reason → ReasonParts
 parts_of w is_over (Given cell) = parts_of_square (codes "given") cell
 parts_of w is_over (Peer cell) = parts_of_square (codes "peer") cell
-parts_of w is_over (Place line index value) = parts_of_line (codes "place") line (place_data w line index) (one_data value)
+parts_of w is_over (Place line index value) =
+    parts_of_line (codes "place") line (place_data w line index) (one_data value)
 parts_of w is_over (Bound place) = parts_of_edge (codes "bound") (edge_at w place)
 parts_of w is_over (Stand place) = parts_of_edge (codes "stand") (edge_at w place)
 parts_of w is_over (Clue place) = parts_of_edge (codes "clue") (edge_at w place)
 parts_of w is_over (Sign from to) = parts_of_sign (codes "sign") (ends_at w is_over from to)
-parts_of w is_over (Set line squares values) = parts_of_line (codes "set") line (squares_data w line squares) (mark_set_data values)
+parts_of w is_over (Set line squares values) =
+    parts_of_line (codes "set") line (squares_data w line squares) (mark_set_data values)

@@ -54,7 +54,8 @@ left_by old (Err refusal) = old
 
 -- the line of the object of an answer, and of the session that is left
 abbrev pub IsAnswerLine : {P : Type 0} → GameFacts P → Answer P → Option (History P) → List ℕ → Type 0
-IsAnswerLine f answer new bytes = IsLineOf (reply_data (answer_name answer) (answer_text answer) (session_data f new)) bytes
+IsAnswerLine f answer new bytes =
+    IsLineOf (reply_data (answer_name answer) (answer_text answer) (session_data f new)) bytes
 
 -- the same of an outcome
 abbrev pub IsReplyLine : {P : Type 0} → GameFacts P → Outcome P → Option (History P) → List ℕ → Type 0

@@ -17,22 +17,28 @@ use Rattle.json_replies.specs.JsonReplies.{AnswerGives, JsonReply}
 abbrev pub LinesAreTheReply : Type 0
 LinesAreTheReply = (said : List ℕ) → AreWholeLines said → lines_text (lines_of said) ≡ said
 
--- where pictures are whole lines, one line of an object tells one reply, one refusal or none, and one session, of all that answers any lines
--- of any sessions but those beside the commands
+-- where pictures are whole lines, one line of an object tells one reply, one refusal or none, and one session, of all
+-- that answers any lines of any sessions but those beside the commands
 abbrev pub ObjectsTellOneReply : {P : Type 0} → GameFacts P → BoardFacts P → Type 0
 ObjectsTellOneReply {P} f b =
     PicturesAreWholeLines f.drawing
-    → (old before : Option (History P)) (line earlier : Line) (one other : Answer P) (new last : Option (History P)) (bytes : List ℕ)
-    → AnswerGives f b old line one → AnswerGives f b before earlier other → IsAnswerLine f one new bytes → IsAnswerLine f other last bytes
-    → (answer_text one ≡ answer_text other) × (answer_name one ≡ answer_name other) × (session_data f new ≡ session_data f last)
+    → (old before : Option (History P)) (line earlier : Line) (one other : Answer P) (new last : Option (History P))
+    (bytes : List ℕ)
+    → AnswerGives f b old line one → AnswerGives f b before earlier other → IsAnswerLine f one new bytes
+    → IsAnswerLine f other last bytes
+    → (answer_text one ≡ answer_text other) × (answer_name one ≡ answer_name other)
+    × (session_data f new ≡ session_data f last)
 
 -- no object's line is the one that tells that an object was lost
 pub record ObjectsAreNotLost {P : Type 0} (f : GameFacts P) (b : BoardFacts P) : Type 0 where
-  pub replies : (answer : Answer P) (new : Option (History P)) (bytes : List ℕ) → IsAnswerLine f answer new bytes → bytes ≢ lost_line
-  pub answers : (which : FurtherLine) (new : Option (History P)) (bytes : List ℕ) → IsFurtherLine f b which new bytes → bytes ≢ lost_line
+  pub replies : (answer : Answer P) (new : Option (History P)) (bytes : List ℕ) → IsAnswerLine f answer new bytes
+      → bytes ≢ lost_line
+  pub answers : (which : FurtherLine) (new : Option (History P)) (bytes : List ℕ) → IsFurtherLine f b which new bytes
+      → bytes ≢ lost_line
 
 -- the lines beside the commands leave the session, and are answered from it
 abbrev pub AnswersLeave : {P : Type 0} → GameFacts P → BoardFacts P → Type 0
 AnswersLeave {P} f b =
-    (which : FurtherLine) (old new : Option (History P)) (bytes : List ℕ) → JsonReply f b old (Some (further_key which)) bytes new
+    (which : FurtherLine) (old new : Option (History P)) (bytes : List ℕ)
+    → JsonReply f b old (Some (further_key which)) bytes new
     → (new ≡ old) × OrLost (IsFurtherLine f b which old) bytes

@@ -45,7 +45,8 @@ less_data (Some ends) = count_data ends.less
 
 -- for each of the numbers, the counts of towers that are shown with it
 abbrev pub counts_data : ℕ → List ℕ → Data
-counts_data values shows = listed (λ n. when (has_number values n) (mark_set_data (slice_index shows n))) (range_with_len 1 9)
+counts_data values shows =
+    listed (λ n. when (has_number values n) (mark_set_data (slice_index shows n))) (range_with_len 1 9)
 
 -- the same, where a clue strikes
 abbrev pub shows_data : ℕ → Option (List ℕ) → Data
@@ -81,7 +82,8 @@ look_data w clue parts strikes text = object
 -- a step as it is told, of a puzzle of a width with these clues and signs
 abbrev pub step_data : ℕ → (ℕ → ℕ) → (ℕ → ℕ → Bool) → ToldStep → Data
 step_data w clue is_over told =
-    look_data w clue (parts_of w is_over told.reason) (list_data strike_data told.strikes.items) (list_data text_data (line_texts told.text.items))
+    look_data w clue (parts_of w is_over told.reason) (list_data strike_data told.strikes.items)
+    (list_data text_data (line_texts told.text.items))
 
 -- steps as they are told
 abbrev pub steps_data : ℕ → (ℕ → ℕ) → (ℕ → ℕ → Bool) → List ToldStep → Data

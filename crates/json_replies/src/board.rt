@@ -3,7 +3,8 @@
 ghost use Rattle.std.specs.Prelude.{◌≡◌, ◌≤◌, IfOk};
 ghost use Rattle.latin_board.specs.Marks.{IsMarkSet};
 ghost use Rattle.serde_json.specs.View.{view};
-ghost use Rattle.json_replies.specs.Boards.{numbers_data, givens_data, mark_set_data, marks_data, repeats_data, board_data};
+ghost use Rattle.json_replies.specs.Boards.{numbers_data, givens_data, mark_set_data, marks_data, repeats_data};
+ghost use Rattle.json_replies.specs.Boards.{board_data};
 
 use crate::lists::{push_value, push_when, square_count};
 use board_checks::BoardErrors;

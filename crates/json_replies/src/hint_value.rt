@@ -3,7 +3,9 @@
 ghost use Rattle.std.specs.Prelude.{◌≡◌, ◌*◌, ◌<◌, IfOk};
 ghost use Rattle.serde_json.specs.View.{view};
 ghost use Rattle.step_texts.specs.Lines.{line_texts};
-ghost use Rattle.json_replies.specs.HintObjects.{IsGoalTold, IsHintValue, IsTextOf, by_word, goal_line_data, grade_data, hint_data, left_data, said_data, said_of, steps_in, view_data, without_number};
+ghost use Rattle.json_replies.specs.HintObjects.{IsGoalTold, IsHintValue, IsTextOf, by_word, goal_line_data};
+ghost use Rattle.json_replies.specs.HintObjects.{grade_data, hint_data, left_data, said_data, said_of, steps_in};
+ghost use Rattle.json_replies.specs.HintObjects.{view_data, without_number};
 
 use crate::lists::{push_value, push_when, square_count};
 use crate::step_value::steps_value;

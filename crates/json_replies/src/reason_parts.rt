@@ -2,7 +2,9 @@
 
 ghost use Rattle.std.specs.Prelude.{◌≡◌, ◌*◌, ◌<◌, None, IfOk, IfSome};
 ghost use Rattle.serde_json.specs.View.{view};
-ghost use Rattle.json_replies.specs.Reasons.{edge_at, ends_at, line_cells_data, one_data, parts_data, parts_of, parts_of_edge, parts_of_line, parts_of_sign, parts_of_square, place_data, squares_data};
+ghost use Rattle.json_replies.specs.Reasons.{edge_at, ends_at, line_cells_data, one_data, parts_data, parts_of};
+ghost use Rattle.json_replies.specs.Reasons.{parts_of_edge, parts_of_line, parts_of_sign, parts_of_square, place_data};
+ghost use Rattle.json_replies.specs.Reasons.{squares_data};
 
 use crate::lists::{number_set_value, push_value, push_when};
 use latin_board::{Size, line_cell};

@@ -4,7 +4,8 @@ ghost use Rattle.std.specs.Prelude.{◌≡◌, ◌*◌, ◌<◌, ◌++◌, map, 
 ghost use Rattle.serde_json.specs.View.{view};
 ghost use Rattle.json_replies.specs.Boards.{when, mark_set_data};
 ghost use Rattle.json_replies.specs.Texts.{list_data};
-ghost use Rattle.json_replies.specs.Steps.{x_data, y_data, clue_data, greater_data, less_data, counts_data, shows_data, strike_data, step_data, steps_data};
+ghost use Rattle.json_replies.specs.Steps.{x_data, y_data, clue_data, greater_data, less_data, counts_data, shows_data};
+ghost use Rattle.json_replies.specs.Steps.{strike_data, step_data, steps_data};
 
 use crate::lists::{number_set_value, push_value};
 use crate::reason_parts::{Ends, parts_of};

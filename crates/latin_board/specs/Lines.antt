@@ -3,7 +3,8 @@ use Rattle.std.specs.Prelude.{◌≡◌, ◌≢◌, ℕ, ◌+◌, ◌-◌, ◌*�
 use Rattle.std.specs.List.{range_with_len}
 use Rattle.latin_board.specs.Squares.{GridValue, number_at}
 
--- the square at place k of a line: the rows from the top are the lines below w, the columns from the left those from w on
+-- the square at place k of a line: the rows from the top are the lines below w, the columns from the left those from w
+-- on
 abbrev pub line_cell : ℕ → ℕ → ℕ → ℕ
 line_cell w line k = if nat_lt line w then line * w + k else k * w + (line - w)
 

@@ -5,8 +5,8 @@ use Rattle.number_sets.specs.Sets.{has_number, IsEmpty}
 use Rattle.latin_board.specs.Lines.{ArePeers, line_cell}
 use Rattle.trail_solver.specs.Pairs.{IsPair}
 use Rattle.trail_solver.specs.Candidates.{CandidatesValue, IsSetOf, IsOnly}
-use Rattle.named_steps.specs.Left.{HasNoOther, HasNoOtherPlace}
-use Rattle.named_steps.specs.Reasons.{IsByPeer, IsByPlace}
+use Rattle.clue_rules.specs.Left.{HasNoOther, HasNoOtherPlace}
+use Rattle.clue_rules.specs.Reasons.{IsByPeer, IsByPlace}
 use Rattle.named_steps.proofs.StandingSets.{up_to_pair}
 
 pub alone_none : (c : CandidatesValue) (cell set all v : ℕ) → cell < c.size * c.size → IsSetOf c cell set → IsEmpty set

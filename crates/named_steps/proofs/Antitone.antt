@@ -1,49 +1,23 @@
 -- What follows of steps that strike as much from fewer candidates: chains are chains of fewer candidates, and closures are one.
-use Rattle.std.proofs.Common.{◌≡◌, ℕ, true, false, not, ◌||◌, List, [], ◌∷◌, ◌++◌, refl, sym, ap, ◌∙◌, subst, Bool}
-use Rattle.std.proofs.lemmas.Bool.{both_ways, or_parts, or_from, false_from_ne_true, not_from_false}
-use Rattle.std.proofs.lemmas.List.Folds.{list_any-append}
+use Rattle.std.proofs.Common.{◌≡◌, ℕ, true, List, [], ◌∷◌, refl, subst}
+use Rattle.std.proofs.lemmas.Bool.{both_ways, false_from_ne_true}
 use Rattle.trail_solver.specs.Pairs.{IsPair, has_pair}
 use Rattle.trail_solver.specs.Candidates.{CandidatesValue, may_be}
-use Rattle.named_steps.specs.Left.{IsLeft, IsFewer, AreAlike, without}
+use Rattle.clue_rules.specs.Left.{IsFewer, AreAlike, without}
+use Rattle.clue_rules.proofs.Takes.{was_left, still_left, without_fewer}
 use Rattle.named_steps.specs.Grades.{has_reason}
 use Rattle.named_steps.specs.Chains.{StepValue, IsStep, IsChain, left_by, AreOfGrade}
 use Rattle.named_steps.specs.Following.{IsSettled, IsClosure}
-use Rattle.named_steps.specs.declared.reason.Reason.{Reason}
+use Rattle.clue_rules.specs.declared.reason.Reason.{Reason}
 use Rattle.named_steps.specs.declared.grade.Grade.{Grade}
+use Rattle.clue_rules.specs.Reasons.{Striking}
 
 -- what is struck from candidates is struck from fewer of the same size
-abbrev pub IsAntitone : (CandidatesValue → Reason → ℕ → ℕ → Type 0) → Type 0
+abbrev pub IsAntitone : Striking → Type 0
 IsAntitone Struck =
     (c d : CandidatesValue) (reason : Reason) (cell value : ℕ) → IsFewer c d → Struck c reason cell value → Struck d reason cell value
 
 -- ---- candidates without some pairs
-
-not_gone : (b : Bool) → not b ≡ true → b ≡ false
-not_gone b h = false_from_ne_true b (λ is. both_ways (not b) (ap not is) h)
-
-has_pair-append : (ps qs : List (ℕ × ℕ)) (cell value : ℕ) → has_pair (ps ++ qs) cell value ≡ (has_pair ps cell value || has_pair qs cell value)
-has_pair-append ps qs cell value = list_any-append _ ps qs
-
--- what is left without the pairs was left, and is none of them
-pub was_left : (c : CandidatesValue) (pairs : List (ℕ × ℕ)) (cell value : ℕ) → IsLeft (without c pairs) cell value
-    → IsLeft c cell value × (has_pair pairs cell value ≡ false)
-was_left c pairs cell value h =
-    let both = or_parts (has_pair c.trail cell value) (has_pair pairs cell value)
-    (sym (has_pair-append c.trail pairs cell value) ∙ not_gone (has_pair (c.trail ++ pairs) cell value) h.may) in
-    (record { pair = h.pair; may = not_from_false _ both.0 }, both.1)
-
--- what was left and is none of the pairs is left without them
-pub still_left : (c : CandidatesValue) (pairs : List (ℕ × ℕ)) (cell value : ℕ) → IsLeft c cell value → has_pair pairs cell value ≡ false
-    → IsLeft (without c pairs) cell value
-still_left c pairs cell value h other = record {
-  pair = h.pair;
-  may = not_from_false _ (has_pair-append c.trail pairs cell value
-      ∙ or_from (has_pair c.trail cell value) (has_pair pairs cell value) (not_gone _ h.may) other);
-}
-
--- without some pairs fewer are left
-pub without_fewer : (c : CandidatesValue) (pairs : List (ℕ × ℕ)) → IsFewer c (without c pairs)
-without_fewer c pairs = λ cell value h. (was_left c pairs cell value h).0
 
 -- and of fewer candidates still fewer
 pub fewer_without : (c d : CandidatesValue) (pairs : List (ℕ × ℕ)) → IsFewer c d → IsFewer (without c pairs) (without d pairs)
@@ -54,14 +28,14 @@ fewer_without c d pairs fewer = λ cell value h.
 -- ---- chains
 
 -- a step is one of fewer candidates
-pub step_less : (Struck : CandidatesValue → Reason → ℕ → ℕ → Type 0) → IsAntitone Struck → (c d : CandidatesValue) (step : StepValue)
+pub step_less : (Struck : Striking) → IsAntitone Struck → (c d : CandidatesValue) (step : StepValue)
     → c.size ≡ d.size → IsFewer c d → IsStep Struck c step → IsStep Struck d step
 step_less Struck less c d step size fewer h = λ cell value has.
     let was = h cell value has in
     (subst (λ (w : ℕ). IsPair w cell value) size was.0, less c d step.reason cell value fewer was.1)
 
 -- a chain is one of fewer candidates, and leaves fewer
-pub chain_less : (Struck : CandidatesValue → Reason → ℕ → ℕ → Type 0) → IsAntitone Struck → (c d : CandidatesValue) (steps : List StepValue)
+pub chain_less : (Struck : Striking) → IsAntitone Struck → (c d : CandidatesValue) (steps : List StepValue)
     → c.size ≡ d.size → IsFewer c d → IsChain Struck c steps → IsChain Struck d steps × IsFewer (left_by c steps) (left_by d steps)
 chain_less Struck less c d [] size fewer h = (tt, fewer)
 chain_less Struck less c d (step ∷ steps) size fewer h =
@@ -81,7 +55,7 @@ left_size c (step ∷ steps) = left_size (without c step.strikes) steps
 -- ---- what is settled
 
 -- a step of the grade strikes nothing that is left where the grade is settled
-pub step_settled : (Struck : CandidatesValue → Reason → ℕ → ℕ → Type 0) → IsAntitone Struck → (grade : Grade) (c d : CandidatesValue) (step : StepValue)
+pub step_settled : (Struck : Striking) → IsAntitone Struck → (grade : Grade) (c d : CandidatesValue) (step : StepValue)
     → has_reason grade step.reason ≡ true → IsStep Struck c step → IsFewer c d → IsSettled Struck grade d → IsFewer (without c step.strikes) d
 step_settled Struck less grade c d step allowed h fewer settled = λ cell value left.
     still_left c step.strikes cell value (fewer cell value left)
@@ -90,7 +64,7 @@ step_settled Struck less grade c d step allowed h fewer settled = λ cell value 
     (settled step.reason cell value allowed left.pair (less c d step.reason cell value fewer (h cell value has).1)) left.may))
 
 -- no chain of the grade strikes anything that is left where it is settled
-pub chain_settled : (Struck : CandidatesValue → Reason → ℕ → ℕ → Type 0) → IsAntitone Struck → (grade : Grade) (c d : CandidatesValue) (steps : List StepValue)
+pub chain_settled : (Struck : Striking) → IsAntitone Struck → (grade : Grade) (c d : CandidatesValue) (steps : List StepValue)
     → AreOfGrade grade steps → IsChain Struck c steps → IsFewer c d → IsSettled Struck grade d → IsFewer (left_by c steps) d
 chain_settled Struck less grade c d [] allowed h fewer settled = fewer
 chain_settled Struck less grade c d (step ∷ steps) allowed h fewer settled =
@@ -98,16 +72,16 @@ chain_settled Struck less grade c d (step ∷ steps) allowed h fewer settled =
     (step_settled Struck less grade c d step allowed.0 h.0 fewer settled) settled
 
 -- what a grade leaves is left of the start
-pub closure_fewer : (Struck : CandidatesValue → Reason → ℕ → ℕ → Type 0) (grade : Grade) (c d : CandidatesValue) → IsClosure Struck grade c d → IsFewer c d
+pub closure_fewer : (Struck : Striking) (grade : Grade) (c d : CandidatesValue) → IsClosure Struck grade c d → IsFewer c d
 closure_fewer Struck grade c d h = λ cell value left. left_fewer c h.steps cell value (h.left.0 cell value left)
 
-closure_within : (Struck : CandidatesValue → Reason → ℕ → ℕ → Type 0) → IsAntitone Struck → (grade : Grade) (c d e : CandidatesValue)
+closure_within : (Struck : Striking) → IsAntitone Struck → (grade : Grade) (c d e : CandidatesValue)
     → IsClosure Struck grade c d → IsClosure Struck grade c e → IsFewer d e
 closure_within Struck less grade c d e h k = λ cell value left.
     h.left.1 cell value
     (chain_settled Struck less grade c e h.steps h.allowed h.chain (closure_fewer Struck grade c e k) k.settled cell value left)
 
 -- in whatever order the steps are taken, a grade leaves the same
-pub closures_alike : (Struck : CandidatesValue → Reason → ℕ → ℕ → Type 0) → IsAntitone Struck → (grade : Grade) (c d e : CandidatesValue)
+pub closures_alike : (Struck : Striking) → IsAntitone Struck → (grade : Grade) (c d e : CandidatesValue)
     → IsClosure Struck grade c d → IsClosure Struck grade c e → AreAlike d e
 closures_alike Struck less grade c d e h k = (closure_within Struck less grade c d e h k, closure_within Struck less grade c e d k h)

@@ -3,8 +3,9 @@ use Rattle.std.proofs.Common.{◌≡◌, ◌≢◌, ℕ, zero, suc, ◌+◌, ◌
 use Rattle.std.proofs.lemmas.Bool.{both_ways, cases_eq, cases_Bool, false_from_ne_true}
 use Rattle.std.proofs.lemmas.Nat.{ones_le_self, zero_from_ones}
 use Rattle.number_sets.specs.Sets.{has_number, IsSubset}
-use Rattle.number_sets.proofs.Members.{has_number-none, below_from_numbers, power_most, some_number}
-use Rattle.number_sets.proofs.OneMore.{IsAdded, added_without, added_lacks, added_other, added_ones}
+use Rattle.number_sets.proofs.Members.{has_number-none, below_from_numbers, some_number}
+use Rattle.number_sets.proofs.OneMore.{added_other, added_ones}
+use Rattle.clue_rules.proofs.OtherNumbers.{one_less, was_other}
 use Rattle.trail_solver.proofs.Pigeonholes.{pigeonhole}
 
 -- a set has no more numbers than one that has them all
@@ -16,16 +17,6 @@ pub some_counted : (set n : ℕ) → count_ones set ≡ suc n → ((k : ℕ) →
 some_counted set n count small =
     some_number set (λ e. omega (arith, count, ones_le_self set))
     (below_from_numbers set 16 (λ j far. false_from_ne_true (has_number set j) (λ h. omega (arith, small j h))))
-
--- a set without one of its numbers
-pub one_less : (set k : ℕ) → has_number set k ≡ true → IsAdded (set - 2 ^ k) k set
-one_less set k has = added_without (set - 2 ^ k) k set has (omega (arith, power_most set k has))
-
--- what is left in it was in it, and is another number
-pub was_other : (fewer k set j : ℕ) → IsAdded fewer k set → has_number fewer j ≡ true → (j ≢ k) × (has_number set j ≡ true)
-was_other fewer k set j a has =
-    let apart : j ≢ k = λ same. both_ways (has_number fewer j) (subst (λ (i : ℕ). has_number fewer i ≡ false) (sym same) (added_lacks a)) has in
-    (apart, added_other a j apart ∙ has)
 
 -- a set with two numbers has more than one
 pub several_counted : (set u v : ℕ) → u ≢ v → has_number set u ≡ true → has_number set v ≡ true → 1 < count_ones set

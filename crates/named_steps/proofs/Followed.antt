@@ -7,17 +7,18 @@ use Rattle.trail_solver.specs.Pairs.{IsPair}
 use Rattle.trail_solver.specs.Puzzles.{Puzzle, Solves}
 use Rattle.trail_solver.specs.Solutions.{IsOnlySolution}
 use Rattle.trail_solver.specs.Completions.{Completes}
-use Rattle.named_steps.specs.Left.{IsLeft, IsFewer, all_of, without}
+use Rattle.clue_rules.specs.Left.{IsLeft, IsFewer, all_of, without}
 use Rattle.named_steps.specs.Grades.{has_reason}
 use Rattle.named_steps.specs.Chains.{StepValue, IsChain, left_by, AreOfGrade, Shows, IsView}
 use Rattle.named_steps.specs.Following.{Follows, IsRefuted}
 use Rattle.named_steps.proofs.Antitone.{IsAntitone, chain_less, left_fewer, left_size}
 use Rattle.named_steps.proofs.Kept.{IsSoundFor, number_left, chain_keeps, completion_in_view}
-use Rattle.named_steps.specs.declared.reason.Reason.{Reason}
+use Rattle.clue_rules.specs.declared.reason.Reason.{Reason}
 use Rattle.named_steps.specs.declared.grade.Grade.{Grade}
 use Rattle.named_steps.specs.declared.grade.Grade.TheVariants.{Latin, Easy, Hard}
-use Rattle.named_steps.specs.declared.reason.Reason.TheVariants.{Given, Peer, Place, Bound, Stand, Clue, Sign, Set}
+use Rattle.clue_rules.specs.declared.reason.Reason.TheVariants.{Given, Peer, Place, Bound, Stand, Clue, Sign, Set}
 use Rattle.named_steps.specs.declared.goal.Goal.TheVariants.{OnlyValue}
+use Rattle.clue_rules.specs.Reasons.{Striking}
 
 -- ---- the only solution
 
@@ -25,7 +26,7 @@ within_all : (w : ℕ) (g : GridValue) → IsWithin (all_of w) g
 within_all w g = record { each = λ cell inside. refl }
 
 -- a solution that follows is the only one
-pub follows_only : (p : Puzzle) (Struck : CandidatesValue → Reason → ℕ → ℕ → Type 0) → IsSoundFor p Struck → (grade : Grade) (g : GridValue)
+pub follows_only : (p : Puzzle) (Struck : Striking) → IsSoundFor p Struck → (grade : Grade) (g : GridValue)
     → Follows Struck grade g → Solves p g → IsOnlySolution p g
 follows_only p Struck sound grade g f s = record {
   solves = s;
@@ -67,7 +68,7 @@ hard_has (Clue place) h = refl
 hard_has (Sign from to) h = refl
 hard_has (Set line squares values) h = refl
 
-follows_higher : (Struck : CandidatesValue → Reason → ℕ → ℕ → Type 0) (lower higher : Grade)
+follows_higher : (Struck : Striking) (lower higher : Grade)
     → ((reason : Reason) → has_reason lower reason ≡ true → has_reason higher reason ≡ true) → (g : GridValue)
     → Follows Struck lower g → Follows Struck higher g
 follows_higher Struck lower higher has g f = record {
@@ -78,13 +79,13 @@ follows_higher Struck lower higher has g f = record {
 }
 
 -- what follows by a grade follows by the next
-pub grades_nested : (Struck : CandidatesValue → Reason → ℕ → ℕ → Type 0) (g : GridValue)
+pub grades_nested : (Struck : Striking) (g : GridValue)
     → (Follows Struck Latin g → Follows Struck Easy g) × (Follows Struck Easy g → Follows Struck Hard g)
 grades_nested Struck g = (follows_higher Struck Latin Easy easy_has g, follows_higher Struck Easy Hard hard_has g)
 
 -- ---- more items
 
-chain_more : (Less More : CandidatesValue → Reason → ℕ → ℕ → Type 0)
+chain_more : (Less More : Striking)
     → ((c : CandidatesValue) (reason : Reason) (cell value : ℕ) → Less c reason cell value → More c reason cell value)
     → (c : CandidatesValue) (steps : List StepValue) → IsChain Less c steps → IsChain More c steps
 chain_more Less More more c [] h = tt
@@ -94,7 +95,7 @@ chain_more Less More more c (step ∷ steps) h = (
 )
 
 -- what follows by some strikes follows by more
-pub follows_more : (Less More : CandidatesValue → Reason → ℕ → ℕ → Type 0)
+pub follows_more : (Less More : Striking)
     → ((c : CandidatesValue) (reason : Reason) (cell value : ℕ) → Less c reason cell value → More c reason cell value)
     → (grade : Grade) (g : GridValue) → Follows Less grade g → Follows More grade g
 follows_more Less More more grade g f = record {
@@ -110,12 +111,12 @@ follows_more Less More more grade g f = record {
 all_fewer : (w : ℕ) (c : CandidatesValue) → c.size ≡ w → IsFewer (all_of w) c
 all_fewer w c size = λ cell value h. record { pair = subst (λ (n : ℕ). IsPair n cell value) size h.pair; may = refl }
 
-from_view : (Struck : CandidatesValue → Reason → ℕ → ℕ → Type 0) → IsAntitone Struck → (grade : Grade) (s : GridValue) (c : CandidatesValue)
+from_view : (Struck : Striking) → IsAntitone Struck → (grade : Grade) (s : GridValue) (c : CandidatesValue)
     (f : Follows Struck grade s) → c.size ≡ s.size → IsChain Struck c f.steps × IsFewer (left_by (all_of s.size) f.steps) (left_by c f.steps)
 from_view Struck less grade s c f size = chain_less Struck less (all_of s.size) c f.steps (sym size) (all_fewer s.size c size) f.chain
 
 -- from each board of a puzzle that follows by the grade, a chain shows the number of each square
-pub boards_lead : (Struck : CandidatesValue → Reason → ℕ → ℕ → Type 0) → IsAntitone Struck → (grade : Grade) (s g : GridValue)
+pub boards_lead : (Struck : Striking) → IsAntitone Struck → (grade : Grade) (s g : GridValue)
     (view : CandidatesValue) (cell : ℕ) → Follows Struck grade s → g.size ≡ s.size → IsView g view → cell < s.size * s.size
     → (steps : List StepValue) × Shows Struck grade view steps (OnlyValue cell (number_at s cell))
 boards_lead Struck less grade s g view cell f size in_view inside =
@@ -129,7 +130,7 @@ boards_lead Struck less grade s g view cell f size in_view inside =
     )
 
 -- from a board with a wrong number, a chain leaves nothing of it
-pub boards_refuted : (Struck : CandidatesValue → Reason → ℕ → ℕ → Type 0) → IsAntitone Struck → (grade : Grade) (s g : GridValue)
+pub boards_refuted : (Struck : Striking) → IsAntitone Struck → (grade : Grade) (s g : GridValue)
     (view : CandidatesValue) (cell : ℕ) → Follows Struck grade s → g.size ≡ s.size → IsView g view → cell < s.size * s.size
     → number_at g cell ≢ 0 → number_at g cell ≢ number_at s cell
     → IsRefuted Struck grade view
@@ -150,7 +151,7 @@ boards_refuted Struck less grade s g view cell f size in_view inside some wrong 
     }
 
 -- a board that is refuted is completed by no solution
-pub refuted_none : (p : Puzzle) (Struck : CandidatesValue → Reason → ℕ → ℕ → Type 0) → IsSoundFor p Struck → (grade : Grade) (g : GridValue)
+pub refuted_none : (p : Puzzle) (Struck : Striking) → IsSoundFor p Struck → (grade : Grade) (g : GridValue)
     (view : CandidatesValue) → g.size ≡ p.size → IsView g view → IsRefuted Struck grade view → (h : GridValue) → Completes p g h → ⊥
 refuted_none p Struck sound grade g view size in_view r h done =
     let view_size : view.size ≡ p.size = in_view.size ∙ size in

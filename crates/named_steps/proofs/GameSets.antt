@@ -9,9 +9,9 @@ use Rattle.clue_rules.specs.Towers.{TowersValue, clue_of}
 use Rattle.clue_rules.specs.Unequal.{UnequalValue, IsUnequal, IsGreater}
 use Rattle.clue_rules.specs.Laws.Neighbours.{next_inside}
 use Rattle.clue_rules.specs.Laws.Signs.{greater_next, never_both}
-use Rattle.named_steps.specs.Left.{IsLeft}
-use Rattle.named_steps.specs.Fillings.{IsUnfilled}
-use Rattle.named_steps.specs.Reasons.{IsByGiven, IsByClue, IsBySign}
+use Rattle.clue_rules.specs.Left.{IsLeft}
+use Rattle.clue_rules.specs.Fillings.{IsUnfilled}
+use Rattle.clue_rules.specs.Reasons.{IsByGiven, IsByClue, IsBySign}
 use Rattle.named_steps.proofs.StandingSets.{up_to_pair}
 
 -- the numbers of the size but for the given are what it strikes

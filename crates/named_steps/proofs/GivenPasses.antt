@@ -5,16 +5,16 @@ use Rattle.number_sets.specs.Sets.{has_number}
 use Rattle.trail_solver.specs.Pairs.{IsPair}
 use Rattle.trail_solver.specs.Candidates.{CandidatesValue, may_be}
 use Rattle.trail_solver.specs.Puzzles.{Puzzle}
-use Rattle.named_steps.specs.Reasons.{IsByGiven}
-use Rattle.named_steps.specs.Left.{IsFewer}
+use Rattle.clue_rules.specs.Reasons.{IsByGiven, Striking}
+use Rattle.clue_rules.specs.Left.{IsFewer}
 use Rattle.named_steps.specs.Passes.{LeadsTo, IsGivenQuiet, AreGivensSettled}
-use Rattle.named_steps.specs.Inner.Takes.{Strikes, Takes}
+use Rattle.clue_rules.specs.Takes.{Strikes, Takes}
 use Rattle.named_steps.proofs.Antitone.{IsAntitone}
 use Rattle.named_steps.proofs.GameSets.{given_struck}
 use Rattle.named_steps.proofs.QuietLines.{gone_from}
-use Rattle.named_steps.proofs.Takes.{takes_struck, leads_taken}
-use Rattle.named_steps.specs.declared.reason.Reason.{Reason}
-use Rattle.named_steps.specs.declared.reason.Reason.TheVariants.{Given}
+use Rattle.clue_rules.proofs.Takes.{takes_struck}
+use Rattle.named_steps.proofs.Leads.{leads_taken}
+use Rattle.clue_rules.specs.declared.reason.Reason.TheVariants.{Given}
 use Rattle.named_steps.specs.declared.grade.Grade.TheVariants.{Latin}
 
 -- what a given doesn't strike of candidates it doesn't strike of fewer
@@ -23,15 +23,16 @@ given_stays p at a b size fewer quiet = λ cell value pair h.
     let there : IsPair a.size cell value = subst (λ (n : ℕ). IsPair n cell value) size pair in
     gone_from b cell value pair (λ left. both_ways (may_be a cell value) (quiet cell value there h) (fewer cell value left).may)
 
+-- givens that strike nothing more strike nothing of fewer candidates
 pub givens_stay : (p : Puzzle) (a b : CandidatesValue) → b.size ≡ a.size → IsFewer a b → AreGivensSettled p a → AreGivensSettled p b
 givens_stay p a b size fewer quiet at = given_stays p at a b size fewer (quiet at)
 
 -- what a given strikes is gone
-pub record IsGivenTaken (p : Puzzle) (Struck : CandidatesValue → Reason → ℕ → ℕ → Type 0) (at : ℕ) (a b : CandidatesValue) : Type 0 where
+pub record IsGivenTaken (p : Puzzle) (Struck : Striking) (at : ℕ) (a b : CandidatesValue) : Type 0 where
   pub leads : LeadsTo Struck Latin a b
   pub quiet : IsGivenQuiet p at b
 
-pub given_taken : (p : Puzzle) (Struck : CandidatesValue → Reason → ℕ → ℕ → Type 0) → IsAntitone Struck
+pub given_taken : (p : Puzzle) (Struck : Striking) → IsAntitone Struck
     → ((c : CandidatesValue) (at cell value : ℕ) → IsByGiven p at cell value ↔ Struck c (Given at) cell value) → (at all one rest given : ℕ) (a b : CandidatesValue)
     → at < a.size * a.size → given ≡ p.given at → given ≢ 0 → ((k : ℕ) → has_number all k ≡ (nat_le 1 k && nat_le k a.size))
     → ((k : ℕ) → has_number one k ≡ (k == given)) → ((n : ℕ) → has_number rest n ≡ (has_number all n && not (has_number one n)))

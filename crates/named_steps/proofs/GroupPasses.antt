@@ -6,14 +6,15 @@ use Rattle.number_sets.proofs.Members.{below_from_number, same_set}
 use Rattle.number_sets.proofs.OneMore.{added_other, added_ones}
 use Rattle.latin_board.specs.Lines.{line_cell}
 use Rattle.trail_solver.specs.Candidates.{CandidatesValue, may_be}
-use Rattle.named_steps.specs.Reasons.{IsByLine}
+use Rattle.clue_rules.specs.Reasons.{IsByLine}
 use Rattle.named_steps.specs.Passes.{LeadsTo}
-use Rattle.named_steps.specs.Inner.Takes.{Takes}
+use Rattle.clue_rules.specs.Takes.{Takes}
 use Rattle.named_steps.specs.Inner.LineStrikes.{AreLineSets, IsGroupQuiet, IsUnionOf, IsGroupAmong, IsStruckAmong}
-use Rattle.named_steps.proofs.Counts.{within_counts, one_less, several_counted, group_most}
+use Rattle.named_steps.proofs.Counts.{within_counts, several_counted, group_most}
+use Rattle.clue_rules.proofs.OtherNumbers.{one_less}
 use Rattle.named_steps.proofs.LinePasses.{line_less}
-use Rattle.named_steps.proofs.Takes.{HasStruck, leads_taken}
-use Rattle.named_steps.specs.declared.reason.Reason.TheVariants.{Set}
+use Rattle.named_steps.proofs.Leads.{HasStruck, leads_taken}
+use Rattle.clue_rules.specs.declared.reason.Reason.TheVariants.{Set}
 use Rattle.named_steps.specs.declared.grade.Grade.TheVariants.{Hard}
 
 -- ---- groups of some sets

@@ -6,8 +6,8 @@ use Rattle.number_sets.specs.Sets.{has_number, IsEmpty, IsSubset}
 use Rattle.trail_solver.specs.Pairs.{IsPair}
 use Rattle.trail_solver.specs.Candidates.{CandidatesValue}
 use Rattle.latin_board.specs.Lines.{line_cell}
-use Rattle.named_steps.specs.Left.{IsLeft}
-use Rattle.named_steps.specs.Reasons.{IsBySet}
+use Rattle.clue_rules.specs.Left.{IsLeft}
+use Rattle.clue_rules.specs.Reasons.{IsBySet}
 use Rattle.named_steps.specs.Inner.Groups.{AreAmong, IsOther}
 use Rattle.named_steps.proofs.StandingSets.{up_to_pair}
 

@@ -9,16 +9,18 @@ use Rattle.trail_solver.specs.Candidates.{CandidatesValue, IsWithin}
 use Rattle.trail_solver.specs.Puzzles.{Puzzle, Solves}
 use Rattle.trail_solver.specs.Completions.{Completes}
 use Rattle.trail_solver.proofs.FilledGrids.{solution_pair}
-use Rattle.named_steps.specs.Left.{IsLeft, without}
+use Rattle.clue_rules.specs.Left.{IsLeft, without}
 use Rattle.named_steps.specs.Chains.{StepValue, IsStep, IsChain, left_by, IsShown, IsView, IsGoalOf, goal_cell, goal_value, IsExplained}
-use Rattle.named_steps.proofs.Antitone.{still_left, left_size}
-use Rattle.named_steps.specs.declared.reason.Reason.{Reason}
+use Rattle.clue_rules.proofs.Takes.{still_left}
+use Rattle.named_steps.proofs.Antitone.{left_size}
+use Rattle.clue_rules.specs.declared.reason.Reason.{Reason}
 use Rattle.named_steps.specs.declared.grade.Grade.{Grade}
 use Rattle.named_steps.specs.declared.goal.Goal.{Goal}
 use Rattle.named_steps.specs.declared.goal.Goal.TheVariants.{OnlyValue, OnlyPlace}
+use Rattle.clue_rules.specs.Reasons.{Striking}
 
 -- what is struck is in no solution within the candidates
-abbrev pub IsSoundFor : Puzzle → (CandidatesValue → Reason → ℕ → ℕ → Type 0) → Type 0
+abbrev pub IsSoundFor : Puzzle → Striking → Type 0
 IsSoundFor p Struck =
     (c : CandidatesValue) (reason : Reason) (cell value : ℕ) (g : GridValue) → c.size ≡ p.size → Solves p g → IsWithin c g
     → cell < p.size * p.size → Struck c reason cell value → number_at g cell ≢ value
@@ -29,7 +31,7 @@ pub number_left : (p : Puzzle) (c : CandidatesValue) (g : GridValue) (cell : ℕ
 number_left p c g cell size s within inside = record { pair = solution_pair p g c.size cell s size inside; may = within.each cell inside }
 
 -- a step loses no solution
-pub step_keeps : (p : Puzzle) (Struck : CandidatesValue → Reason → ℕ → ℕ → Type 0) → IsSoundFor p Struck → (c : CandidatesValue) (step : StepValue)
+pub step_keeps : (p : Puzzle) (Struck : Striking) → IsSoundFor p Struck → (c : CandidatesValue) (step : StepValue)
     (g : GridValue) → c.size ≡ p.size → IsStep Struck c step → Solves p g → IsWithin c g → IsWithin (without c step.strikes) g
 step_keeps p Struck sound c step g size h s within = record {
   each = λ cell inside.
@@ -42,7 +44,7 @@ step_keeps p Struck sound c step g size h s within = record {
 }
 
 -- a chain loses no solution
-pub chain_keeps : (p : Puzzle) (Struck : CandidatesValue → Reason → ℕ → ℕ → Type 0) → IsSoundFor p Struck → (c : CandidatesValue)
+pub chain_keeps : (p : Puzzle) (Struck : Striking) → IsSoundFor p Struck → (c : CandidatesValue)
     (steps : List StepValue) (g : GridValue) → c.size ≡ p.size → IsChain Struck c steps → Solves p g → IsWithin c g → IsWithin (left_by c steps) g
 chain_keeps p Struck sound c [] g size h s within = within
 chain_keeps p Struck sound c (step ∷ steps) g size h s within =
@@ -77,7 +79,7 @@ completion_in_view p g h c size view done = record {
 }
 
 -- the number that a chain explains is so in each solution that completes the grid
-pub explained_right : (p : Puzzle) (Struck : CandidatesValue → Reason → ℕ → ℕ → Type 0) → IsSoundFor p Struck → (grade : Grade) (g h : GridValue)
+pub explained_right : (p : Puzzle) (Struck : Striking) → IsSoundFor p Struck → (grade : Grade) (g h : GridValue)
     (steps : List StepValue) (goal : Goal) → g.size ≡ p.size → IsExplained Struck grade g steps goal → Completes p g h
     → number_at h (goal_cell g.size goal) ≡ goal_value goal
 explained_right p Struck sound grade g h steps goal size e done =

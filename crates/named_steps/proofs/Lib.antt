@@ -3,7 +3,7 @@ pub mod Shown
 pub mod Kept
 pub mod Followed
 pub mod Parts
-pub mod Takes
+pub mod Leads
 pub mod Supports
 pub mod StandingSets
 pub mod RowFillings
@@ -18,7 +18,6 @@ pub mod GameSets
 pub mod RestSets
 pub mod QuietLines
 pub mod GivenPasses
-pub mod LineBits
 pub mod WaitingLines
 pub mod LinePasses
 pub mod LineLooks
@@ -27,5 +26,3 @@ pub mod ViewPasses
 pub mod SignPasses
 pub mod Rounds
 pub mod Solutions
-pub mod FoundSets
-pub mod LineTallies

@@ -1,21 +1,23 @@
 -- What is taken away along a row or column is struck by reasons, and where nothing is taken these are quiet.
-use Rattle.std.proofs.Common.{◌≡◌, ℕ, ◌*◌, ◌<◌, true, inl, inr, refl, sym, subst}
+use Rattle.std.proofs.Common.{◌≡◌, ℕ, ◌*◌, ◌<◌, true, false, inl, inr, refl, sym, ◌∙◌, subst, arith}
 use Rattle.std.proofs.lemmas.Bool.{both_ways, false_from_ne_true}
 use Rattle.latin_board.specs.Lines.{line_cell}
 use Rattle.latin_board.proofs.PeerLines.{line_peers}
-use Rattle.trail_solver.specs.Candidates.{CandidatesValue, may_be}
-use Rattle.named_steps.specs.Reasons.{IsByLine}
+use Rattle.number_sets.specs.Sets.{has_number, IsEmpty}
+use Rattle.trail_solver.specs.Candidates.{CandidatesValue, IsSetOf, may_be}
+use Rattle.clue_rules.specs.Reasons.{IsByLine}
 use Rattle.named_steps.specs.Grades.{has_reason, is_of_lines}
 use Rattle.named_steps.specs.Laws.Less.{peer_less, place_less, set_less}
-use Rattle.named_steps.specs.Inner.Takes.{Takes}
-use Rattle.named_steps.specs.Inner.LineStrikes.{IsByRest, IsLeftByRest, IsRestQuiet}
-use Rattle.named_steps.specs.Inner.LineTallies.{IsVoid}
-use Rattle.named_steps.specs.Left.{IsLeft}
+use Rattle.clue_rules.specs.Takes.{Strikes, Takes, AreChanged}
+use Rattle.clue_rules.proofs.Takes.{takes_struck}
+use Rattle.named_steps.specs.Passes.{LeadsTo}
+use Rattle.clue_rules.specs.LineStrikes.{IsClash, IsByRest, IsLeftByRest, IsRestQuiet, IsVoid}
+use Rattle.clue_rules.specs.Left.{IsLeft}
 use Rattle.named_steps.proofs.Antitone.{IsAntitone}
-use Rattle.named_steps.proofs.Takes.{Passes, HasStruck, passes_taken}
-use Rattle.named_steps.specs.declared.reason.Reason.{Reason}
+use Rattle.named_steps.proofs.Leads.{Passes, HasStruck, leads_taken, passes_taken}
+use Rattle.clue_rules.specs.declared.reason.Reason.{Reason}
 use Rattle.named_steps.specs.declared.grade.Grade.{Grade}
-use Rattle.named_steps.specs.declared.reason.Reason.TheVariants.{Given, Peer, Place, Bound, Stand, Clue, Sign, Set}
+use Rattle.clue_rules.specs.declared.reason.Reason.TheVariants.{Given, Peer, Place, Bound, Stand, Clue, Sign, Set}
 use Rattle.named_steps.specs.declared.grade.Grade.TheVariants.{Latin}
 
 -- what rows and columns strike is struck from fewer candidates too
@@ -108,3 +110,26 @@ latin_has grade (Stand place) h = absurd (cc)
 latin_has grade (Clue place) h = absurd (cc)
 latin_has grade (Sign from to) h = absurd (cc)
 latin_has grade (Set line squares values) h = absurd (cc)
+
+-- ---- lines that can't hold their numbers
+
+-- the value that is alone in the square is alone in an earlier one, which strikes it
+pub clash_leads : (line place cell values : ℕ) (a b : CandidatesValue) → line < 2 * a.size → IsClash line place a → cell ≡ line_cell a.size line place
+    → IsSetOf a cell values → Strikes a b cell values → LeadsTo (IsByLine a.size) Latin a b
+clash_leads line place cell values a b line_is (low, (j, before, (v, one, two))) here is s =
+    leads_taken (IsByLine a.size) (line_less a.size) Latin (λ n u. (n ≡ cell) × (has_number values u ≡ true)) a b (takes_struck a b cell values s)
+    (λ n u pair h.
+    let p = (is u).0 h.1 in
+    let left : IsLeft a (line_cell a.size line place) u = subst (λ (i : ℕ). IsLeft a i u) here (record { pair = p.0; may = p.1 }) in
+    let same : u ≡ v = two.alone u left in
+    let by : IsByRest a line place u =
+    inl (j, omega (arith, before, low), (λ e. omega (arith, e, before)), λ other there. one.alone other there ∙ sym same) in
+    subst (λ (i : ℕ). HasStruck (IsByLine a.size) Latin a i u) (sym (h.0 ∙ here)) (rest_reason a line place u line_is low by))
+
+-- so something goes
+pub clash_some : (line place cell values places : ℕ) (a b : CandidatesValue) → IsClash line place a → cell ≡ line_cell a.size line place
+    → IsSetOf a cell values → Strikes a b cell values → AreChanged line places a b → IsEmpty places → ⊥
+clash_some line place cell values places a b (low, (j, before, (v, one, two))) here is s changed none =
+    let left : IsLeft a cell v = subst (λ (i : ℕ). IsLeft a i v) (sym here) two.left in
+    let gone : may_be b cell v ≡ false = (takes_struck a b cell values s).gone cell v left.pair (refl, (is v).1 (left.pair, left.may)) in
+    both_ways (may_be a cell v) (subst (λ (d : CandidatesValue). may_be d cell v ≡ false) (changed.same none) gone) left.may

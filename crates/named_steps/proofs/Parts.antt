@@ -1,14 +1,15 @@
 -- Where no single step of a chain can be left out, no several steps can.
 use Rattle.std.proofs.Common.{◌≡◌, ℕ, List, [], ◌∷◌, ◌++◌, inl, inr, ◌⊎◌, refl, sym, ap, ◌∙◌, subst}
 use Rattle.trail_solver.specs.Candidates.{CandidatesValue}
-use Rattle.named_steps.specs.Left.{IsFewer, without}
+use Rattle.clue_rules.specs.Left.{IsFewer, without}
 use Rattle.named_steps.specs.Chains.{StepValue, IsChain, left_by, AreOfGrade, Shows, IsTight}
 use Rattle.named_steps.specs.StepLaws.{IsPart}
-use Rattle.named_steps.proofs.Antitone.{IsAntitone, chain_less, left_size, fewer_without, without_fewer}
+use Rattle.named_steps.proofs.Antitone.{IsAntitone, chain_less, left_size, fewer_without}
+use Rattle.clue_rules.proofs.Takes.{without_fewer}
 use Rattle.named_steps.proofs.Shown.{shown_less}
-use Rattle.named_steps.specs.declared.reason.Reason.{Reason}
 use Rattle.named_steps.specs.declared.grade.Grade.{Grade}
 use Rattle.named_steps.specs.declared.goal.Goal.{Goal}
+use Rattle.clue_rules.specs.Reasons.{Striking}
 
 -- the last step that a part lacks: after it the part has all
 record LacksLast (part steps : List StepValue) : Type 0 where
@@ -69,7 +70,7 @@ left_append c [] back = refl
 left_append c (step ∷ front) back = left_append (without c step.strikes) front back
 
 -- a chain in two pieces
-pub chain_split : (Struck : CandidatesValue → Reason → ℕ → ℕ → Type 0) (c : CandidatesValue) (front back : List StepValue) → IsChain Struck c (front ++ back)
+pub chain_split : (Struck : Striking) (c : CandidatesValue) (front back : List StepValue) → IsChain Struck c (front ++ back)
     → IsChain Struck c front × IsChain Struck (left_by c front) back
 chain_split Struck c [] back h = (tt, h)
 chain_split Struck c (step ∷ front) back h =
@@ -77,7 +78,7 @@ chain_split Struck c (step ∷ front) back h =
     ((h.0, rest.0), rest.1)
 
 -- two chains, one after the other, are one
-pub chain_joined : (Struck : CandidatesValue → Reason → ℕ → ℕ → Type 0) (c : CandidatesValue) (front back : List StepValue) → IsChain Struck c front
+pub chain_joined : (Struck : Striking) (c : CandidatesValue) (front back : List StepValue) → IsChain Struck c front
     → IsChain Struck (left_by c front) back → IsChain Struck c (front ++ back)
 chain_joined Struck c [] back first second = second
 chain_joined Struck c (step ∷ front) back first second = (first.0, chain_joined Struck (without c step.strikes) front back first.1 second)
@@ -89,7 +90,7 @@ grade_split grade (first ∷ front) back step h = (h.0, grade_split grade front 
 -- ----
 
 -- with the steps before the last one that is lacking the rest shows as much
-shows_more : (Struck : CandidatesValue → Reason → ℕ → ℕ → Type 0) → IsAntitone Struck → (grade : Grade) (c : CandidatesValue)
+shows_more : (Struck : Striking) → IsAntitone Struck → (grade : Grade) (c : CandidatesValue)
     (front back kept : List StepValue) (step : StepValue) (goal : Goal) → Shows Struck grade c (front ++ step ∷ back) goal → IsPart kept front
     → Shows Struck grade c (kept ++ back) goal → Shows Struck grade c (front ++ back) goal
 shows_more Struck less grade c front back kept step goal whole of part =
@@ -105,7 +106,7 @@ shows_more Struck less grade c front back kept step goal whole of part =
           (subst (λ d. IsFewer (left_by (left_by c kept) back) d) (sym (left_append c front back)) more.1)) part.shown;
     }
 
-pub tight_least : (Struck : CandidatesValue → Reason → ℕ → ℕ → Type 0) → IsAntitone Struck → (grade : Grade) (c : CandidatesValue)
+pub tight_least : (Struck : Striking) → IsAntitone Struck → (grade : Grade) (c : CandidatesValue)
     (steps part : List StepValue) (goal : Goal) → Shows Struck grade c steps goal → IsTight Struck grade c steps goal → IsPart part steps
     → Shows Struck grade c part goal → part ≡ steps
 tight_least Struck less grade c steps part goal whole tight of shows = elim (lacks_last steps part of) [

@@ -9,10 +9,12 @@ use Rattle.latin_board.specs.Lines.{line_cell}
 use Rattle.latin_board.proofs.LatinLines.{line_cell_inside, peers_on_line}
 use Rattle.trail_solver.specs.Pairs.{IsPair}
 use Rattle.trail_solver.specs.Candidates.{CandidatesValue, may_be}
-use Rattle.named_steps.specs.Left.{IsLeft, HasNoOther}
-use Rattle.named_steps.specs.Reasons.{IsByPeer, IsByPlace, IsBySet}
-use Rattle.named_steps.specs.Inner.LineStrikes.{IsRestQuiet, IsUnion, HasSeveral, IsGroupQuiet}
-use Rattle.named_steps.proofs.Counts.{within_counts, some_counted, one_less, was_other}
+use Rattle.clue_rules.specs.Left.{IsLeft, HasNoOther}
+use Rattle.clue_rules.specs.Reasons.{IsByPeer, IsByPlace, IsBySet}
+use Rattle.clue_rules.specs.LineStrikes.{IsRestQuiet}
+use Rattle.named_steps.specs.Inner.LineStrikes.{IsUnion, HasSeveral, IsGroupQuiet}
+use Rattle.named_steps.proofs.Counts.{within_counts, some_counted}
+use Rattle.clue_rules.proofs.OtherNumbers.{one_less, was_other}
 use Rattle.named_steps.proofs.Unions.{no_more}
 
 -- what isn't left is gone

@@ -1,24 +1,12 @@
 -- What the other squares of a line strike in one, as sets.
 use Rattle.std.proofs.lemmas.Nat.{and_le_r, and_mask}
-use Rattle.std.proofs.Common.{◌+◌, ◌/◌, ◌%◌, ◌≡◌, ◌≢◌, ◌↔◌, ℕ, ◌-◌, ◌*◌, ◌^◌, ◌<◌, ◌==◌, if◌then◌else◌, bit_and, zero-mul, true, false, ◌&&◌, ◌||◌, not, inl, inr, refl, sym, ap, ◌∙◌, subst, arith}
+use Rattle.std.proofs.Common.{◌+◌, ◌/◌, ◌%◌, ◌≡◌, ◌≢◌, ◌↔◌, ℕ, ◌-◌, ◌*◌, ◌^◌, ◌<◌, ◌==◌, if◌then◌else◌, bit_and, zero-mul, true, ◌&&◌, ◌||◌, not, inl, inr, refl, sym, ap, ◌∙◌, subst, arith}
 use Rattle.std.proofs.lemmas.Bool.{both_ways, and_parts, and_from, or_cases, or_left, or_right, cases_eq, eq-eqb, ne_eqb, false_from_ne_true, not_from_false}
-use Rattle.number_sets.specs.Sets.{has_number, no_numbers, IsEmpty, IsSingle}
+use Rattle.number_sets.specs.Sets.{has_number, IsSingle}
 use Rattle.number_sets.proofs.Ends.{lowest_power}
 use Rattle.number_sets.proofs.Members.{has_number-none, none_from_numbers, number_of_one, power_most, some_number}
-use Rattle.number_sets.proofs.OneMore.{added_other}
 use Rattle.named_steps.specs.Inner.Rows.{IsStandingSet}
-use Rattle.named_steps.proofs.Counts.{one_less, was_other}
-
--- what one set has and another lacks
-pub has_rest : (all some rest v : ℕ) → ((n : ℕ) → has_number rest n ≡ (has_number all n && not (has_number some n)))
-    → (has_number rest v ≡ true) ↔ ((has_number all v ≡ true) × (has_number some v ≡ true → ⊥))
-has_rest all some rest v is = (
-  λ has.
-      let both = and_parts (has_number all v) (not (has_number some v)) (sym (is v) ∙ has) in
-      (both.0, λ there. both_ways (not (has_number some v)) (ap not there) both.1),
-  λ h. is v ∙ and_from (has_number all v) (not (has_number some v)) h.0
-      (not_from_false (has_number some v) (false_from_ne_true (has_number some v) h.1)),
-)
+use Rattle.clue_rules.proofs.OtherNumbers.{one_less, was_other}
 
 -- ---- sets of at most one number
 
@@ -121,56 +109,3 @@ standing_by_rest all left rest flag few result small rest_is none_is flag_is few
                 (not_from_false (has_number few v) (ap (λ (m : ℕ). has_number m v) few_none ∙ has_number-none v))),
           )
     ]
-
--- ---- the numbers beside some number of a set
-
--- a set with a number that isn't its only one has another
-another : (set n : ℕ) → set < 2 ^ 16 → has_number set n ≡ true → ((k : ℕ) → IsSingle set k → ⊥) → (k : ℕ) × (k ≢ n) × (has_number set k ≡ true)
-another set n small has several =
-    let fewer = set - 2 ^ n in
-    let a = one_less set n has in
-    elim (cases_eq fewer 0) [
-      | inl none ↦ absurd (several n (record {
-        has = has;
-        alone = λ k there. elim (cases_eq k n) [
-          | inl same ↦ same
-          | inr other ↦ absurd (both_ways (has_number fewer k) (ap (λ (m : ℕ). has_number m k) none ∙ has_number-none k) (sym (added_other a k other) ∙ there))
-        ];
-      }))
-      | inr some ↦
-          let k = some_number fewer some (omega (arith, small)) in
-          let was = was_other fewer n set k.0 a k.1 in
-          (k.0, was.0, was.1)
-    ]
-
--- no number is beside one of an empty set
-pub beside_none : (all some any single rest v : ℕ) → any ≡ no_numbers → IsEmpty some
-    → has_number rest v ≡ (has_number any v && not (has_number single v))
-    → (has_number rest v ≡ true) ↔ ((has_number all v ≡ true) × ((u : ℕ) × (has_number some u ≡ true) × (v ≢ u)))
-beside_none all some any single rest v is none rest_is = (
-  λ has. absurd (both_ways (has_number any v) (ap (λ (n : ℕ). has_number n v) is ∙ has_number-none v)
-      (and_parts (has_number any v) (not (has_number single v)) (sym rest_is ∙ has)).0),
-  λ h. absurd (both_ways (has_number some h.1.0) (none h.1.0) h.1.1),
-)
-
--- and else each, but for the set's only one
-pub beside_some : (all some any single rest v : ℕ) → some < 2 ^ 16 → any ≡ all → (n : ℕ) × (has_number some n ≡ true)
-    → (has_number single v ≡ true) ↔ IsSingle some v → has_number rest v ≡ (has_number any v && not (has_number single v))
-    → (has_number rest v ≡ true) ↔ ((has_number all v ≡ true) × ((u : ℕ) × (has_number some u ≡ true) × (v ≢ u)))
-beside_some all some any single rest v small is one single_is rest_is =
-    let same : has_number any v ≡ has_number all v = ap (λ (n : ℕ). has_number n v) is in (
-      λ has.
-          let both = and_parts (has_number any v) (not (has_number single v)) (sym rest_is ∙ has) in
-          let several : IsSingle some v → ⊥ = λ h. both_ways (not (has_number single v)) (ap not (single_is.1 h)) both.1 in (
-            sym same ∙ both.0,
-            elim (cases_eq v one.0) [
-              | inl here ↦
-                  let u = another some one.0 small one.1 (λ k h. several (subst (λ (i : ℕ). IsSingle some i) (sym (h.alone one.0 one.1) ∙ sym here) h)) in
-                  (u.0, u.2, λ e. u.1 (sym e ∙ here))
-              | inr other ↦ (one.0, one.1, other)
-            ],
-          ),
-      λ h.
-          let lacks : has_number single v ≡ false = false_from_ne_true (has_number single v) (λ has. h.1.2 (sym ((single_is.0 has).alone h.1.0 h.1.1))) in
-          rest_is ∙ and_from (has_number any v) (not (has_number single v)) (same ∙ h.0) (not_from_false (has_number single v) lacks),
-    )

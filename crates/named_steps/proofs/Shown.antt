@@ -2,14 +2,14 @@
 use Rattle.std.proofs.Common.{◌≡◌, ℕ, ◌<◌, List, subst, sym, ◌∙◌}
 use Rattle.latin_board.specs.Lines.{line_cell}
 use Rattle.trail_solver.specs.Candidates.{CandidatesValue}
-use Rattle.named_steps.specs.Left.{IsLeft, IsFewer, HasNoOtherPlace}
+use Rattle.clue_rules.specs.Left.{IsLeft, IsFewer, HasNoOtherPlace}
 use Rattle.named_steps.specs.Chains.{StepValue, left_by, IsShown, Shows}
 use Rattle.named_steps.specs.Following.{IsClosure}
 use Rattle.named_steps.proofs.Antitone.{IsAntitone, chain_settled, closure_fewer, left_size}
-use Rattle.named_steps.specs.declared.reason.Reason.{Reason}
 use Rattle.named_steps.specs.declared.grade.Grade.{Grade}
 use Rattle.named_steps.specs.declared.goal.Goal.{Goal}
 use Rattle.named_steps.specs.declared.goal.Goal.TheVariants.{OnlyValue, OnlyPlace}
+use Rattle.clue_rules.specs.Reasons.{Striking}
 
 no_place_less : (c d : CandidatesValue) (line value index : ℕ) → c.size ≡ d.size → IsFewer c d → HasNoOtherPlace c line value index
     → HasNoOtherPlace d line value index
@@ -23,7 +23,7 @@ shown_less c d (OnlyValue cell value) size fewer h = λ other left. h other (few
 shown_less c d (OnlyPlace line index value) size fewer h = no_place_less c d line value index size fewer h
 
 -- what a chain shows, the closure shows
-pub closure_shows : (Struck : CandidatesValue → Reason → ℕ → ℕ → Type 0) → IsAntitone Struck → (grade : Grade) (c d : CandidatesValue)
+pub closure_shows : (Struck : Striking) → IsAntitone Struck → (grade : Grade) (c d : CandidatesValue)
     (steps : List StepValue) (goal : Goal) → IsClosure Struck grade c d → Shows Struck grade c steps goal → IsShown d goal
 closure_shows Struck less grade c d steps goal h s =
     shown_less (left_by c steps) d goal (left_size c steps ∙ sym h.size)

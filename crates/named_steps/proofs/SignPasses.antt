@@ -6,17 +6,18 @@ use Rattle.trail_solver.specs.Pairs.{IsPair}
 use Rattle.trail_solver.specs.Candidates.{CandidatesValue, IsSetOf}
 use Rattle.clue_rules.specs.Unequal.{UnequalValue, IsUnequal, IsGreater}
 use Rattle.clue_rules.specs.Laws.Signs.{never_both}
-use Rattle.named_steps.specs.Left.{IsLeft}
-use Rattle.named_steps.specs.Reasons.{IsUnequalStruckBy}
+use Rattle.clue_rules.specs.Left.{IsLeft}
+use Rattle.clue_rules.specs.Reasons.{IsUnequalStruckBy}
 use Rattle.named_steps.specs.Inner.QuietLines.{IsSignQuiet}
 use Rattle.named_steps.specs.Laws.Less.{unequal_less}
 use Rattle.named_steps.specs.Laws.Along.{sign_was}
 use Rattle.named_steps.specs.Passes.{LeadsTo, StaysOn}
-use Rattle.named_steps.specs.Inner.Takes.{Strikes, Takes}
+use Rattle.clue_rules.specs.Takes.{Strikes, Takes}
 use Rattle.named_steps.specs.Inner.SignEnds.{IsEnd}
 use Rattle.named_steps.specs.declared.unequal.End.{End}
-use Rattle.named_steps.proofs.Takes.{leads_taken, set_apart, takes_both, takes_struck}
-use Rattle.named_steps.specs.declared.reason.Reason.TheVariants.{Sign}
+use Rattle.named_steps.proofs.Leads.{leads_taken}
+use Rattle.clue_rules.proofs.Takes.{set_apart, takes_both, takes_struck}
+use Rattle.clue_rules.specs.declared.reason.Reason.TheVariants.{Sign}
 use Rattle.named_steps.specs.declared.grade.Grade.TheVariants.{Easy}
 
 -- an end is a square of the grid

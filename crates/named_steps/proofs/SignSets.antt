@@ -11,7 +11,7 @@ use Rattle.number_sets.proofs.Ends.{lowest_power, greatest_is}
 use Rattle.number_sets.proofs.Members.{bit-from_number, no_number-from_bit, has_number-none, has_number-below, has_number-from, has_number-and, has_number-or, number_of_one, below_from_number}
 use Rattle.number_sets.proofs.OneMore.{added_without, added_other}
 use Rattle.trail_solver.specs.Candidates.{CandidatesValue, IsSetOf}
-use Rattle.named_steps.specs.Left.{IsLeft}
+use Rattle.clue_rules.specs.Left.{IsLeft}
 
 -- ---- as numbers
 

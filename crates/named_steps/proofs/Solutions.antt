@@ -5,16 +5,16 @@ use Rattle.latin_board.proofs.Numbers.{same_numbers}
 use Rattle.trail_solver.specs.Candidates.{CandidatesValue, IsOnly, IsWithin}
 use Rattle.trail_solver.specs.Puzzles.{Puzzle, Solves}
 use Rattle.trail_solver.specs.Inner.Squares.{IsFilled}
-use Rattle.named_steps.specs.Left.{IsLeft, all_of}
+use Rattle.clue_rules.specs.Left.{IsLeft, all_of}
 use Rattle.named_steps.specs.Chains.{left_by}
 use Rattle.named_steps.specs.Following.{IsClosure, Follows}
 use Rattle.named_steps.specs.Graded.{IsSolutionBy, FollowsBy}
 use Rattle.named_steps.specs.Inner.Fills.{HasOpen}
 use Rattle.named_steps.proofs.Antitone.{IsAntitone, chain_settled, closure_fewer, left_size}
 use Rattle.named_steps.proofs.Kept.{IsSoundFor, number_left, chain_keeps}
-use Rattle.named_steps.specs.declared.reason.Reason.{Reason}
 use Rattle.named_steps.specs.declared.grade.Grade.{Grade}
 use Rattle.named_steps.specs.declared.grade.Grade.TheVariants.{Latin, Easy, Hard}
+use Rattle.clue_rules.specs.Reasons.{Striking}
 
 all_pairs : (c : CandidatesValue) (w : ℕ) → c.size ≡ w → c.trail ≡ [] → c ≡ all_of w
 all_pairs c w size none = λ i. record { size = size i; trail = none i }
@@ -23,7 +23,7 @@ within_all : (w : ℕ) (g : GridValue) → IsWithin (all_of w) g
 within_all w g = record { each = λ cell inside. refl }
 
 -- what is left when a grade is settled are the numbers of each solution that follows
-follows_left : (p : Puzzle) (Struck : CandidatesValue → Reason → ℕ → ℕ → Type 0) → IsSoundFor p Struck → IsAntitone Struck → (grade : Grade)
+follows_left : (p : Puzzle) (Struck : Striking) → IsSoundFor p Struck → IsAntitone Struck → (grade : Grade)
     (g : GridValue) (d : CandidatesValue) → Solves p g → IsClosure Struck grade (all_of g.size) d → Follows Struck grade g
     → (cell : ℕ) → cell < d.size * d.size → IsOnly d cell (number_at g cell)
 follows_left p Struck sound less grade g d s h f = λ cell inside.
@@ -41,12 +41,12 @@ follows_left p Struck sound less grade g d s h f = λ cell inside.
       alone = λ other low high may. f.alone cell here other (fewer cell other (record { pair = record { inside = inside; low = low; high = high }; may = may }));
     }
 
-from_all : (Struck : CandidatesValue → Reason → ℕ → ℕ → Type 0) (grade : Grade) (w : ℕ) (c d : CandidatesValue) → c.size ≡ w → c.trail ≡ []
+from_all : (Struck : Striking) (grade : Grade) (w : ℕ) (c d : CandidatesValue) → c.size ≡ w → c.trail ≡ []
     → IsClosure Struck grade c d → IsClosure Struck grade (all_of w) d
 from_all Struck grade w c d size none h = subst (λ a. IsClosure Struck grade a d) (all_pairs c w size none) h
 
 -- the grid that is left, where it solves the puzzle, is a solution that follows
-pub found_follows : (p : Puzzle) (Struck : CandidatesValue → Reason → ℕ → ℕ → Type 0) (grade : Grade) (c d : CandidatesValue) (g : GridValue)
+pub found_follows : (p : Puzzle) (Struck : Striking) (grade : Grade) (c d : CandidatesValue) (g : GridValue)
     → c.size ≡ p.size → c.trail ≡ [] → IsClosure Struck grade c d → IsFilled d g → Solves p g → IsSolutionBy p Struck grade g
 found_follows p Struck grade c d g size none h fill s =
     let k = from_all Struck grade g.size c d (size ∙ sym s.same_size) none h in
@@ -63,7 +63,7 @@ found_follows p Struck grade c d g size none h fill s =
     }
 
 -- where several values or none are left of a square, no solution follows
-pub open_none : (p : Puzzle) (Struck : CandidatesValue → Reason → ℕ → ℕ → Type 0) → IsSoundFor p Struck → IsAntitone Struck → (grade : Grade)
+pub open_none : (p : Puzzle) (Struck : Striking) → IsSoundFor p Struck → IsAntitone Struck → (grade : Grade)
     (c d : CandidatesValue) → c.size ≡ p.size → c.trail ≡ [] → IsClosure Struck grade c d → HasOpen d → FollowsBy p Struck grade → ⊥
 open_none p Struck sound less grade c d size none h open_ f =
     let g = f.0 in
@@ -75,7 +75,7 @@ only_same : (c : CandidatesValue) (cell a b : ℕ) → IsOnly c cell a → IsOnl
 only_same c cell a b one other = other.alone a one.low one.high one.left
 
 -- where the grid that is left is no solution, none follows
-pub filled_none : (p : Puzzle) (Struck : CandidatesValue → Reason → ℕ → ℕ → Type 0) → IsSoundFor p Struck → IsAntitone Struck → (grade : Grade)
+pub filled_none : (p : Puzzle) (Struck : Striking) → IsSoundFor p Struck → IsAntitone Struck → (grade : Grade)
     (c d : CandidatesValue) (g : GridValue) → c.size ≡ p.size → c.trail ≡ [] → IsClosure Struck grade c d → IsFilled d g → (Solves p g → ⊥)
     → FollowsBy p Struck grade → ⊥
 filled_none p Struck sound less grade c d g size none h fill wrong f =
@@ -88,7 +88,7 @@ filled_none p Struck sound less grade c d g size none h fill wrong f =
     wrong (subst (λ (x : GridValue). Solves p x) (sym same) s)
 
 -- none of the grades is none at all
-pub none_follows : (p : Puzzle) (Struck : CandidatesValue → Reason → ℕ → ℕ → Type 0) → (FollowsBy p Struck Latin → ⊥) → (FollowsBy p Struck Easy → ⊥)
+pub none_follows : (p : Puzzle) (Struck : Striking) → (FollowsBy p Struck Latin → ⊥) → (FollowsBy p Struck Easy → ⊥)
     → (FollowsBy p Struck Hard → ⊥) → (grade : Grade) → FollowsBy p Struck grade → ⊥
 none_follows p Struck latin easy hard Latin f = latin f
 none_follows p Struck latin easy hard Easy f = easy f

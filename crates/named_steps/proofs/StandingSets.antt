@@ -8,9 +8,9 @@ use Rattle.trail_solver.specs.Pairs.{IsPair}
 use Rattle.trail_solver.specs.Candidates.{CandidatesValue}
 use Rattle.clue_rules.specs.Views.{view_cell}
 use Rattle.clue_rules.proofs.LineSquares.{view_inside}
-use Rattle.named_steps.specs.Left.{IsLeft}
-use Rattle.named_steps.specs.Fillings.{Anything, Standing, IsUnfilled}
-use Rattle.named_steps.specs.Reasons.{AreStruckFrom}
+use Rattle.clue_rules.specs.Left.{IsLeft}
+use Rattle.clue_rules.specs.Fillings.{Anything, Standing, IsUnfilled}
+use Rattle.clue_rules.specs.Reasons.{AreStruckFrom}
 use Rattle.named_steps.specs.Inner.KnownRows.{AreKept, AreWithin}
 use Rattle.named_steps.specs.Inner.Rows.{AreMaySets, AreFull, IsStandingSet, AreStandingSets, AreMissing}
 use Rattle.named_steps.proofs.ReducedRows.{row_next}

@@ -7,7 +7,7 @@ use Rattle.trail_solver.specs.Pairs.{IsPair}
 use Rattle.tower_lines.specs.LineFillings.{IsFilling as IsSetFilling, IsSupported}
 use Rattle.clue_rules.specs.Views.{view_cell}
 use Rattle.clue_rules.proofs.LineSquares.{view_cell_once}
-use Rattle.named_steps.specs.Fillings.{IsFilling, IsUnfilled}
+use Rattle.clue_rules.specs.Fillings.{IsFilling, IsUnfilled}
 use Rattle.named_steps.specs.Inner.Rows.{AreMaySets}
 
 -- the sets of a line's squares, as a row of its length

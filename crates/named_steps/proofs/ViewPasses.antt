@@ -8,18 +8,19 @@ use Rattle.clue_rules.specs.Towers.{TowersValue, clue_of}
 use Rattle.latin_board.specs.Lines.{line_cell}
 use Rattle.clue_rules.specs.Views.{view_cell, view_line, view_index, front_place}
 use Rattle.clue_rules.specs.Laws.Edges.{edge_cases, view_index_low}
-use Rattle.named_steps.specs.Fillings.{IsUnfilled}
-use Rattle.named_steps.specs.Reasons.{IsByClue, IsTowersStruckBy, AreStruckFrom}
+use Rattle.clue_rules.specs.Fillings.{IsUnfilled}
+use Rattle.clue_rules.specs.Reasons.{IsByClue, IsTowersStruckBy, AreStruckFrom}
 use Rattle.named_steps.specs.Grades.{has_reason}
 use Rattle.named_steps.specs.Laws.Less.{towers_less}
 use Rattle.named_steps.specs.Passes.{LeadsTo, StaysOn}
-use Rattle.named_steps.specs.Inner.Takes.{Takes}
+use Rattle.clue_rules.specs.Takes.{Takes}
 use Rattle.named_steps.specs.Inner.QuietLines.{IsViewQuiet, AreViewsQuiet}
 use Rattle.named_steps.specs.Inner.Rows.{May, IsAlong, look_grade}
 use Rattle.named_steps.specs.Laws.Along.{clue_was}
-use Rattle.named_steps.proofs.Takes.{leads_taken, takes_map}
-use Rattle.named_steps.specs.declared.reason.Reason.{Reason}
-use Rattle.named_steps.specs.declared.reason.Reason.TheVariants.{Bound, Stand, Clue}
+use Rattle.named_steps.proofs.Leads.{leads_taken}
+use Rattle.clue_rules.proofs.Takes.{takes_map}
+use Rattle.clue_rules.specs.declared.reason.Reason.{Reason}
+use Rattle.clue_rules.specs.declared.reason.Reason.TheVariants.{Bound, Stand, Clue}
 use Rattle.named_steps.specs.declared.clue_strikes.Look.{Look}
 use Rattle.named_steps.specs.declared.clue_strikes.Look.TheVariants.{Alone, Stands, Marks}
 

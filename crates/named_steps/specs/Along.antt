@@ -6,8 +6,9 @@ use Rattle.trail_solver.specs.Candidates.{CandidatesValue, may_be}
 use Rattle.clue_rules.specs.Views.{view_line}
 use Rattle.named_steps.specs.Grades.{has_reason}
 use Rattle.named_steps.specs.declared.grade.Grade.{Grade}
-use Rattle.named_steps.specs.declared.reason.Reason.{Reason}
-use Rattle.named_steps.specs.declared.reason.Reason.TheVariants.{Given, Peer, Place, Bound, Stand, Clue, Sign, Set}
+use Rattle.clue_rules.specs.declared.reason.Reason.{Reason}
+use Rattle.clue_rules.specs.declared.reason.Reason.TheVariants.{Given, Peer, Place, Bound, Stand, Clue, Sign, Set}
+use Rattle.clue_rules.specs.Reasons.{Striking}
 
 -- the square is one of the line's
 abbrev pub IsOn : ℕ → ℕ → ℕ → Type 0
@@ -17,8 +18,8 @@ IsOn w line cell = (k : ℕ) × (k < w) × (cell ≡ line_cell w line k)
 abbrev pub AreNextOn : ℕ → ℕ → ℕ → ℕ → Type 0
 AreNextOn w line a b = (k : ℕ) × (k + 1 < w) × (line_cell w line k ≡ a) × (line_cell w line (k + 1) ≡ b)
 
--- the reason looks along the line, and strikes in the square: a clue in all squares of the line of its place, and a sign between
--- neighbours of the line in the second of them
+-- the reason looks along the line, and strikes in the square: a clue in all squares of the line of its place, and a
+-- sign between neighbours of the line in the second of them
 abbrev pub LooksAlong : ℕ → ℕ → Reason → ℕ → Type 0
 LooksAlong w line (Given at) cell = ⊥
 LooksAlong w line (Peer by) cell = ⊥
@@ -34,7 +35,8 @@ abbrev pub StandsAlong : ℕ → Reason → ℕ → Type 0
 StandsAlong w reason cell = (line : ℕ) × (line < 2 * w) × LooksAlong w line reason cell
 
 -- no clue and no sign along the line strikes anything that is left, as the grade looks at them
-abbrev pub IsQuietAlong : (CandidatesValue → Reason → ℕ → ℕ → Type 0) → Grade → ℕ → CandidatesValue → Type 0
+abbrev pub IsQuietAlong : Striking → Grade → ℕ → CandidatesValue → Type 0
 IsQuietAlong Struck grade line c =
-    (reason : Reason) (cell value : ℕ) → has_reason grade reason ≡ true → LooksAlong c.size line reason cell → IsPair c.size cell value
+    (reason : Reason) (cell value : ℕ) → has_reason grade reason ≡ true → LooksAlong c.size line reason cell
+    → IsPair c.size cell value
     → Struck c reason cell value → may_be c cell value ≡ false

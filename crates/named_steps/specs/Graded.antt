@@ -1,24 +1,23 @@
 -- Which puzzles follow by a grade.
 use Rattle.std.specs.Prelude.{ℕ, Option, Some, None}
 use Rattle.latin_board.specs.Squares.{GridValue}
-use Rattle.trail_solver.specs.Candidates.{CandidatesValue}
 use Rattle.trail_solver.specs.Puzzles.{Puzzle, Solves}
 use Rattle.named_steps.specs.Following.{Follows}
-use Rattle.named_steps.specs.declared.reason.Reason.{Reason}
 use Rattle.named_steps.specs.declared.grade.Grade.{Grade}
 use Rattle.named_steps.specs.declared.grade.Grade.TheVariants.{Latin, Easy, Hard}
+use Rattle.clue_rules.specs.Reasons.{Striking}
 
 -- the grid is a solution that follows by the grade
-pub record IsSolutionBy (p : Puzzle) (Struck : CandidatesValue → Reason → ℕ → ℕ → Type 0) (grade : Grade) (g : GridValue) : Type 0 where
+pub record IsSolutionBy (p : Puzzle) (Struck : Striking) (grade : Grade) (g : GridValue) : Type 0 where
   pub solves : Solves p g
   pub follows : Follows Struck grade g
 
 -- some solution follows by the grade
-abbrev pub FollowsBy : Puzzle → (CandidatesValue → Reason → ℕ → ℕ → Type 0) → Grade → Type 0
+abbrev pub FollowsBy : Puzzle → Striking → Grade → Type 0
 FollowsBy p Struck grade = (g : GridValue) × IsSolutionBy p Struck grade g
 
 -- the puzzle follows by the grade and by none before it; or, where there is none, by no grade
-abbrev pub IsGradeOf : Puzzle → (CandidatesValue → Reason → ℕ → ℕ → Type 0) → Option Grade → Type 0
+abbrev pub IsGradeOf : Puzzle → Striking → Option Grade → Type 0
 IsGradeOf p Struck None = (grade : Grade) → FollowsBy p Struck grade → ⊥
 IsGradeOf p Struck (Some Latin) = FollowsBy p Struck Latin
 IsGradeOf p Struck (Some Easy) = FollowsBy p Struck Easy × (FollowsBy p Struck Latin → ⊥)

@@ -1,7 +1,7 @@
 -- Which reasons a grade has, and where they look.
-use Rattle.std.specs.Prelude.{◌≡◌, ℕ, ◌*◌, ◌<◌, Bool, true, false}
-use Rattle.named_steps.specs.declared.reason.Reason.{Reason}
-use Rattle.named_steps.specs.declared.reason.Reason.TheVariants.{Given, Peer, Place, Bound, Stand, Clue, Sign, Set}
+use Rattle.std.specs.Prelude.{Bool, true, false}
+use Rattle.clue_rules.specs.declared.reason.Reason.{Reason}
+use Rattle.clue_rules.specs.declared.reason.Reason.TheVariants.{Given, Peer, Place, Bound, Stand, Clue, Sign, Set}
 use Rattle.named_steps.specs.declared.grade.Grade.{Grade}
 use Rattle.named_steps.specs.declared.grade.Grade.TheVariants.{Latin, Easy, Hard}
 
@@ -17,8 +17,8 @@ is_past_easy Latin = false
 is_past_easy Easy = false
 is_past_easy Hard = true
 
--- the grade has the reason's kind: rows and columns in each; a clue without pencil marks or a sign from Easy on; a clue with pencil
--- marks or a group of squares from Hard on
+-- the grade has the reason's kind: rows and columns in each; a clue without pencil marks or a sign from Easy on; a clue
+-- with pencil marks or a group of squares from Hard on
 abbrev pub has_reason : Grade → Reason → Bool
 has_reason grade (Given cell) = true
 has_reason grade (Peer cell) = true
@@ -50,14 +50,3 @@ is_of_clues (Stand place) = true
 is_of_clues (Clue place) = true
 is_of_clues (Sign from to) = true
 is_of_clues (Set line squares values) = false
-
--- where a clue or a sign that strikes in the square stands: at one of the edge's places, or between a square of the grid and this one
-abbrev pub IsPlaced : ℕ → Reason → ℕ → Type 0
-IsPlaced w (Given at) cell = Unit {0}
-IsPlaced w (Peer by) cell = Unit {0}
-IsPlaced w (Place line index value) cell = Unit {0}
-IsPlaced w (Bound place) cell = place < 4 * w
-IsPlaced w (Stand place) cell = place < 4 * w
-IsPlaced w (Clue place) cell = place < 4 * w
-IsPlaced w (Sign from to) cell = (from < w * w) × (to ≡ cell)
-IsPlaced w (Set line squares values) cell = Unit {0}

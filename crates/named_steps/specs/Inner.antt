@@ -2,11 +2,8 @@
 pub mod Groups
 pub mod Rows
 pub mod KnownRows
-pub mod Takes
 pub mod LineStrikes
-pub mod WaitingLines
 pub mod LineLooks
-pub mod LineTallies
 pub mod Fills
 pub mod SignEnds
 pub mod QuietLines

@@ -1,12 +1,6 @@
--- What named steps strike, chains of them, what a chain shows, and what follows by a grade. Each file is one subject, and has
+-- Chains of named steps, what a chain shows, and what follows by a grade. Each file is one subject, and has
 -- definitions alone.
 
--- the pairs that are left of candidates
-pub mod Left
--- the lines of squares that a clue allows
-pub mod Fillings
--- what each reason strikes
-pub mod Reasons
 -- which reasons a grade has
 pub mod Grades
 -- steps, chains of them, goals, and hints that explain

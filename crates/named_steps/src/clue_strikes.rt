@@ -1,13 +1,14 @@
 //! What a clue strikes.
-ghost use Rattle.std.specs.Prelude.{◌≡◌, ◌↔◌, ℕ, ◌-◌, ◌*◌, ◌<◌, ◌≤◌, true, if◌then◌else◌, length, slice_index, MatchOption};
+ghost use Rattle.std.specs.Prelude.{◌≡◌, ◌↔◌, ℕ, ◌-◌, ◌*◌, ◌<◌, ◌≤◌, true, if◌then◌else◌, length, slice_index};
+ghost use Rattle.std.specs.Prelude.{MatchOption};
 ghost use Rattle.number_sets.specs.Sets.{has_number};
 ghost use Rattle.trail_solver.specs.Pairs.{IsPair};
 ghost use Rattle.trail_solver.specs.Candidates.{CandidatesValue};
 ghost use Rattle.clue_rules.specs.Views.{view_cell, view_index};
-ghost use Rattle.named_steps.specs.Fillings.{IsUnfilled};
-ghost use Rattle.named_steps.specs.Left.{IsLeft};
+ghost use Rattle.clue_rules.specs.Fillings.{IsUnfilled};
+ghost use Rattle.clue_rules.specs.Left.{IsLeft};
 ghost use Rattle.named_steps.specs.Inner.Rows.{May, AreMaySets, AreFull, AreStandingSets, AreMissing, IsAlong};
-ghost use Rattle.named_steps.specs.Reasons.{AreStruckFrom};
+ghost use Rattle.clue_rules.specs.Reasons.{AreStruckFrom};
 
 use crate::known_rows::{KnownRows, are_within};
 use crate::single_sets::standing_set;
@@ -39,7 +40,8 @@ pub(crate) fn by_clue(
     requires clue { clue ≤ candidates.now.size }
     requires inside { cell < candidates.now.size * candidates.now.size }
     ensures { (v : ℕ) → (has_number result v ≡ true)
-        ↔ (IsPair candidates.now.size cell v × IsUnfilled candidates.now.size (May look candidates.now) place clue cell v) }
+        ↔ (IsPair candidates.now.size cell v
+        × IsUnfilled candidates.now.size (May look candidates.now) place clue cell v) }
 {
     let size = candidates.size();
     for k in 0..size.get() as usize {
@@ -90,7 +92,8 @@ pub(crate) fn unfilled_row(
 ) -> [NumberSet; 9]
     requires place { place < 4 * candidates.now.size }
     requires clue { clue ≤ candidates.now.size }
-    ensures { AreStruckFrom candidates.now.size (IsUnfilled candidates.now.size (May look candidates.now) place clue) place
+    ensures { AreStruckFrom candidates.now.size
+        (IsUnfilled candidates.now.size (May look candidates.now) place clue) place
         candidates.now.size result }
 {
     let width = candidates.size().get();
@@ -119,7 +122,8 @@ pub(crate) fn striking_row(
     requires place { place < 4 * candidates.now.size }
     requires clue { clue ≤ candidates.now.size }
     ensures { MatchOption result
-        ((cell v : ℕ) → IsUnfilled candidates.now.size (May look candidates.now) place clue cell v → IsLeft candidates.now cell v → ⊥)
+        ((cell v : ℕ) → IsUnfilled candidates.now.size (May look candidates.now) place clue cell v
+        → IsLeft candidates.now cell v → ⊥)
         (AreStruckFrom candidates.now.size (IsUnfilled candidates.now.size (May look candidates.now) place clue) place
         candidates.now.size) }
 {
@@ -161,7 +165,8 @@ fn left_row(candidates: &Candidates, place: u8) -> [NumberSet; 9]
 // What may stand in each square from a place, by what is left of it.
 fn may_row(look: Look, left: &[NumberSet; 9], width: u8) -> [NumberSet; 9]
     requires { width ≤ 9 }
-    ensures { (c : CandidatesValue) (place : ℕ) → c.size ≡ width → place < 4 * c.size → AreMaySets c.size (IsLeft c) place c.size left.now
+    ensures { (c : CandidatesValue) (place : ℕ) → c.size ≡ width → place < 4 * c.size
+        → AreMaySets c.size (IsLeft c) place c.size left.now
         → AreMaySets c.size (May look c) place c.size result }
 {
     let all = NumberSet::up_to(width);

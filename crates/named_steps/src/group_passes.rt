@@ -1,10 +1,10 @@
 //! What groups of a line's squares strike: as many values as squares are all that is left of them.
 ghost use Rattle.std.specs.Prelude.{◌≡◌, ◌↔◌, ℕ, ◌*◌, ◌⊎◌, ◌<◌, ◌≤◌, true, false, slice_index, count_ones};
 ghost use Rattle.number_sets.specs.Sets.{has_number, IsEmpty};
-ghost use Rattle.named_steps.specs.Reasons.{IsByLine};
+ghost use Rattle.clue_rules.specs.Reasons.{IsByLine};
 ghost use Rattle.named_steps.specs.Passes.{LeadsTo};
 ghost use Rattle.named_steps.specs.Inner.LineStrikes.{IsUnionOf, IsStruckAmong, IsGroupQuiet};
-ghost use Rattle.named_steps.specs.Inner.WaitingLines.{AreChanged};
+ghost use Rattle.clue_rules.specs.Takes.{AreChanged};
 ghost use Rattle.named_steps.specs.declared.grade.Grade.TheVariants.{Hard};
 
 use crate::line_passes::{line_sets, strike_row};

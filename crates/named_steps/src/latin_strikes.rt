@@ -3,8 +3,8 @@ ghost use Rattle.std.specs.Prelude.{◌≡◌, ◌↔◌, ℕ, ◌*◌, ◌<◌,
 ghost use Rattle.number_sets.specs.Sets.{has_number};
 ghost use Rattle.latin_board.specs.Lines.{ArePeers, line_cell};
 ghost use Rattle.trail_solver.specs.Pairs.{IsPair};
-ghost use Rattle.named_steps.specs.Left.{HasNoOther, HasNoOtherPlace};
-ghost use Rattle.named_steps.specs.Reasons.{IsByPeer, IsByPlace};
+ghost use Rattle.clue_rules.specs.Left.{HasNoOther, HasNoOtherPlace};
+ghost use Rattle.clue_rules.specs.Reasons.{IsByPeer, IsByPlace};
 
 use latin_board::{Size, line_cell};
 use number_sets::NumberSet;

@@ -2,18 +2,17 @@
 ghost use Rattle.std.specs.Prelude.{◌≡◌, ◌≢◌, ◌↔◌, ℕ, ◌*◌, ◌<◌, ◌≤◌, true, false, length, slice_index};
 ghost use Rattle.number_sets.specs.Sets.{has_number, IsEmpty};
 ghost use Rattle.latin_board.specs.Lines.{line_cell};
-ghost use Rattle.named_steps.specs.Left.{IsLeft, HasNoOther};
-ghost use Rattle.named_steps.specs.Reasons.{IsByLine};
+ghost use Rattle.clue_rules.specs.Left.{IsLeft, HasNoOther};
+ghost use Rattle.clue_rules.specs.Reasons.{IsByLine};
 ghost use Rattle.named_steps.specs.Passes.{LeadsTo};
-ghost use Rattle.named_steps.specs.Inner.Takes.{Strikes, Takes};
-ghost use Rattle.named_steps.specs.Inner.LineStrikes.{IsLeftByRest, IsRestQuiet, AreLineSets};
-ghost use Rattle.named_steps.specs.Inner.LineTallies.{AreTallied, IsVoid, IsWhole};
-ghost use Rattle.named_steps.specs.Inner.WaitingLines.{AreChanged};
+ghost use Rattle.clue_rules.specs.Takes.{Strikes, Takes, AreChanged};
+ghost use Rattle.clue_rules.specs.LineStrikes.{IsRestQuiet, IsClash, IsVoid, StrikesRest};
+ghost use Rattle.named_steps.specs.Inner.LineStrikes.{AreLineSets};
 ghost use Rattle.trail_solver.specs.Candidates.{AreCandidates};
 ghost use Rattle.named_steps.specs.declared.grade.Grade.TheVariants.{Latin};
 
-use crate::line_tally::Tally;
 use crate::striking::strike;
+use clue_rules::{DeadLine, strike_line as strike_squares};
 use latin_board::line_cell;
 use number_sets::NumberSet;
 use trail_solver::Candidates;
@@ -25,49 +24,34 @@ pub(crate) fn strike_line(candidates: &mut Candidates, line: u8) -> NumberSet
     ensures changed { AreChanged line result candidates.old candidates.new }
     ensures quiet { IsEmpty result → IsRestQuiet line candidates.new }
 {
-    let tally = Tally::of_line(candidates, line);
-    if tally.is_still() {
-        return NumberSet::empty();
+    match strike_squares(candidates, line) {
+        Ok(places) => places,
+        Err(DeadLine::Void) => strike_all(candidates, line),
+        Err(DeadLine::Clash { place }) => strike_clash(candidates, line, place),
     }
-    if !tally.is_whole() {
-        return strike_all(candidates, line);
-    }
-    strike_tallied(candidates, line, &tally)
 }
 
 // Takes away all that is left along a line with an empty square or a number without a place: the squares strike that in one another.
 fn strike_all(candidates: &mut Candidates, line: u8) -> NumberSet
     requires line { line < 2 * candidates.old.size }
     requires void { IsVoid line candidates.old }
-    ensures takes { Takes (λ cell v. (k : ℕ) × (k < candidates.old.size) × (cell ≡ line_cell candidates.old.size line k)
-        × IsLeftByRest candidates.old line k v) candidates.old candidates.new }
-    ensures changed { AreChanged line result candidates.old candidates.new }
+    ensures { StrikesRest line result candidates.old candidates.new }
 {
     let sets = line_sets(candidates, line);
     strike_row(candidates, line, &sets)
 }
 
-// Takes away from each square of a whole line what the others strike in it, by the tally of the line, and gives the places of those of
-// which something went.
-fn strike_tallied(candidates: &mut Candidates, line: u8, tally: &Tally) -> NumberSet
+// Takes away the one value that is left of a square: it is alone in an earlier square of the line, which strikes it there.
+fn strike_clash(candidates: &mut Candidates, line: u8, place: u8) -> NumberSet
     requires line { line < 2 * candidates.old.size }
-    requires tally { AreTallied candidates.old line candidates.old.size tally.now }
-    requires whole { IsWhole line candidates.old }
-    ensures takes { Takes (λ cell v. (k : ℕ) × (k < candidates.old.size) × (cell ≡ line_cell candidates.old.size line k)
-        × IsLeftByRest candidates.old line k v) candidates.old candidates.new }
+    requires clash { IsClash line place candidates.old }
+    ensures leads { LeadsTo (IsByLine candidates.old.size) Latin candidates.old candidates.new }
     ensures changed { AreChanged line result candidates.old candidates.new }
+    ensures some { IsEmpty result → ⊥ }
 {
-    let size = candidates.size();
-    let mut changed = NumberSet::empty();
-    for k in 0..size.get() {
-        let cell = line_cell(size, line, k);
-        let struck = tally.struck(candidates.values(cell));
-        candidates.remove_all(cell, struck);
-        if !struck.is_empty() {
-            changed = changed.union(NumberSet::one(k));
-        }
-    }
-    changed
+    let cell = line_cell(candidates.size(), line, place);
+    let values = candidates.values(cell);
+    take_at(candidates, place, cell, values)
 }
 
 /// Takes away from each square of a line the values of its set, and gives the places of those of which something went.
@@ -99,7 +83,8 @@ pub(crate) fn take_at(
     requires place { place < candidates.old.size }
     requires left { AreCandidates candidates.old cell values }
     ensures strikes { Strikes candidates.old candidates.new cell values }
-    ensures changed { (line : ℕ) → cell ≡ line_cell candidates.old.size line place → AreChanged line result candidates.old candidates.new }
+    ensures changed { (line : ℕ) → cell ≡ line_cell candidates.old.size line place
+        → AreChanged line result candidates.old candidates.new }
 {
     let _size = candidates.size();
     if values.is_empty() {

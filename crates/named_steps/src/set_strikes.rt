@@ -3,7 +3,7 @@ ghost use Rattle.std.specs.Prelude.{◌≡◌, ◌↔◌, ℕ, ◌*◌, ◌<◌,
 ghost use Rattle.number_sets.specs.Sets.{has_number, IsSubset};
 ghost use Rattle.trail_solver.specs.Pairs.{IsPair};
 ghost use Rattle.trail_solver.specs.Candidates.{IsSetOf};
-ghost use Rattle.named_steps.specs.Reasons.{IsBySet};
+ghost use Rattle.clue_rules.specs.Reasons.{IsBySet};
 ghost use Rattle.named_steps.specs.Inner.Groups.{AreAmong, IsOther};
 
 use latin_board::{Size, line_cell};

@@ -5,10 +5,9 @@ ghost use Rattle.trail_solver.specs.Candidates.{IsEarlier};
 ghost use Rattle.named_steps.specs.Following.{IsClosure};
 ghost use Rattle.named_steps.specs.Passes.{LeadsTo, LosesAt, IsGivenQuiet, AreGivensSettled};
 ghost use Rattle.named_steps.specs.Grades.{is_past_latin, is_past_easy};
-ghost use Rattle.named_steps.specs.Inner.WaitingLines.{is_waiting};
-ghost use Rattle.named_steps.specs.Inner.LineLooks.{IsQuietOn, AreWaiting, AreAllQuiet, AreMore};
+ghost use Rattle.named_steps.specs.Inner.LineLooks.{IsQuietOn, AreWaiting, AreWaitingBut, AreMore};
 ghost use Rattle.named_steps.specs.Inner.LineStrikes.{IsGroupQuiet};
-ghost use Rattle.named_steps.specs.Reasons.{IsByLine};
+ghost use Rattle.clue_rules.specs.Reasons.{IsByLine};
 
 use crate::grade::Grade;
 use crate::group_passes::strike_groups_on;
@@ -16,7 +15,7 @@ use crate::known_rows::KnownRows;
 use crate::line_passes::strike_line;
 use crate::steps::Steps;
 use crate::striking::strike;
-use crate::waiting::Waiting;
+use clue_rules::Lines;
 use number_sets::NumberSet;
 use trail_solver::{Candidates, Rules};
 
@@ -48,88 +47,69 @@ pub fn settle_on<P: Steps>(p: &P, grade: Grade, candidates: &mut Candidates, kno
     ensures closure { IsClosure (P.struck_by p.now) grade candidates.old candidates.new }
     ensures earlier { IsEarlier candidates.old candidates.new }
 {
-    let _size = candidates.size();
+    let width = candidates.size().get();
     let _valid = p.size();
     strike_givens(p, candidates);
-    let mut waiting = Waiting::all();
+    let mut waiting = Lines::first(2 * width);
     loop {
+        look(p, grade, candidates, &mut waiting, known);
+        if !has_groups(grade) {
+            return;
+        }
         let count = candidates.trail_len();
-        look_in_turn(p, grade, candidates, &mut waiting, known);
+        look_for_groups(candidates, &mut waiting);
         if candidates.trail_len() == count {
             return;
         }
     }
 }
 
-// Looks along the lines that wait, and for groups along all lines where that struck nothing. Says in their place which wait then.
-fn look_in_turn<P: Steps>(
-    p: &P,
-    grade: Grade,
-    candidates: &mut Candidates,
-    waiting: &mut Waiting,
-    known: &mut KnownRows,
-)
-    requires size { candidates.old.size ≡ (P.puzzle p.now).size }
-    requires waiting { AreWaiting (P.struck_by p.now) grade waiting.old candidates.old }
-    ensures leads { LeadsTo (P.struck_by p.now) grade candidates.old candidates.new }
-    ensures waiting { AreWaiting (P.struck_by p.now) grade waiting.new candidates.new }
-    ensures none { length candidates.new.trail ≡ length candidates.old.trail
-        → AreAllQuiet (P.struck_by p.now) grade candidates.old }
-{
-    let count = candidates.trail_len();
-    look(p, grade, candidates, waiting, known);
-    if candidates.trail_len() == count && has_groups(grade) {
-        look_for_groups(candidates, waiting);
-    }
-}
-
-// Looks once along each of the lines that wait, and says in their place which wait then.
+// Looks along the lines that wait, one after another, until none does.
 fn look<P: Steps>(
     p: &P,
     grade: Grade,
     candidates: &mut Candidates,
-    waiting: &mut Waiting,
+    waiting: &mut Lines,
     known: &mut KnownRows,
 )
     requires size { candidates.old.size ≡ (P.puzzle p.now).size }
     requires waiting { AreWaiting (P.struck_by p.now) grade waiting.old candidates.old }
     ensures leads { LeadsTo (P.struck_by p.now) grade candidates.old candidates.new }
-    ensures waiting { AreWaiting (P.struck_by p.now) grade waiting.new candidates.new }
-    ensures none { length candidates.new.trail ≡ length candidates.old.trail
-        → (line : ℕ) → line < 2 * candidates.old.size → is_waiting waiting.new line ≡ false }
+    ensures quiet { (line : ℕ) → line < 2 * candidates.old.size
+        → IsQuietOn (P.struck_by p.now) grade line candidates.new }
 {
-    let width = candidates.size().get();
+    let count = 2 * candidates.size().get();
     let mut from = 0;
-    while let Some(line) = waiting.next(from, width) {
+    while let Some(line) = waiting.take_next(from, count) {
+        let _length = candidates.trail_len();
         look_along(p, grade, candidates, line, waiting, known);
         from = line + 1;
     }
 }
 
-// Looks along a line. It waits no longer where nothing is struck; otherwise it waits again, and so do the lines that cross it there.
+// Looks along a line that was taken from those that wait. It waits again where something is struck, and so do the lines that cross it
+// there.
 fn look_along<P: Steps>(
     p: &P,
     grade: Grade,
     candidates: &mut Candidates,
     line: u8,
-    waiting: &mut Waiting,
+    waiting: &mut Lines,
     known: &mut KnownRows,
 )
     requires size { candidates.old.size ≡ (P.puzzle p.now).size }
     requires line { line < 2 * candidates.old.size }
-    requires waiting { AreWaiting (P.struck_by p.now) grade waiting.old candidates.old }
+    requires waiting { AreWaitingBut (P.struck_by p.now) grade line waiting.old candidates.old }
     ensures leads { LeadsTo (P.struck_by p.now) grade candidates.old candidates.new }
     ensures waiting { AreWaiting (P.struck_by p.now) grade waiting.new candidates.new }
-    ensures none { length candidates.new.trail ≡ length candidates.old.trail
-        → (other : ℕ) → is_waiting waiting.new other ≡ (is_waiting waiting.old other && not (other == line)) }
+    ensures none { length candidates.new.trail ≡ length candidates.old.trail → waiting.new ≡ waiting.old }
 {
     let width = candidates.size().get();
     let changed = strike_along(p, grade, candidates, line, known);
     if changed.is_empty() {
-        *waiting = waiting.without(line);
-    } else {
-        *waiting = waiting.union(&Waiting::crossing(line, changed, width));
+        return;
     }
+    waiting.add(Lines::across(line, changed, width));
 }
 
 // Takes away what is struck along a line by lone values and last places, or by its clues or signs where these strike nothing. Gives the
@@ -156,7 +136,7 @@ fn strike_along<P: Steps>(
 }
 
 // Looks for groups along each line. Those lines wait too of which something went.
-fn look_for_groups(candidates: &mut Candidates, waiting: &mut Waiting)
+fn look_for_groups(candidates: &mut Candidates, waiting: &mut Lines)
     ensures leads { LeadsTo (IsByLine candidates.old.size) Grade.Hard candidates.old candidates.new }
     ensures waiting { AreMore waiting.old waiting.new candidates.old candidates.new }
     ensures none { length candidates.new.trail ≡ length candidates.old.trail
@@ -166,7 +146,7 @@ fn look_for_groups(candidates: &mut Candidates, waiting: &mut Waiting)
     for line in 0..2 * width {
         let changed = strike_groups_on(candidates, line);
         if !changed.is_empty() {
-            *waiting = waiting.union(&Waiting::crossing(line, changed, width));
+            waiting.add(Lines::across(line, changed, width));
         }
     }
 }

@@ -1,7 +1,7 @@
 //! What a sign strikes in one of its squares.
 ghost use Rattle.std.specs.Prelude.{◌≡◌, ◌↔◌, ℕ, ◌*◌, ◌<◌, ◌≤◌, true};
 ghost use Rattle.number_sets.specs.Sets.{has_number};
-ghost use Rattle.named_steps.specs.Left.{IsLeft};
+ghost use Rattle.clue_rules.specs.Left.{IsLeft};
 
 use number_sets::NumberSet;
 use trail_solver::Candidates;

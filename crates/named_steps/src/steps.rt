@@ -5,25 +5,25 @@ ghost use Rattle.latin_board.specs.Squares.{GridValue, number_at};
 ghost use Rattle.trail_solver.specs.Pairs.{IsPair};
 ghost use Rattle.trail_solver.specs.Candidates.{CandidatesValue, IsWithin};
 ghost use Rattle.trail_solver.specs.Puzzles.{Solves};
-ghost use Rattle.named_steps.specs.Left.{IsFewer};
+ghost use Rattle.clue_rules.specs.Left.{IsFewer};
 ghost use Rattle.named_steps.specs.Grades.{is_of_clues, is_of_lines};
-ghost use Rattle.named_steps.specs.Reasons.{IsByGiven, IsByLine, AreStruckFrom};
+ghost use Rattle.clue_rules.specs.Reasons.{IsByGiven, IsByLine, AreStruckFrom, Striking};
 ghost use Rattle.named_steps.specs.Along.{LooksAlong, StandsAlong, IsQuietAlong};
 ghost use Rattle.named_steps.specs.Passes.{LeadsTo, LosesAt, StaysOn};
 ghost use Rattle.named_steps.specs.declared.grade.Grade.{Grade};
-ghost use Rattle.named_steps.specs.declared.reason.Reason.{Reason};
-ghost use Rattle.named_steps.specs.declared.reason.Reason.TheVariants.{Given};
+ghost use Rattle.clue_rules.specs.declared.reason.Reason.{Reason};
+ghost use Rattle.clue_rules.specs.declared.reason.Reason.TheVariants.{Given};
 
 use crate::grade::Grade;
 use crate::known_rows::KnownRows;
-use crate::reason::Reason;
+use clue_rules::Reason;
 use number_sets::NumberSet;
 use trail_solver::{Candidates, Rules};
 
 /// A puzzle whose steps have names.
 pub trait Steps: Rules {
     // What a reason strikes from candidates: pairs of a square and a value.
-    ghost struck_by: { Self → CandidatesValue → Reason → ℕ → ℕ → Type 0 };
+    ghost struck_by: { Self → Striking };
 
     /// The values that a reason strikes in a square; the sizes are equal, and the square is one of the grid's. What is known of rows of
     /// sets may be used and added to.
@@ -77,20 +77,23 @@ pub trait Steps: Rules {
         → IsByLine (Self.Rules.puzzle p).size c reason cell value ↔ struck_by p c reason cell value };
 
     // What a clue or a sign strikes that looks along a line it struck before, where all stayed that was left of the line's squares.
-    ghost looks_along: { (p : Self) (c d : CandidatesValue) (reason : Reason) (cell value line : ℕ) → c.size ≡ (Self.Rules.puzzle p).size
+    ghost looks_along: { (p : Self) (c d : CandidatesValue) (reason : Reason) (cell value line : ℕ)
+        → c.size ≡ (Self.Rules.puzzle p).size
         → line < 2 * c.size → LooksAlong c.size line reason cell → StaysOn line c d
         → struck_by p d reason cell value → struck_by p c reason cell value };
 
     // A clue or a sign that strikes looks along a line.
     ghost stands_along: { (p : Self) (c : CandidatesValue) (reason : Reason) (cell value : ℕ) → Self.Rules.valid p
-        → is_of_clues reason ≡ true → struck_by p c reason cell value → StandsAlong (Self.Rules.puzzle p).size reason cell };
+        → is_of_clues reason ≡ true → struck_by p c reason cell value
+        → StandsAlong (Self.Rules.puzzle p).size reason cell };
 
     // What is struck from candidates is struck from fewer.
     ghost struck_less: { (p : Self) (c d : CandidatesValue) (reason : Reason) (cell value : ℕ) → IsFewer c d
         → struck_by p c reason cell value → struck_by p d reason cell value };
 
     // What is struck is in no solution within the candidates.
-    ghost struck_sound: { (p : Self) (c : CandidatesValue) (reason : Reason) (cell value : ℕ) (g : GridValue) → Self.Rules.valid p
+    ghost struck_sound: { (p : Self) (c : CandidatesValue) (reason : Reason) (cell value : ℕ) (g : GridValue)
+        → Self.Rules.valid p
         → c.size ≡ (Self.Rules.puzzle p).size → Solves (Self.Rules.puzzle p) g → IsWithin c g
         → cell < (Self.Rules.puzzle p).size * (Self.Rules.puzzle p).size
         → struck_by p c reason cell value → number_at g cell ≢ value };

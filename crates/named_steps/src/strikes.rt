@@ -3,11 +3,11 @@ ghost use Rattle.std.specs.Prelude.{◌≡◌, ◌↔◌, ℕ, ◌*◌, ◌<◌,
 ghost use Rattle.number_sets.specs.Sets.{has_number};
 ghost use Rattle.latin_board.specs.Lines.{ArePeers};
 ghost use Rattle.trail_solver.specs.Pairs.{IsPair};
-ghost use Rattle.named_steps.specs.Reasons.{IsByGiven, IsByLine, IsByPeer, IsByPlace, IsBySet};
+ghost use Rattle.clue_rules.specs.Reasons.{IsByGiven, IsByLine, IsByPeer, IsByPlace, IsBySet};
 
 use crate::latin_strikes::{by_peer, by_place};
-use crate::reason::Reason;
 use crate::set_strikes::by_set;
+use clue_rules::Reason;
 use number_sets::NumberSet;
 use trail_solver::{Candidates, Rules};
 

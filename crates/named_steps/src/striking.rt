@@ -1,6 +1,6 @@
 //! Values taken away from a square.
 ghost use Rattle.std.specs.Prelude.{◌*◌, ◌<◌};
-ghost use Rattle.named_steps.specs.Inner.Takes.{Strikes};
+ghost use Rattle.clue_rules.specs.Takes.{Strikes};
 
 use number_sets::NumberSet;
 use trail_solver::Candidates;

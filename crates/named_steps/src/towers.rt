@@ -3,7 +3,7 @@ ghost use Rattle.std.specs.Prelude.{◌≡◌, ◌↔◌, ℕ, ◌*◌, ◌<◌,
 ghost use Rattle.number_sets.specs.Sets.{has_number, IsEmpty};
 ghost use Rattle.trail_solver.specs.Pairs.{IsPair};
 ghost use Rattle.clue_rules.specs.Towers.{clue_of};
-ghost use Rattle.named_steps.specs.Reasons.{IsByClue, IsTowersStruckBy, AreStruckFrom};
+ghost use Rattle.clue_rules.specs.Reasons.{IsByClue, IsTowersStruckBy, AreStruckFrom};
 ghost use Rattle.clue_rules.specs.Views.{front_place, view_line};
 ghost use Rattle.named_steps.specs.Passes.{LeadsTo, LosesAt, StaysOn};
 ghost use Rattle.named_steps.specs.Inner.QuietLines.{IsViewQuiet, AreViewsQuiet};
@@ -13,15 +13,14 @@ use crate::clue_strikes::{Look, along_line, by_clue, striking_row, unfilled_row}
 use crate::grade::Grade;
 use crate::known_rows::KnownRows;
 use crate::line_passes::strike_row;
-use crate::reason::Reason;
 use crate::steps::Steps;
 use crate::strikes::{by_any_peer, by_any_place, by_any_set, given_strikes};
-use clue_rules::Towers;
+use clue_rules::{Reason, Towers};
 use number_sets::NumberSet;
 use trail_solver::{Candidates, Rules};
 
 impl Steps for Towers {
-    ghost use Rattle.named_steps.specs.Reasons.{IsTowersStruckBy};
+    ghost use Rattle.clue_rules.specs.Reasons.{IsTowersStruckBy};
     ghost use Rattle.named_steps.specs.Laws.Shared as shared;
     ghost use Rattle.named_steps.specs.Laws.Less as less;
     ghost use Rattle.named_steps.specs.Laws.Sound as sound;

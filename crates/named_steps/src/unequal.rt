@@ -3,7 +3,7 @@ ghost use Rattle.std.specs.Prelude.{◌≡◌, ◌↔◌, ℕ, ◌+◌, ◌*◌,
 ghost use Rattle.number_sets.specs.Sets.{has_number};
 ghost use Rattle.trail_solver.specs.Pairs.{IsPair};
 ghost use Rattle.clue_rules.specs.Unequal.{IsGreater, IsUnequal};
-ghost use Rattle.named_steps.specs.Reasons.{IsBySign, IsUnequalStruckBy};
+ghost use Rattle.clue_rules.specs.Reasons.{IsBySign, IsUnequalStruckBy};
 ghost use Rattle.latin_board.specs.Lines.{line_cell};
 ghost use Rattle.named_steps.specs.Passes.{LeadsTo, LosesAt, StaysOn};
 ghost use Rattle.named_steps.specs.Inner.QuietLines.{IsSignQuiet, AreSignsQuiet};
@@ -13,18 +13,17 @@ ghost use Rattle.named_steps.specs.declared.grade.Grade.TheVariants.{Easy};
 use crate::grade::Grade;
 use crate::known_rows::KnownRows;
 use crate::line_passes::take_at;
-use crate::reason::Reason;
 use crate::sign_strikes::{by_greater, by_lesser, from_greatest, up_to_least};
 use crate::steps::Steps;
 use crate::strikes::{by_any_peer, by_any_place, by_any_set, given_strikes};
-use clue_rules::Unequal;
+use clue_rules::{Reason, Unequal};
 use latin_board::{Size, line_cell};
 use number_sets::NumberSet;
 use std::cmp::Ordering;
 use trail_solver::{Candidates, Rules};
 
 impl Steps for Unequal {
-    ghost use Rattle.named_steps.specs.Reasons.{IsUnequalStruckBy};
+    ghost use Rattle.clue_rules.specs.Reasons.{IsUnequalStruckBy};
     ghost use Rattle.named_steps.specs.Laws.Shared as shared;
     ghost use Rattle.named_steps.specs.Laws.Less as less;
     ghost use Rattle.named_steps.specs.Laws.Sound as sound;
@@ -148,7 +147,8 @@ fn strike_between(
     requires next { second.place ≡ first.place + 1 }
     ensures leads { LeadsTo (IsUnequalStruckBy p.now) Easy candidates.old candidates.new }
     ensures loses { LosesAt line result candidates.old candidates.new }
-    ensures quiet { StaysOn line candidates.old candidates.new → IsSignQuiet p.now first.cell second.cell candidates.new }
+    ensures quiet { StaysOn line candidates.old candidates.new
+        → IsSignQuiet p.now first.cell second.cell candidates.new }
 {
     match p.order(first.cell, second.cell) {
         Some(Ordering::Greater) => strike_sign(p, candidates, line, first, second),
@@ -173,7 +173,8 @@ fn strike_sign(
     requires sign { IsGreater p.now greater.cell lesser.cell }
     ensures leads { LeadsTo (IsUnequalStruckBy p.now) Easy candidates.old candidates.new }
     ensures loses { LosesAt line result candidates.old candidates.new }
-    ensures quiet { StaysOn line candidates.old candidates.new → IsSignQuiet p.now greater.cell lesser.cell candidates.new }
+    ensures quiet { StaysOn line candidates.old candidates.new
+        → IsSignQuiet p.now greater.cell lesser.cell candidates.new }
 {
     let _valid = p.size();
     let _size = candidates.size();

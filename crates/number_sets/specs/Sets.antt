@@ -1,4 +1,5 @@
--- Sets of small numbers, each as the number whose bit n is set where n is in the set. All that a set says is said by `has_number`.
+-- Sets of small numbers, each as the number whose bit n is set where n is in the set. All that a set says is said by
+-- `has_number`.
 use Rattle.std.specs.Prelude.{◌≡◌, ℕ, ◌+◌, ◌-◌, ◌^◌, ◌≤◌, Bool, true, false, ◌==◌, bit_xor}
 use Rattle.std.specs.Int.{bit_at}
 

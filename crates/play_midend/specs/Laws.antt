@@ -1,5 +1,6 @@
 -- The laws of a session's calls, over its value alone, and what a list of calls leaves.
-use Rattle.std.specs.Prelude.{◌≡◌, ◌↔◌, ℕ, ◌+◌, ◌-◌, ◌≤◌, Bool, true, false, List, [], ◌∷◌, length, None, Result, Ok, Err}
+use Rattle.std.specs.Prelude.{◌≡◌, ◌↔◌, ℕ, ◌+◌, ◌-◌, ◌≤◌, Bool, true, false, List, [], ◌∷◌, length, None, Result, Ok}
+use Rattle.std.specs.Prelude.{Err}
 use Rattle.std.specs.Bool.{MatchBool}
 use Rattle.std.specs.Result.{IsOkAnd}
 use Rattle.latin_board.specs.Boards.{BoardValue, grid_of}
@@ -13,7 +14,8 @@ use Rattle.play_midend.specs.declared.moves.Move.TheVariants.{Solve}
 use Rattle.play_midend.specs.declared.fault.PlayFault.{PlayFault}
 use Rattle.play_midend.specs.Steps.{refusal_of, IsLegal}
 use Rattle.play_midend.specs.declared.session.TheConstants.{MOST_STATES}
-use Rattle.play_midend.specs.Histories.{History, IsValid, IsStorable, past, shown, started, at_position, played, restarted, SolveGives, undone, redone, IsRefusal}
+use Rattle.play_midend.specs.Histories.{History, IsValid, IsStorable, past, shown, started, at_position, played}
+use Rattle.play_midend.specs.Histories.{restarted, SolveGives, undone, redone, IsRefusal}
 use Rattle.play_midend.specs.MoveLists.{result_and_then, played_all, with_moves, undone_times}
 
 -- a grid can be filled in just where it solves the puzzle, whatever the board shows
@@ -56,9 +58,11 @@ Answered {P} p old call (Err fault) new =
     × MatchBool (may_take_memory call) (IsRefusal exact fault) (exact ≡ Err fault))
 
 -- calls in turn, each with its answer
-abbrev pub AnsweredInTurn : {P : Type 0} → Puzzle → History P → List (Call × Result (Unit {0}) PlayFault) → History P → Type 0
+abbrev pub AnsweredInTurn : {P : Type 0} → Puzzle → History P → List (Call × Result (Unit {0}) PlayFault) → History P
+    → Type 0
 AnsweredInTurn p old [] new = new ≡ old
-AnsweredInTurn {P} p old (c ∷ calls) new = (mid : History P) × Answered p old c.0 c.1 mid × AnsweredInTurn p mid calls new
+AnsweredInTurn {P} p old (c ∷ calls) new =
+    (mid : History P) × Answered p old c.0 c.1 mid × AnsweredInTurn p mid calls new
 
 -- from a valid session each list of calls leaves a valid one
 abbrev pub RunsStayValid : {P : Type 0} → (P → Puzzle) → Type 0

@@ -1,5 +1,7 @@
 -- Moves as text: the grammar, the fault of a text that is no move, and reading as a function on lists.
-use Rattle.std.specs.Prelude.{◌≡◌, ℕ, zero, ◌+◌, ◌-◌, ◌≤◌, ℤ, pos, negsuc, ◌==◌, ◌||◌, ◌&&◌, nat_le, if◌then◌else◌, List, [], ◌∷◌, ◌++◌, length, map, codes, bytes_eq, Option, Some, None, option_map, option_and_then, Result, ok_or}
+use Rattle.std.specs.Prelude.{◌≡◌, ℕ, zero, ◌+◌, ◌-◌, ◌≤◌, ℤ, pos, negsuc, ◌==◌, ◌||◌, ◌&&◌, nat_le, if◌then◌else◌}
+use Rattle.std.specs.Prelude.{List, [], ◌∷◌, ◌++◌, length, map, codes, bytes_eq, Option, Some, None, option_map}
+use Rattle.std.specs.Prelude.{option_and_then, Result, ok_or}
 use Rattle.std.specs.Fmt.{decimal}
 use Rattle.latin_board.specs.Squares.{GridValue, IsGrid, IsFull}
 use Rattle.byte_text.specs.Cuts.{before, behind}
@@ -8,7 +10,8 @@ use Rattle.play_midend.specs.declared.moves.Move.{Move}
 use Rattle.play_midend.specs.declared.moves.Move.TheVariants.{Real, Pencil, MarkAll, Solve, Restart, Done}
 use Rattle.play_midend.specs.declared.fault.PlayFault.{PlayFault}
 use Rattle.play_midend.specs.declared.fault.PlayFault.TheVariants.{BadMove, Unsupported}
-use Rattle.byte_text.specs.Bytes.{capital_r, capital_p, capital_m, capital_s, capital_d, capital_h, capital_f, comma, dash, digit_zero, digit}
+use Rattle.byte_text.specs.Bytes.{capital_r, capital_p, capital_m, capital_s, capital_d, capital_h, capital_f, comma}
+use Rattle.byte_text.specs.Bytes.{dash, digit_zero, digit}
 
 -- three numbers in decimal, with commas
 abbrev pub three_text : ℕ → ℕ → ℕ → List ℕ
@@ -71,7 +74,8 @@ all_three _ _ _ = None
 -- the first of three numbers, which was read, with the two after
 abbrev pub three_from : Option ℕ → List ℕ → Option (ℕ × ℕ × ℕ)
 three_from x rest =
-    option_and_then (λ last. all_three x (decimal_value 255 (before comma rest)) (decimal_value 255 last)) (behind comma rest)
+    option_and_then (λ last. all_three x (decimal_value 255 (before comma rest)) (decimal_value 255 last))
+    (behind comma rest)
 
 -- three numbers round two commas, each up to 255
 abbrev pub three_at : List ℕ → Option (ℕ × ℕ × ℕ)
@@ -88,7 +92,8 @@ both _ _ = None
 
 -- two coordinates round a comma
 abbrev pub two_at : List ℕ → Option (ℤ × ℤ)
-two_at text = option_and_then (λ rest. both (coordinate_at (before comma text)) (coordinate_at rest)) (behind comma text)
+two_at text =
+    option_and_then (λ rest. both (coordinate_at (before comma text)) (coordinate_at rest)) (behind comma text)
 
 -- the size of a grid with so many squares
 abbrev pub size_by_count : ℕ → Option ℕ

@@ -1,5 +1,7 @@
 -- One move on a board, and a list of moves replayed from the start.
-use Rattle.std.specs.Prelude.{◌≡◌, ℕ, ◌+◌, ◌*◌, ℤ, Bool, true, false, not, ◌==◌, ◌&&◌, ◌||◌, nat_lt, nat_le, if◌then◌else◌, List, [], ◌∷◌, length, map, replicate, slice_set, Option, Some, None, Result, Ok, Err, IsOk, IsTrue}
+use Rattle.std.specs.Prelude.{◌≡◌, ℕ, ◌+◌, ◌*◌, ℤ, Bool, true, false, not, ◌==◌, ◌&&◌, ◌||◌, nat_lt, nat_le}
+use Rattle.std.specs.Prelude.{if◌then◌else◌, List, [], ◌∷◌, length, map, replicate, slice_set, Option, Some, None}
+use Rattle.std.specs.Prelude.{Result, Ok, Err, IsOk, IsTrue}
 use Rattle.std.specs.Option.{option_map_or, option_or}
 use Rattle.std.specs.List.{range_with_len, list_all}
 use Rattle.std.specs.Result.{result_unwrap_or}
@@ -12,7 +14,8 @@ use Rattle.trail_solver.specs.Puzzles.{Puzzle, solves_test}
 use Rattle.play_midend.specs.declared.moves.Move.{Move}
 use Rattle.play_midend.specs.declared.moves.Move.TheVariants.{Real, Pencil, MarkAll, Solve, Restart, Done}
 use Rattle.play_midend.specs.declared.fault.PlayFault.{PlayFault}
-use Rattle.play_midend.specs.declared.fault.PlayFault.TheVariants.{OffGrid, OffRange, GivenSquare, FilledSquare, BadSolution, OutOfMemory}
+use Rattle.play_midend.specs.declared.fault.PlayFault.TheVariants.{OffGrid, OffRange, GivenSquare, FilledSquare}
+use Rattle.play_midend.specs.declared.fault.PlayFault.TheVariants.{BadSolution, OutOfMemory}
 
 -- the square at column x and row y
 abbrev pub cell_of : ℕ → ℕ → ℕ → ℕ

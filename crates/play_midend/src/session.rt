@@ -1,6 +1,7 @@
 //! A session: a puzzle, its history and the board that is shown.
 
-ghost use Rattle.std.specs.Prelude.{◌≡◌, ◌+◌, ◌-◌, ◌≤◌, ◌<◌, ◌++◌, ◌∷◌, [], length, take, slice_get, false, Some, None, Ok, Err, IsOk, IfOk, IfErr, OnOk, OnErr};
+ghost use Rattle.std.specs.Prelude.{◌≡◌, ◌+◌, ◌-◌, ◌≤◌, ◌<◌, ◌++◌, ◌∷◌, [], length, take, slice_get, false, Some, None};
+ghost use Rattle.std.specs.Prelude.{Ok, Err, IsOk, IfOk, IfErr, OnOk, OnErr};
 ghost use Rattle.latin_board.specs.Changes.{FitsBoard, board_after};
 ghost use Rattle.play_midend.specs.declared.session.TheConstants.{MOST_STATES};
 ghost use Rattle.play_midend.specs.Steps.{takes_memory};
@@ -109,7 +110,8 @@ fn exchange(board: &mut Board, link: &mut Link)
 }
 
 impl<P: Game> Session<P> {
-    ghost use Rattle.play_midend.specs.Histories.{History, IsValid, shown, started, at_position, refusal_in, played, restarted, SolveGives, undone, redone, IsRefusal, IsSolveRefusal};
+    ghost use Rattle.play_midend.specs.Histories.{History, IsValid, shown, started, at_position, refusal_in, played};
+    ghost use Rattle.play_midend.specs.Histories.{restarted, SolveGives, undone, redone, IsRefusal, IsSolveRefusal};
     ghost use Rattle.play_midend.specs.declared.moves.Move.{Move};
     ghost use Rattle.play_midend.specs.Inner.Effects.{IsEffect};
 

@@ -1,6 +1,9 @@
 //! The laws of a session's calls. They speak of its value alone, so the functions here do nothing.
 
-ghost use Rattle.play_midend.specs.Laws.{SolutionsAreFilledIn, GivensStay, RunsStayValid, StartsStorable, RunsStayStorable, UndoTakesBack, UndoTakesRestartBack, UndoTakesSolveBack, RedoTakesUndoBack, LegalListsPlay, AcceptedListsAreLegal, UndoLeadsBack, HistoriesAreReached};
+ghost use Rattle.play_midend.specs.Laws.{SolutionsAreFilledIn, GivensStay, RunsStayValid, StartsStorable};
+ghost use Rattle.play_midend.specs.Laws.{RunsStayStorable, UndoTakesBack, UndoTakesRestartBack, UndoTakesSolveBack};
+ghost use Rattle.play_midend.specs.Laws.{RedoTakesUndoBack, LegalListsPlay, AcceptedListsAreLegal, UndoLeadsBack};
+ghost use Rattle.play_midend.specs.Laws.{HistoriesAreReached};
 
 use clue_rules::Game;
 

@@ -3,7 +3,8 @@
 ghost use Rattle.std.specs.Prelude.{◌≡◌, ◌≢◌, ◌+◌, ◌*◌, ◌≤◌, ◌∷◌, map, IfOk, IfErr, IfSome};
 ghost use Rattle.byte_text.specs.Decimals.{decimal_value};
 ghost use Rattle.play_midend.specs.declared.moves.Move.{Move};
-ghost use Rattle.play_midend.specs.MoveTexts.{move_text, three_at, two_at, coordinate_at, solution_at, size_by_count, digit_at, move_by, move_at, move_fault, IsMoveText};
+ghost use Rattle.play_midend.specs.MoveTexts.{move_text, three_at, two_at, coordinate_at, solution_at, size_by_count};
+ghost use Rattle.play_midend.specs.MoveTexts.{digit_at, move_by, move_at, move_fault, IsMoveText};
 ghost use Rattle.byte_text.specs.Bytes.{capital_s, digit};
 
 use crate::fault::PlayFault;

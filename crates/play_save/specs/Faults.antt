@@ -1,7 +1,9 @@
 -- The refusals of a save file, by number and by name.
 use Rattle.std.specs.Prelude.{ℕ, List, codes}
 use Rattle.play_save.specs.declared.fault.LoadFault.{LoadFault}
-use Rattle.play_save.specs.declared.fault.LoadFault.TheVariants.{NotASave, Malformed, Version, WrongGame, Repeated, EarlyState, Unsupported, BadParams, BadDesc, BadCount, Missing, BadState, TooLarge, OutOfMemory}
+use Rattle.play_save.specs.declared.fault.LoadFault.TheVariants.{NotASave, Malformed, Version, WrongGame, Repeated}
+use Rattle.play_save.specs.declared.fault.LoadFault.TheVariants.{EarlyState, Unsupported, BadParams, BadDesc, BadCount}
+use Rattle.play_save.specs.declared.fault.LoadFault.TheVariants.{Missing, BadState, TooLarge, OutOfMemory}
 
 -- the number of a fault
 abbrev pub load_fault_number : LoadFault → ℕ

@@ -1,5 +1,7 @@
 -- Reading a save text: the session, or the first fault.
-use Rattle.std.specs.Prelude.{ℕ, zero, suc, ◌+◌, Bool, true, false, ◌&&◌, nat_lt, nat_le, bytes_eq, is_some, if◌then◌else◌, List, [], ◌∷◌, ◌++◌, length, codes, Option, Some, None, option_and_then, Result, Ok, Err, ok_or}
+use Rattle.std.specs.Prelude.{ℕ, zero, suc, ◌+◌, Bool, true, false, ◌&&◌, nat_lt, nat_le, bytes_eq, is_some}
+use Rattle.std.specs.Prelude.{if◌then◌else◌, List, [], ◌∷◌, ◌++◌, length, codes, Option, Some, None, option_and_then}
+use Rattle.std.specs.Prelude.{Result, Ok, Err, ok_or}
 use Rattle.std.specs.Result.{result_ok}
 use Rattle.byte_text.specs.Decimals.{decimal_value}
 use Rattle.byte_text.specs.Reading.{◌>>=◌}
@@ -15,7 +17,9 @@ use Rattle.play_midend.specs.MoveTexts.{move_at}
 use Rattle.play_midend.specs.declared.session.TheConstants.{MOST_STATES}
 use Rattle.play_midend.specs.Histories.{History, started, at_position, played}
 use Rattle.play_save.specs.declared.fault.LoadFault.{LoadFault}
-use Rattle.play_save.specs.declared.fault.LoadFault.TheVariants.{NotASave, Malformed, Version, WrongGame, Repeated, EarlyState, Unsupported, BadParams, BadDesc, BadCount, Missing, BadState, TooLarge}
+use Rattle.play_save.specs.declared.fault.LoadFault.TheVariants.{NotASave, Malformed, Version, WrongGame, Repeated}
+use Rattle.play_save.specs.declared.fault.LoadFault.TheVariants.{EarlyState, Unsupported, BadParams, BadDesc, BadCount}
+use Rattle.play_save.specs.declared.fault.LoadFault.TheVariants.{Missing, BadState, TooLarge}
 use Rattle.play_save.specs.declared.key.StateKey.{StateKey}
 use Rattle.play_save.specs.declared.key.StateKey.TheVariants.{AnyMove, SolveMove, RestartMove}
 use Rattle.play_save.specs.declared.key.WhoseParams.{WhoseParams}
@@ -23,7 +27,8 @@ use Rattle.play_save.specs.declared.key.WhoseParams.TheVariants.{Next, Current}
 use Rattle.play_save.specs.declared.key.WhichCount.{WhichCount}
 use Rattle.play_save.specs.declared.key.WhichCount.TheVariants.{States, Position}
 use Rattle.play_save.specs.declared.key.HeaderKey.{HeaderKey}
-use Rattle.play_save.specs.declared.key.HeaderKey.TheVariants.{SaveFile, FormatVersion, Title, ParamsOf, Desc, PrivateDesc, Kept, Count}
+use Rattle.play_save.specs.declared.key.HeaderKey.TheVariants.{SaveFile, FormatVersion, Title, ParamsOf, Desc}
+use Rattle.play_save.specs.declared.key.HeaderKey.TheVariants.{PrivateDesc, Kept, Count}
 use Rattle.play_save.specs.declared.key.Key.{Key}
 use Rattle.play_save.specs.declared.key.Key.TheVariants.{Header, State, Other}
 use Rattle.play_save.specs.declared.save_format.TheConstants.{MOST_BYTES}
@@ -115,7 +120,8 @@ state_fault RestartMove value = None
 
 -- a state record may come only after both counts
 abbrev pub behind_counts : MetValue → Option LoadFault → Option LoadFault
-behind_counts m fault = if is_some (count_met m States) && is_some (count_met m Position) then fault else Some EarlyState
+behind_counts m fault =
+    if is_some (count_met m States) && is_some (count_met m Position) then fault else Some EarlyState
 
 -- the fault of a value that stands with a key for the first time
 abbrev pub value_fault : {P : Type 0} → SavedGame P → MetValue → HeaderKey → List ℕ → Option LoadFault
@@ -214,7 +220,8 @@ session_with game m params next_params position puzzle =
     >>= λ last. Ok (at_position last position)
 
 -- the session of a description, where that can be read
-abbrev pub session_at : {P : Type 0} → SavedGame P → MetValue → Params → Params → List ℕ → ℕ → Result (History P) LoadFault
+abbrev pub session_at : {P : Type 0} → SavedGame P → MetValue → Params → Params → List ℕ → ℕ
+    → Result (History P) LoadFault
 session_at game m params next_params desc position =
     ok_or (result_ok (game.desc_at params.size desc)) BadDesc
     >>= λ puzzle. session_with game m params next_params position puzzle

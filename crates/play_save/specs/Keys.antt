@@ -9,7 +9,8 @@ use Rattle.play_save.specs.declared.key.KeptKey.{KeptKey}
 use Rattle.play_save.specs.declared.key.KeptKey.TheVariants.{Seed, AuxInfo, Ui, Time}
 use Rattle.play_save.specs.declared.key.WhichCount.TheVariants.{States, Position}
 use Rattle.play_save.specs.declared.key.HeaderKey.{HeaderKey}
-use Rattle.play_save.specs.declared.key.HeaderKey.TheVariants.{SaveFile, FormatVersion, Title, ParamsOf, Desc, PrivateDesc, Kept, Count}
+use Rattle.play_save.specs.declared.key.HeaderKey.TheVariants.{SaveFile, FormatVersion, Title, ParamsOf, Desc}
+use Rattle.play_save.specs.declared.key.HeaderKey.TheVariants.{PrivateDesc, Kept, Count}
 use Rattle.play_save.specs.declared.key.Key.{Key}
 use Rattle.play_save.specs.declared.key.Key.TheVariants.{Header, State, Other}
 use Rattle.byte_text.specs.Bytes.{space}
@@ -37,8 +38,10 @@ key_name Other = []
 -- the keys that have a name, in the order in which a save has their records
 abbrev pub keys : List Key
 keys =
-    Header SaveFile ∷ Header FormatVersion ∷ Header Title ∷ Header (ParamsOf Next) ∷ Header (ParamsOf Current) ∷ Header (Kept Seed)
-    ∷ Header Desc ∷ Header PrivateDesc ∷ Header (Kept AuxInfo) ∷ Header (Kept Ui) ∷ Header (Kept Time) ∷ Header (Count States)
+    Header SaveFile ∷ Header FormatVersion ∷ Header Title ∷ Header (ParamsOf Next) ∷ Header (ParamsOf Current)
+    ∷ Header (Kept Seed)
+    ∷ Header Desc ∷ Header PrivateDesc ∷ Header (Kept AuxInfo) ∷ Header (Kept Ui) ∷ Header (Kept Time)
+    ∷ Header (Count States)
     ∷ Header (Count Position) ∷ State AnyMove ∷ State SolveMove ∷ State RestartMove ∷ []
 
 -- the key that has the name

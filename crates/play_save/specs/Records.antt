@@ -1,5 +1,6 @@
 -- A record of a save file: the grammar, and reading the first record of a text.
-use Rattle.std.specs.Prelude.{◌≡◌, ℕ, Bool, true, false, ◌==◌, ◌&&◌, ◌||◌, nat_le, if◌then◌else◌, List, [], ◌∷◌, ◌++◌, length, take, drop, Option, Some, None, option_and_then, option_map, Result, Ok, ok_or}
+use Rattle.std.specs.Prelude.{◌≡◌, ℕ, Bool, true, false, ◌==◌, ◌&&◌, ◌||◌, nat_le, if◌then◌else◌, List, [], ◌∷◌, ◌++◌}
+use Rattle.std.specs.Prelude.{length, take, drop, Option, Some, None, option_and_then, option_map, Result, Ok, ok_or}
 use Rattle.std.specs.List.{AllByRecursion}
 use Rattle.byte_text.specs.Cuts.{Lacks, before, behind}
 use Rattle.byte_text.specs.Decimals.{number_from}
@@ -78,7 +79,8 @@ record_of key parts = (record { key = unpadded key; value = parts.0 }, parts.1)
 -- the record that begins with the key
 unfoldable pub record_behind : List ℕ → Option (Entry × List ℕ)
 record_behind bytes =
-    option_and_then (λ field. if length field.0 == 8 then option_map (record_of field.0) (value_behind field.1) else None)
+    option_and_then
+    (λ field. if length field.0 == 8 then option_map (record_of field.0) (value_behind field.1) else None)
     (field_at bytes)
 
 -- the first record and the rest, where line breaks were passed

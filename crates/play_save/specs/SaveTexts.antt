@@ -20,13 +20,15 @@ use Rattle.play_save.specs.declared.key.WhoseParams.TheVariants.{Next, Current}
 use Rattle.play_save.specs.declared.key.WhichCount.{WhichCount}
 use Rattle.play_save.specs.declared.key.WhichCount.TheVariants.{States, Position}
 use Rattle.play_save.specs.declared.key.HeaderKey.{HeaderKey}
-use Rattle.play_save.specs.declared.key.HeaderKey.TheVariants.{SaveFile, FormatVersion, Title, ParamsOf, Desc, PrivateDesc, Kept, Count}
+use Rattle.play_save.specs.declared.key.HeaderKey.TheVariants.{SaveFile, FormatVersion, Title, ParamsOf, Desc}
+use Rattle.play_save.specs.declared.key.HeaderKey.TheVariants.{PrivateDesc, Kept, Count}
 use Rattle.play_save.specs.Keys.{kept_at}
 use Rattle.play_save.specs.Records.{Entry, BeginsWith}
-use Rattle.play_save.specs.KeyedRecords.{KeyedRecord, KeyedState, BeginsWithAll, values_of, states_in, IsOne, once_if_kept, CountsStandFirst, EndsWithState}
+use Rattle.play_save.specs.KeyedRecords.{KeyedRecord, KeyedState, BeginsWithAll, values_of, states_in, IsOne}
+use Rattle.play_save.specs.KeyedRecords.{once_if_kept, CountsStandFirst, EndsWithState}
 
--- What saves ask of a game: its name and letters, whether it has an adjacent mode, what its puzzles are, which text describes
--- which puzzle of which width, the puzzle that is read of a description, and the description that is written.
+-- What saves ask of a game: its name and letters, whether it has an adjacent mode, what its puzzles are, which text
+-- describes which puzzle of which width, the puzzle that is read of a description, and the description that is written.
 pub record SavedGame (P : Type 0) : Type 1 where
   pub title : List ℕ
   pub letters : List ℕ
@@ -52,7 +54,8 @@ saved_game title letters has_adjacent puzzle of_game describes desc_at desc_of =
 -- the same, of what `Rules` and `Game` say of a type P: `saves_of P.Rules P.Game.own`
 abbrev pub saves_of : {P : Type 0} → RulesGhosts P → GameGhosts P → SavedGame P
 saves_of rules game =
-    saved_game game.title game.letter_codes (has_adjacent_mode game.title) rules.puzzle rules.valid game.describes game.desc_at game.desc_of
+    saved_game game.title game.letter_codes
+    (has_adjacent_mode game.title) rules.puzzle rules.valid game.describes game.desc_at game.desc_of
 
 -- the value of the first record, which names the format
 abbrev pub collection : List ℕ

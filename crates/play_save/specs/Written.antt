@@ -10,7 +10,8 @@ use Rattle.play_midend.specs.Histories.{History}
 use Rattle.play_save.specs.declared.key.StateKey.TheVariants.{AnyMove, SolveMove, RestartMove}
 use Rattle.play_save.specs.declared.key.Key.{Key}
 use Rattle.play_save.specs.declared.key.HeaderKey.{HeaderKey}
-use Rattle.play_save.specs.declared.key.HeaderKey.TheVariants.{SaveFile, FormatVersion, Title, ParamsOf, Desc, PrivateDesc, Kept, Count}
+use Rattle.play_save.specs.declared.key.HeaderKey.TheVariants.{SaveFile, FormatVersion, Title, ParamsOf, Desc}
+use Rattle.play_save.specs.declared.key.HeaderKey.TheVariants.{PrivateDesc, Kept, Count}
 use Rattle.play_save.specs.declared.key.Key.TheVariants.{Header, State}
 use Rattle.play_save.specs.Keys.{key_name, keys, padded, kept_at}
 use Rattle.play_save.specs.KeyedRecords.{KeyedRecord, KeyedState}
@@ -19,7 +20,8 @@ use Rattle.byte_text.specs.Bytes.{colon, line_feed}
 
 -- a record as it is written
 unfoldable pub record_text : KeyedRecord → List ℕ
-record_text r = padded (key_name r.key) ++ (colon ∷ (decimal (length r.value) ++ (colon ∷ (r.value ++ (line_feed ∷ [])))))
+record_text r =
+    padded (key_name r.key) ++ (colon ∷ (decimal (length r.value) ++ (colon ∷ (r.value ++ (line_feed ∷ [])))))
 
 -- records, one after another
 abbrev pub records_text : List KeyedRecord → List ℕ

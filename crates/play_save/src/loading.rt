@@ -1,13 +1,15 @@
 //! Loading: a save text is read record by record, and its session is played.
 
-ghost use Rattle.std.specs.Prelude.{◌≡◌, ◌+◌, ◌-◌, ◌<◌, ◌≤◌, Some, None, Ok, Err, ok_or, IfOk, IfErr, length, map, option_map, vec_items};
+ghost use Rattle.std.specs.Prelude.{◌≡◌, ◌+◌, ◌-◌, ◌<◌, ◌≤◌, Some, None, Ok, Err, ok_or, IfOk, IfErr, length, map};
+ghost use Rattle.std.specs.Prelude.{option_map, vec_items};
 ghost use Rattle.std.specs.Result.{result_ok};
 ghost use Rattle.byte_text.specs.Reading.{Gives, GivesUnless};
 ghost use Rattle.play_midend.specs.declared.session.TheConstants.{MOST_STATES};
 ghost use Rattle.play_midend.specs.Histories.{History, started, at_position};
 ghost use Rattle.play_save.specs.Records.{record_at};
 ghost use Rattle.play_save.specs.SaveTexts.{saves_of, SaveText};
-ghost use Rattle.play_save.specs.FirstFaults.{behind_head, records_of, met_in, state_move, extras_met, state_played, states_played, session_of, load_at};
+ghost use Rattle.play_save.specs.FirstFaults.{behind_head, records_of, met_in, state_move, extras_met, state_played};
+ghost use Rattle.play_save.specs.FirstFaults.{states_played, session_of, load_at};
 ghost use Rattle.play_save.specs.Inner.Taking.{IsPlayable, bytes_of, met_of, state_of};
 
 use crate::fault::LoadFault;

@@ -1,9 +1,11 @@
 //! Records: the pieces that a save file is made of.
 
-ghost use Rattle.std.specs.Prelude.{◌≡◌, ℕ, ◌≤◌, List, Some, None, Ok, Err, Option, option_map, length, IfOk, IfErr, MatchOption};
+ghost use Rattle.std.specs.Prelude.{◌≡◌, ℕ, ◌≤◌, List, Some, None, Ok, Err, Option, option_map, length, IfOk, IfErr};
+ghost use Rattle.std.specs.Prelude.{MatchOption};
 ghost use Rattle.byte_text.specs.Reading.{Gives};
 ghost use Rattle.byte_text.specs.Decimals.{digit_onto};
-ghost use Rattle.play_save.specs.Records.{Entry, BeginsWith, AreBreaks, is_break, skip_breaks, unpadded, field_at, length_at, value_behind, record_behind, record_at};
+ghost use Rattle.play_save.specs.Records.{Entry, BeginsWith, AreBreaks, is_break, skip_breaks, unpadded, field_at};
+ghost use Rattle.play_save.specs.Records.{length_at, value_behind, record_behind, record_at};
 ghost use Rattle.play_save.specs.Views.{entry_of, parts_of};
 
 use crate::fault::LoadFault;

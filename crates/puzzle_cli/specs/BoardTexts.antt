@@ -20,7 +20,8 @@ mark_digits marks = map digit (filter (has_number marks) (range_with_len 1 9))
 abbrev pub marks_line : BoardValue → ℕ → List ℕ
 marks_line b cell =
     if length (mark_digits (marks_at b cell)) == 0 then []
-    else digit (cell % b.size) ∷ comma ∷ digit (cell / b.size) ∷ colon ∷ (mark_digits (marks_at b cell) ++ line_feed ∷ [])
+    else digit (cell % b.size) ∷ comma ∷ digit (cell / b.size) ∷ colon
+    ∷ (mark_digits (marks_at b cell) ++ line_feed ∷ [])
 
 -- the lines of the squares that have marks, or a sentence where none has
 abbrev pub marks_lines : BoardValue → List ℕ

@@ -1,5 +1,7 @@
--- What a command line says: the words of the games, at most one way to begin, and how the words are read by clap's account of them.
-use Rattle.std.specs.Prelude.{◌≡◌, ◌≢◌, ◌⊎◌, ℕ, ◌&&◌, true, false, List, [], ◌∷◌, codes, map, Option, Some, is_some, option_map, string_bytes, Result, Ok, Err}
+-- What a command line says: the words of the games, at most one way to begin, and how the words are read by clap's
+-- account of them.
+use Rattle.std.specs.Prelude.{◌≡◌, ◌≢◌, ◌⊎◌, ℕ, ◌&&◌, true, false, List, [], ◌∷◌, codes, map, Option, Some, is_some}
+use Rattle.std.specs.Prelude.{option_map, string_bytes, Result, Ok, Err}
 use Rattle.std.specs.Borrow.{Bor}
 use Rattle.clap.specs.Words.{App, IsAmong, Rule, Text, fault_of, first_of, matches_of, new_app, new_rule, with_rule}
 use Rattle.clap.specs.Simple.{on_top}
@@ -67,11 +69,13 @@ pub record AreArgs (app : App) (words : List Text) (args : Args) : Type 0 where
 
 -- there is a fault in the words, other than that they ask for help or the version
 abbrev pub AreFaulty : App → List Text → Type 0
-AreFaulty app words = (kind : ErrorKind) × IsAmong kind (fault_of app words) × (kind ≢ DisplayHelp) × (kind ≢ DisplayVersion)
+AreFaulty app words =
+    (kind : ErrorKind) × IsAmong kind (fault_of app words) × (kind ≢ DisplayHelp) × (kind ≢ DisplayVersion)
 
 -- these values name both an ID and a file to load, or no game
 abbrev pub AreUnfit : Option Text → Option Text → Option Text → Type 0
-AreUnfit game id load = ((is_some id ≡ true) × (is_some load ≡ true)) ⊎ ((name : GameName) → game ≢ Some (game_word name))
+AreUnfit game id load =
+    ((is_some id ≡ true) × (is_some load ≡ true)) ⊎ ((name : GameName) → game ≢ Some (game_word name))
 
 -- the words give these values, which name one way to begin
 pub record AreTaken (words : List Text) (args : Args) : Type 0 where
@@ -93,8 +97,8 @@ pub record AskForHelp (words : List Text) : Type 0 where
   pub line : IsCommandLine app
   pub asks : IsAmong DisplayHelp (fault_of app words) ⊎ IsAmong DisplayVersion (fault_of app words)
 
--- What is read of the words: their values; or, memory apart, a refusal just where there is a fault in them or they are unfit, and help
--- where it is asked for.
+-- What is read of the words: their values; or, memory apart, a refusal just where there is a fault in them or they are
+-- unfit, and help where it is asked for.
 abbrev pub AreRead : List Text → Result Args CommandFault → Type 0
 AreRead words (Ok args) = AreTaken words args
 AreRead words (Err (BadWords text)) = AreRefused words

@@ -1,5 +1,6 @@
 -- The commands and their lines.
-use Rattle.std.specs.Prelude.{◌≡◌, ◌≢◌, ℕ, ◌≤◌, Bool, false, List, [], ◌∷◌, ◌++◌, codes, bytes_eq, ◌⊎◌, Option, Some, None, Result, Ok, Err}
+use Rattle.std.specs.Prelude.{◌≡◌, ◌≢◌, ℕ, ◌≤◌, Bool, false, List, [], ◌∷◌, ◌++◌, codes, bytes_eq, ◌⊎◌, Option, Some}
+use Rattle.std.specs.Prelude.{None, Result, Ok, Err}
 use denote.Ref.{Bor}
 use Rattle.std.specs.Fmt.{decimal}
 use Rattle.trail_solver.specs.declared.listing.TheConstants.{MOST_LISTED}

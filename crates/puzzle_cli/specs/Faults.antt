@@ -5,7 +5,8 @@ use Rattle.puzzle_cli.specs.declared.start.command_fault.CommandFault.TheVariant
 use Rattle.puzzle_cli.specs.CommandFault.{command_fault_status}
 use Rattle.puzzle_cli.specs.StartFault.{start_fault_status, start_fault_line}
 use Rattle.puzzle_cli.specs.declared.fault.Fault.{Fault}
-use Rattle.puzzle_cli.specs.declared.fault.Fault.TheVariants.{Words, Start, LoadFile, SaveFile, Input, Output, OutOfMemory}
+use Rattle.puzzle_cli.specs.declared.fault.Fault.TheVariants.{Words, Start, LoadFile, SaveFile, Input, Output}
+use Rattle.puzzle_cli.specs.declared.fault.Fault.TheVariants.{OutOfMemory}
 
 -- the status of the program
 abbrev pub fault_status : Fault → ℕ

@@ -7,8 +7,8 @@ use Rattle.clue_rules.specs.declared.game.Game.{Ghosts as OfGame}
 use Rattle.trail_solver.specs.declared.rules.Rules.{Ghosts}
 use Rattle.puzzle_cli.specs.declared.draw.Draw.{Ghosts as OfDraw}
 
--- a game's name and letters, and whether it has an adjacent mode; what generic code knows of its puzzles and their items; the
--- grammar, the reading and the written form of their descriptions; the pictures of their boards
+-- a game's name and letters, and whether it has an adjacent mode; what generic code knows of its puzzles and their
+-- items; the grammar, the reading and the written form of their descriptions; the pictures of their boards
 pub record GameFacts (P : Type 0) : Type 1 where
   pub title : List ℕ
   pub letters : List ℕ

@@ -20,11 +20,13 @@ Word = String Global
 abbrev pub most_read : ℕ
 most_read = MOST_BYTES + 1
 
--- what may come of one read of the file at a path, of no more bytes than this: its bytes or an error, and the files after it
+-- what may come of one read of the file at a path, of no more bytes than this: its bytes or an error, and the files
+-- after it
 abbrev pub Reads : Type 0 → Type 1
 Reads F = F → List ℕ → ℕ → Result (List ℕ) Error → F → Type 0
 
--- what may come of one write of bytes to the file at a path: nothing to tell or why they weren't written, and the files after it
+-- what may come of one write of bytes to the file at a path: nothing to tell or why they weren't written, and the files
+-- after it
 abbrev pub Writes : Type 0 → Type 1
 Writes F = F → List ℕ → List ℕ → Option Unwritten → F → Type 0
 
@@ -42,7 +44,8 @@ IsToldOf (Failed error) fault = IsToldAs (SaveFile None) error fault
 
 -- the bytes of the file, which was read once; or none, and no file was touched, where the words name no file
 abbrev pub IsLoaded : {F : Type 0} → Reads F → F → Option Word → Option (List ℕ) → F → Type 0
-IsLoaded reads old (Some path) bytes new = IsSomeAnd bytes (λ read. reads old (string_bytes path) most_read (Ok read) new)
+IsLoaded reads old (Some path) bytes new =
+    IsSomeAnd bytes (λ read. reads old (string_bytes path) most_read (Ok read) new)
 IsLoaded reads old None bytes new = (bytes ≡ None) × (new ≡ old)
 
 -- the file was read once, which failed, and this says so

@@ -1,6 +1,6 @@
--- What the contracts of this crate cite. A line and its command: Lines, Commands; what is said and left: GameFacts, NewSessions,
--- SessionReplies, Replies; in other words: Formats; the run: Texts, Machines, Runs; its laws: RunLaws; the program: Starts, GameFiles, Programs.
--- The others are texts and faults, and Inner the words of private steps.
+-- What the contracts of this crate cite. A line and its command: Lines, Commands; what is said and left: GameFacts,
+-- NewSessions, SessionReplies, Replies; in other words: Formats; the run: Texts, Machines, Runs; its laws: RunLaws; the
+-- program: Starts, GameFiles, Programs. The others are texts and faults, and Inner the words of private steps.
 pub mod WholeLines
 pub mod Symbols
 pub mod TowersPicture

@@ -1,5 +1,6 @@
 -- The lines of an input, and what a rule of replies to them is.
-use Rattle.std.specs.Prelude.{ℕ, ◌-◌, ◌==◌, if◌then◌else◌, nat_le, Option, Some, None, List, [], ◌∷◌, length, map, take, slice_index}
+use Rattle.std.specs.Prelude.{ℕ, ◌-◌, ◌==◌, if◌then◌else◌, nat_le, Option, Some, None, List, [], ◌∷◌, length, map, take}
+use Rattle.std.specs.Prelude.{slice_index}
 use Rattle.std.specs.Option.{option_map}
 use Rattle.puzzle_cli.specs.declared.line.line_buffer.TheConstants.{LINE_BYTES}
 use Rattle.byte_text.specs.Bytes.{line_feed, carriage_return}
@@ -28,7 +29,8 @@ unless_long bytes = if nat_le (length bytes) LINE_BYTES then Some bytes else Non
 
 -- the bytes without one CR at their end
 abbrev pub without_cr : List ℕ → List ℕ
-without_cr bytes = if slice_index bytes (length bytes - 1) == carriage_return then take (length bytes - 1) bytes else bytes
+without_cr bytes =
+    if slice_index bytes (length bytes - 1) == carriage_return then take (length bytes - 1) bytes else bytes
 
 -- the line that has come, without one CR at its end
 abbrev pub as_line : Line → Line

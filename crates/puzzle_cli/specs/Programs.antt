@@ -1,4 +1,5 @@
--- The program: a game from the words of its command line to the file that it is saved to, over what may be said to a line (`reply`).
+-- The program: a game from the words of its command line to the file that it is saved to, over what may be said to a
+-- line (`reply`).
 use Rattle.std.specs.Prelude.{◌≡◌, ◌⊎◌, ℕ, List, Option, Some, None, Ok, is_some, true, string_bytes}
 use Rattle.std.specs.Option.{IsSomeAnd}
 use Rattle.play_midend.specs.Histories.{History}
@@ -47,7 +48,8 @@ IsFirstRefused f None None fault = ⊥
 -- ---- the run
 
 -- a run between two points that finished, and left a session that can be stored, or none
-pub record IsFinished {P : Type 0} (f : GameFacts P) (reply : GameReply P) (old new : Point (Option (History P))) : Type 0 where
+pub record IsFinished {P : Type 0} (f : GameFacts P) (reply : GameReply P)
+    (old new : Point (Option (History P))) : Type 0 where
   pub end : End
   pub finished : end ≡ Finished
   pub ends : Ends reply is_quit end old new
@@ -60,7 +62,8 @@ end_fault ReadFault = Some Input
 end_fault WriteFault = Some Output
 
 -- a run between two points that ended so, and this says so
-pub record IsBroken {P : Type 0} (reply : GameReply P) (old new : Point (Option (History P))) (fault : Fault) : Type 0 where
+pub record IsBroken {P : Type 0} (reply : GameReply P) (old new : Point (Option (History P)))
+    (fault : Fault) : Type 0 where
   pub end : End
   pub ends : Ends reply is_quit end old new
   pub told : end_fault end ≡ Some fault
@@ -82,17 +85,20 @@ pub record IsPlayed {P : Type 0} (f : GameFacts P) (reply : GameReply P) (id : O
   pub begins : IsFirst f id bytes first
   pub told : text ≡ text_to_save f path last
 
--- the game ran from its first session on, and there is a fault for it: the run broke off, or there was no memory for the text to be saved
+-- the game ran from its first session on, and there is a fault for it: the run broke off, or there was no memory for
+-- the text to be saved
 pub record IsRunInVain {P : Type 0} (f : GameFacts P) (reply : GameReply P) (id : Option Word) (bytes : Option (List ℕ))
     (path : Option Word) (old new : Devices P) (fault : Fault) : Type 0 where
   pub first : Option (History P)
   pub last : Option (History P)
   pub begins : IsFirst f id bytes first
   pub why : IsBroken reply (old first) (new last) fault
-      ⊎ (IsFinished f reply (old first) (new last) × (is_some (text_to_save f path last) ≡ true) × (fault ≡ OutOfMemory))
+      ⊎ (IsFinished f reply (old first) (new last) × (is_some (text_to_save f path last) ≡ true)
+      × (fault ≡ OutOfMemory))
 
 -- the game has no text: its first session is refused, with nothing read or said; or its run was in vain
-abbrev pub IsUnplayed : {P : Type 0} → GameFacts P → GameReply P → Option Word → Option (List ℕ) → Option Word → Devices P → Devices P
+abbrev pub IsUnplayed : {P : Type 0} → GameFacts P → GameReply P → Option Word → Option (List ℕ) → Option Word
+    → Devices P → Devices P
     → Fault → Type 0
 IsUnplayed f reply id bytes path old new fault =
     ((start : StartFault) × IsFirstRefused f id bytes start × (fault ≡ Start start) × (new ≡ old))
@@ -101,7 +107,8 @@ IsUnplayed f reply id bytes path old new fault =
 -- ---- all of it
 
 -- the file was read, the game was played and finished, and its text was saved, each where there is one
-pub record IsDone {P F : Type 0} (f : GameFacts P) (reply : GameReply P) (reads : Reads F) (writes : Writes F) (args : Args)
+pub record IsDone {P F : Type 0} (f : GameFacts P) (reply : GameReply P) (reads : Reads F) (writes : Writes F)
+    (args : Args)
     (old_files new_files : F) (old new : Devices P) : Type 0 where
   pub bytes : Option (List ℕ)
   pub text : Option (List ℕ)
@@ -111,7 +118,8 @@ pub record IsDone {P F : Type 0} (f : GameFacts P) (reply : GameReply P) (reads 
   pub saved : IsSaved writes files args.save text new_files
 
 -- the file was read, the game was played and finished, and its text couldn't be saved
-pub record IsLost {P F : Type 0} (f : GameFacts P) (reply : GameReply P) (reads : Reads F) (writes : Writes F) (args : Args)
+pub record IsLost {P F : Type 0} (f : GameFacts P) (reply : GameReply P) (reads : Reads F) (writes : Writes F)
+    (args : Args)
     (old_files new_files : F) (old new : Devices P) (fault : Fault) : Type 0 where
   pub bytes : Option (List ℕ)
   pub text : Option (List ℕ)
@@ -120,9 +128,10 @@ pub record IsLost {P F : Type 0} (f : GameFacts P) (reply : GameReply P) (reads 
   pub played : IsPlayed f reply args.id bytes args.save old new text
   pub unsaved : IsUnsaved writes files args.save text fault new_files
 
--- The file couldn't be read, and nothing was read or said; or no more was done to files than to read it, and the game has no text; or
--- its text couldn't be saved.
-abbrev pub IsUndone : {P F : Type 0} → GameFacts P → GameReply P → Reads F → Writes F → Args → F → F → Devices P → Devices P → Fault → Type 0
+-- The file couldn't be read, and nothing was read or said; or no more was done to files than to read it, and the game
+-- has no text; or its text couldn't be saved.
+abbrev pub IsUndone : {P F : Type 0} → GameFacts P → GameReply P → Reads F → Writes F → Args → F → F → Devices P
+    → Devices P → Fault → Type 0
 IsUndone f reply reads writes args old_files new_files old new fault =
     (IsUnread reads old_files args.load fault new_files × (new ≡ old))
     ⊎ (((bytes : Option (List ℕ)) × IsLoaded reads old_files args.load bytes new_files
@@ -130,9 +139,11 @@ IsUndone f reply reads writes args old_files new_files old new fault =
     ⊎ IsLost f reply reads writes args old_files new_files old new fault)
 
 -- how a game ends: it is done, or this is its fault
-abbrev pub IsGame : {P F : Type 0} → GameFacts P → GameReply P → Reads F → Writes F → Args → F → F → Devices P → Devices P
+abbrev pub IsGame : {P F : Type 0} → GameFacts P → GameReply P → Reads F → Writes F → Args → F → F → Devices P
+    → Devices P
     → Option Fault → Type 0
-IsGame f reply reads writes args old_files new_files old new None = IsDone f reply reads writes args old_files new_files old new
+IsGame f reply reads writes args old_files new_files old new None =
+    IsDone f reply reads writes args old_files new_files old new
 IsGame f reply reads writes args old_files new_files old new (Some fault) =
     IsUndone f reply reads writes args old_files new_files old new fault
 

@@ -22,7 +22,8 @@ begun (Err fault) = Err (start_refusal fault)
 
 -- what a command makes of a session or none, with ample memory
 abbrev pub CommandGives : {P : Type 0} → GameFacts P → Option (History P) → Command (List ℕ) → Outcome P → Type 0
-CommandGives {P} f old (New id) outcome = (exact : Result (History P) StartFault) × TextBegins f id exact × (outcome ≡ begun exact)
+CommandGives {P} f old (New id) outcome =
+    (exact : Result (History P) StartFault) × TextBegins f id exact × (outcome ≡ begun exact)
 CommandGives f old Quit outcome = outcome ≡ Ok ([], old)
 CommandGives f None (Ask request) outcome = outcome ≡ Err (OfLine NoGame)
 CommandGives f (Some h) (Ask request) outcome = RequestGives f h request outcome
@@ -55,7 +56,8 @@ abbrev pub ReadMayGive : {P : Type 0} → GameFacts P → Option (History P) →
 ReadMayGive f old read (Ok said) = ReadGives f old read (Ok said)
 ReadMayGive f old read (Err refusal) = Explains (ReadGives f old read) (ReadTakesMemory f old read) refusal
 
--- What a line makes of a session or none: what is said and the session that is left, or why it is refused. The one choice is Memory.
+-- What a line makes of a session or none: what is said and the session that is left, or why it is refused. The one
+-- choice is Memory.
 abbrev pub LineGives : {P : Type 0} → GameFacts P → Option (History P) → Line → Outcome P → Type 0
 LineGives f old line outcome = (read : Reading (List ℕ)) × IsRead line read × ReadMayGive f old read outcome
 
@@ -81,7 +83,8 @@ plain_text (Err refusal) = refusal_line (refusal_name refusal)
 
 -- the bytes are the plain text of an outcome, and the session is the one that it leaves
 abbrev pub Tells : {P : Type 0} → (Outcome P → Type 0) → Option (History P) → List ℕ → Option (History P) → Type 0
-Tells {P} gives old bytes new = (outcome : Outcome P) × gives outcome × (bytes ≡ plain_text outcome) × (new ≡ left old outcome)
+Tells {P} gives old bytes new =
+    (outcome : Outcome P) × gives outcome × (bytes ≡ plain_text outcome) × (new ≡ left old outcome)
 
 -- the reply to a line and the session that it leaves, with ample memory
 abbrev pub AmpleReply : {P : Type 0} → GameFacts P → Option (History P) → Line → List ℕ → Option (History P) → Type 0

@@ -1,5 +1,6 @@
 -- Laws of what lines make of a session, over answers as values; and what the bytes of a reply tell of its answer.
-use Rattle.std.specs.Prelude.{◌≡◌, ◌⊎◌, ℕ, ◌<◌, ◌≤◌, ◌^◌, true, IsTrue, codes, List, ◌∷◌, ◌++◌, length, Option, Some, None, Result, Ok, Err}
+use Rattle.std.specs.Prelude.{◌≡◌, ◌⊎◌, ℕ, ◌<◌, ◌≤◌, ◌^◌, true, IsTrue, codes, List, ◌∷◌, ◌++◌, length, Option, Some}
+use Rattle.std.specs.Prelude.{None, Result, Ok, Err}
 use Rattle.std.specs.Fmt.{decimal}
 use Rattle.std.specs.Option.{IsSomeAnd}
 use Rattle.byte_text.specs.Bytes.{colon, exclamation}
@@ -32,7 +33,8 @@ use Rattle.puzzle_cli.specs.GameFacts.{GameFacts}
 use Rattle.puzzle_cli.specs.NewSessions.{new_game}
 use Rattle.puzzle_cli.specs.Starts.{FileBegins}
 use Rattle.puzzle_cli.specs.SolutionTexts.{move_line, grid_line}
-use Rattle.puzzle_cli.specs.SessionReplies.{Outcome, text_outcome, sentence_outcome, ok_line, shown_board, IsCallRead, call_sentence}
+use Rattle.puzzle_cli.specs.SessionReplies.{Outcome, text_outcome, sentence_outcome, ok_line, shown_board, IsCallRead}
+use Rattle.puzzle_cli.specs.SessionReplies.{call_sentence}
 use Rattle.puzzle_cli.specs.Replies.{LineGives, AmpleGives, AmpleReply, Reply, left, refusal_line}
 use Rattle.puzzle_cli.specs.Runs.{RepliesInTurn}
 use Rattle.puzzle_cli.specs.WholeLines.{AreWholeLines}
@@ -90,7 +92,8 @@ IsRefusalLine bytes = (name : List ℕ) × (bytes ≡ refusal_line name)
 -- a line that is told as refused left the session
 abbrev pub RefusedLinesLeave : {P : Type 0} → GameFacts P → Type 0
 RefusedLinesLeave {P} f =
-    (old new : Option (History P)) (line : Line) (bytes : List ℕ) → Reply f old line bytes new → IsRefusalLine bytes → new ≡ old
+    (old new : Option (History P)) (line : Line) (bytes : List ℕ) → Reply f old line bytes new → IsRefusalLine bytes
+    → new ≡ old
 
 -- any other reply is the answer itself, so what holds of answers holds of bytes
 abbrev pub OtherRepliesAnswer : {P : Type 0} → GameFacts P → Type 0
@@ -154,24 +157,31 @@ OtherRequestsLeave {P} f =
 -- parameters and kept bytes are as before
 abbrev pub UndoLineTakesBack : {P : Type 0} → GameFacts P → Type 0
 UndoLineTakesBack {P} f =
-    (h : History P) (line : Line) (request : Request (List ℕ)) (call : Call) (text : List ℕ) (new : Option (History P)) (outcome : Outcome P)
-    → IsValid (f.rules.puzzle h.puzzle) h → Asks line request → IsCallOf request call → may_take_memory call ≡ true → IsMade call text
+    (h : History P) (line : Line) (request : Request (List ℕ)) (call : Call) (text : List ℕ) (new : Option (History P))
+    (outcome : Outcome P)
+    → IsValid (f.rules.puzzle h.puzzle) h → Asks line request → IsCallOf request call → may_take_memory call ≡ true
+    → IsMade call text
     → LineGives f (Some h) line (Ok (text, new)) → LineGives f new (Some (codes "undo")) outcome
     → (last : History P) × (outcome ≡ text_outcome last ok_line) × IsSameBack (f.rules.puzzle h.puzzle) h last
 
--- `undo` that wasn't refused, and then `redo`: it answers `ok`, and the whole session is as before, later moves included
+-- `undo` that wasn't refused, and then `redo`: it answers `ok`, and the whole session is as before, with later moves
 abbrev pub RedoLineTakesUndoBack : {P : Type 0} → GameFacts P → Type 0
 RedoLineTakesUndoBack {P} f =
-    (h : History P) (text : List ℕ) (new : Option (History P)) (outcome : Outcome P) → IsValid (f.rules.puzzle h.puzzle) h
-    → LineGives f (Some h) (Some (codes "undo")) (Ok (text, new)) → LineGives f new (Some (codes "redo")) outcome → outcome ≡ text_outcome h ok_line
+    (h : History P) (text : List ℕ) (new : Option (History P)) (outcome : Outcome P)
+    → IsValid (f.rules.puzzle h.puzzle) h
+    → LineGives f (Some h) (Some (codes "undo")) (Ok (text, new)) → LineGives f new (Some (codes "redo")) outcome
+    → outcome ≡ text_outcome h ok_line
 
 -- ---- one answer
 
--- with ample memory the line is answered by this text and leaves this session; the one other outcome is the refusal Memory
-pub record IsTheAnswer {P : Type 0} (f : GameFacts P) (old : Option (History P)) (line : Line) (text : List ℕ) (new : Option (History P))
+-- with ample memory the line is answered by this text and leaves this session; the one other outcome is the refusal
+-- Memory
+pub record IsTheAnswer {P : Type 0} (f : GameFacts P) (old : Option (History P)) (line : Line) (text : List ℕ)
+    (new : Option (History P))
     : Type 0 where
   pub ample : AmpleGives f old line (Ok (text, new))
-  pub others : (outcome : Outcome P) → LineGives f old line outcome → (outcome ≡ Ok (text, new)) ⊎ (outcome ≡ Err Memory)
+  pub others : (outcome : Outcome P) → LineGives f old line outcome
+      → (outcome ≡ Ok (text, new)) ⊎ (outcome ≡ Err Memory)
 
 -- ---- saving and loading
 
@@ -180,7 +190,8 @@ abbrev pub IsLoadedBack : {P : Type 0} → History P → List ℕ → Result (Hi
 IsLoadedBack h bytes (Ok first) = first ≡ h
 IsLoadedBack h bytes (Err fault) = (fault ≡ OutOfMemory) ⊎ ((MOST_BYTES < length bytes) × (fault ≡ Load TooLarge))
 
--- The answer to `save`, as a file, begins the session again, and no other; it does so where it is no longer than a save may be.
+-- The answer to `save`, as a file, begins the session again, and no other; it does so where it is no longer than a save
+-- may be.
 abbrev pub SaveLineLoadsBack : {P : Type 0} → GameFacts P → Type 0
 SaveLineLoadsBack {P} f =
     (h : History P) → IsNoneOrStorable f (Some h)
@@ -198,7 +209,8 @@ described_line f params puzzle = Some (codes "new " ++ params_text params ++ col
 abbrev pub DescribedLinesBegin : {P : Type 0} → GameFacts P → Type 0
 DescribedLinesBegin {P} f =
     (old : Option (History P)) (params : Params) (puzzle : P) → IsParams f.letters params → f.rules.valid puzzle
-    → params.size ≡ (f.rules.puzzle puzzle).size → IsTheAnswer f old (described_line f params puzzle) ok_line (Some (new_game params puzzle))
+    → params.size ≡ (f.rules.puzzle puzzle).size
+    → IsTheAnswer f old (described_line f params puzzle) ok_line (Some (new_game params puzzle))
 
 -- ---- seeded games
 
@@ -206,8 +218,8 @@ DescribedLinesBegin {P} f =
 abbrev pub seeded_line : Params → ℕ → Line
 seeded_line params seed = Some (codes "new " ++ params_text params ++ exclamation ∷ decimal seed)
 
--- The puzzle of the session has just this solution, and several without any one of its items. `solve` answers the solution, and
--- the session then shows its numbers; a list of two has it alone.
+-- The puzzle of the session has just this solution, and several without any one of its items. `solve` answers the
+-- solution, and the session then shows its numbers; a list of two has it alone.
 pub record HasJustOne {P : Type 0} (f : GameFacts P) (g : GridValue) (h : History P) : Type 0 where
   pub only : IsOnlySolution (f.rules.puzzle h.puzzle) g
   pub needed : (i : ℕ) → i < f.rules.items_of (f.rules.puzzle h.puzzle).size → IsTrue (f.rules.has h.puzzle i)
@@ -220,5 +232,7 @@ pub record HasJustOne {P : Type 0} (f : GameFacts P) (g : GridValue) (h : Histor
 -- the game of a seed that was begun: its puzzle has just the seed's square as solution
 abbrev pub SeededLinesHaveOne : {P : Type 0} → GameFacts P → Type 0
 SeededLinesHaveOne {P} f =
-    (old new : Option (History P)) (params : Params) (seed : ℕ) (text : List ℕ) → IsParams f.letters params → seed < 2 ^ 64
-    → LineGives f old (seeded_line params seed) (Ok (text, new)) → IsSomeAnd new (HasJustOne f (square_of params.size seed))
+    (old new : Option (History P)) (params : Params) (seed : ℕ) (text : List ℕ) → IsParams f.letters params
+    → seed < 2 ^ 64
+    → LineGives f old (seeded_line params seed) (Ok (text, new))
+    → IsSomeAnd new (HasJustOne f (square_of params.size seed))

@@ -1,5 +1,6 @@
 -- What a run writes and how it ends, over what may be said to a line (`reply`) and which lines end a run (`quit`).
-use Rattle.std.specs.Prelude.{◌≡◌, ℕ, ◌<◌, ◌≤◌, Bool, true, false, if◌then◌else◌, Option, List, [], ◌∷◌, ◌++◌, length, take, ◌⊎◌}
+use Rattle.std.specs.Prelude.{◌≡◌, ℕ, ◌<◌, ◌≤◌, Bool, true, false, if◌then◌else◌, Option, List, [], ◌∷◌, ◌++◌, length}
+use Rattle.std.specs.Prelude.{take, ◌⊎◌}
 use Rattle.std.specs.Io.KnownBytes.{Appends, Consumes, IsAtEnd}
 use Rattle.puzzle_io.specs.declared.device.Source.{Ghosts as OfSource}
 use Rattle.puzzle_io.specs.declared.device.Sink.{Ghosts as OfSink}
@@ -8,7 +9,8 @@ use Rattle.puzzle_cli.specs.Lines.{Line, ReplyRule, all_lines, ended_lines}
 use Rattle.puzzle_cli.specs.declared.run_end.End.{End}
 use Rattle.puzzle_cli.specs.declared.run_end.End.TheVariants.{Finished, ReadFault, WriteFault}
 
--- How far the answers have come: what answers lines; the bytes that the sink took, where it tells them; and whether it has failed.
+-- How far the answers have come: what answers lines; the bytes that the sink took, where it tells them; and whether it
+-- has failed.
 pub record Progress (S : Type 0) : Type 0 where
   pub session : S
   pub taken : Option (List ℕ)
@@ -16,9 +18,11 @@ pub record Progress (S : Type 0) : Type 0 where
 
 -- how far they have come, by a session and a sink
 abbrev pub progress_at : {S W : Type 0} → OfSink W → S → W → Progress S
-progress_at of_sink session sink = record { session = session; taken = of_sink.taken sink; failed = of_sink.has_failed sink }
+progress_at of_sink session sink =
+    record { session = session; taken = of_sink.taken sink; failed = of_sink.has_failed sink }
 
--- A point in a run: how far the answers have come; the bytes that are to come in the source, where it tells them; and whether it has failed.
+-- A point in a run: how far the answers have come; the bytes that are to come in the source, where it tells them; and
+-- whether it has failed.
 pub record Point (S : Type 0) : Type 0 where
   pub answers : Progress S
   pub to_come : Option (List ℕ)
@@ -27,7 +31,11 @@ pub record Point (S : Type 0) : Type 0 where
 -- the point at which a session, a source and a sink stand
 abbrev pub point_at : {S R W : Type 0} → OfSource R → OfSink W → S → R → W → Point S
 point_at of_source of_sink session source sink =
-    record { answers = progress_at of_sink session sink; to_come = of_source.to_come source; read_failed = of_source.has_failed source }
+    record {
+      answers = progress_at of_sink session sink;
+      to_come = of_source.to_come source;
+      read_failed = of_source.has_failed source;
+    }
 
 -- the replies to the lines in turn, one after another, and what they leave
 abbrev pub RepliesInTurn : {S : Type 0} → ReplyRule S → List Line → S → List ℕ → S → Type 0
@@ -52,7 +60,8 @@ Served reply lines old new =
     (written : List ℕ) × RepliesInTurn reply lines old.session written new.session × Appends old.taken new.taken written
 
 -- the replies to earlier lines went out in full, and of the reply to the next one a front; none of the earlier is quit
-pub record Breaks {S : Type 0} (reply : ReplyRule S) (quit : Line → Bool) (lines : List Line) (old new : Progress S) : Type 0 where
+pub record Breaks {S : Type 0} (reply : ReplyRule S) (quit : Line → Bool) (lines : List Line)
+    (old new : Progress S) : Type 0 where
   pub earlier : List Line
   pub line : Line
   pub later : List Line
@@ -75,9 +84,9 @@ AreAll new read = IsAtEnd new.to_come × (length read < INPUT_BYTES)
 
 -- How a run ends that began at the one point, at the other.
 --
--- Finished: no byte is to come, and all lines were answered up to quit; or a line that LF ended is quit.
--- ReadFault: a read failed or all that a run reads was read, no line that LF ended is quit, and all those were answered.
--- WriteFault: a write or flush of the reply to a line that was read failed.
+-- Finished: no byte is to come, and all lines were answered up to quit; or a line that LF ended is quit. ReadFault: a
+-- read failed or all that a run reads was read, no line that LF ended is quit, and all those were answered. WriteFault:
+-- a write or flush of the reply to a line that was read failed.
 abbrev pub Ends : {S : Type 0} → ReplyRule S → (Line → Bool) → End → Point S → Point S → Type 0
 Ends reply quit Finished old new =
     (new.read_failed ≡ false) × (new.answers.failed ≡ false) × ((read : List ℕ) × WereRead old new read

@@ -1,5 +1,6 @@
 -- What a session says to a request, and the session that is left.
-use Rattle.std.specs.Prelude.{◌≡◌, ℕ, ◌+◌, List, [], ◌∷◌, ◌++◌, length, codes, true, Option, Some, None, Result, Ok, Err}
+use Rattle.std.specs.Prelude.{◌≡◌, ℕ, ◌+◌, List, [], ◌∷◌, ◌++◌, length, codes, true, Option, Some, None, Result, Ok}
+use Rattle.std.specs.Prelude.{Err}
 use Rattle.latin_board.specs.Squares.{GridValue}
 use Rattle.latin_board.specs.Boards.{BoardValue}
 use Rattle.clue_rules.specs.Parameters.{params_text}
@@ -78,7 +79,8 @@ CallSays h call (Err fault) outcome = outcome ≡ sentence_outcome h (call_sente
 
 -- what is said with ample memory to a call that was read, or to a text that is no move
 abbrev pub ReadReplies : {P : Type 0} → Puzzle → History P → Result Call PlayFault → Outcome P → Type 0
-ReadReplies {P} p h (Ok call) outcome = (exact : Result (History P) PlayFault) × CallGives p h call exact × CallSays h call exact outcome
+ReadReplies {P} p h (Ok call) outcome =
+    (exact : Result (History P) PlayFault) × CallGives p h call exact × CallSays h call exact outcome
 ReadReplies p h (Err fault) outcome = outcome ≡ Err (play_refusal fault)
 
 -- ---- views
@@ -106,7 +108,8 @@ RequestGives f h (Act action) outcome =
     (read : Result Call PlayFault) × IsCallRead action read × ReadReplies (f.rules.puzzle h.puzzle) h read outcome
 RequestGives f h (Tell view) outcome = outcome ≡ text_outcome h (view_text f h view)
 RequestGives f h (Listing n) outcome =
-    (listed : List GridValue) × AreFirst (Solves (f.rules.puzzle h.puzzle)) n listed × (outcome ≡ text_outcome h (listed_lines listed))
+    (listed : List GridValue) × AreFirst (Solves (f.rules.puzzle h.puzzle)) n listed
+    × (outcome ≡ text_outcome h (listed_lines listed))
 
 -- The request's answer takes memory, and nothing else refuses it: of a call, that it gives a session.
 abbrev pub RequestTakesMemory : {P : Type 0} → GameFacts P → History P → Request (List ℕ) → Type 0

@@ -1,6 +1,10 @@
 //! The laws of what lines make of sessions. Each is of all lines and sessions, and so no clause of one call, which every caller would
 //! have to carry: they are the contract of a function that does nothing.
-ghost use Rattle.puzzle_cli.specs.RunLaws.{LinesAreReadOnce, RefusedLinesLeave, OtherRepliesAnswer, BothPicturesAreWholeLines, RepliesAreWholeLines, OutputIsOne, OutputIsThere, AnswersStayStorable, LinesAreCalls, OtherRequestsLeave, UndoLineTakesBack, RedoLineTakesUndoBack, SaveLineLoadsBack, DescribedLinesBegin, SeededLinesHaveOne};
+ghost use Rattle.puzzle_cli.specs.RunLaws.{LinesAreReadOnce, RefusedLinesLeave, OtherRepliesAnswer};
+ghost use Rattle.puzzle_cli.specs.RunLaws.{BothPicturesAreWholeLines, RepliesAreWholeLines, OutputIsOne, OutputIsThere};
+ghost use Rattle.puzzle_cli.specs.RunLaws.{AnswersStayStorable, LinesAreCalls, OtherRequestsLeave, UndoLineTakesBack};
+ghost use Rattle.puzzle_cli.specs.RunLaws.{RedoLineTakesUndoBack, SaveLineLoadsBack, DescribedLinesBegin};
+ghost use Rattle.puzzle_cli.specs.RunLaws.{SeededLinesHaveOne};
 
 use crate::draw::Draw;
 use crate::reply::facts::Facts;

@@ -18,11 +18,12 @@ rest order keep i j =
 abbrev pub rest_puzzle : {P : Type 0} → Ghosts P → GridValue → List ℕ → P → ℕ → P
 rest_puzzle f g order p i = f.cut (f.full_of g) (rest order (f.has p) i)
 
--- the pruned puzzle of a Latin square and an order of its items: a cut of the square's full puzzle that has an item exactly
--- where the rest has several solutions
+-- the pruned puzzle of a Latin square and an order of its items: a cut of the square's full puzzle that has an item
+-- exactly where the rest has several solutions
 pub record IsPruned {P : Type 0} (f : Ghosts P) (g : GridValue) (order : List ℕ) (p : P) : Type 0 where
   pub is_grid : IsGrid g
   pub is_latin : IsLatin g
   pub is_order : IsOrder (f.items_of g.size) order
   pub is_cut : p ≡ f.cut (f.full_of g) (f.has p)
-  pub each : (i : ℕ) → i < f.items_of g.size → IsTrue (f.has p i) ↔ HasSeveralSolutions (f.puzzle (rest_puzzle f g order p i))
+  pub each : (i : ℕ) → i < f.items_of g.size
+      → IsTrue (f.has p i) ↔ HasSeveralSolutions (f.puzzle (rest_puzzle f g order p i))

@@ -1,6 +1,7 @@
 //! A sink over the bytes of a vector.
 
-ghost use Rattle.std.specs.Prelude.{◌≡◌, ◌+◌, ◌-◌, ◌≤◌, ◌==◌, ◌||◌, ◌&&◌, not, min, true, false, [], Some, length, take, IfOk, OnOk, IsErr, is_err, vec_len};
+ghost use Rattle.std.specs.Prelude.{◌≡◌, ◌+◌, ◌-◌, ◌≤◌, ◌==◌, ◌||◌, ◌&&◌, not, min, true, false, [], Some, length};
+ghost use Rattle.std.specs.Prelude.{take, IfOk, OnOk, IsErr, is_err, vec_len};
 ghost use Rattle.std.specs.Io.KnownBytes.{Keeps, WriteAppends};
 ghost use Rattle.puzzle_io.specs.Device.{write_failed};
 ghost use Rattle.puzzle_io.specs.Memory.{SinkState};

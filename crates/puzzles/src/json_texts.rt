@@ -5,14 +5,14 @@ use puzzle_cli::ProgramTexts;
 /// What the help and the version say of `puzzles-json`.
 pub(crate) const PUZZLES_JSON: ProgramTexts = ProgramTexts {
     name: "puzzles-json",
-    about: "Towers and Unequal for other programs: each command, one a line, is answered by a JSON object",
+    about: "Towers and Unequal for other programs: each line is a command, and a JSON object answers it",
     more_help: MORE_HELP,
 };
 
 // The lines that are read, the objects that answer them, examples, statuses, and the other programs.
 const MORE_HELP: &str = "\
-Commands, one a line:
-  those of puzzles, as its help has them, and
+Commands, one per line:
+  those of puzzles (see puzzles --help), and
 
   board        the board that is shown, its clues or signs, and where it breaks a rule
   completable  whether none, one or several solutions keep its numbers
@@ -27,14 +27,14 @@ Each reply is one object on one line:
   reply      the lines that puzzles answers
   session    null, or the game, its id, position, states and status
 
-  Where there is no memory for it, the line is {\"lost\":\"OutOfMemory\"}; the command was carried out or refused all the same.
+  If memory for it is refused, the line is {\"lost\":\"OutOfMemory\"}; the command took effect or was refused all the same.
 
 Examples:
   printf 'move R0,0,1\\nboard\\n' | puzzles-json towers --id 3:3//////3/////
   printf 'new 4!1\\nhint\\n' | puzzles-json unequal
 
 Exit status:
-  0  the commands are at their end, or help was asked for
+  0  all commands were read, or help was printed
   1  a file, the input or the output failed, or memory was refused
   2  the command line is refused
   3  the game ID or the loaded file is refused

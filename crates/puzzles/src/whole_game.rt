@@ -38,12 +38,16 @@ pub(crate) fn program<T: Eprint, A: Words, F: GameFiles, R: Source, W: Sink>(
     ensures { let old = world files.old source.old sink.old in let new = world files.new source.new sink.new in
         (given : Result (List Word) CommandFault) × A.gives words.now given × IsProgram old new given
         (λ list. IsOfWords old new list (λ args fault. OfGame args.game
-        (IsGameIn ⟦<Towers as Facts>⟧.facts ⟦<Plain as Format<Towers>>⟧.reply F.reads F.writes R.Source W.Sink old new args fault)
-        (IsGameIn ⟦<Unequal as Facts>⟧.facts ⟦<Plain as Format<Unequal>>⟧.reply F.reads F.writes R.Source W.Sink old new args fault))
+        (IsGameIn ⟦<Towers as Facts>⟧.facts ⟦<Plain as Format<Towers>>⟧.reply F.reads F.writes R.Source W.Sink old new
+        args fault)
+        (IsGameIn ⟦<Unequal as Facts>⟧.facts ⟦<Plain as Format<Unequal>>⟧.reply F.reads F.writes R.Source W.Sink old new
+        args fault))
         (result_err result))
         (λ list. IsOfWords old new list (λ args fault. OfGame args.game
-        (IsGameIn ⟦<Towers as Facts>⟧.facts ⟦<Json as Format<Towers>>⟧.reply F.reads F.writes R.Source W.Sink old new args fault)
-        (IsGameIn ⟦<Unequal as Facts>⟧.facts ⟦<Json as Format<Unequal>>⟧.reply F.reads F.writes R.Source W.Sink old new args fault))
+        (IsGameIn ⟦<Towers as Facts>⟧.facts ⟦<Json as Format<Towers>>⟧.reply F.reads F.writes R.Source W.Sink old new
+        args fault)
+        (IsGameIn ⟦<Unequal as Facts>⟧.facts ⟦<Json as Format<Unequal>>⟧.reply F.reads F.writes R.Source W.Sink old new
+        args fault))
         (result_err result))
         (result_err result) }
 {
@@ -88,8 +92,10 @@ fn play_words<N: Format<Towers> + Format<Unequal>, T: Eprint, F: GameFiles, R: S
     requires sink { W.has_failed sink.old ≡ false }
     ensures { let old = world files.old source.old sink.old in let new = world files.new source.new sink.new in
         IsOfWords old new words.now (λ args fault. OfGame args.game
-        (IsGameIn ⟦<Towers as Facts>⟧.facts ⟦<N as Format<Towers>>⟧.reply F.reads F.writes R.Source W.Sink old new args fault)
-        (IsGameIn ⟦<Unequal as Facts>⟧.facts ⟦<N as Format<Unequal>>⟧.reply F.reads F.writes R.Source W.Sink old new args fault))
+        (IsGameIn ⟦<Towers as Facts>⟧.facts ⟦<N as Format<Towers>>⟧.reply F.reads F.writes R.Source W.Sink old new args
+        fault)
+        (IsGameIn ⟦<Unequal as Facts>⟧.facts ⟦<N as Format<Unequal>>⟧.reply F.reads F.writes R.Source W.Sink old new
+        args fault))
         (result_err result) }
 {
     match args(alloc, texts, words) {

@@ -6,7 +6,8 @@ use Rattle.safe_save.specs.declared.changes.FolderChange.{FolderChange}
 use Rattle.safe_save.specs.declared.folder.FolderCall.{FolderCall}
 use Rattle.safe_save.specs.declared.folder.FolderFault.{FolderFault}
 
--- what stands at a name after a change, where this stood there: the content at its name, nothing at the other, and else the same
+-- what stands at a name after a change, where this stood there: the content at its name, nothing at the other, and else
+-- the same
 abbrev pub changed : List ℕ → Option (List ℕ) → FolderChange → Option (List ℕ)
 changed name before change =
     if bytes_eq change.name.bytes.items name
@@ -24,7 +25,8 @@ HasStood changes t f = (k : ℕ) × (t ≤ k) × (k ≤ length changes) × Same 
 -- at the name stands this content, at the other name nothing, and at each further name what stood there
 abbrev pub IsChanged : List ℕ → Option (List ℕ) → List ℕ → List FolderChange → List FolderChange → Type 0
 IsChanged name content gone old new =
-    (n : List ℕ) → image_of new n ≡ (if bytes_eq name n then content else (if bytes_eq gone n then None else image_of old n))
+    (n : List ℕ)
+    → image_of new n ≡ (if bytes_eq name n then content else (if bytes_eq gone n then None else image_of old n))
 
 -- the same stands at each name
 abbrev pub StandsSame : List FolderChange → List FolderChange → Type 0
@@ -36,7 +38,8 @@ pub record ChangesGoOn (old new : List FolderChange) : Type 0 where
   pub nothing_else : (t : ℕ) (f : Image) → t ≤ length old → HasStood new t f → HasStood old t f ⊎ Same (image_of new) f
   pub keeps : (t : ℕ) (f : Image) → t ≤ length old → HasStood old t f → HasStood new t f
 
--- what a folder tells that was empty before these changes: each is made at once, so a crash leaves what stands there, and nobody else may read it
+-- what a folder tells that was empty before these changes: each is made at once, so a crash leaves what stands there,
+-- and nobody else may read it
 abbrev pub told : List FolderChange → (FolderCall → FolderFault → ℕ) → FolderState
 told changes failed = record {
   stands = image_of changes;

@@ -12,7 +12,8 @@ last_failed_of failures call fault = slice_index failures.last (place_of call fa
 
 -- no failure is forgotten
 abbrev pub KeepsLast : FailedCalls → FailedCalls → Type 0
-KeepsLast old new = (call : FolderCall) (fault : FolderFault) → last_failed_of old call fault ≤ last_failed_of new call fault
+KeepsLast old new =
+    (call : FolderCall) (fault : FolderFault) → last_failed_of old call fault ≤ last_failed_of new call fault
 
 -- which of the calls to come fail, where the machine hasn't stopped
 abbrev pub to_come : FailedCalls → Failing

@@ -80,9 +80,11 @@ abbrev pub IsDurable : List ℕ → FolderState → Type 0
 IsDurable name state = (f : Image) → state.may_leave f → f name ≡ state.stands name
 
 -- Time goes on: a crash since t might have left what it might have left before, or such an image changed so.
-pub record GoesOn (change : Image → Image → Type 0) (before now : ℕ) (past since : ℕ → Image → Type 0) (could_leave : Image → Type 0) : Type 0 where
+pub record GoesOn (change : Image → Image → Type 0) (before now : ℕ) (past since : ℕ → Image → Type 0)
+    (could_leave : Image → Type 0) : Type 0 where
   pub later : before ≤ now
-  pub nothing_else : (t : ℕ) (f : Image) → t ≤ before → since t f → past t f ⊎ ((g : Image) × could_leave g × change g f)
+  pub nothing_else : (t : ℕ) (f : Image) → t ≤ before → since t f
+      → past t f ⊎ ((g : Image) × could_leave g × change g f)
   pub keeps : (t : ℕ) (f : Image) → t ≤ before → past t f → since t f
 
 -- time goes on over a call, and a crash during it leaves what it could leave before, changed so
@@ -106,9 +108,11 @@ HasFailed call old new = (fault : FolderFault) × FailedWith call fault old new
 
 -- no fault is forgotten
 abbrev pub KeepsFaults : FolderState → FolderState → Type 0
-KeepsFaults old new = (call : FolderCall) (fault : FolderFault) → old.last_failed call fault ≤ new.last_failed call fault
+KeepsFaults old new =
+    (call : FolderCall) (fault : FolderFault) → old.last_failed call fault ≤ new.last_failed call fault
 
 -- no fault is forgotten, and a fault is told only where a call of this kind has failed with it
-pub record HasCause {T : Type 0} (call : FolderCall) (old new : FolderState) (result : Result T FolderFault) : Type 0 where
+pub record HasCause {T : Type 0} (call : FolderCall) (old new : FolderState)
+    (result : Result T FolderFault) : Type 0 where
   pub later : KeepsFaults old new
   pub failed : IfErr result (λ fault. FailedWith call fault old new)

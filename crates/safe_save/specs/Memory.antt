@@ -22,10 +22,17 @@ abbrev pub memory_state : MemoryFolder → FolderState
 memory_state folder = told folder.changes.items (last_failed_of folder.failures)
 
 -- what stands there now has stood there since each moment up to now
-pub stands_now : (changes : List FolderChange) (t : ℕ) (f : Image) → t ≤ length changes → Same (image_of changes) f → HasStood changes t f
-stands_now changes t f le same =
-    (length changes, le, omega arith, λ name. same name ∙ ap (λ all. image_of all name) (sym (take_all (length changes) changes (omega arith))))
+pub stands_now : (changes : List FolderChange) (t : ℕ) (f : Image) → t ≤ length changes → Same (image_of changes) f
+    → HasStood changes t f
+stands_now changes t f le same = (
+  length changes,
+  le,
+  omega arith,
+  λ name. same name ∙ ap (λ all. image_of all name) (sym (take_all (length changes) changes (omega arith))),
+)
 
 -- since the last change nothing else has stood there
-pub only_last : (changes : List FolderChange) (f : Image) → HasStood changes (length changes) f → Same (image_of changes) f
-only_last changes f (k, since, within, same) = λ name. same name ∙ ap (λ all. image_of all name) (take_all k changes (omega (arith, since)))
+pub only_last : (changes : List FolderChange) (f : Image) → HasStood changes (length changes) f
+    → Same (image_of changes) f
+only_last changes f (k, since, within, same) =
+    λ name. same name ∙ ap (λ all. image_of all name) (take_all k changes (omega (arith, since)))

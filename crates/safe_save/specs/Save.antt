@@ -2,7 +2,8 @@
 use Rattle.std.specs.Prelude.{◌≡◌, ◌⊎◌, ℕ, List, Some, IsSome, Result, Err}
 use Rattle.safe_save.specs.Folder.{Image, FolderState, Touched, Follows, LeavesOnly, KeepsFaults, FailedWith, HasFailed}
 use Rattle.safe_save.specs.declared.folder.FolderCall.{FolderCall}
-use Rattle.safe_save.specs.declared.folder.FolderCall.TheVariants.{OpenNew, Write, TakeAfter, Flush, Rename, Overwrite, Remove}
+use Rattle.safe_save.specs.declared.folder.FolderCall.TheVariants.{OpenNew, Write, TakeAfter, Flush, Rename, Overwrite}
+use Rattle.safe_save.specs.declared.folder.FolderCall.TheVariants.{Remove}
 use Rattle.safe_save.specs.declared.folder.FolderFault.TheVariants.{Refused}
 use Rattle.safe_save.specs.declared.saving.SaveFault.{SaveFault}
 use Rattle.safe_save.specs.declared.saving.SaveFault.TheVariants.{Taken, NotSaved, LeftBeside}
@@ -60,7 +61,8 @@ FillFailed old new = (call : FolderCall) × IsFilling call × HasFailed call old
 abbrev pub CouldStand : List ℕ → FolderState → Image → Type 0
 CouldStand path old f = (g : Image) × old.may_leave g × (f path ≡ g path)
 
--- the path has the bytes, or what a crash could have left there before; or a rename was refused and the new file has the bytes
+-- the path has the bytes, or what a crash could have left there before; or a rename was refused and the new file has
+-- the bytes
 abbrev pub IsOldOrNew : List ℕ → List ℕ → List ℕ → FolderState → FolderState → Image → Type 0
 IsOldOrNew path beside bytes old new f =
     (f path ≡ Some bytes) ⊎ CouldStand path old f ⊎ (RenameRefused old new × (f beside ≡ Some bytes))

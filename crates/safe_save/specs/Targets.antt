@@ -8,8 +8,8 @@ use Rattle.safe_save.specs.declared.folder.FolderCall.TheVariants.{FlushFolder, 
 use Rattle.safe_save.specs.declared.target.Unsaved.{Unsaved}
 use Rattle.safe_save.specs.declared.target.Unsaved.TheVariants.{Failed, LeftBeside}
 
--- where it is told as left beside, the bytes stand at the path that is told, also in a crash; otherwise at the path is what stood there,
--- or it has the bytes
+-- where it is told as left beside, the bytes stand at the path that is told, also in a crash; otherwise at the path is
+-- what stood there, or it has the bytes
 abbrev pub IsToldOf : List ℕ → List ℕ → FolderState → FolderState → Unsaved → Type 0
 IsToldOf path bytes old new (LeftBeside beside) = IsLeftBeside path (string_bytes beside) bytes new
 IsToldOf path bytes old new (Failed error) = Keeps path old new ⊎ (new.stands path ≡ Some bytes)
@@ -22,9 +22,10 @@ IsTaken path state name = (name ≡ path) ⊎ IsSome (state.stands name)
 abbrev pub CallFailed : FolderState → FolderState → Type 0
 CallFailed old new = FillFailed old new ⊎ HasFailed FlushFolder old new
 
--- it is left beside only where a rename failed; an error of the kind Other is told only where a call failed, and one of the kind
--- AlreadyExists only where each of the names was taken; no other is told
+-- it is left beside only where a rename failed; an error of the kind Other is told only where a call failed, and one of
+-- the kind AlreadyExists only where each of the names was taken; no other is told
 abbrev pub HasItsCause : List ℕ → List (List ℕ) → FolderState → FolderState → Unsaved → Type 0
 HasItsCause path names old new (LeftBeside beside) = HasFailed Rename old new
 HasItsCause path names old new (Failed error) =
-    ((error_kind error ≡ Other) × CallFailed old new) ⊎ ((error_kind error ≡ AlreadyExists) × All (IsTaken path old) names)
+    ((error_kind error ≡ Other) × CallFailed old new)
+    ⊎ ((error_kind error ≡ AlreadyExists) × All (IsTaken path old) names)

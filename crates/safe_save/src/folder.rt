@@ -1,7 +1,8 @@
 //! What a folder has to keep, and the fault that its calls answer.
 
 ghost use Rattle.std.specs.Prelude.{◌≡◌, ◌≢◌, ◌≤◌, ℕ, Some, None, [], IsSome, OnOk, OnErr, IsErrOf};
-ghost use Rattle.safe_save.specs.Folder.{Image, FolderState, Same, Touched, TouchedBoth, Appended, Moved, MayMove, Follows, IsDurable, Elapses, HasCause, NoWider, WidensNone, WidensNoOther};
+ghost use Rattle.safe_save.specs.Folder.{Image, FolderState, Same, Touched, TouchedBoth, Appended, Moved, MayMove};
+ghost use Rattle.safe_save.specs.Folder.{Follows, IsDurable, Elapses, HasCause, NoWider, WidensNone, WidensNoOther};
 
 /// Why a call of a folder failed.
 #[derive(Clone, Copy, Debug, PartialEq, Eq)]

@@ -2,7 +2,8 @@
 
 ghost use Rattle.std.specs.Prelude.{◌≡◌, ◌≢◌, ◌⊎◌, Some, None, [], IsSome, OnOk, OnErr, IsErrOf};
 ghost use Rattle.safe_save.specs.Folder.{Same, TouchedBoth, LeavesOnly, KeepsFaults, HasFailed, NoWider, WidensNoOther};
-ghost use Rattle.safe_save.specs.Save.{IsStored, IsLeftBeside, IsGivenUp, IsCleared, Keeps, KeepsPath, KeepsBeside, FillFailed, IsOldOrNew, IsAtEither, ReadAsEither, TouchesOnly};
+ghost use Rattle.safe_save.specs.Save.{IsStored, IsLeftBeside, IsGivenUp, IsCleared, Keeps, KeepsPath, KeepsBeside};
+ghost use Rattle.safe_save.specs.Save.{FillFailed, IsOldOrNew, IsAtEither, ReadAsEither, TouchesOnly};
 
 use crate::folder::{Folder, FolderCall, FolderFault};
 

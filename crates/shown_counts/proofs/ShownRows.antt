@@ -4,11 +4,11 @@ use Rattle.number_sets.specs.Sets.{has_number}
 use Rattle.clue_rules.specs.Views.{view_cell}
 use Rattle.clue_rules.proofs.LineSquares.{view_cell_once}
 use Rattle.trail_solver.specs.Candidates.{CandidatesValue}
-use Rattle.named_steps.specs.Left.{IsLeft}
-use Rattle.named_steps.specs.Fillings.{Anything, Standing}
+use Rattle.clue_rules.specs.Left.{IsLeft}
+use Rattle.clue_rules.specs.Fillings.{Anything, Standing}
 use Rattle.named_steps.proofs.Supports.{filled_supported}
-use Rattle.named_steps.specs.declared.reason.Reason.{Reason}
-use Rattle.named_steps.specs.declared.reason.Reason.TheVariants.{Given, Peer, Place, Bound, Stand, Clue, Sign, Set}
+use Rattle.clue_rules.specs.declared.reason.Reason.{Reason}
+use Rattle.clue_rules.specs.declared.reason.Reason.TheVariants.{Given, Peer, Place, Bound, Stand, Clue, Sign, Set}
 use Rattle.shown_counts.specs.Shown.{IsShown, AreShown, ClueRow, IsRowFrom, IsRowOf}
 use Rattle.shown_counts.specs.Inner.Counted.{AreCountsOf}
 

@@ -3,11 +3,11 @@ use Rattle.std.specs.Prelude.{◌≡◌, ◌↔◌, ℕ, ◌*◌, ◌<◌, nat_l
 use Rattle.number_sets.specs.Sets.{has_number}
 use Rattle.clue_rules.specs.Views.{view_cell}
 use Rattle.trail_solver.specs.Candidates.{CandidatesValue}
-use Rattle.named_steps.specs.Left.{IsLeft}
-use Rattle.named_steps.specs.Fillings.{Anything, Standing, IsFilling}
+use Rattle.clue_rules.specs.Left.{IsLeft}
+use Rattle.clue_rules.specs.Fillings.{Anything, Standing, IsFilling}
 use Rattle.named_steps.specs.Inner.Rows.{AreMaySets}
-use Rattle.named_steps.specs.declared.reason.Reason.{Reason}
-use Rattle.named_steps.specs.declared.reason.Reason.TheVariants.{Given, Peer, Place, Bound, Stand, Clue, Sign, Set}
+use Rattle.clue_rules.specs.declared.reason.Reason.{Reason}
+use Rattle.clue_rules.specs.declared.reason.Reason.TheVariants.{Given, Peer, Place, Bound, Stand, Clue, Sign, Set}
 
 -- some line from the place, by what may stand in its squares, has the value in the square and shows so many towers
 pub record IsShown (w : ℕ) (May : ℕ → ℕ → Type 0) (place cell value count : ℕ) : Type 0 where
@@ -44,7 +44,8 @@ is_at_clue w (Set line squares values) = false
 -- for each of these values of a square, at its own index, the counts that are shown with it there
 abbrev pub AreShown : CandidatesValue → Reason → ℕ → ℕ → List ℕ → Type 0
 AreShown c reason cell values shows =
-    (v count : ℕ) → has_number values v ≡ true → (has_number (slice_index shows v) count ≡ true) ↔ IsShownBy c reason cell v count
+    (v count : ℕ) → has_number values v ≡ true
+    → (has_number (slice_index shows v) count ≡ true) ↔ IsShownBy c reason cell v count
 
 -- the squares from a place at the edge of a size, with what may stand in each
 pub record ClueRow : Type 0 where

@@ -1,10 +1,11 @@
 //! The counts of a clue's line, by what a reason knows of its squares.
-ghost use Rattle.std.specs.Prelude.{◌≡◌, ◌≢◌, ◌↔◌, ℕ, ◌+◌, ◌*◌, ◌<◌, ◌≤◌, true, false, List, take, slice_index, ◌==◌, ◌||◌, ◌&&◌, IsTrue, MatchOption};
+ghost use Rattle.std.specs.Prelude.{◌≡◌, ◌≢◌, ◌↔◌, ℕ, ◌+◌, ◌*◌, ◌<◌, ◌≤◌, true, false, List, take, slice_index, ◌==◌};
+ghost use Rattle.std.specs.Prelude.{◌||◌, ◌&&◌, IsTrue, MatchOption};
 ghost use Rattle.number_sets.specs.Sets.{has_number};
 ghost use Rattle.tower_lines.specs.LineFillings.{IsSupported};
 ghost use Rattle.clue_rules.specs.Views.{view_cell};
 ghost use Rattle.trail_solver.specs.Candidates.{CandidatesValue};
-ghost use Rattle.named_steps.specs.declared.reason.Reason.{Reason};
+ghost use Rattle.clue_rules.specs.declared.reason.Reason.{Reason};
 ghost use Rattle.named_steps.specs.Inner.Rows.{May};
 ghost use Rattle.shown_counts.specs.Shown.{AreShown, IsRowFrom, IsRowOf, IsLineOf};
 ghost use Rattle.shown_counts.specs.Inner.Counted.{IsAlone, AreCountsOf, AreKeptBelow};
@@ -56,7 +57,8 @@ impl ClueCounts {
 
     /// For each of these numbers of a square, at its own index, the counts of towers that are shown with it there.
     pub fn shows(&self, cell: u8, values: NumberSet) -> [NumberSet; 10]
-        ensures { (c : CandidatesValue) (reason : Reason) → IsRowOf c reason self.now → AreShown c reason cell values result }
+        ensures { (c : CandidatesValue) (reason : Reason) → IsRowOf c reason self.now
+            → AreShown c reason cell values result }
     {
         let _size = self.size.get();
         match self.index_of(cell) {
@@ -96,7 +98,8 @@ impl ClueCounts {
     fn counts(&self, index: u8, value: u8) -> NumberSet
         requires index { index < self.now.size }
         requires value { value < 16 }
-        ensures { (count : ℕ) → (has_number result count ≡ true) ↔ IsSupported (take self.now.size self.now.row) count index value }
+        ensures { (count : ℕ)
+            → (has_number result count ≡ true) ↔ IsSupported (take self.now.size self.now.row) count index value }
     {
         let mut counts = NumberSet::empty();
         for count in 1..self.size.get() + 1 {

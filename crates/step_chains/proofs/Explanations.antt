@@ -7,12 +7,11 @@ use Rattle.std.proofs.lemmas.List.{length-map}
 use Rattle.latin_board.specs.Squares.{GridValue, number_at}
 use Rattle.trail_solver.specs.Pairs.{IsPair}
 use Rattle.trail_solver.specs.Candidates.{CandidatesValue}
-use Rattle.named_steps.specs.Left.{IsLeft, IsFewer}
+use Rattle.clue_rules.specs.Left.{IsLeft, IsFewer}
 use Rattle.named_steps.specs.Chains.{StepValue, Shows, IsShown, IsTight, IsView, IsExplained, left_by}
 use Rattle.named_steps.specs.Following.{IsSettled, IsClosure}
 use Rattle.named_steps.proofs.Antitone.{IsAntitone, chain_less, chain_settled, closure_fewer}
 use Rattle.named_steps.proofs.Shown.{closure_shows, shown_less}
-use Rattle.named_steps.specs.declared.reason.Reason.{Reason}
 use Rattle.named_steps.specs.declared.grade.Grade.{Grade}
 use Rattle.named_steps.specs.declared.goal.Goal.{Goal}
 use Rattle.named_steps.specs.declared.goal.Goal.TheVariants.{OnlyValue}
@@ -24,6 +23,7 @@ use Rattle.step_chains.specs.Inner.Goals.{IsOpen, IsOpenShown, IsShownByAll}
 use Rattle.step_chains.specs.Inner.Aims.{IsReached, HasSome}
 use Rattle.step_chains.proofs.Followed.{none_removed, shows_where}
 use Rattle.step_chains.proofs.Tight.{shows_alike}
+use Rattle.clue_rules.specs.Reasons.{Striking}
 
 -- ---- views
 
@@ -40,31 +40,31 @@ views_fewer g a b first second = λ cell v left.
     }
 
 -- a chain shows a goal from each view or from none
-pub shows_in : (Struck : CandidatesValue → Reason → ℕ → ℕ → Type 0) → IsAntitone Struck → (grade : Grade) (g : GridValue) (a b : CandidatesValue)
+pub shows_in : (Struck : Striking) → IsAntitone Struck → (grade : Grade) (g : GridValue) (a b : CandidatesValue)
     (steps : List StepValue) (goal : Goal) → IsView g a → IsView g b → Shows Struck grade a steps goal → Shows Struck grade b steps goal
 shows_in Struck less grade g a b steps goal first second =
     shows_alike Struck less grade a b steps goal (first.size ∙ sym second.size) (views_fewer g a b first second)
 
 -- ---- what is come to
 
-pub reached_from : (Struck : CandidatesValue → Reason → ℕ → ℕ → Type 0) (grade : Grade) (g : GridValue) (view now : CandidatesValue) (steps : List StepValue)
+pub reached_from : (Struck : Striking) (grade : Grade) (g : GridValue) (view now : CandidatesValue) (steps : List StepValue)
     (goal : Goal) → IsView g view → now ≡ view → Shows Struck grade view steps goal → IsTight Struck grade now steps goal
     → IsReached Struck grade g steps goal
 reached_from Struck grade g view now steps goal is same shows tight =
     record { view = view; in_view = is; shows = shows; tight = subst (λ x. IsTight Struck grade x steps goal) same tight }
 
 -- what was come to is come to from this view
-pub reached_shows : (Struck : CandidatesValue → Reason → ℕ → ℕ → Type 0) → IsAntitone Struck → (grade : Grade) (g : GridValue) (view : CandidatesValue)
+pub reached_shows : (Struck : Striking) → IsAntitone Struck → (grade : Grade) (g : GridValue) (view : CandidatesValue)
     (steps : List StepValue) (goal : Goal) → IsView g view → IsReached Struck grade g steps goal → Shows Struck grade view steps goal
 reached_shows Struck less grade g view steps goal is e = shows_in Struck less grade g e.view view steps goal e.in_view is e.shows
 
-reached_tight : (Struck : CandidatesValue → Reason → ℕ → ℕ → Type 0) → IsAntitone Struck → (grade : Grade) (g : GridValue) (view : CandidatesValue)
+reached_tight : (Struck : Striking) → IsAntitone Struck → (grade : Grade) (g : GridValue) (view : CandidatesValue)
     (steps : List StepValue) (goal : Goal) → IsView g view → IsReached Struck grade g steps goal → IsTight Struck grade view steps goal
 reached_tight Struck less grade g view steps goal is e = λ front back step same shows.
     e.tight front back step same (shows_in Struck less grade g view e.view _ goal is e.in_view shows)
 
 -- the last of the tests decides
-pub reached_tested : (Struck : CandidatesValue → Reason → ℕ → ℕ → Type 0) → IsAntitone Struck → (grade : Grade) (g : GridValue) (view now : CandidatesValue)
+pub reached_tested : (Struck : Striking) → IsAntitone Struck → (grade : Grade) (g : GridValue) (view now : CandidatesValue)
     (steps : List StepValue) (goal : Goal) (b : Bool) → IsView g view → now ≡ view → Shows Struck grade view steps goal
     → IsTrue b ↔ IsTight Struck grade now steps goal → IsTrue b ↔ IsReached Struck grade g steps goal
 reached_tested Struck less grade g view now steps goal b is same shows tight = (
@@ -77,7 +77,7 @@ pub tested_where : {A B : Type 0} (b : Bool) → IsTrue b ↔ A → A ↔ B → 
 tested_where b test is = (λ e. is.0 (test.0 e), λ h. test.1 (is.1 h))
 
 -- a number of an empty square that is come to is explained, and the other way round
-pub explained_where : (Struck : CandidatesValue → Reason → ℕ → ℕ → Type 0) (grade : Grade) (g : GridValue) (steps : List StepValue) (goal : Goal)
+pub explained_where : (Struck : Striking) (grade : Grade) (g : GridValue) (steps : List StepValue) (goal : Goal)
     → IsOpen g goal → IsReached Struck grade g steps goal ↔ IsExplained Struck grade g steps goal
 explained_where Struck grade g steps goal open_one = (
   λ r. record { view = r.view; in_view = r.in_view; goal_of = open_one.0; empty = open_one.1; shows = r.shows; tight = r.tight },
@@ -93,7 +93,7 @@ empty_shown c cell = (
   λ shown value left. let zero_one : value ≡ 0 = shown value left in omega (arith, left.pair.low, zero_one),
 )
 
-leaves_where : (Struck : CandidatesValue → Reason → ℕ → ℕ → Type 0) (grade : Grade) (c : CandidatesValue) (steps : List StepValue) (cell : ℕ)
+leaves_where : (Struck : Striking) (grade : Grade) (c : CandidatesValue) (steps : List StepValue) (cell : ℕ)
     → cell < c.size * c.size → Shows Struck grade c steps (OnlyValue cell 0) ↔ LeavesNothing Struck grade c steps cell
 leaves_where Struck grade c steps cell inside = (
   λ s. record { chain = s.chain; allowed = s.allowed; inside = inside; nothing = (empty_shown (left_by c steps) cell).1 s.shown },
@@ -101,7 +101,7 @@ leaves_where Struck grade c steps cell inside = (
 )
 
 -- a square that is come to so is a refutation, and the other way round
-pub refutation_where : (Struck : CandidatesValue → Reason → ℕ → ℕ → Type 0) (grade : Grade) (g : GridValue) (steps : List StepValue) (cell : ℕ)
+pub refutation_where : (Struck : Striking) (grade : Grade) (g : GridValue) (steps : List StepValue) (cell : ℕ)
     → cell < g.size * g.size → IsReached Struck grade g steps (OnlyValue cell 0) ↔ IsRefutation Struck grade g steps cell
 refutation_where Struck grade g steps cell inside = (
   λ r.
@@ -126,14 +126,14 @@ pub all_steps : (steps : List Step) → remove (steps_of steps) (length steps) �
 all_steps steps = none_removed (steps_of steps) (length steps) (omega (arith, length-map steps step_value))
 
 -- so a test without it is one of all
-pub shows_all : (Struck : CandidatesValue → Reason → ℕ → ℕ → Type 0) (grade : Grade) (c : CandidatesValue) (steps : List Step) (goal : Goal) (b : Bool)
+pub shows_all : (Struck : Striking) (grade : Grade) (c : CandidatesValue) (steps : List Step) (goal : Goal) (b : Bool)
     → IsTrue b ↔ Shows Struck grade c (remove (steps_of steps) (length steps)) goal → IsTrue b ↔ Shows Struck grade c (steps_of steps) goal
 shows_all Struck grade c steps goal b h = subst (λ xs. IsTrue b ↔ Shows Struck grade c xs goal) (all_steps steps) h
 
 -- ---- what a grade leaves of a view
 
 -- what it doesn't show no chain shows
-pub nothing_shown : (Struck : CandidatesValue → Reason → ℕ → ℕ → Type 0) → IsAntitone Struck → (grade : Grade) (g : GridValue) (view d : CandidatesValue)
+pub nothing_shown : (Struck : Striking) → IsAntitone Struck → (grade : Grade) (g : GridValue) (view d : CandidatesValue)
     → IsView g view → IsClosure Struck grade view d → ((goal : Goal) → IsOpenShown g d goal → ⊥) → NothingIsShown Struck grade g
 nothing_shown Struck less grade g view d is closed none = λ other steps goal other_is goal_of empty shows.
     none goal (record {
@@ -143,7 +143,7 @@ nothing_shown Struck less grade g view d is closed none = λ other steps goal ot
     })
 
 -- where it leaves something of each square no chain leaves a square nothing
-pub none_refuted : (Struck : CandidatesValue → Reason → ℕ → ℕ → Type 0) → IsAntitone Struck → (grade : Grade) (g : GridValue) (view d : CandidatesValue)
+pub none_refuted : (Struck : Striking) → IsAntitone Struck → (grade : Grade) (g : GridValue) (view d : CandidatesValue)
     → IsView g view → IsClosure Struck grade view d → HasSome d → IsRefutedGrid Struck grade g → ⊥
 none_refuted Struck less grade g view d is closed some r =
     let (other, other_is, refuted) = r in
@@ -155,7 +155,7 @@ none_refuted Struck less grade g view d is closed some r =
     refuted.nothing left.0 (here.1 refuted.cell left.0 (fewer refuted.cell left.0 left.1))
 
 -- what it shows all that the grade leaves shows
-pub shown_by_all : (Struck : CandidatesValue → Reason → ℕ → ℕ → Type 0) → IsAntitone Struck → (grade : Grade) (g : GridValue) (view d : CandidatesValue)
+pub shown_by_all : (Struck : Striking) → IsAntitone Struck → (grade : Grade) (g : GridValue) (view d : CandidatesValue)
     (goal : Goal) → IsView g view → IsClosure Struck grade view d → IsShown d goal → IsShownByAll Struck grade g goal
 shown_by_all Struck less grade g view d goal is closed shown = λ other e other_is other_closed.
     let size : view.size ≡ other.size = is.size ∙ sym other_is.size in
@@ -165,7 +165,7 @@ shown_by_all Struck less grade g view d goal is closed shown = λ other e other_
     shown_less d e goal (closed.size ∙ size ∙ sym other_closed.size) all shown
 
 -- all steps show what all that the grade leaves shows
-pub all_show : (Struck : CandidatesValue → Reason → ℕ → ℕ → Type 0) (grade : Grade) (g : GridValue) (view d : CandidatesValue) (steps : List StepValue)
+pub all_show : (Struck : Striking) (grade : Grade) (g : GridValue) (view d : CandidatesValue) (steps : List StepValue)
     (goal : Goal) → IsView g view → Leads Struck grade view steps d → IsSettled Struck grade d → IsShownByAll Struck grade g goal
     → Shows Struck grade view steps goal
 all_show Struck grade g view d steps goal is leads settled shown =

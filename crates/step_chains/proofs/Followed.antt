@@ -8,25 +8,25 @@ use Rattle.number_sets.specs.Sets.{has_number, IsSubset}
 use Rattle.trail_solver.specs.Pairs.{IsPair, has_pair, pairs_of}
 use Rattle.trail_solver.specs.Candidates.{CandidatesValue, may_be}
 use Rattle.trail_solver.proofs.SetPairs.{has_pair-pairs_of}
-use Rattle.named_steps.specs.Left.{IsLeft, AreAlike, without}
+use Rattle.clue_rules.specs.Left.{IsLeft, AreAlike, without}
 use Rattle.named_steps.specs.Grades.{has_reason}
 use Rattle.named_steps.specs.Chains.{StepValue, IsStep, AreOfGrade, left_by, IsShown, Shows}
-use Rattle.named_steps.specs.Inner.Takes.{Strikes, Takes}
-use Rattle.named_steps.proofs.Antitone.{IsAntitone, was_left, still_left, chain_less, left_size}
+use Rattle.clue_rules.specs.Takes.{Strikes, Takes}
+use Rattle.named_steps.proofs.Antitone.{IsAntitone, chain_less, left_size}
+use Rattle.clue_rules.proofs.Takes.{was_left, still_left, takes_struck, takes_map}
 use Rattle.named_steps.proofs.Parts.{left_append, chain_split, chain_joined}
 use Rattle.named_steps.proofs.Shown.{shown_less}
-use Rattle.named_steps.proofs.Takes.{takes_struck, takes_map}
-use Rattle.named_steps.specs.declared.reason.Reason.{Reason}
 use Rattle.named_steps.specs.declared.grade.Grade.{Grade}
 use Rattle.named_steps.specs.declared.goal.Goal.{Goal}
 use Rattle.step_chains.specs.declared.chain.Step.{Step}
 use Rattle.step_chains.specs.ChainValues.{step_value, steps_of}
 use Rattle.step_chains.specs.Inner.Replays.{IsGradeStep, IsGradeChain, Leads}
+use Rattle.clue_rules.specs.Reasons.{Striking}
 
 -- ---- one step
 
 -- the values are struck by the reason where they are among those that it strikes
-pub step_by_set : (Struck : CandidatesValue → Reason → ℕ → ℕ → Type 0) (c : CandidatesValue) (w : ℕ) (s : Step) (set : ℕ) → s.values < 2 ^ 16 → c.size ≡ w
+pub step_by_set : (Struck : Striking) (c : CandidatesValue) (w : ℕ) (s : Step) (set : ℕ) → s.values < 2 ^ 16 → c.size ≡ w
     → ((v : ℕ) → (has_number set v ≡ true) ↔ ((c.size ≡ w) × (IsPair c.size s.cell v × Struck c s.reason s.cell v)))
     → IsSubset s.values set ↔ IsStep Struck c (step_value s)
 step_by_set Struck c w s set low size is = (
@@ -99,7 +99,7 @@ allowed_split grade [] back h = (tt, h)
 allowed_split grade (step ∷ front) back h = let rest = allowed_split grade front back h.1 in ((h.0, rest.0), rest.1)
 
 -- two chains, one after the other
-pub leads_joined : (Struck : CandidatesValue → Reason → ℕ → ℕ → Type 0) → IsAntitone Struck → (grade : Grade) (c d e : CandidatesValue)
+pub leads_joined : (Struck : Striking) → IsAntitone Struck → (grade : Grade) (c d e : CandidatesValue)
     (front back : List StepValue) → Leads Struck grade c front d → Leads Struck grade d back e → Leads Struck grade c (front ++ back) e
 leads_joined Struck less grade c d e front back first second =
     let end = left_by c front in
@@ -117,7 +117,7 @@ leads_joined Struck less grade c d e front back first second =
     }
 
 -- one step
-pub leads_one : (Struck : CandidatesValue → Reason → ℕ → ℕ → Type 0) (grade : Grade) (d e : CandidatesValue) (s : Step) → IsGradeStep Struck grade d (step_value s)
+pub leads_one : (Struck : Striking) (grade : Grade) (d e : CandidatesValue) (s : Step) → IsGradeStep Struck grade d (step_value s)
     → Takes (λ cell v. has_pair (step_value s).strikes cell v ≡ true) d e → Leads Struck grade d (step_value s ∷ []) e
 leads_one Struck grade d e s step t = record {
   chain = (step.1, tt);
@@ -127,12 +127,12 @@ leads_one Struck grade d e s step t = record {
 }
 
 -- where a piece of them is no chain, they are none
-pub front_breaks : (Struck : CandidatesValue → Reason → ℕ → ℕ → Type 0) (grade : Grade) (c : CandidatesValue) (front back : List StepValue)
+pub front_breaks : (Struck : Striking) (grade : Grade) (c : CandidatesValue) (front back : List StepValue)
     → (IsGradeChain Struck grade c front → ⊥) → IsGradeChain Struck grade c (front ++ back) → ⊥
 front_breaks Struck grade c front back none h =
     none ((chain_split Struck c front back h.0).0, (allowed_split grade front back h.1).0)
 
-pub back_breaks : (Struck : CandidatesValue → Reason → ℕ → ℕ → Type 0) → IsAntitone Struck → (grade : Grade) (c d : CandidatesValue) (front back : List StepValue)
+pub back_breaks : (Struck : Striking) → IsAntitone Struck → (grade : Grade) (c d : CandidatesValue) (front back : List StepValue)
     → Leads Struck grade c front d → (IsGradeChain Struck grade d back → ⊥) → IsGradeChain Struck grade c (front ++ back) → ⊥
 back_breaks Struck less grade c d front back first none h =
     let rest = (chain_split Struck c front back h.0).1 in
@@ -140,7 +140,7 @@ back_breaks Struck less grade c d front back first none h =
     none ((chain_less Struck less (left_by c front) d back size first.alike.0 rest).0, (allowed_split grade front back h.1).1)
 
 -- what they show is what they leave shows
-pub shows_where : (Struck : CandidatesValue → Reason → ℕ → ℕ → Type 0) (grade : Grade) (c d : CandidatesValue) (steps : List StepValue) (goal : Goal)
+pub shows_where : (Struck : Striking) (grade : Grade) (c d : CandidatesValue) (steps : List StepValue) (goal : Goal)
     → Leads Struck grade c steps d → IsShown d goal ↔ Shows Struck grade c steps goal
 shows_where Struck grade c d steps goal h =
     let size : (left_by c steps).size ≡ d.size = left_size c steps ∙ sym h.size in (
@@ -149,7 +149,7 @@ shows_where Struck grade c d steps goal h =
     )
 
 -- the test of a step of the grade's
-pub step_tested : (Struck : CandidatesValue → Reason → ℕ → ℕ → Type 0) (grade : Grade) (c : CandidatesValue) (w : ℕ) (s : Step) (set : ℕ) (b : Bool)
+pub step_tested : (Struck : Striking) (grade : Grade) (c : CandidatesValue) (w : ℕ) (s : Step) (set : ℕ) (b : Bool)
     → s.values < 2 ^ 16 → c.size ≡ w
     → ((v : ℕ) → (has_number set v ≡ true) ↔ ((c.size ≡ w) × (IsPair c.size s.cell v × Struck c s.reason s.cell v)))
     → MatchBool b (IsSubset s.values set) (IsSubset s.values set → ⊥) → has_reason grade s.reason ≡ true
@@ -185,31 +185,31 @@ from_place steps place =
     ∙ sym (map-append step_value (take place steps) (drop place steps)) ∙ ap steps_of (take-append-drop place steps)
 
 -- what is taken of a chain is what it leads to
-pub leads_known : (Struck : CandidatesValue → Reason → ℕ → ℕ → Type 0) (grade : Grade) (c d : CandidatesValue) (steps : List StepValue)
+pub leads_known : (Struck : Striking) (grade : Grade) (c d : CandidatesValue) (steps : List StepValue)
     → IsGradeChain Struck grade c steps → d.size ≡ c.size → AreAlike (left_by c steps) d → Leads Struck grade c steps d
 leads_known Struck grade c d steps chain size alike = record { chain = chain.0; allowed = chain.1; size = size; alike = alike }
 
 -- some of the first steps of a chain are one
-pub front_chain : (Struck : CandidatesValue → Reason → ℕ → ℕ → Type 0) (grade : Grade) (c : CandidatesValue) (front back : List StepValue) (goal : Goal)
+pub front_chain : (Struck : Striking) (grade : Grade) (c : CandidatesValue) (front back : List StepValue) (goal : Goal)
     → Shows Struck grade c (front ++ back) goal → IsGradeChain Struck grade c front
 front_chain Struck grade c front back goal h =
     ((chain_split Struck c front back h.chain).0, (allowed_split grade front back h.allowed).0)
 
 -- where the second piece leads on, or breaks, all does
-pub both_lead : (Struck : CandidatesValue → Reason → ℕ → ℕ → Type 0) → IsAntitone Struck → (grade : Grade) (c d e : CandidatesValue)
+pub both_lead : (Struck : Striking) → IsAntitone Struck → (grade : Grade) (c d e : CandidatesValue)
     (front back : List StepValue) (b : Bool) → Leads Struck grade c front d → OnTrue b (Leads Struck grade d back e) → OnTrue b (Leads Struck grade c (front ++ back) e)
 both_lead Struck less grade c d e front back true first second = leads_joined Struck less grade c d e front back first second
 both_lead Struck less grade c d e front back false first second = tt
 
 -- where the second piece is no chain, all is none
-pub both_break : (Struck : CandidatesValue → Reason → ℕ → ℕ → Type 0) → IsAntitone Struck → (grade : Grade) (c d : CandidatesValue)
+pub both_break : (Struck : Striking) → IsAntitone Struck → (grade : Grade) (c d : CandidatesValue)
     (front back : List StepValue) (b : Bool) → Leads Struck grade c front d → OnFalse b (IsGradeChain Struck grade d back → ⊥)
     → OnFalse b (IsGradeChain Struck grade c (front ++ back) → ⊥)
 both_break Struck less grade c d front back true first second = tt
 both_break Struck less grade c d front back false first second = back_breaks Struck less grade c d front back first second
 
 -- the test of the goal after them
-pub shows_tested : (Struck : CandidatesValue → Reason → ℕ → ℕ → Type 0) (grade : Grade) (c d : CandidatesValue) (steps : List StepValue) (goal : Goal) (b : Bool)
+pub shows_tested : (Struck : Striking) (grade : Grade) (c d : CandidatesValue) (steps : List StepValue) (goal : Goal) (b : Bool)
     → Leads Struck grade c steps d → IsTrue b ↔ IsShown d goal → IsTrue b ↔ Shows Struck grade c steps goal
 shows_tested Struck grade c d steps goal b h is =
     let to = shows_where Struck grade c d steps goal h in
@@ -218,7 +218,7 @@ shows_tested Struck grade c d steps goal b h is =
 -- ---- the loop over the steps
 
 -- one step more
-pub follows_on : (Struck : CandidatesValue → Reason → ℕ → ℕ → Type 0) → IsAntitone Struck → (grade : Grade) (c d e : CandidatesValue) (steps : List Step)
+pub follows_on : (Struck : Striking) → IsAntitone Struck → (grade : Grade) (c d e : CandidatesValue) (steps : List Step)
     (i : ℕ) (s : Step) → take (i + 1) steps ≡ take i steps ++ s ∷ [] → Leads Struck grade c (steps_of (take i steps)) d
     → IsGradeStep Struck grade d (step_value s) → Takes (λ cell v. has_pair (step_value s).strikes cell v ≡ true) d e
     → Leads Struck grade c (steps_of (take (i + 1) steps)) e
@@ -229,7 +229,7 @@ follows_on Struck less grade c d e steps i s more before step t =
     (leads_joined Struck less grade c d e (steps_of (take i steps)) (step_value s ∷ []) before (leads_one Struck grade d e s step t))
 
 -- a step that is none
-pub breaks_here : (Struck : CandidatesValue → Reason → ℕ → ℕ → Type 0) → IsAntitone Struck → (grade : Grade) (c d : CandidatesValue) (steps : List Step)
+pub breaks_here : (Struck : Striking) → IsAntitone Struck → (grade : Grade) (c d : CandidatesValue) (steps : List Step)
     (i : ℕ) (s : Step) → take (i + 1) steps ≡ take i steps ++ s ∷ [] → Leads Struck grade c (steps_of (take i steps)) d
     → (IsGradeStep Struck grade d (step_value s) → ⊥) → IsGradeChain Struck grade c (steps_of steps) → ⊥
 breaks_here Struck less grade c d steps i s more before none chain =

@@ -1,6 +1,5 @@
 -- Reasons that strike nothing more, one by one, and a step that strikes something.
-use Rattle.std.proofs.Common.{◌≡◌, ◌↔◌, ℕ, ◌+◌, ◌^◌, ◌<◌, ◌≤◌, true, false, ◌&&◌, ◌||◌, ◌==◌, count_ones, sym, ap, ◌∙◌, subst, arith, inl, inr}
-use Rattle.std.specs.Prelude.{MatchOption, Option, Some, None}
+use Rattle.std.proofs.Common.{◌≡◌, ◌↔◌, ℕ, ◌+◌, ◌^◌, ◌<◌, ◌≤◌, true, false, ◌&&◌, ◌||◌, ◌==◌, sym, ap, ◌∙◌, subst, arith, inl, inr}
 use Rattle.std.proofs.lemmas.Bool.{both_ways, and_parts, or_left, or_right, cases_eq, cases_lt, cases_Bool, eqb-true, false_from_ne_true}
 use Rattle.number_sets.specs.Sets.{has_number}
 use Rattle.number_sets.proofs.Members.{same_set, has_number-above}
@@ -9,14 +8,14 @@ use Rattle.trail_solver.specs.Pairs.{IsPair}
 use Rattle.trail_solver.specs.Candidates.{CandidatesValue, IsSetOf, may_be}
 use Rattle.trail_solver.proofs.Removals.{set_below}
 use Rattle.trail_solver.proofs.SetPairs.{has_pair-pairs_of}
-use Rattle.named_steps.specs.Left.{IsLeft}
+use Rattle.clue_rules.specs.Left.{IsLeft}
 use Rattle.named_steps.specs.Grades.{has_reason}
 use Rattle.named_steps.specs.Inner.LineStrikes.{IsUnion}
-use Rattle.named_steps.specs.declared.reason.Reason.{Reason}
-use Rattle.named_steps.specs.declared.reason.Reason.TheVariants.{Set}
+use Rattle.clue_rules.specs.declared.reason.Reason.{Reason}
 use Rattle.named_steps.specs.declared.grade.Grade.{Grade}
 use Rattle.step_chains.specs.declared.chain.Step.{Step}
-use Rattle.step_chains.specs.Inner.Quiet.{IsNew, IsIdle, IsGroupIdle}
+use Rattle.step_chains.specs.Inner.Quiet.{IsNew}
+use Rattle.clue_rules.specs.Reasons.{Striking}
 
 -- all up to a number, and the next
 pub all_next : (P : ℕ → Type 0) (k : ℕ) → ((j : ℕ) → j < k → P j) → P k → (j : ℕ) → j < k + 1 → P j
@@ -26,14 +25,14 @@ all_next P k before here j low = elim (cases_eq j k) [
 ]
 
 -- what a reason strikes of what is left
-pub record IsStruckSet (Struck : CandidatesValue → Reason → ℕ → ℕ → Type 0) (c : CandidatesValue) (reason : Reason) (cell values : ℕ) : Type 0 where
+pub record IsStruckSet (Struck : Striking) (c : CandidatesValue) (reason : Reason) (cell values : ℕ) : Type 0 where
   pub struck : ℕ
   pub left : ℕ
   pub is_struck : (v : ℕ) → (has_number struck v ≡ true) ↔ (IsPair c.size cell v × Struck c reason cell v)
   pub is_left : IsSetOf c cell left
   pub both : (v : ℕ) → has_number values v ≡ (has_number struck v && has_number left v)
 
-pub new_step : (Struck : CandidatesValue → Reason → ℕ → ℕ → Type 0) (grade : Grade) (c : CandidatesValue) (reason : Reason) (cell values : ℕ) (s : Step)
+pub new_step : (Struck : Striking) (grade : Grade) (c : CandidatesValue) (reason : Reason) (cell values : ℕ) (s : Step)
     → c.size ≤ 9 → has_reason grade reason ≡ true → IsStruckSet Struck c reason cell values → ((v : ℕ) × (has_number values v ≡ true))
     → s ≡ record { reason = reason; cell = cell; values = values } → IsNew Struck grade c s
 new_step Struck grade c reason cell values s small has h some is =
@@ -58,7 +57,7 @@ IsLeftOf c line squares values = (v : ℕ) → (has_number values v ≡ true)
     ↔ ((k : ℕ) × (k < c.size) × ((has_number squares k ≡ true) × IsLeft c (line_cell c.size line k) v))
 
 -- it is the group's union, where its squares are all of the line
-union_same : (c : CandidatesValue) (line squares values union : ℕ) → ((k : ℕ) → has_number squares k ≡ true → k < c.size) → IsLeftOf c line squares values
+pub union_same : (c : CandidatesValue) (line squares values union : ℕ) → ((k : ℕ) → has_number squares k ≡ true → k < c.size) → IsLeftOf c line squares values
     → IsUnion c.size c line squares union → union ≡ values
 union_same c line squares values union inside is u = same_set union values (λ v. elim (cases_Bool (has_number union v)) [
   | inl has ↦ let h = u.only v has in has ∙ sym ((is v).1 (h.0, inside h.0 h.1, (h.1, h.2)))
@@ -66,18 +65,6 @@ union_same c line squares values union inside is u = same_set union values (λ v
       lacks ∙ sym (false_from_ne_true (has_number values v) (λ has.
       let h = (is v).0 has in both_ways (has_number union v) lacks (u.all h.0 v h.2.0 h.2.1)))
 ])
-
-pub group_few : (Struck : CandidatesValue → Reason → ℕ → ℕ → Type 0) (grade : Grade) (c : CandidatesValue) (line squares values : ℕ)
-    → ((k : ℕ) → has_number squares k ≡ true → k < c.size) → IsLeftOf c line squares values → (count_ones values ≡ count_ones squares → ⊥)
-    → IsGroupIdle Struck grade c line squares
-group_few Struck grade c line squares values inside is other = λ union u same.
-    absurd (other (sym (ap count_ones (union_same c line squares values union inside is u)) ∙ same))
-
-pub group_idle : (Struck : CandidatesValue → Reason → ℕ → ℕ → Type 0) (grade : Grade) (c : CandidatesValue) (line squares values : ℕ)
-    → ((k : ℕ) → has_number squares k ≡ true → k < c.size) → IsLeftOf c line squares values → IsIdle Struck grade c (Set line squares values)
-    → IsGroupIdle Struck grade c line squares
-group_idle Struck grade c line squares values inside is idle = λ union u same.
-    subst (λ (set : ℕ). IsIdle Struck grade c (Set line squares set)) (sym (union_same c line squares values union inside is u)) idle
 
 -- the squares of a group are places of the line
 pub group_inside : (w squares : ℕ) → squares < 2 ^ w → (k : ℕ) → has_number squares k ≡ true → k < w
@@ -122,10 +109,3 @@ left_skipped c line squares k found before out = λ v. (
     | inr other ↦ (before v).1 (h.0, omega (arith, h.1, other), h.2)
   ],
 )
-
--- what is found by a group
-pub group_found : (Struck : CandidatesValue → Reason → ℕ → ℕ → Type 0) (grade : Grade) (c : CandidatesValue) (line squares values : ℕ) (found : Option Step)
-    → squares < 2 ^ c.size → IsLeftOf c line squares values → MatchOption found (IsIdle Struck grade c (Set line squares values)) (IsNew Struck grade c)
-    → MatchOption found (IsGroupIdle Struck grade c line squares) (IsNew Struck grade c)
-group_found Struck grade c line squares values None below is h = group_idle Struck grade c line squares values (group_inside c.size squares below) is h
-group_found Struck grade c line squares values (Some s) below is h = h

@@ -6,13 +6,13 @@ use Rattle.std.proofs.lemmas.Bool.{and_parts, and_from, eqb-true, eq-eqb, both_w
 use Rattle.number_sets.specs.Sets.{has_number, IsSubset, IsEmpty}
 use Rattle.trail_solver.specs.Pairs.{has_pair, pairs_of, IsPrefix}
 use Rattle.trail_solver.specs.Candidates.{CandidatesValue, IsSetOf, IsEarlier}
-use Rattle.named_steps.specs.Left.{IsLeft, IsFewer, AreAlike, without}
+use Rattle.clue_rules.specs.Left.{IsLeft, IsFewer, AreAlike, without}
 use Rattle.named_steps.specs.Chains.{StepValue, left_by}
-use Rattle.named_steps.proofs.Antitone.{without_fewer, fewer_without, left_size}
+use Rattle.clue_rules.proofs.Takes.{without_fewer}
+use Rattle.named_steps.proofs.Antitone.{fewer_without, left_size}
 use Rattle.trail_solver.proofs.Removals.{set_below}
 use Rattle.trail_solver.proofs.SetPairs.{has_pair-pairs_of}
 use Rattle.std.specs.Prelude.{◌==◌}
-use Rattle.named_steps.specs.declared.reason.Reason.{Reason}
 use Rattle.named_steps.specs.declared.grade.Grade.{Grade}
 use Rattle.step_chains.specs.Inner.Quiet.{IsNew}
 use Rattle.step_chains.specs.Inner.Replays.{Leads}
@@ -21,9 +21,10 @@ use Rattle.step_chains.specs.ChainValues.{step_value, steps_of, AreLive, IsLiveS
 use Rattle.std.specs.Bool.{IsTrue, MatchBool}
 use Rattle.trail_solver.proofs.Earlier.{prefix-append}
 use Rattle.named_steps.proofs.Parts.{left_append}
-use Rattle.named_steps.specs.Inner.Takes.{Takes}
+use Rattle.clue_rules.specs.Takes.{Takes}
 use Rattle.step_chains.proofs.Followed.{taken_alike}
 use Rattle.step_chains.proofs.Tight.{parted, remove_at, steps_removed}
+use Rattle.clue_rules.specs.Reasons.{Striking}
 
 -- what is left of fewer candidates is left of more
 pub live_more : (c d : CandidatesValue) (steps : List StepValue) → IsFewer c d → AreLive d steps → AreLive c steps
@@ -58,7 +59,7 @@ removed_live c steps more place low is h =
     (live_removed c (steps_of steps) place (omega (arith, low, length-map steps step_value)) h)
 
 -- what is new is left, and so the steps and it strike only what is left
-pub new_live : (Struck : CandidatesValue → Reason → ℕ → ℕ → Type 0) (grade : Grade) (c d : CandidatesValue) (steps more : List Step) (s : Step) → d.size ≤ 9
+pub new_live : (Struck : Striking) (grade : Grade) (c d : CandidatesValue) (steps more : List Step) (s : Step) → d.size ≤ 9
     → Leads Struck grade c (steps_of steps) d → IsNew Struck grade d s → more ≡ steps ++ s ∷ [] → AreLive c (steps_of steps) → AreLive c (steps_of more)
 new_live Struck grade c d steps more s small before new is live =
     let low = set_below d.size s.cell s.values small (λ v has. (new.left v has).0) in

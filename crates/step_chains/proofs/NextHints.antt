@@ -4,13 +4,13 @@ use Rattle.std.proofs.lemmas.Bool.{cases_eq, both_ways}
 use Rattle.latin_board.specs.Squares.{GridValue}
 use Rattle.trail_solver.specs.Pairs.{IsPair}
 use Rattle.trail_solver.specs.Candidates.{CandidatesValue, may_be}
-use Rattle.named_steps.specs.Left.{IsLeft}
+use Rattle.clue_rules.specs.Left.{IsLeft}
 use Rattle.named_steps.specs.Grades.{has_reason}
 use Rattle.named_steps.specs.Chains.{StepValue, AreOfGrade, IsView}
 use Rattle.named_steps.specs.Following.{IsClosure, IsRefuted}
 use Rattle.named_steps.proofs.Antitone.{IsAntitone, closure_fewer}
-use Rattle.named_steps.specs.declared.reason.Reason.{Reason}
-use Rattle.named_steps.specs.declared.reason.Reason.TheVariants.{Given, Peer, Place, Bound, Stand, Clue, Sign, Set}
+use Rattle.clue_rules.specs.declared.reason.Reason.{Reason}
+use Rattle.clue_rules.specs.declared.reason.Reason.TheVariants.{Given, Peer, Place, Bound, Stand, Clue, Sign, Set}
 use Rattle.named_steps.specs.declared.grade.Grade.{Grade}
 use Rattle.named_steps.specs.declared.grade.Grade.TheVariants.{Latin, Easy, Hard}
 use Rattle.named_steps.specs.declared.goal.Goal.{Goal}
@@ -26,6 +26,7 @@ use Rattle.step_chains.specs.Inner.Goals.{IsOpenShown}
 use Rattle.step_chains.specs.Inner.Replays.{Leads}
 use Rattle.step_chains.proofs.Explanations.{empty_shown, none_refuted, nothing_shown, shown_by_all}
 use Rattle.step_chains.proofs.Followed.{leads_joined}
+use Rattle.clue_rules.specs.Reasons.{Striking}
 
 -- ---- one grade after another
 
@@ -44,7 +45,7 @@ easy_allowed [] h = tt
 easy_allowed (step ∷ steps) h = (easy_has step.reason h.0, easy_allowed steps h.1)
 
 -- what a grade leaves of what the one below left is what it leaves of all
-pub closure_on : (Struck : CandidatesValue → Reason → ℕ → ℕ → Type 0) → IsAntitone Struck → (c d e : CandidatesValue)
+pub closure_on : (Struck : Striking) → IsAntitone Struck → (c d e : CandidatesValue)
     → IsClosure Struck Latin c d → IsClosure Struck Easy d e → IsClosure Struck Easy c e
 closure_on Struck less c d e first second =
     let front : Leads Struck Easy c first.steps d =
@@ -62,11 +63,11 @@ closure_on Struck less c d e first second =
     }
 
 -- the steps of a grade lead to no aim of what is sought
-abbrev pub IsNowhere : (CandidatesValue → Reason → ℕ → ℕ → Type 0) → GridValue → Sought → Grade → Type 0
+abbrev pub IsNowhere : Striking → GridValue → Sought → Grade → Type 0
 IsNowhere Struck g NumberShown grade = NothingIsShown Struck grade g
 IsNowhere Struck g SquareEmptied grade = IsRefutedGrid Struck grade g → ⊥
 
-pub nowhere_where : (Struck : CandidatesValue → Reason → ℕ → ℕ → Type 0) → IsAntitone Struck → (g : GridValue) (view d : CandidatesValue) (grade : Grade)
+pub nowhere_where : (Struck : Striking) → IsAntitone Struck → (g : GridValue) (view d : CandidatesValue) (grade : Grade)
     (sought : Sought) → IsView g view → IsClosure Struck grade view d → IsNotFound sought g d → IsNowhere Struck g sought grade
 nowhere_where Struck less g view d grade NumberShown is closed none = nothing_shown Struck less grade g view d is closed none
 nowhere_where Struck less g view d grade SquareEmptied is closed some = none_refuted Struck less grade g view d is closed some
@@ -91,7 +92,7 @@ below_hard P first second Hard h = absurd (omega (arith, h))
 -- ---- the least grade that leads to an aim
 
 -- what a grade leaves shows an aim of the kind of the first, and no grade below leads to one
-pub found_least : (Struck : CandidatesValue → Reason → ℕ → ℕ → Type 0) → IsAntitone Struck → (g : GridValue) (view d : CandidatesValue) (grade : Grade)
+pub found_least : (Struck : Striking) → IsAntitone Struck → (g : GridValue) (view d : CandidatesValue) (grade : Grade)
     (first found : Aim) → IsView g view → IsClosure Struck grade view d → IsFirstAim Struck g first → IsFound (sought_by first) g d found
     → ((lower : Grade) → IsBelow lower grade → IsNowhere Struck g (sought_by first) lower) → IsLeastBy Struck g grade found
 found_least Struck less g view d grade (Number goal) (Number other) is closed first found below = (
@@ -108,7 +109,7 @@ found_least Struck less g view d grade (Nothing cell) (Nothing other) is closed 
   below,
 )
 
-pub hard_least : (Struck : CandidatesValue → Reason → ℕ → ℕ → Type 0) (g : GridValue) (first : Aim) → IsFirstAim Struck g first
+pub hard_least : (Struck : Striking) (g : GridValue) (first : Aim) → IsFirstAim Struck g first
     → ((lower : Grade) → IsBelow lower Hard → IsNowhere Struck g (sought_by first) lower) → IsLeastBy Struck g Hard first
 hard_least Struck g (Number goal) first below = (first.0, first.1, below, first.2)
 hard_least Struck g (Nothing cell) first below = (first.0, first.1, below)
@@ -126,7 +127,7 @@ hard_all (Sign from to) = refl
 hard_all (Set line squares values) = refl
 
 -- where the hardest grade leaves something of each square and shows no number, no square is forced
-pub none_forced : (Struck : CandidatesValue → Reason → ℕ → ℕ → Type 0) → IsAntitone Struck → (g : GridValue) (view d : CandidatesValue) → IsView g view
+pub none_forced : (Struck : Striking) → IsAntitone Struck → (g : GridValue) (view d : CandidatesValue) → IsView g view
     → IsClosure Struck Hard view d → HasSome d → ((goal : Goal) → IsOpenShown g d goal → ⊥) → (cell : ℕ) → IsForcedSquare Struck g cell → ⊥
 none_forced Struck less g view d is closed some none cell f =
     let size : d.size ≡ g.size = closed.size ∙ is.size in
@@ -149,7 +150,7 @@ none_forced Struck less g view d is closed some none cell f =
 -- ---- what a hint says of solutions
 
 -- what a chain refutes is refuted
-pub refuted_grid : (Struck : CandidatesValue → Reason → ℕ → ℕ → Type 0) (grade : Grade) (g : GridValue) (steps : List StepValue) (cell : ℕ)
+pub refuted_grid : (Struck : Striking) (grade : Grade) (g : GridValue) (steps : List StepValue) (cell : ℕ)
     (r : IsRefutation Struck grade g steps cell) → IsRefuted Struck grade r.view
 refuted_grid Struck grade g steps cell r = record {
   steps = steps;

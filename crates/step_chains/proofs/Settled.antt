@@ -1,92 +1,155 @@
 -- Where the reasons that were looked at strike nothing more, the grade is settled.
-use Rattle.std.proofs.Common.{◌≡◌, ℕ, ◌*◌, ◌^◌, ◌<◌, ◌≤◌, true, false, List, [], ◌∷◌, ◌++◌, length, refl, sym, ap, ◌∙◌, subst, arith, inl, inr, length-append}
-use Rattle.std.specs.Prelude.{MatchOption, Option, Some, None}
-use Rattle.std.proofs.lemmas.Bool.{and_from, eq-eqb}
+use Rattle.std.proofs.Common.{◌≡◌, ℕ, ◌+◌, ◌-◌, ◌*◌, ◌^◌, ◌<◌, ◌≤◌, ◌⊎◌, true, List, [], ◌∷◌, ◌++◌, length, refl, sym, ap, ◌∙◌, subst, arith, inl, inr, length-append}
+use Rattle.std.proofs.lemmas.Bool.{and_from, cases_lt, eq-eqb}
+use Rattle.std.specs.Prelude.{Option, Some, IfSome}
 use Rattle.std.proofs.lemmas.List.{map-append}
+use Rattle.std.proofs.lemmas.Nat.{mul-add-lt}
 use Rattle.number_sets.specs.Sets.{has_number}
 use Rattle.latin_board.specs.Lines.{line_cell}
-use Rattle.latin_board.proofs.LatinLines.{line_cell_inside}
+use Rattle.latin_board.proofs.LatinLines.{line_cell-column, line_cell-row, line_cell_inside}
 use Rattle.latin_board.proofs.PeerLines.{line_peers}
-use Rattle.trail_solver.specs.Pairs.{IsPair, has_pair, pairs_of}
-use Rattle.trail_solver.specs.Candidates.{CandidatesValue, may_be}
+use Rattle.trail_solver.specs.Pairs.{has_pair, pairs_of}
+use Rattle.trail_solver.specs.Candidates.{CandidatesValue}
 use Rattle.trail_solver.specs.Puzzles.{Puzzle}
 use Rattle.trail_solver.proofs.Removals.{set_below}
 use Rattle.trail_solver.proofs.SetPairs.{has_pair-pairs_of}
-use Rattle.named_steps.specs.Left.{without}
-use Rattle.named_steps.specs.Grades.{IsPlaced, is_of_clues, is_past_easy}
-use Rattle.named_steps.specs.Reasons.{IsByPeer, IsByPlace, IsBySet}
+use Rattle.clue_rules.specs.Left.{without}
+use Rattle.named_steps.specs.Along.{LooksAlong, StandsAlong}
+use Rattle.named_steps.specs.Grades.{is_of_clues, is_past_easy}
+use Rattle.clue_rules.specs.Reasons.{IsByPeer, IsByPlace, IsBySet, Striking}
 use Rattle.named_steps.specs.Passes.{AreCluesSettled, AreGivensSettled}
 use Rattle.named_steps.specs.Following.{IsSettled}
-use Rattle.named_steps.specs.Inner.LineStrikes.{IsRestQuiet, IsGroupQuiet}
+use Rattle.clue_rules.specs.LineStrikes.{IsRestQuiet}
+use Rattle.named_steps.specs.Inner.LineStrikes.{IsGroupQuiet}
 use Rattle.named_steps.proofs.Antitone.{IsAntitone}
 use Rattle.named_steps.proofs.Rounds.{IsShared, settled_all}
-use Rattle.named_steps.specs.declared.reason.Reason.{Reason}
-use Rattle.named_steps.specs.declared.reason.Reason.TheVariants.{Given, Peer, Place, Bound, Stand, Clue, Sign, Set}
+use Rattle.clue_rules.specs.declared.reason.Reason.{Reason}
+use Rattle.clue_rules.specs.declared.reason.Reason.TheVariants.{Given, Peer, Place, Bound, Stand, Clue, Sign, Set}
 use Rattle.named_steps.specs.declared.grade.Grade.{Grade}
 use Rattle.step_chains.specs.declared.chain.Step.{Step}
 use Rattle.step_chains.specs.ChainValues.{step_value, steps_of}
 use Rattle.step_chains.specs.Inner.Replays.{Leads}
-use Rattle.step_chains.specs.Inner.Quiet.{IsNew, IsIdleIn, IsSquareIdle, IsPlaceIdle, IsClueIdle, IsGroupIdle}
+use Rattle.step_chains.specs.Inner.Listed.{IsFoundAt, IsSignAt, place_count}
+use Rattle.step_chains.specs.Inner.Quiet.{IsNew, IsIdle, AreIdleIn}
+use Rattle.step_chains.specs.declared.reasons.Part.{Part}
+use Rattle.step_chains.specs.declared.reasons.Part.TheVariants.{Squares, Places, Clues, Signs, Groups}
 use Rattle.step_chains.proofs.Idle.{group_inside}
 use Rattle.step_chains.proofs.Followed.{leads_joined}
 
--- what is known of a game's reasons: givens, rows and columns strike the same in each game, and its clues and signs are the grid's
-pub record IsGame (p : Puzzle) (Struck : CandidatesValue → Reason → ℕ → ℕ → Type 0) : Type 0 where
+-- what is known of a game's reasons: givens, rows and columns strike the same in each game, and its clues and signs look along lines
+pub record IsGame (p : Puzzle) (Struck : Striking) : Type 0 where
   pub shared : IsShared p Struck
-  pub placed : (c : CandidatesValue) (reason : Reason) (cell value : ℕ) → is_of_clues reason ≡ true → Struck c reason cell value → IsPlaced p.size reason cell
+  pub stands : (c : CandidatesValue) (reason : Reason) (cell value : ℕ) → is_of_clues reason ≡ true → Struck c reason cell value → StandsAlong p.size reason cell
 
--- all that was looked at strikes nothing more
-pub record AreIdle (Struck : CandidatesValue → Reason → ℕ → ℕ → Type 0) (grade : Grade) (c : CandidatesValue) : Type 0 where
-  pub squares : (cell : ℕ) → cell < c.size * c.size → IsSquareIdle Struck grade c cell
-  pub places : (line index : ℕ) → line < 2 * c.size → index < c.size → IsPlaceIdle Struck grade c line index
-  pub clues : (place : ℕ) → place < 4 * c.size → IsClueIdle Struck grade c place
-  pub signs : (to from : ℕ) → to < c.size * c.size → from < c.size * c.size → IsIdleIn Struck grade c (Sign from to) to
-  pub groups : (line squares : ℕ) → line < 2 * c.size → squares < 2 ^ c.size → IsGroupIdle Struck grade c line squares
+-- no reason of the list strikes anything more
+abbrev pub AreAllIdle : Striking → Grade → CandidatesValue → Type 0
+AreAllIdle Struck grade c = (part : Part) → AreIdleIn Struck grade c part
 
-givens_settled : (p : Puzzle) (Struck : CandidatesValue → Reason → ℕ → ℕ → Type 0) → IsGame p Struck → (grade : Grade) (c : CandidatesValue)
-    → AreIdle Struck grade c → AreGivensSettled p c
+-- where none of any part does
+pub all_parts : (P : Part → Type 0) → P Squares → P Places → P Clues → P Signs → P Groups → (part : Part) → P part
+all_parts P squares places clues signs groups Squares = squares
+all_parts P squares places clues signs groups Places = places
+all_parts P squares places clues signs groups Clues = clues
+all_parts P squares places clues signs groups Signs = signs
+all_parts P squares places clues signs groups Groups = groups
+
+-- what is found at one of its places strikes nothing more
+found_idle : (Struck : Striking) (grade : Grade) (c : CandidatesValue) (part : Part) (place : ℕ) (reason : Reason)
+    → AreAllIdle Struck grade c → place < place_count c.size part → ((found : Option Reason) → IsFoundAt c part place found → found ≡ Some reason)
+    → IsIdle Struck grade c reason
+found_idle Struck grade c part place reason idle low there =
+    let (found, is, none) = idle part place low in subst (λ x. IfSome x (IsIdle Struck grade c)) (there found is) none
+
+givens_settled : (p : Puzzle) (Struck : Striking) → IsGame p Struck → (grade : Grade) (c : CandidatesValue)
+    → AreAllIdle Struck grade c → AreGivensSettled p c
 givens_settled p Struck game grade c idle = λ at cell value pair h.
     let inside : at < c.size * c.size = subst (λ (n : ℕ). n < c.size * c.size) h.here pair.inside in
-    (idle.squares at inside).0 cell value refl pair ((game.shared.given c at cell value).0 h)
+    found_idle Struck grade c Squares (2 * at) (Given at) idle (omega (arith, inside)) (λ found is. is.0 at refl)
+    cell value refl pair ((game.shared.given c at cell value).0 h)
 
-rest_settled : (p : Puzzle) (Struck : CandidatesValue → Reason → ℕ → ℕ → Type 0) → IsGame p Struck → (grade : Grade) (c : CandidatesValue) → p.size ≡ c.size
-    → AreIdle Struck grade c → (line : ℕ) → line < 2 * c.size → IsRestQuiet line c
+peer_idle : (Struck : Striking) (grade : Grade) (c : CandidatesValue) (by : ℕ) → AreAllIdle Struck grade c
+    → by < c.size * c.size → IsIdle Struck grade c (Peer by)
+peer_idle Struck grade c by idle inside =
+    found_idle Struck grade c Squares (2 * by + 1) (Peer by) idle (omega (arith, inside)) (λ found is. is.1 by refl)
+
+place_idle : (Struck : Striking) (grade : Grade) (c : CandidatesValue) (line index other : ℕ) → AreAllIdle Struck grade c
+    → line < 2 * c.size → index < c.size → other < c.size → IsIdle Struck grade c (Place line index (other + 1))
+place_idle Struck grade c line index other idle line_is index_is low =
+    let below : (line * c.size + index) * c.size + other < 2 * c.size * (c.size * c.size) =
+    omega (arith, mul-add-lt (line * c.size + index) c.size other (c.size * (2 * c.size)) (mul-add-lt line c.size index (2 * c.size) line_is index_is) low) in
+    found_idle Struck grade c Places ((line * c.size + index) * c.size + other) (Place line index (other + 1)) idle below
+    (λ found is. is line index other index_is low refl)
+
+rest_settled : (p : Puzzle) (Struck : Striking) → IsGame p Struck → (grade : Grade) (c : CandidatesValue) → p.size ≡ c.size
+    → AreAllIdle Struck grade c → (line : ℕ) → line < 2 * c.size → IsRestQuiet line c
 rest_settled p Struck game grade c size idle line line_is = λ k v low pair h. elim h [
   | inl peer ↦
       let by = line_cell c.size line peer.0 in
       let cell = line_cell c.size line k in
       let is : IsByPeer c.size c by cell v = record { peers = line_peers c.size line peer.0 k line_is peer.1 low peer.2; alone = peer.3 } in
-      (idle.squares by (line_cell_inside c.size line peer.0 line_is peer.1)).1 cell v refl pair
+      peer_idle Struck grade c by idle (line_cell_inside c.size line peer.0 line_is peer.1) cell v refl pair
       ((game.shared.line c (Peer by) cell v refl).0 (subst (λ (w : ℕ). IsByPeer w c by cell v) (sym size) is))
   | inr place ↦
       let cell = line_cell c.size line k in
       let is : IsByPlace c.size c line k place.0 cell v =
       record { line_is = line_is; index_is = low; low = place.1; high = place.2; here = refl; apart = place.3; alone = place.4 } in
-      idle.places line k line_is low place.0 place.1 place.2 cell v refl pair
+      let same : place.0 - 1 + 1 ≡ place.0 = omega (arith, place.1) in
+      subst (λ (u : ℕ). IsIdle Struck grade c (Place line k u)) same
+      (place_idle Struck grade c line k (place.0 - 1) idle line_is low (omega (arith, place.1, place.2))) cell v refl pair
       ((game.shared.line c (Place line k place.0) cell v refl).0 (subst (λ (w : ℕ). IsByPlace w c line k place.0 cell v) (sym size) is))
 ]
 
-clues_settled : (p : Puzzle) (Struck : CandidatesValue → Reason → ℕ → ℕ → Type 0) → IsGame p Struck → (grade : Grade) (c : CandidatesValue) → p.size ≡ c.size
-    → AreIdle Struck grade c → AreCluesSettled Struck grade c
-clues_settled p Struck game grade c size idle (Given at) cell value is has pair h = absurd (cc)
-clues_settled p Struck game grade c size idle (Peer by) cell value is has pair h = absurd (cc)
-clues_settled p Struck game grade c size idle (Place line index other) cell value is has pair h = absurd (cc)
-clues_settled p Struck game grade c size idle (Bound place) cell value is has pair h =
-    (idle.clues place (subst (λ (w : ℕ). place < 4 * w) size (game.placed c (Bound place) cell value refl h))).0 cell value has pair h
-clues_settled p Struck game grade c size idle (Stand place) cell value is has pair h =
-    (idle.clues place (subst (λ (w : ℕ). place < 4 * w) size (game.placed c (Stand place) cell value refl h))).1.0 cell value has pair h
-clues_settled p Struck game grade c size idle (Clue place) cell value is has pair h =
-    (idle.clues place (subst (λ (w : ℕ). place < 4 * w) size (game.placed c (Clue place) cell value refl h))).1.1 cell value has pair h
-clues_settled p Struck game grade c size idle (Sign from to) cell value is has pair h =
-    let at = game.placed c (Sign from to) cell value refl h in
-    let there : IsPair c.size to value = subst (λ (n : ℕ). IsPair c.size n value) (sym at.1) pair in
-    subst (λ (n : ℕ). may_be c n value ≡ false) at.1
-    (idle.signs to from there.inside (subst (λ (w : ℕ). from < w * w) size at.0) value has there
-    (subst (λ (n : ℕ). Struck c (Sign from to) n value) (sym at.1) h))
-clues_settled p Struck game grade c size idle (Set line squares values) cell value is has pair h = absurd (cc)
+-- squares that follow each other on a line are neighbours
+next_on : (w line k : ℕ) → (line_cell w line k + 1 ≡ line_cell w line (k + 1)) ⊎ (line_cell w line k + w ≡ line_cell w line (k + 1))
+next_on w line k = elim (cases_lt line w) [
+  | inl row ↦ inl (omega (arith, line_cell-row w line k row, line_cell-row w line (k + 1) row))
+  | inr column ↦
+      let is : w + (line - w) ≡ line = omega (arith, column) in
+      inr (subst (λ (n : ℕ). line_cell w n k + w ≡ line_cell w n (k + 1)) is
+      (omega (arith, line_cell-column w (line - w) k, line_cell-column w (line - w) (k + 1))))
+]
 
-groups_settled : (p : Puzzle) (Struck : CandidatesValue → Reason → ℕ → ℕ → Type 0) → IsGame p Struck → (grade : Grade) (c : CandidatesValue) → p.size ≡ c.size
-    → AreIdle Struck grade c → is_past_easy grade ≡ true → (line : ℕ) → line < 2 * c.size → IsGroupQuiet line c
+sign_idle : (Struck : Striking) (grade : Grade) (c : CandidatesValue) (at from to : ℕ) → AreAllIdle Struck grade c
+    → at < 4 * (c.size * c.size) → IsSignAt c.size at from to → IsIdle Struck grade c (Sign from to)
+sign_idle Struck grade c at from to idle low there =
+    found_idle Struck grade c Signs at (Sign from to) idle low (λ found is. is from to there)
+
+-- a clue or a sign that looks along a line strikes nothing more
+along_idle : (Struck : Striking) (grade : Grade) (c : CandidatesValue) → AreAllIdle Struck grade c
+    → (line : ℕ) (reason : Reason) (cell : ℕ) → line < 2 * c.size → LooksAlong c.size line reason cell → IsIdle Struck grade c reason
+along_idle Struck grade c idle line (Given at) cell low along = absurd along
+along_idle Struck grade c idle line (Peer by) cell low along = absurd along
+along_idle Struck grade c idle line (Place at index other) cell low along = absurd along
+along_idle Struck grade c idle line (Bound place) cell low along = found_idle Struck grade c Clues (3 * place) (Bound place) idle
+    (omega (arith, along.0)) (λ found is. is.0 place refl)
+along_idle Struck grade c idle line (Stand place) cell low along = found_idle Struck grade c Clues (3 * place + 1) (Stand place) idle
+    (omega (arith, along.0)) (λ found is. is.1.0 place refl)
+along_idle Struck grade c idle line (Clue place) cell low along = found_idle Struck grade c Clues (3 * place + 2) (Clue place) idle
+    (omega (arith, along.0)) (λ found is. is.1.1 place refl)
+along_idle Struck grade c idle line (Sign from to) cell low (here, inl (k, inside, first, second)) =
+    let to_is : to < c.size * c.size = subst (λ (n : ℕ). n < c.size * c.size) second (line_cell_inside c.size line (k + 1) low inside) in
+    elim (next_on c.size line k) [
+      | inl beside ↦ sign_idle Struck grade c (4 * to + 1) from to idle (omega (arith, to_is)) (inr (inl (refl, ap (λ n. n + 1) (sym first) ∙ beside ∙ second)))
+      | inr below ↦ sign_idle Struck grade c (4 * to) from to idle (omega (arith, to_is)) (inl (refl, ap (λ n. n + c.size) (sym first) ∙ below ∙ second))
+    ]
+along_idle Struck grade c idle line (Sign from to) cell low (here, inr (k, inside, first, second)) =
+    let to_is : to < c.size * c.size = subst (λ (n : ℕ). n < c.size * c.size) first (line_cell_inside c.size line k low (omega (arith, inside))) in
+    elim (next_on c.size line k) [
+      | inl beside ↦ sign_idle Struck grade c (4 * to + 2) from to idle (omega (arith, to_is))
+          (inr (inr (inl (refl, sym (ap (λ n. n + 1) (sym first) ∙ beside ∙ second)))))
+      | inr below ↦ sign_idle Struck grade c (4 * to + 3) from to idle (omega (arith, to_is))
+          (inr (inr (inr (refl, sym (ap (λ n. n + c.size) (sym first) ∙ below ∙ second)))))
+    ]
+along_idle Struck grade c idle line (Set at squares values) cell low along = absurd along
+
+clues_settled : (p : Puzzle) (Struck : Striking) → IsGame p Struck → (grade : Grade) (c : CandidatesValue) → p.size ≡ c.size
+    → AreAllIdle Struck grade c → AreCluesSettled Struck grade c
+clues_settled p Struck game grade c size idle = λ reason cell value is has pair h.
+    let (line, low, along) = subst (λ (w : ℕ). StandsAlong w reason cell) size (game.stands c reason cell value is h) in
+    along_idle Struck grade c idle line reason cell low along cell value has pair h
+
+groups_settled : (p : Puzzle) (Struck : Striking) → IsGame p Struck → (grade : Grade) (c : CandidatesValue) → p.size ≡ c.size
+    → AreAllIdle Struck grade c → is_past_easy grade ≡ true → (line : ℕ) → line < 2 * c.size → IsGroupQuiet line c
 groups_settled p Struck game grade c size idle past line line_is = λ cell value pair h.
     let is : IsBySet c.size c line h.squares h.union cell value = record {
       line_is = line_is;
@@ -99,21 +162,18 @@ groups_settled p Struck game grade c size idle past line line_is = λ cell value
       outside = h.outside;
       one = h.one;
     } in
-    idle.groups line h.squares line_is h.below h.union h.is h.same cell value past pair
+    let at = line * 2 ^ c.size + h.squares in
+    let low : at < 2 * c.size * 2 ^ c.size = omega (arith, mul-add-lt line (2 ^ c.size) h.squares (2 * c.size) line_is h.below) in
+    found_idle Struck grade c Groups at (Set line h.squares h.union) idle low
+    (λ found there. there line h.squares h.union line_is h.below refl (h.is, h.same)) cell value past pair
     ((game.shared.line c (Set line h.squares h.union) cell value refl).0 (subst (λ (w : ℕ). IsBySet w c line h.squares h.union cell value) (sym size) is))
 
 -- then no reason of the grade does
-pub idle_settled : (p : Puzzle) (Struck : CandidatesValue → Reason → ℕ → ℕ → Type 0) → IsGame p Struck → (grade : Grade) (c : CandidatesValue) → c.size ≤ 9
-    → c.size ≡ p.size → AreIdle Struck grade c → IsSettled Struck grade c
+pub idle_settled : (p : Puzzle) (Struck : Striking) → IsGame p Struck → (grade : Grade) (c : CandidatesValue) → c.size ≤ 9
+    → c.size ≡ p.size → AreAllIdle Struck grade c → IsSettled Struck grade c
 idle_settled p Struck game grade c small size idle =
     settled_all p Struck game.shared grade c small size (givens_settled p Struck game grade c idle) (rest_settled p Struck game grade c (sym size) idle)
     (clues_settled p Struck game grade c (sym size) idle) (groups_settled p Struck game grade c (sym size) idle)
-
--- what is found last
-pub found_last : (Struck : CandidatesValue → Reason → ℕ → ℕ → Type 0) (grade : Grade) (c : CandidatesValue) (Last All : Type 0) (found : Option Step)
-    → (Last → All) → MatchOption found Last (IsNew Struck grade c) → MatchOption found All (IsNew Struck grade c)
-found_last Struck grade c Last All None all h = all h
-found_last Struck grade c Last All (Some s) all h = h
 
 -- ---- one step after another
 
@@ -122,7 +182,7 @@ some_pair [] cell v has = absurd (cc)
 some_pair (pair ∷ pairs) cell v has = omega arith
 
 -- a new step strikes something
-pub new_longer : (Struck : CandidatesValue → Reason → ℕ → ℕ → Type 0) (grade : Grade) (c d : CandidatesValue) (s : Step) → c.size ≤ 9 → IsNew Struck grade c s
+pub new_longer : (Struck : Striking) (grade : Grade) (c d : CandidatesValue) (s : Step) → c.size ≤ 9 → IsNew Struck grade c s
     → d.trail ≡ c.trail ++ pairs_of s.cell s.values → length c.trail < length d.trail
 new_longer Struck grade c d s small new is =
     let low = set_below c.size s.cell s.values small (λ v has. (new.left v has).0) in
@@ -131,7 +191,7 @@ new_longer Struck grade c d s small new is =
     omega (arith, one, ap length is, length-append c.trail (pairs_of s.cell s.values))
 
 -- and leads on
-pub new_leads : (Struck : CandidatesValue → Reason → ℕ → ℕ → Type 0) → IsAntitone Struck → (grade : Grade) (c d e : CandidatesValue) (steps more : List Step)
+pub new_leads : (Struck : Striking) → IsAntitone Struck → (grade : Grade) (c d e : CandidatesValue) (steps more : List Step)
     (s : Step) → Leads Struck grade c (steps_of steps) d → IsNew Struck grade d s → e.size ≡ d.size → e.trail ≡ d.trail ++ pairs_of s.cell s.values
     → more ≡ steps ++ s ∷ [] → Leads Struck grade c (steps_of more) e
 new_leads Struck less grade c d e steps more s before new size trail is =

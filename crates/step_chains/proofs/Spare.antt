@@ -9,13 +9,14 @@ use Rattle.number_sets.specs.Sets.{has_number}
 use Rattle.trail_solver.specs.Pairs.{IsPair, has_pair}
 use Rattle.trail_solver.specs.Candidates.{CandidatesValue}
 use Rattle.trail_solver.proofs.SetPairs.{has_pair-pairs_of}
-use Rattle.named_steps.specs.Left.{IsFewer, without}
+use Rattle.clue_rules.specs.Left.{IsFewer, without}
 use Rattle.named_steps.specs.Grades.{has_reason}
 use Rattle.named_steps.specs.Chains.{StepValue, IsStep, IsChain, AreOfGrade, left_by, Shows}
-use Rattle.named_steps.proofs.Antitone.{IsAntitone, was_left, still_left, without_fewer, chain_less, left_size}
+use Rattle.named_steps.proofs.Antitone.{IsAntitone, chain_less, left_size}
+use Rattle.clue_rules.proofs.Takes.{was_left, still_left, without_fewer}
 use Rattle.named_steps.proofs.Parts.{left_append, chain_split, chain_joined}
 use Rattle.named_steps.proofs.Shown.{shown_less}
-use Rattle.named_steps.specs.declared.reason.Reason.{Reason}
+use Rattle.clue_rules.specs.declared.reason.Reason.{Reason}
 use Rattle.named_steps.specs.declared.grade.Grade.{Grade}
 use Rattle.named_steps.specs.declared.goal.Goal.{Goal}
 use Rattle.step_chains.specs.declared.chain.Step.{Step}
@@ -25,9 +26,10 @@ use Rattle.step_chains.specs.Inner.Replays.{IsGradeChain}
 use Rattle.step_chains.proofs.Followed.{front_chain}
 use Rattle.step_chains.proofs.Live.{live_more}
 use Rattle.step_chains.proofs.Tight.{fronts_part, parted, remove_at, shows_with, steps_removed, tight_without}
+use Rattle.clue_rules.specs.Reasons.{Striking}
 
 -- the pair is one of the size's, and the reason strikes it
-abbrev IsPairStruck : (CandidatesValue → Reason → ℕ → ℕ → Type 0) → CandidatesValue → Reason → ℕ → ℕ → Type 0
+abbrev IsPairStruck : Striking → CandidatesValue → Reason → ℕ → ℕ → Type 0
 IsPairStruck Struck c reason cell v = IsPair c.size cell v × Struck c reason cell v
 
 -- each pair of the first step is one of the second's
@@ -62,7 +64,7 @@ allowed_with grade [] back step has h = (has, h)
 allowed_with grade (first ∷ front) back step has h = (h.0, allowed_with grade front back step has h.1)
 
 -- where it is a step, what shows the goal with one that strikes less shows it with the step
-shows_at : (Struck : CandidatesValue → Reason → ℕ → ℕ → Type 0) → IsAntitone Struck → (grade : Grade) (c : CandidatesValue)
+shows_at : (Struck : Striking) → IsAntitone Struck → (grade : Grade) (c : CandidatesValue)
     (front rest : List StepValue) (less more : StepValue) (goal : Goal) → Among less more → IsStep Struck (left_by c front) more
     → has_reason grade more.reason ≡ true → Shows Struck grade c (front ++ less ∷ rest) goal → Shows Struck grade c (front ++ more ∷ rest) goal
 shows_at Struck antitone grade c front rest less more goal among at has part =
@@ -79,7 +81,7 @@ shows_at Struck antitone grade c front rest less more goal among at has part =
     }
 
 -- so it is where the step stands in a chain
-pub shows_more : (Struck : CandidatesValue → Reason → ℕ → ℕ → Type 0) → IsAntitone Struck → (grade : Grade) (c : CandidatesValue)
+pub shows_more : (Struck : Striking) → IsAntitone Struck → (grade : Grade) (c : CandidatesValue)
     (front back rest : List StepValue) (less more : StepValue) (goal : Goal) → Among less more → Shows Struck grade c (front ++ more ∷ back) goal
     → Shows Struck grade c (front ++ less ∷ rest) goal → Shows Struck grade c (front ++ more ∷ rest) goal
 shows_more Struck antitone grade c front back rest less more goal among whole part =
@@ -98,14 +100,14 @@ live_less c (first ∷ front) back less more among h = (h.0, live_less (without 
 -- ---- later steps, where a step strikes less
 
 -- what shows the goal with other steps after a later front shows it where the step strikes all
-record Later (Struck : CandidatesValue → Reason → ℕ → ℕ → Type 0) (grade : Grade) (c : CandidatesValue) (front back rest tail : List StepValue)
+record Later (Struck : Striking) (grade : Grade) (c : CandidatesValue) (front back rest tail : List StepValue)
     (more step : StepValue) (goal : Goal) : Type 0 where
   mid : List StepValue
   is : front ++ more ∷ back ≡ (front ++ more ∷ mid) ++ step ∷ rest
   far : length front < length (front ++ more ∷ mid)
   shows : Shows Struck grade c ((front ++ more ∷ mid) ++ tail) goal
 
-later : (Struck : CandidatesValue → Reason → ℕ → ℕ → Type 0) → IsAntitone Struck → (grade : Grade) (c : CandidatesValue)
+later : (Struck : Striking) → IsAntitone Struck → (grade : Grade) (c : CandidatesValue)
     (front back long rest tail : List StepValue) (less more step : StepValue) (goal : Goal) → Among less more
     → Shows Struck grade c (front ++ more ∷ back) goal → front ++ less ∷ back ≡ long ++ step ∷ rest → length front < length long
     → Shows Struck grade c (long ++ tail) goal → Later Struck grade c front back rest tail more step goal
@@ -126,7 +128,7 @@ later Struck antitone grade c front back long rest tail less more step goal amon
     }
 
 -- no later step can be left out, or strike less, where none could before
-pub tight_less : (Struck : CandidatesValue → Reason → ℕ → ℕ → Type 0) → IsAntitone Struck → (grade : Grade) (c : CandidatesValue)
+pub tight_less : (Struck : Striking) → IsAntitone Struck → (grade : Grade) (c : CandidatesValue)
     (front back : List StepValue) (less more : StepValue) (goal : Goal) → Among less more → Shows Struck grade c (front ++ more ∷ back) goal
     → IsTightFrom (length front + 1) Struck grade c (front ++ more ∷ back) goal
     → IsTightFrom (length front + 1) Struck grade c (front ++ less ∷ back) goal
@@ -134,7 +136,7 @@ tight_less Struck antitone grade c front back less more goal among whole tight =
     let l = later Struck antitone grade c front back long rest rest less more step goal among whole is (omega (arith, behind)) shows in
     tight (front ++ more ∷ l.mid) rest step l.is (omega (arith, l.far)) l.shows
 
-pub needed_less : (Struck : CandidatesValue → Reason → ℕ → ℕ → Type 0) → IsAntitone Struck → (grade : Grade) (c : CandidatesValue)
+pub needed_less : (Struck : Striking) → IsAntitone Struck → (grade : Grade) (c : CandidatesValue)
     (front back : List StepValue) (less more : StepValue) (goal : Goal) → Among less more → Shows Struck grade c (front ++ more ∷ back) goal
     → IsNeededFrom (length front + 1) Struck grade c (front ++ more ∷ back) goal
     → IsNeededFrom (length front + 1) Struck grade c (front ++ less ∷ back) goal
@@ -173,7 +175,7 @@ less_among s t at value less low small lacks by = λ cell v has.
     (pairs_where t cell v small).1 (h.0 ∙ sym lacks.cell, (lacks.values v).1 (h.1, other))
 
 -- where the goal isn't shown with a value less, it isn't with anything that lacks the value
-pub needed_here : (Struck : CandidatesValue → Reason → ℕ → ℕ → Type 0) → IsAntitone Struck → (grade : Grade) (c : CandidatesValue)
+pub needed_here : (Struck : Striking) → IsAntitone Struck → (grade : Grade) (c : CandidatesValue)
     (front back : List StepValue) (s t : Step) (value : ℕ) (less : StepValue) (goal : Goal) → s.values < 2 ^ 16 → t.values < 2 ^ 16 → Lacks value s t
     → Shows Struck grade c (front ++ step_value s ∷ back) goal → (Shows Struck grade c (front ++ step_value t ∷ back) goal → ⊥)
     → (at : ℕ) → StrikesLess at value less (step_value s) → Shows Struck grade c (front ++ less ∷ back) goal → ⊥
@@ -199,7 +201,7 @@ parts_at steps place s low is =
     (at.0, at.2, at.3 ∙ ap (λ (x : Step). at.0 ++ x ∷ at.2) (sym same), at.4)
 
 -- where another one is put in its place, those before it are a chain as before
-pub front_stays : (Struck : CandidatesValue → Reason → ℕ → ℕ → Type 0) (grade : Grade) (c : CandidatesValue) (place : ℕ) (steps set : List Step) (s t : Step)
+pub front_stays : (Struck : Striking) (grade : Grade) (c : CandidatesValue) (place : ℕ) (steps set : List Step) (s t : Step)
     (goal : Goal) → place < length steps → s ≡ slice_index_or steps place s → set ≡ slice_set steps place t → Shows Struck grade c (steps_of steps) goal
     → (place ≤ length set) × IsGradeChain Struck grade c (steps_of (take place set))
 front_stays Struck grade c place steps set s t goal low is set_is shows =
@@ -213,7 +215,7 @@ front_stays Struck grade c place steps set s t goal low is set_is shows =
     )
 
 -- the step doesn't strike the number
-pub left_none : (Struck : CandidatesValue → Reason → ℕ → ℕ → Type 0) (grade : Grade) (c : CandidatesValue) (place value : ℕ) (steps : List Step) (s : Step)
+pub left_none : (Struck : Striking) (grade : Grade) (c : CandidatesValue) (place value : ℕ) (steps : List Step) (s : Step)
     (goal : Goal) → place < length steps → s ≡ slice_index_or steps place s → s.values < 2 ^ 16 → has_number s.values value ≡ false
     → IsLeftOut Struck grade c place value steps steps goal
 left_none Struck grade c place value steps s goal low is small none =
@@ -232,7 +234,7 @@ left_none Struck grade c place value steps s goal low is small none =
     }
 
 -- it does, and goes without
-pub left_less : (Struck : CandidatesValue → Reason → ℕ → ℕ → Type 0) (grade : Grade) (c : CandidatesValue) (place value : ℕ) (steps : List Step)
+pub left_less : (Struck : Striking) (grade : Grade) (c : CandidatesValue) (place value : ℕ) (steps : List Step)
     (s t : Step) (goal : Goal) → place < length steps → s ≡ slice_index_or steps place s → s.values < 2 ^ 16 → t.values < 2 ^ 16 → Lacks value s t
     → IsLeftOut Struck grade c place value steps (slice_set steps place t) goal
 left_less Struck grade c place value steps s t goal low is small few lacks =
@@ -259,7 +261,7 @@ set_back steps place s t low is =
     ∙ set_at front t back s place at ∙ sym parts
 
 -- it can't go without
-pub left_with : (Struck : CandidatesValue → Reason → ℕ → ℕ → Type 0) → IsAntitone Struck → (grade : Grade) (c : CandidatesValue) (place value : ℕ)
+pub left_with : (Struck : Striking) → IsAntitone Struck → (grade : Grade) (c : CandidatesValue) (place value : ℕ)
     (steps set : List Step) (s t : Step) (goal : Goal) → place < length steps → s ≡ slice_index_or steps place s → s.values < 2 ^ 16 → t.values < 2 ^ 16
     → Lacks value s t → set ≡ slice_set steps place t → Shows Struck grade c (steps_of steps) goal
     → (Shows Struck grade c (steps_of set) goal → ⊥)
@@ -300,7 +302,7 @@ same_parts (h ∷ xs) (k ∷ ys) us bs x y same size =
     let rest = same_parts xs ys us bs x y tail (omega (arith, size)) in
     ((λ i. head i ∷ rest.0 i), rest.1, rest.2)
 
-pub narrowed_on : (Struck : CandidatesValue → Reason → ℕ → ℕ → Type 0) → IsAntitone Struck → (grade : Grade) (c : CandidatesValue) (place value : ℕ)
+pub narrowed_on : (Struck : Striking) → IsAntitone Struck → (grade : Grade) (c : CandidatesValue) (place value : ℕ)
     (old new : List Step) (goal : Goal) → Shows Struck grade c (steps_of old) goal → IsLeftOut Struck grade c place value old new goal
     → IsNarrowed Struck grade c place value old goal → IsNarrowed Struck grade c place (value + 1) new goal
 narrowed_on Struck antitone grade c place value old new goal shows o h =
@@ -341,20 +343,20 @@ narrowed_on Struck antitone grade c place value old new goal shows o h =
     }
 
 -- and they strike only what is left, if they did before
-pub left_out_live : (Struck : CandidatesValue → Reason → ℕ → ℕ → Type 0) (grade : Grade) (c : CandidatesValue) (place value : ℕ)
+pub left_out_live : (Struck : Striking) (grade : Grade) (c : CandidatesValue) (place value : ℕ)
     (old new : List Step) (goal : Goal) → IsLeftOut Struck grade c place value old new goal → AreLive c (steps_of old) → AreLive c (steps_of new)
 left_out_live Struck grade c place value old new goal o live =
     subst (AreLive c) (sym (listed new o.front o.back o.now o.new_is))
     (live_less c (steps_of o.front) (steps_of o.back) (step_value o.now) (step_value o.was) o.among
     (subst (AreLive c) (listed old o.front o.back o.was o.old_is) live))
 
-pub left_out_size : (Struck : CandidatesValue → Reason → ℕ → ℕ → Type 0) (grade : Grade) (c : CandidatesValue) (place value : ℕ)
+pub left_out_size : (Struck : Striking) (grade : Grade) (c : CandidatesValue) (place value : ℕ)
     (old new : List Step) (goal : Goal) → IsLeftOut Struck grade c place value old new goal → length new ≡ length old
 left_out_size Struck grade c place value old new goal o =
     omega (arith, ap length o.old_is, ap length o.new_is, length-append o.front (o.was ∷ o.back), length-append o.front (o.now ∷ o.back))
 
 -- the values that a step strikes are numbers of the size
-struck_size : (Struck : CandidatesValue → Reason → ℕ → ℕ → Type 0) (grade : Grade) (c : CandidatesValue) (steps front back : List StepValue)
+struck_size : (Struck : Striking) (grade : Grade) (c : CandidatesValue) (steps front back : List StepValue)
     (step : StepValue) (cell v : ℕ) (goal : Goal) → steps ≡ front ++ step ∷ back → has_pair step.strikes cell v ≡ true → Shows Struck grade c steps goal
     → (1 ≤ v) × (v ≤ c.size)
 struck_size Struck grade c steps front back step cell v goal is has shows =
@@ -363,12 +365,12 @@ struck_size Struck grade c steps front back step cell v goal is has shows =
     let size : (left_by c front).size ≡ c.size = left_size c front in
     (struck.0.low, subst (λ (n : ℕ). v ≤ n) size struck.0.high)
 
-pub needed_none : (Struck : CandidatesValue → Reason → ℕ → ℕ → Type 0) (grade : Grade) (c : CandidatesValue) (place : ℕ) (steps : List StepValue)
+pub needed_none : (Struck : Striking) (grade : Grade) (c : CandidatesValue) (place : ℕ) (steps : List StepValue)
     (goal : Goal) → Shows Struck grade c steps goal → IsNeededBelow 1 place Struck grade c steps goal
 needed_none Struck grade c place steps goal shows = λ front back step less cell v is at by below shown.
     absurd (omega (arith, below, (struck_size Struck grade c steps front back step cell v goal is by.has shows).0))
 
-pub needed_all : (Struck : CandidatesValue → Reason → ℕ → ℕ → Type 0) (grade : Grade) (c : CandidatesValue) (place most : ℕ) (steps : List StepValue)
+pub needed_all : (Struck : Striking) (grade : Grade) (c : CandidatesValue) (place most : ℕ) (steps : List StepValue)
     (goal : Goal) → c.size ≤ 9 → 10 ≤ most → Shows Struck grade c steps goal → IsNeededBelow most place Struck grade c steps goal
     → IsNeededAt place Struck grade c steps goal
 needed_all Struck grade c place most steps goal small high shows h = λ front back step less cell v is at by shown.
@@ -382,7 +384,7 @@ empty_fewer : (c : CandidatesValue) (step : StepValue) → ((k v : ℕ) → has_
 empty_fewer c step none = λ cell value left. still_left c step.strikes cell value left
     (false_from_ne_true (has_pair step.strikes cell value) (none cell value))
 
-pub shows_empty : (Struck : CandidatesValue → Reason → ℕ → ℕ → Type 0) → IsAntitone Struck → (grade : Grade) (c : CandidatesValue)
+pub shows_empty : (Struck : Striking) → IsAntitone Struck → (grade : Grade) (c : CandidatesValue)
     (front back : List StepValue) (step : StepValue) (goal : Goal) → ((k v : ℕ) → has_pair step.strikes k v ≡ true → ⊥)
     → Shows Struck grade c (front ++ step ∷ back) goal → Shows Struck grade c (front ++ back) goal
 shows_empty Struck antitone grade c front back step goal none h =
@@ -399,7 +401,7 @@ shows_empty Struck antitone grade c front back step goal none h =
     }
 
 -- a step that strikes nothing can be put in
-shows_idle : (Struck : CandidatesValue → Reason → ℕ → ℕ → Type 0) → IsAntitone Struck → (grade : Grade) (c : CandidatesValue)
+shows_idle : (Struck : Striking) → IsAntitone Struck → (grade : Grade) (c : CandidatesValue)
     (front back : List StepValue) (reason : Reason) (goal : Goal) → has_reason grade reason ≡ true
     → Shows Struck grade c (front ++ back) goal → Shows Struck grade c (front ++ (record { reason = reason; strikes = [] }) ∷ back) goal
 shows_idle Struck antitone grade c front back reason goal has h =
@@ -417,7 +419,7 @@ shows_idle Struck antitone grade c front back reason goal has h =
     }
 
 -- where a step strikes something and can't strike less, it can't be left out
-pub tight_needed : (Struck : CandidatesValue → Reason → ℕ → ℕ → Type 0) → IsAntitone Struck → (grade : Grade) (c : CandidatesValue) (place : ℕ)
+pub tight_needed : (Struck : Striking) → IsAntitone Struck → (grade : Grade) (c : CandidatesValue) (place : ℕ)
     (steps front back : List Step) (s : Step) (value : ℕ) (goal : Goal) → steps ≡ front ++ s ∷ back → length front ≡ place → s.values < 2 ^ 16
     → has_number s.values value ≡ true → Shows Struck grade c (steps_of steps) goal
     → IsTightFrom (place + 1) Struck grade c (steps_of steps) goal → IsNeededAt place Struck grade c (steps_of steps) goal
@@ -441,7 +443,7 @@ tight_needed Struck antitone grade c place steps front back s value goal is at l
       | inr other ↦ tight fs bs step same (omega (arith, behind, other)) shown
     ]
 
-pub needed_from : (Struck : CandidatesValue → Reason → ℕ → ℕ → Type 0) (grade : Grade) (c : CandidatesValue) (place : ℕ) (steps : List StepValue)
+pub needed_from : (Struck : Striking) (grade : Grade) (c : CandidatesValue) (place : ℕ) (steps : List StepValue)
     (goal : Goal) → IsNeededAt place Struck grade c steps goal → IsNeededFrom (place + 1) Struck grade c steps goal
     → IsNeededFrom place Struck grade c steps goal
 needed_from Struck grade c place steps goal here later_ones = λ front back step less cell v is behind by shown.
@@ -451,7 +453,7 @@ needed_from Struck grade c place steps goal here later_ones = λ front back step
     ]
 
 -- a step that goes leaves the later ones needed
-pub needed_without : (Struck : CandidatesValue → Reason → ℕ → ℕ → Type 0) → IsAntitone Struck → (grade : Grade) (c : CandidatesValue)
+pub needed_without : (Struck : Striking) → IsAntitone Struck → (grade : Grade) (c : CandidatesValue)
     (front back : List StepValue) (gone : StepValue) (goal : Goal) → Shows Struck grade c (front ++ gone ∷ back) goal
     → IsNeededFrom (length front + 1) Struck grade c (front ++ gone ∷ back) goal → IsNeededFrom (length front) Struck grade c (front ++ back) goal
 needed_without Struck antitone grade c front back gone goal whole needed = λ fs bs step less cell v is behind by shown.
@@ -468,7 +470,7 @@ needed_without Struck antitone grade c front back gone goal whole needed = λ fs
 -- ---- the loop over the steps
 
 -- a step of which nothing is left goes
-pub narrowed_goes : (Struck : CandidatesValue → Reason → ℕ → ℕ → Type 0) → IsAntitone Struck → (grade : Grade) (c : CandidatesValue) (place : ℕ)
+pub narrowed_goes : (Struck : Striking) → IsAntitone Struck → (grade : Grade) (c : CandidatesValue) (place : ℕ)
     (steps front back rest : List Step) (s : Step) (goal : Goal) → steps ≡ front ++ s ∷ back → length front ≡ place → s.values < 2 ^ 16
     → ((n : ℕ) → has_number s.values n ≡ false) → Shows Struck grade c (steps_of steps) goal
     → IsTightFrom (place + 1) Struck grade c (steps_of steps) goal → IsNeededFrom (place + 1) Struck grade c (steps_of steps) goal
@@ -497,7 +499,7 @@ narrowed_goes Struck antitone grade c place steps front back rest s goal is at l
     }
 
 -- another one stays
-pub narrowed_stays : (Struck : CandidatesValue → Reason → ℕ → ℕ → Type 0) → IsAntitone Struck → (grade : Grade) (c : CandidatesValue) (place : ℕ)
+pub narrowed_stays : (Struck : Striking) → IsAntitone Struck → (grade : Grade) (c : CandidatesValue) (place : ℕ)
     (steps front back : List Step) (s : Step) (value : ℕ) (goal : Goal) → steps ≡ front ++ s ∷ back → length front ≡ place → s.values < 2 ^ 16
     → has_number s.values value ≡ true → Shows Struck grade c (steps_of steps) goal
     → IsTightFrom (place + 1) Struck grade c (steps_of steps) goal → IsNeededFrom (place + 1) Struck grade c (steps_of steps) goal

@@ -4,17 +4,18 @@ use Rattle.std.specs.List.{remove}
 use Rattle.std.proofs.Math.Seq.{take-append_seam, drop-append-add}
 use Rattle.std.proofs.lemmas.List.{take-map, drop-map, map-append}
 use Rattle.trail_solver.specs.Candidates.{CandidatesValue}
-use Rattle.named_steps.specs.Left.{IsFewer, without}
+use Rattle.clue_rules.specs.Left.{IsFewer, without}
 use Rattle.named_steps.specs.Chains.{StepValue, AreOfGrade, left_by, Shows, IsTight}
-use Rattle.named_steps.proofs.Antitone.{IsAntitone, chain_less, left_size, without_fewer}
+use Rattle.named_steps.proofs.Antitone.{IsAntitone, chain_less, left_size}
+use Rattle.clue_rules.proofs.Takes.{without_fewer}
 use Rattle.named_steps.proofs.Parts.{left_append, chain_split, chain_joined}
 use Rattle.named_steps.proofs.Shown.{shown_less}
-use Rattle.named_steps.specs.declared.reason.Reason.{Reason}
 use Rattle.named_steps.specs.declared.grade.Grade.{Grade}
 use Rattle.named_steps.specs.declared.goal.Goal.{Goal}
 use Rattle.step_chains.specs.declared.chain.Step.{Step}
 use Rattle.step_chains.specs.ChainValues.{step_value, steps_of}
 use Rattle.step_chains.specs.Inner.Tight.{IsTightFrom}
+use Rattle.clue_rules.specs.Reasons.{Striking}
 
 -- ---- a list without one of its elements
 
@@ -62,7 +63,7 @@ with_allowed grade [] back rest step whole part = (whole.0, part)
 with_allowed grade (first ∷ front) back rest step whole part = (whole.0, with_allowed grade front back rest step whole.1 part.1)
 
 -- where a step stands in a chain, what shows the goal without it and some later steps shows it with the step
-pub shows_with : (Struck : CandidatesValue → Reason → ℕ → ℕ → Type 0) → IsAntitone Struck → (grade : Grade) (c : CandidatesValue)
+pub shows_with : (Struck : Striking) → IsAntitone Struck → (grade : Grade) (c : CandidatesValue)
     (front back rest : List StepValue) (step : StepValue) (goal : Goal) → Shows Struck grade c (front ++ step ∷ back) goal
     → Shows Struck grade c (front ++ rest) goal → Shows Struck grade c (front ++ step ∷ rest) goal
 shows_with Struck less grade c front back rest step goal whole part =
@@ -80,7 +81,7 @@ shows_with Struck less grade c front back rest step goal whole part =
     }
 
 -- of the goal a chain shows from candidates, it shows as much from others of which the same is left
-pub shows_alike : (Struck : CandidatesValue → Reason → ℕ → ℕ → Type 0) → IsAntitone Struck → (grade : Grade) (c d : CandidatesValue)
+pub shows_alike : (Struck : Striking) → IsAntitone Struck → (grade : Grade) (c d : CandidatesValue)
     (steps : List StepValue) (goal : Goal) → c.size ≡ d.size → IsFewer c d → Shows Struck grade c steps goal → Shows Struck grade d steps goal
 shows_alike Struck less grade c d steps goal size fewer h =
     let there = chain_less Struck less c d steps size fewer h.chain in
@@ -93,7 +94,7 @@ shows_alike Struck less grade c d steps goal size fewer h =
 -- ---- one pass from the last step to the first
 
 -- a step that can be left out goes, and what was tight after it stays so
-pub tight_without : (Struck : CandidatesValue → Reason → ℕ → ℕ → Type 0) → IsAntitone Struck → (grade : Grade) (c : CandidatesValue)
+pub tight_without : (Struck : Striking) → IsAntitone Struck → (grade : Grade) (c : CandidatesValue)
     (steps : List StepValue) (place : ℕ) (goal : Goal) → place < length steps → Shows Struck grade c steps goal
     → IsTightFrom (place + 1) Struck grade c steps goal → IsTightFrom place Struck grade c (remove steps place) goal
 tight_without Struck less grade c steps place goal low whole tight = λ front back step is behind shows.
@@ -109,13 +110,13 @@ tight_without Struck less grade c steps place goal low whole tight = λ front ba
     (subst (λ xs. Shows Struck grade c xs goal) (sym (append_assoc at.0 (at.1 ∷ more.0) back)) with_it)
 
 -- in other words: where it isn't shown without any one of them
-pub tight_from_each : (Struck : CandidatesValue → Reason → ℕ → ℕ → Type 0) (grade : Grade) (c : CandidatesValue) (steps : List StepValue) (goal : Goal)
+pub tight_from_each : (Struck : Striking) (grade : Grade) (c : CandidatesValue) (steps : List StepValue) (goal : Goal)
     → ((place : ℕ) → place < length steps → Shows Struck grade c (remove steps place) goal → ⊥) → IsTight Struck grade c steps goal
 tight_from_each Struck grade c steps goal none = λ front back step is shows.
     let rest : remove steps (length front) ≡ front ++ back = ap (λ xs. remove xs (length front)) is ∙ remove_at front back step in
     none (length front) (omega (arith, ap length is, length-append front (step ∷ back))) (subst (λ xs. Shows Struck grade c xs goal) (sym rest) shows)
 
-pub each_from_tight : (Struck : CandidatesValue → Reason → ℕ → ℕ → Type 0) (grade : Grade) (c : CandidatesValue) (steps : List StepValue) (place : ℕ) (goal : Goal)
+pub each_from_tight : (Struck : Striking) (grade : Grade) (c : CandidatesValue) (steps : List StepValue) (place : ℕ) (goal : Goal)
     → IsTight Struck grade c steps goal → place < length steps → Shows Struck grade c (remove steps place) goal → ⊥
 each_from_tight Struck grade c steps place goal tight low shows =
     let at = parted steps place low in

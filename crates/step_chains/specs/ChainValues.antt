@@ -2,12 +2,12 @@
 use Rattle.std.specs.Prelude.{◌≡◌, ℕ, ◌*◌, ◌<◌, true, false, List, [], ◌∷◌, ◌++◌, map}
 use Rattle.trail_solver.specs.Pairs.{pairs_of, has_pair}
 use Rattle.trail_solver.specs.Candidates.{CandidatesValue}
-use Rattle.named_steps.specs.Left.{IsLeft, without}
+use Rattle.clue_rules.specs.Left.{IsLeft, without}
 use Rattle.named_steps.specs.Chains.{StepValue, IsChain, AreOfGrade, Shows, left_by}
-use Rattle.named_steps.specs.declared.reason.Reason.{Reason}
 use Rattle.named_steps.specs.declared.grade.Grade.{Grade}
 use Rattle.named_steps.specs.declared.goal.Goal.{Goal}
 use Rattle.step_chains.specs.declared.chain.Step.{Step}
+use Rattle.clue_rules.specs.Reasons.{Striking}
 
 -- a step, with the pairs of its square and its values
 abbrev pub step_value : Step → StepValue
@@ -18,7 +18,8 @@ abbrev pub steps_of : List Step → List StepValue
 steps_of steps = map step_value steps
 
 -- the steps are a chain of the grade's, and leave the square nothing
-pub record LeavesNothing (Struck : CandidatesValue → Reason → ℕ → ℕ → Type 0) (grade : Grade) (c : CandidatesValue) (steps : List StepValue) (cell : ℕ) : Type 0 where
+pub record LeavesNothing (Struck : Striking) (grade : Grade) (c : CandidatesValue) (steps : List StepValue)
+    (cell : ℕ) : Type 0 where
   pub chain : IsChain Struck c steps
   pub allowed : AreOfGrade grade steps
   pub inside : cell < c.size * c.size
@@ -42,7 +43,7 @@ pub record StrikesLess (cell value : ℕ) (less step : StepValue) : Type 0 where
 
 -- no step can strike less, so that no number of a step can be left out
 abbrev pub AreAllNeeded :
-    (CandidatesValue → Reason → ℕ → ℕ → Type 0) → Grade → CandidatesValue → List StepValue → Goal → Type 0
+    Striking → Grade → CandidatesValue → List StepValue → Goal → Type 0
 AreAllNeeded Struck grade c steps goal =
     (front back : List StepValue) (step less : StepValue) (cell value : ℕ) → steps ≡ front ++ step ∷ back
     → StrikesLess cell value less step → Shows Struck grade c (front ++ less ∷ back) goal → ⊥

@@ -7,8 +7,7 @@ use Rattle.trail_solver.specs.Completions.{AreOfGrid}
 use Rattle.clue_rules.specs.Towers.{TowersValue}
 use Rattle.clue_rules.specs.Unequal.{UnequalValue}
 use Rattle.clue_rules.specs.Struck.{IsTowersStruck, IsUnequalStruck}
-use Rattle.named_steps.specs.Reasons.{IsTowersStruckBy, IsUnequalStruckBy}
-use Rattle.named_steps.specs.declared.reason.Reason.{Reason}
+use Rattle.clue_rules.specs.Reasons.{IsTowersStruckBy, IsUnequalStruckBy, Striking}
 use Rattle.step_chains.specs.NextHints.{IsForcedSquare}
 
 -- the square is empty, and narrowing strikes all its numbers but one at once from these candidates
@@ -20,7 +19,7 @@ pub record IsForcedAtOnce (Strikes : CandidatesValue → ℕ → ℕ → Type 0)
   pub others : (other : ℕ) → IsPair g.size cell other → other ≢ number → Strikes c cell other
 
 -- what narrowing forces from the candidates that a grid's numbers leave, reasons force from what is in view
-abbrev pub ForcesMore : ℕ → (CandidatesValue → ℕ → ℕ → Type 0) → (CandidatesValue → Reason → ℕ → ℕ → Type 0) → Type 0
+abbrev pub ForcesMore : ℕ → (CandidatesValue → ℕ → ℕ → Type 0) → Striking → Type 0
 ForcesMore w Strikes Struck =
     (g : GridValue) (c : CandidatesValue) (cell : ℕ) → g.size ≡ w → AreOfGrid g c → IsForcedAtOnce Strikes g c cell
     → IsForcedSquare Struck g cell

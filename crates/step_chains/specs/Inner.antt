@@ -4,4 +4,5 @@ pub mod Replays
 pub mod Tight
 pub mod Goals
 pub mod Aims
+pub mod Listed
 pub mod Quiet

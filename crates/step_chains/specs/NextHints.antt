@@ -6,7 +6,7 @@ use Rattle.trail_solver.specs.Candidates.{CandidatesValue}
 use Rattle.trail_solver.specs.Completions.{Completes}
 use Rattle.trail_solver.specs.Puzzles.{Puzzle}
 use Rattle.named_steps.specs.Chains.{IsExplained, IsView, goal_cell, goal_value}
-use Rattle.named_steps.specs.declared.reason.Reason.{Reason}
+use Rattle.clue_rules.specs.declared.reason.Reason.{Reason}
 use Rattle.named_steps.specs.declared.grade.Grade.{Grade}
 use Rattle.named_steps.specs.declared.grade.Grade.TheVariants.{Latin, Easy, Hard}
 use Rattle.named_steps.specs.declared.goal.Goal.TheVariants.{OnlyValue}
@@ -14,6 +14,7 @@ use Rattle.step_chains.specs.declared.hints.NextHint.{NextHint}
 use Rattle.step_chains.specs.declared.hints.NextHint.TheVariants.{Follows, Refuted, Nothing}
 use Rattle.step_chains.specs.ChainValues.{steps_of}
 use Rattle.step_chains.specs.Explanations.{AreNeededFrom, IsLiveFrom, IsRefutation, IsRefutedGrid, NothingIsShown}
+use Rattle.clue_rules.specs.Reasons.{Striking}
 
 -- how many grades are below one
 abbrev pub height : Grade → ℕ
@@ -26,16 +27,16 @@ abbrev pub IsBelow : Grade → Grade → Type 0
 IsBelow lower grade = height lower < height grade
 
 -- the steps of no grade below show a number
-abbrev pub NoneBelowShows : (CandidatesValue → Reason → ℕ → ℕ → Type 0) → Grade → GridValue → Type 0
+abbrev pub NoneBelowShows : Striking → Grade → GridValue → Type 0
 NoneBelowShows Struck grade g = (lower : Grade) → IsBelow lower grade → NothingIsShown Struck lower g
 
 -- the steps of no grade below refute the grid's numbers
-abbrev pub NoneBelowRefutes : (CandidatesValue → Reason → ℕ → ℕ → Type 0) → Grade → GridValue → Type 0
+abbrev pub NoneBelowRefutes : Striking → Grade → GridValue → Type 0
 NoneBelowRefutes Struck grade g = (lower : Grade) → IsBelow lower grade → IsRefutedGrid Struck lower g → ⊥
 
 -- its steps of that grade show the number, those of no grade below show any, and no steps refute the grid's numbers;
 -- or its steps refute them, and those of no grade below do; or no steps show a number, and none refute the grid's
-abbrev pub IsNextHint : (CandidatesValue → Reason → ℕ → ℕ → Type 0) → GridValue → NextHint → Type 0
+abbrev pub IsNextHint : Striking → GridValue → NextHint → Type 0
 IsNextHint Struck g (Follows grade chain) =
     IsExplained Struck grade g (steps_of chain.steps.items) chain.goal
     × NoneBelowShows Struck grade g × (IsRefutedGrid Struck Hard g → ⊥)
@@ -50,7 +51,7 @@ IsLiveHint g (Refuted grade refutation) = IsLiveFrom g (steps_of refutation.step
 IsLiveHint g Nothing = Unit {0}
 
 -- and no number of a step can be left out
-abbrev pub IsNeededHint : (CandidatesValue → Reason → ℕ → ℕ → Type 0) → GridValue → NextHint → Type 0
+abbrev pub IsNeededHint : Striking → GridValue → NextHint → Type 0
 IsNeededHint Struck g (Follows grade chain) = AreNeededFrom Struck grade g (steps_of chain.steps.items) chain.goal
 IsNeededHint Struck g (Refuted grade refutation) =
     AreNeededFrom Struck grade g (steps_of refutation.steps.items) (OnlyValue refutation.cell 0)
@@ -64,7 +65,7 @@ IsRightHint p g (Refuted grade refutation) = (h : GridValue) → Completes p g h
 IsRightHint p g Nothing = Unit {0}
 
 -- the square is empty, and from what is in view of the grid reasons strike all its numbers but one at once
-pub record IsForcedSquare (Struck : CandidatesValue → Reason → ℕ → ℕ → Type 0) (g : GridValue) (cell : ℕ) : Type 0 where
+pub record IsForcedSquare (Struck : Striking) (g : GridValue) (cell : ℕ) : Type 0 where
   pub inside : cell < g.size * g.size
   pub empty : number_at g cell ≡ 0
   pub number : ℕ
@@ -72,5 +73,5 @@ pub record IsForcedSquare (Struck : CandidatesValue → Reason → ℕ → ℕ �
       → (reason : Reason) × Struck view reason cell other
 
 -- where a square is forced, the hint says something
-abbrev pub SaysForced : (CandidatesValue → Reason → ℕ → ℕ → Type 0) → GridValue → NextHint → Type 0
+abbrev pub SaysForced : Striking → GridValue → NextHint → Type 0
 SaysForced Struck g hint = (cell : ℕ) → IsForcedSquare Struck g cell → hint ≢ Nothing

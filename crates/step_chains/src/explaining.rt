@@ -34,9 +34,11 @@ pub(crate) fn chain_to<P: Steps>(
     requires size { grid.now.size ≡ (P.puzzle p.now).size }
     requires open { IsOpen grid.now goal }
     requires shown { IsShownByAll (P.struck_by p.now) grade grid.now goal }
-    ensures is { IfOk result (λ chain. IsExplained (P.struck_by p.now) grade grid.now (steps_of chain.steps.items) chain.goal) }
+    ensures is { IfOk result
+        (λ chain. IsExplained (P.struck_by p.now) grade grid.now (steps_of chain.steps.items) chain.goal) }
     ensures live { IfOk result (λ chain. IsLiveFrom grid.now (steps_of chain.steps.items)) }
-    ensures needed { IfOk result (λ chain. AreNeededFrom (P.struck_by p.now) grade grid.now (steps_of chain.steps.items) chain.goal) }
+    ensures needed { IfOk result
+        (λ chain. AreNeededFrom (P.struck_by p.now) grade grid.now (steps_of chain.steps.items) chain.goal) }
 {
     if let Some(chain) = short_number(alloc, p, grid, grade, known)? {
         return Ok(chain);
@@ -86,9 +88,11 @@ fn plain_number<P: Steps>(
     requires size { grid.now.size ≡ (P.puzzle p.now).size }
     requires open { IsOpen grid.now goal }
     requires shown { IsShownByAll (P.struck_by p.now) grade grid.now goal }
-    ensures is { IfOk result (λ chain. IsExplained (P.struck_by p.now) grade grid.now (steps_of chain.steps.items) chain.goal) }
+    ensures is { IfOk result
+        (λ chain. IsExplained (P.struck_by p.now) grade grid.now (steps_of chain.steps.items) chain.goal) }
     ensures live { IfOk result (λ chain. IsLiveFrom grid.now (steps_of chain.steps.items)) }
-    ensures needed { IfOk result (λ chain. AreNeededFrom (P.struck_by p.now) grade grid.now (steps_of chain.steps.items) chain.goal) }
+    ensures needed { IfOk result
+        (λ chain. AreNeededFrom (P.struck_by p.now) grade grid.now (steps_of chain.steps.items) chain.goal) }
 {
     let steps = plain_chain(alloc, p, grid, grade, Aim::Number(goal), known)?;
     Ok(Chain { steps, goal })
@@ -109,7 +113,8 @@ pub(crate) fn refutation_at<P: Steps>(
     requires empty { IsShownByAll (P.struck_by p.now) grade grid.now (OnlyValue cell 0) }
     ensures is { IfOk result (λ r. IsRefutation (P.struck_by p.now) grade grid.now (steps_of r.steps.items) r.cell) }
     ensures live { IfOk result (λ r. IsLiveFrom grid.now (steps_of r.steps.items)) }
-    ensures needed { IfOk result (λ r. AreNeededFrom (P.struck_by p.now) grade grid.now (steps_of r.steps.items) (OnlyValue r.cell 0)) }
+    ensures needed { IfOk result
+        (λ r. AreNeededFrom (P.struck_by p.now) grade grid.now (steps_of r.steps.items) (OnlyValue r.cell 0)) }
 {
     if let Some(found) = short_chain(alloc, p, grid, grade, Sought::SquareEmptied, known)? {
         if let Aim::Nothing { cell } = found.aim {
@@ -136,9 +141,11 @@ fn plain_chain<P: Steps>(
     requires size { grid.now.size ≡ (P.puzzle p.now).size }
     requires aim { IsAimOf grid.now.size aim }
     requires reached { IsShownByAll (P.struck_by p.now) grade grid.now (aim_goal aim) }
-    ensures is { IfOk result (λ steps. IsReached (P.struck_by p.now) grade grid.now (steps_of steps.items) (aim_goal aim)) }
+    ensures is { IfOk result
+        (λ steps. IsReached (P.struck_by p.now) grade grid.now (steps_of steps.items) (aim_goal aim)) }
     ensures live { IfOk result (λ steps. IsLiveFrom grid.now (steps_of steps.items)) }
-    ensures needed { IfOk result (λ steps. AreNeededFrom (P.struck_by p.now) grade grid.now (steps_of steps.items) (aim_goal aim)) }
+    ensures needed { IfOk result
+        (λ steps. AreNeededFrom (P.struck_by p.now) grade grid.now (steps_of steps.items) (aim_goal aim)) }
 {
     let mut steps = all_steps(alloc, p, grade, &mut view_of(grid), known)?;
     tighten(p, grade, &mut view_of(grid), &mut steps, aim, known);

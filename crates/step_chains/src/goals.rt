@@ -84,7 +84,8 @@ fn shown_on_lines(candidates: &Candidates, grid: &Grid) -> Option<Goal>
 fn shown_on_line(candidates: &Candidates, grid: &Grid, line: u8) -> Option<Goal>
     requires size { candidates.now.size ≡ grid.now.size }
     requires line { line < 2 * grid.now.size }
-    ensures { MatchOption result ((index value : ℕ) → IsOpenShown grid.now candidates.now (OnlyPlace line index value) → ⊥)
+    ensures { MatchOption result
+        ((index value : ℕ) → IsOpenShown grid.now candidates.now (OnlyPlace line index value) → ⊥)
         (IsOpenShown grid.now candidates.now) }
 {
     for index in 0..grid.size().get() {

@@ -5,11 +5,12 @@ ghost use Rattle.std.specs.Prelude.{◌≡◌};
 use crate::aims::found_in;
 use crate::chain::Step;
 use crate::kinds::{KINDS, Kind, Sought, is_done, is_of_use};
-use crate::needs::{Values, left, neighbours, single, squares_but, squares_from};
+use crate::needs::{Values, left, single, squares_from, squares_of};
+use crate::reasons::{Part, group};
 use crate::replays::{struck, take};
-use crate::seen::{Seen, row_of, sharing, standing, union_of};
+use crate::seen::{Seen, last_place, row_of, shared_numbers, sharing, standing, union_of};
 use arrayvec::ArrayVec;
-use latin_board::{CELLS, Grid, OutOfMemory, line_cell};
+use latin_board::{CELLS, Grid, OutOfMemory};
 use named_steps::{Grade, KnownRows, Reason, Steps};
 use number_sets::NumberSet;
 use std::alloc::Global;
@@ -135,228 +136,149 @@ impl<'a> Rounds<'a> {
     // The steps of one kind.
     fn look<P: Steps>(&mut self, p: &P, grade: Grade, kind: Kind) -> Result<(), OutOfMemory> {
         match kind {
-            Kind::Peer => self.look_at_peers(p, grade),
-            Kind::Place => self.look_at_places(p, grade),
-            Kind::Given => self.look_at_squares(p, grade),
-            Kind::Sign => self.look_at_signs(p, grade),
-            Kind::Set => self.look_at_lines(p, grade),
+            Kind::Peer | Kind::Given => self.look_at_squares(p, grade, kind),
             Kind::Bound | Kind::Stand | Kind::Clue => self.look_at_clues(p, grade, kind),
+            Kind::Place => self.look_at_places(p, grade),
+            Kind::Set => self.look_at_groups(p, grade),
+            Kind::Sign => {
+                self.look_at_signs(p, grade, true)?;
+                self.look_at_signs(p, grade, false)
+            }
         }
     }
 
-    // The steps of the squares of which one value is left.
-    fn look_at_peers<P: Steps>(&mut self, p: &P, grade: Grade) -> Result<(), OutOfMemory> {
+    // The steps of the givens, or of the squares of which one value is left.
+    fn look_at_squares<P: Steps>(
+        &mut self,
+        p: &P,
+        grade: Grade,
+        kind: Kind,
+    ) -> Result<(), OutOfMemory> {
         let size = self.now.size();
         let width = size.get() as usize;
         for cell in 0..width * width {
-            if left(&self.now, cell).is_single() {
+            if let Kind::Given = kind {
+                self.look_in(p, grade, &Reason::Given { cell }, cell)?;
+            } else if left(&self.now, cell).is_single() {
                 let reason = Reason::Peer { cell };
-                self.look_among(
-                    p,
-                    grade,
-                    &reason,
-                    squares_but(size, cell / width, usize::MAX),
-                )?;
-                self.look_among(
-                    p,
-                    grade,
-                    &reason,
-                    squares_but(size, width + cell % width, usize::MAX),
-                )?;
+                self.look_among(p, grade, &reason, &squares_of(size, cell / width))?;
+                self.look_among(p, grade, &reason, &squares_of(size, width + cell % width))?;
             }
         }
         Ok(())
     }
 
-    // The steps of the values that have one place left in a row or column, or none.
-    fn look_at_places<P: Steps>(&mut self, p: &P, grade: Grade) -> Result<(), OutOfMemory> {
-        for line in 0..2 * self.now.size().get() {
-            let few = scarce_on(&self.now, line);
-            for value in 1..10 {
-                if few.has(value) {
-                    self.look_at_place(p, grade, line, value)?;
-                }
-            }
-        }
-        Ok(())
-    }
-
-    // The step of the last place of a value in a row or column, or where it has none, that of the line's first square.
-    fn look_at_place<P: Steps>(
-        &mut self,
-        p: &P,
-        grade: Grade,
-        line: u8,
-        value: u8,
-    ) -> Result<(), OutOfMemory> {
-        let size = self.now.size();
-        let mut last = 0;
-        for index in 0..size.get() {
-            if single(value).is_subset(left_at(&self.now, line, index)) {
-                last = index;
-            }
-        }
-        if line >= 2 * size.get() || last >= size.get() {
-            return Ok(());
-        }
-        let reason = Reason::Place {
-            line: line as usize,
-            index: last as usize,
-            value,
-        };
-        self.look_in(p, grade, &reason, line_cell(size, line, last))
-    }
-
-    // The steps of the givens.
-    fn look_at_squares<P: Steps>(&mut self, p: &P, grade: Grade) -> Result<(), OutOfMemory> {
-        let width = self.now.size().get() as usize;
-        for cell in 0..width * width {
-            self.look_in(p, grade, &Reason::Given { cell }, cell)?;
-        }
-        Ok(())
-    }
-
-    // The steps of the signs: first those at the lesser ends, which strike the greatest number there.
-    fn look_at_signs<P: Steps>(&mut self, p: &P, grade: Grade) -> Result<(), OutOfMemory> {
-        let width = self.now.size().get() as usize;
-        for cell in 0..width * width {
-            self.look_around(p, grade, cell, true)?;
-        }
-        for cell in 0..width * width {
-            self.look_around(p, grade, cell, false)?;
-        }
-        Ok(())
-    }
-
-    // Those between a square and its neighbours, at the lesser ends, where the square has the greater, or at the greater ones.
-    fn look_around<P: Steps>(
-        &mut self,
-        p: &P,
-        grade: Grade,
-        greater: usize,
-        at_lesser: bool,
-    ) -> Result<(), OutOfMemory> {
-        let greatest = single(self.now.size().get());
-        for cell in neighbours(self.now.size(), greater) {
-            let lesser = cell as usize;
-            let (from, to) = if at_lesser {
-                (greater, lesser)
-            } else {
-                (lesser, greater)
-            };
-            let reason = Reason::Sign { from, to };
-            let values = struck(p, &self.now, &reason, to, self.known);
-            if greatest.is_subset(values) == at_lesser {
-                self.list(grade, &reason, to, values)?;
-            }
-        }
-        Ok(())
-    }
-
-    // The steps of the clues at the edge.
+    // The steps of the clues at the edge as the kind looks at them, where it sees what it didn't.
     fn look_at_clues<P: Steps>(
         &mut self,
         p: &P,
         grade: Grade,
         kind: Kind,
     ) -> Result<(), OutOfMemory> {
-        for place in 0..4 * self.now.size().get() as usize {
-            if self.is_new_from(kind, place) {
-                self.look_from(p, grade, kind, place)?;
+        let size = self.now.size();
+        for place in 0..4 * size.get() as usize {
+            let row = row_of(&self.now, &squares_from(size, place));
+            let (reason, is_new) = match kind {
+                Kind::Bound => (Reason::Bound { place }, true),
+                Kind::Stand => (
+                    Reason::Stand { place },
+                    self.stands.is_new(place, &standing(&row)),
+                ),
+                _ => (Reason::Clue { place }, self.clues.is_new(place, &row)),
+            };
+            if is_new {
+                self.look_from(p, grade, &reason, place)?;
             }
         }
         Ok(())
     }
 
-    // Whether the squares from a place aren't what they were when a kind of steps last looked at them.
-    fn is_new_from(&mut self, kind: Kind, place: usize) -> bool {
-        let row = row_of(&self.now, &squares_from(self.now.size(), place));
-        match kind {
-            Kind::Stand => self.stands.is_new(place, &standing(&row)),
-            Kind::Clue => self.clues.is_new(place, &row),
-            _ => true,
+    // The steps of the values that have one place left in a row or column; or none, and then that
+    // of the line's first square.
+    fn look_at_places<P: Steps>(&mut self, p: &P, grade: Grade) -> Result<(), OutOfMemory> {
+        let size = self.now.size();
+        for line in 0..2 * size.get() as usize {
+            let cells = squares_of(size, line);
+            let row = row_of(&self.now, &cells);
+            let few = NumberSet::up_to(size.get()).difference(shared_numbers(&row));
+            for value in 1..10 {
+                let index = last_place(&row, value);
+                if few.has(value) && index < cells.len() {
+                    let reason = Reason::Place { line, index, value };
+                    self.look_in(p, grade, &reason, cells[index] as usize)?;
+                }
+            }
         }
+        Ok(())
     }
 
-    // The steps of one clue.
+    // The steps of the signs at the lesser ends, which strike the greatest number there, or at the
+    // greater ones.
+    fn look_at_signs<P: Steps>(
+        &mut self,
+        p: &P,
+        grade: Grade,
+        at_lesser: bool,
+    ) -> Result<(), OutOfMemory> {
+        let greatest = single(self.now.size().get());
+        for place in 0..Part::Signs.count(self.now.size()) {
+            if let Some(Reason::Sign { from, to }) = Part::Signs.nth(&self.now, place) {
+                let (from, to) = if at_lesser { (to, from) } else { (from, to) };
+                let reason = Reason::Sign { from, to };
+                let values = struck(p, &self.now, &reason, to, self.known);
+                if greatest.is_subset(values) == at_lesser {
+                    self.list(grade, &reason, to, values)?;
+                }
+            }
+        }
+        Ok(())
+    }
+
+    // The steps of groups of squares, of rows and columns that aren't what they were. A square that
+    // shares no value with another is in no group that strikes anything.
+    fn look_at_groups<P: Steps>(&mut self, p: &P, grade: Grade) -> Result<(), OutOfMemory> {
+        let size = self.now.size();
+        for line in 0..2 * size.get() as usize {
+            let cells = squares_of(size, line);
+            let row = row_of(&self.now, &cells);
+            if self.groups.is_new(line, &row) {
+                let among = sharing(&row);
+                for squares in 1..NumberSet::up_to(size.get()).lowered().bits() {
+                    let squares = NumberSet::from_bits(squares);
+                    if squares.is_subset(among) {
+                        let values = union_of(&row, squares);
+                        if let Some(reason) = group(line, squares, values) {
+                            self.look_among(p, grade, &reason, &cells)?;
+                        }
+                    }
+                }
+            }
+        }
+        Ok(())
+    }
+
+    // What a clue strikes in the squares from its place, all found at once.
     fn look_from<P: Steps>(
         &mut self,
         p: &P,
         grade: Grade,
-        kind: Kind,
+        reason: &Reason,
         place: usize,
     ) -> Result<(), OutOfMemory> {
         let size = self.now.size();
         if p.size() != size || place >= 4 * size.get() as usize {
             return Ok(());
         }
-        let reason = match kind {
-            Kind::Bound => Reason::Bound { place },
-            Kind::Stand => Reason::Stand { place },
-            _ => Reason::Clue { place },
-        };
-        let Some(row) = p.strikes_from(&self.now, reason, place, self.known) else {
+        let Some(row) = p.strikes_from(&self.now, *reason, place, self.known) else {
             return Ok(());
         };
         let cells = squares_from(size, place);
         for k in 0..cells.len() {
             if k < 9 {
-                self.list(grade, &reason, cells[k] as usize, row[k])?;
+                self.list(grade, reason, cells[k] as usize, row[k])?;
             }
         }
         Ok(())
-    }
-
-    // The steps of groups of squares.
-    fn look_at_lines<P: Steps>(&mut self, p: &P, grade: Grade) -> Result<(), OutOfMemory> {
-        let size = self.now.size();
-        for line in 0..2 * size.get() as usize {
-            let row = row_of(&self.now, &squares_but(size, line, usize::MAX));
-            if self.groups.is_new(line, &row) {
-                self.look_at_groups(p, grade, line, &row)?;
-            }
-        }
-        Ok(())
-    }
-
-    // Those of one row or column. A square that shares no value with another is in no group that strikes anything.
-    fn look_at_groups<P: Steps>(
-        &mut self,
-        p: &P,
-        grade: Grade,
-        line: usize,
-        row: &[NumberSet; 9],
-    ) -> Result<(), OutOfMemory> {
-        let size = self.now.size();
-        let among = sharing(row);
-        for group in 1..NumberSet::up_to(size.get()).lowered().bits() {
-            let squares = NumberSet::from_bits(group);
-            if squares.is_subset(among) {
-                self.look_at_group(p, grade, line, squares, union_of(row, squares))?;
-            }
-        }
-        Ok(())
-    }
-
-    // That of some squares of a row or column of which these values are left.
-    fn look_at_group<P: Steps>(
-        &mut self,
-        p: &P,
-        grade: Grade,
-        line: usize,
-        squares: NumberSet,
-        values: NumberSet,
-    ) -> Result<(), OutOfMemory> {
-        if values.len() != squares.len() {
-            return Ok(());
-        }
-        let reason = Reason::Set {
-            line,
-            squares,
-            values,
-        };
-        let cells = squares_but(self.now.size(), line, usize::MAX);
-        self.look_among(p, grade, &reason, cells)
     }
 
     // What a reason strikes in some squares.
@@ -365,10 +287,10 @@ impl<'a> Rounds<'a> {
         p: &P,
         grade: Grade,
         reason: &Reason,
-        cells: ArrayVec<u8, 9>,
+        cells: &ArrayVec<u8, 9>,
     ) -> Result<(), OutOfMemory> {
-        for cell in cells {
-            self.look_in(p, grade, reason, cell as usize)?;
+        for cell in cells.as_slice() {
+            self.look_in(p, grade, reason, *cell as usize)?;
         }
         Ok(())
     }
@@ -381,9 +303,6 @@ impl<'a> Rounds<'a> {
         reason: &Reason,
         cell: usize,
     ) -> Result<(), OutOfMemory> {
-        if cell >= CELLS || !grade.has(*reason) {
-            return Ok(());
-        }
         let values = struck(p, &self.now, reason, cell, self.known);
         self.list(grade, reason, cell, values)
     }
@@ -410,29 +329,6 @@ impl<'a> Rounds<'a> {
         self.gone.add(cell, values);
         self.steps.push(step)?;
         Ok(())
-    }
-}
-
-// The values that have one place left in a row or column, or none.
-fn scarce_on(candidates: &Candidates, line: u8) -> NumberSet {
-    let size = candidates.size();
-    let mut once = NumberSet::empty();
-    let mut often = NumberSet::empty();
-    for index in 0..size.get() {
-        let values = left_at(candidates, line, index);
-        often = often.union(once.intersection(values));
-        once = once.union(values);
-    }
-    NumberSet::up_to(size.get()).difference(often)
-}
-
-// What is left at a place of a row or column; nothing where there is no such place.
-fn left_at(candidates: &Candidates, line: u8, index: u8) -> NumberSet {
-    let size = candidates.size();
-    if line < 2 * size.get() && index < size.get() {
-        candidates.values(line_cell(size, line, index))
-    } else {
-        NumberSet::empty()
     }
 }
 

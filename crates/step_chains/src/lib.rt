@@ -24,6 +24,7 @@ mod kinds;
 mod layers;
 mod needs;
 mod next_steps;
+mod reasons;
 mod replays;
 mod seen;
 mod shortest;

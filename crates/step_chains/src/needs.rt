@@ -128,8 +128,13 @@ fn just(cell: usize) -> ArrayVec<u8, 9> {
     cells
 }
 
+/// The squares of a row or column.
+pub(crate) fn squares_of(size: Size, line: usize) -> ArrayVec<u8, 9> {
+    squares_among(size, line, NumberSet::up_to(size.get()).lowered())
+}
+
 // The squares of a row or column but for one place.
-pub(crate) fn squares_but(size: Size, line: usize, index: usize) -> ArrayVec<u8, 9> {
+fn squares_but(size: Size, line: usize, index: usize) -> ArrayVec<u8, 9> {
     let all = NumberSet::up_to(size.get()).lowered();
     let one = if index < 16 {
         NumberSet::one(index as u8)
@@ -150,35 +155,13 @@ fn squares_among(size: Size, line: usize, squares: NumberSet) -> ArrayVec<u8, 9>
     cells
 }
 
-// The squares from a place at the edge.
+/// The squares from a place at the edge.
 pub(crate) fn squares_from(size: Size, place: usize) -> ArrayVec<u8, 9> {
     let mut cells = ArrayVec::new();
     for k in 0..size.get() as usize {
         if place < 4 * size.get() as usize {
             let _pushed = cells.try_push(view_cell(size, place as u8, k) as u8);
         }
-    }
-    cells
-}
-
-/// The squares beside a square, above, to the left, to the right and below.
-pub(crate) fn neighbours(size: Size, cell: usize) -> ArrayVec<u8, 9> {
-    let width = size.get() as usize;
-    let mut cells = ArrayVec::new();
-    if cell >= width * width {
-        return cells;
-    }
-    if cell >= width {
-        cells.push((cell - width) as u8);
-    }
-    if cell % width != 0 {
-        cells.push((cell - 1) as u8);
-    }
-    if cell % width + 1 != width {
-        cells.push((cell + 1) as u8);
-    }
-    if cell + width < width * width {
-        cells.push((cell + width) as u8);
     }
     cells
 }

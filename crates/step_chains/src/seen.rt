@@ -1,7 +1,7 @@
 //! Rows of sets: what is left of squares side by side, and which rows have been looked at.
 //! Nothing here ensures anything: `short_chain` follows what comes of it step by step, and tells it only where it is a chain.
 
-use crate::needs::left;
+use crate::needs::{left, single};
 use arrayvec::ArrayVec;
 use number_sets::NumberSet;
 use trail_solver::Candidates;
@@ -55,6 +55,17 @@ pub(crate) fn standing(row: &[NumberSet; 9]) -> [NumberSet; 9] {
     seen
 }
 
+/// The last place whose set has the number, or the first place where none has.
+pub(crate) fn last_place(row: &[NumberSet; 9], number: u8) -> usize {
+    let mut last = 0;
+    for place in 0..9 {
+        if single(number).is_subset(row[place]) {
+            last = place;
+        }
+    }
+    last
+}
+
 /// The numbers of the sets at some places.
 pub(crate) fn union_of(row: &[NumberSet; 9], places: NumberSet) -> NumberSet {
     let mut union = NumberSet::empty();
@@ -78,8 +89,8 @@ pub(crate) fn sharing(row: &[NumberSet; 9]) -> NumberSet {
     places
 }
 
-// The numbers that several sets have.
-fn shared_numbers(row: &[NumberSet; 9]) -> NumberSet {
+/// The numbers that several sets have.
+pub(crate) fn shared_numbers(row: &[NumberSet; 9]) -> NumberSet {
     let mut once = NumberSet::empty();
     let mut often = NumberSet::empty();
     for place in 0..9 {

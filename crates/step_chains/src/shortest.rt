@@ -60,7 +60,8 @@ fn shorten_from_view<P: Steps>(
     ensures reached { OnTrue result (IsAimOf grid.now.size aim
         × IsReached (P.struck_by p.now) grade grid.now (steps_of steps.new.items) (aim_goal aim)) }
     ensures live { OnTrue result (IsLiveFrom grid.now (steps_of steps.new.items)) }
-    ensures needed { OnTrue result (AreNeededFrom (P.struck_by p.now) grade grid.now (steps_of steps.new.items) (aim_goal aim)) }
+    ensures needed { OnTrue result
+        (AreNeededFrom (P.struck_by p.now) grade grid.now (steps_of steps.new.items) (aim_goal aim)) }
 {
     let mut view = view_of(grid);
     shorten(p, grade, &mut view, steps, aim, known)
@@ -78,10 +79,13 @@ fn shorten<P: Steps>(
 ) -> bool
     ensures same { candidates.new ≡ candidates.old }
     ensures of { OnTrue result (IsAimOf candidates.old.size aim) }
-    ensures shows { OnTrue result (Shows (P.struck_by p.now) grade candidates.old (steps_of steps.new.items) (aim_goal aim)) }
-    ensures tight { OnTrue result (IsTight (P.struck_by p.now) grade candidates.old (steps_of steps.new.items) (aim_goal aim)) }
+    ensures shows { OnTrue result
+        (Shows (P.struck_by p.now) grade candidates.old (steps_of steps.new.items) (aim_goal aim)) }
+    ensures tight { OnTrue result
+        (IsTight (P.struck_by p.now) grade candidates.old (steps_of steps.new.items) (aim_goal aim)) }
     ensures live { OnTrue result (AreLive candidates.old (steps_of steps.new.items)) }
-    ensures needed { OnTrue result (AreAllNeeded (P.struck_by p.now) grade candidates.old (steps_of steps.new.items) (aim_goal aim)) }
+    ensures needed { OnTrue result
+        (AreAllNeeded (P.struck_by p.now) grade candidates.old (steps_of steps.new.items) (aim_goal aim)) }
 {
     let all = steps.len();
     let size = candidates.size();

@@ -27,7 +27,8 @@ pub(crate) fn tighten<P: Steps>(
     requires shows { Shows (P.struck_by p.now) grade candidates.old (steps_of steps.old.items) (aim_goal aim) }
     ensures same { candidates.new ≡ candidates.old }
     ensures shows { Shows (P.struck_by p.now) grade candidates.old (steps_of steps.new.items) (aim_goal aim) }
-    ensures live { AreLive candidates.old (steps_of steps.old.items) → AreLive candidates.old (steps_of steps.new.items) }
+    ensures live { AreLive candidates.old (steps_of steps.old.items)
+        → AreLive candidates.old (steps_of steps.new.items) }
     ensures tight { IsTight (P.struck_by p.now) grade candidates.old (steps_of steps.new.items) (aim_goal aim) }
     ensures needed { AreAllNeeded (P.struck_by p.now) grade candidates.old (steps_of steps.new.items) (aim_goal aim) }
 {
@@ -57,14 +58,19 @@ fn narrow<P: Steps>(
     requires aim { IsAimOf candidates.old.size aim }
     requires inside { place < length steps.old.items }
     requires shows { Shows (P.struck_by p.now) grade candidates.old (steps_of steps.old.items) (aim_goal aim) }
-    requires tight { IsTightFrom (place + 1) (P.struck_by p.now) grade candidates.old (steps_of steps.old.items) (aim_goal aim) }
-    requires needed { IsNeededFrom (place + 1) (P.struck_by p.now) grade candidates.old (steps_of steps.old.items) (aim_goal aim) }
+    requires tight { IsTightFrom (place + 1) (P.struck_by p.now) grade candidates.old (steps_of steps.old.items)
+        (aim_goal aim) }
+    requires needed { IsNeededFrom (place + 1) (P.struck_by p.now) grade candidates.old (steps_of steps.old.items)
+        (aim_goal aim) }
     ensures same { candidates.new ≡ candidates.old }
     ensures length { length steps.new.items ≡ length steps.old.items }
     ensures shows { Shows (P.struck_by p.now) grade candidates.old (steps_of steps.new.items) (aim_goal aim) }
-    ensures live { AreLive candidates.old (steps_of steps.old.items) → AreLive candidates.old (steps_of steps.new.items) }
-    ensures tight { IsTightFrom (place + 1) (P.struck_by p.now) grade candidates.old (steps_of steps.new.items) (aim_goal aim) }
-    ensures needed { IsNeededFrom (place + 1) (P.struck_by p.now) grade candidates.old (steps_of steps.new.items) (aim_goal aim) }
+    ensures live { AreLive candidates.old (steps_of steps.old.items)
+        → AreLive candidates.old (steps_of steps.new.items) }
+    ensures tight { IsTightFrom (place + 1) (P.struck_by p.now) grade candidates.old (steps_of steps.new.items)
+        (aim_goal aim) }
+    ensures needed { IsNeededFrom (place + 1) (P.struck_by p.now) grade candidates.old (steps_of steps.new.items)
+        (aim_goal aim) }
     ensures here { IsNeededAt place (P.struck_by p.now) grade candidates.old (steps_of steps.new.items) (aim_goal aim) }
 {
     let _size = candidates.size();
@@ -91,7 +97,8 @@ fn leave_out<P: Steps>(
     requires shows { Shows (P.struck_by p.now) grade candidates.old (steps_of steps.old.items) (aim_goal aim) }
     ensures same { candidates.new ≡ candidates.old }
     ensures shows { Shows (P.struck_by p.now) grade candidates.old (steps_of steps.new.items) (aim_goal aim) }
-    ensures left { IsLeftOut (P.struck_by p.now) grade candidates.old place value steps.old.items steps.new.items (aim_goal aim) }
+    ensures left { IsLeftOut (P.struck_by p.now) grade candidates.old place value steps.old.items steps.new.items
+        (aim_goal aim) }
 {
     let step = steps[place];
     let _bits = step.values.bits();

@@ -6,10 +6,10 @@ use Rattle.number_sets.specs.Sets.{has_number}
 use Rattle.trail_solver.specs.Pairs.{has_pair, pairs_of}
 use Rattle.trail_solver.proofs.SetPairs.{has_pair-pairs_of}
 use Rattle.trail_solver.specs.Candidates.{CandidatesValue}
-use Rattle.named_steps.specs.Left.{IsLeft, without}
+use Rattle.clue_rules.specs.Left.{IsLeft, without}
 use Rattle.named_steps.specs.Chains.{StepValue, IsStep, IsChain, left_by}
 use Rattle.named_steps.proofs.Antitone.{left_size}
-use Rattle.named_steps.specs.declared.reason.Reason.{Reason}
+use Rattle.clue_rules.specs.declared.reason.Reason.{Reason}
 use Rattle.step_chains.specs.declared.chain.Step.{Step}
 use Rattle.step_chains.specs.ChainValues.{step_value, steps_of}
 use Rattle.shown_counts.specs.Shown.{IsShownBy}
@@ -17,31 +17,32 @@ use Rattle.step_texts.specs.declared.told.Strike.{Strike}
 use Rattle.step_texts.specs.declared.told.ToldStep.{ToldStep}
 use Rattle.step_texts.specs.Looks.{HoldsAt, AreRising}
 use Rattle.step_texts.specs.Told.{AreToldCounts, IsToldStrike, AreToldStrikes, AreTold, clue_at, IsHeldStrike, AreAfter, AreInOrder, strike_value, told_values, AreHeld}
+use Rattle.clue_rules.specs.Reasons.{Striking}
 
 -- a reason strikes no number with whose counts its clue is
-abbrev IsToldBy : (CandidatesValue → Reason → ℕ → ℕ → Type 0) → (ℕ → ℕ) → ℕ → Type 0
+abbrev IsToldBy : Striking → (ℕ → ℕ) → ℕ → Type 0
 IsToldBy Struck clue w = (c : CandidatesValue) (reason : Reason) (cell value : ℕ) → c.size ≡ w → Struck c reason cell value
     → IsShownBy c reason cell value (clue_at clue reason) → ⊥
 
 -- each number of the step is left of its square, and its reason strikes it there
-abbrev IsHolding : (CandidatesValue → Reason → ℕ → ℕ → Type 0) → CandidatesValue → Step → Type 0
+abbrev IsHolding : Striking → CandidatesValue → Step → Type 0
 IsHolding Struck c step = (v : ℕ) → has_number step.values v ≡ true → IsLeft c step.cell v × Struck c step.reason step.cell v
 
 -- a step of a chain whose pairs are all left
-step_holding : (Struck : CandidatesValue → Reason → ℕ → ℕ → Type 0) (c : CandidatesValue) (step : Step) → step.values < 2 ^ 16 → IsStep Struck c (step_value step)
+step_holding : (Struck : Striking) (c : CandidatesValue) (step : Step) → step.values < 2 ^ 16 → IsStep Struck c (step_value step)
     → ((cell value : ℕ) → has_pair (step_value step).strikes cell value ≡ true → IsLeft c cell value) → IsHolding Struck c step
 step_holding Struck c step low is left = λ v has.
     let listed : has_pair (step_value step).strikes step.cell v ≡ true =
     has_pair-pairs_of step.cell step.values step.cell v low ∙ and_from (step.cell == step.cell) (has_number step.values v) (eq-eqb step.cell step.cell refl) has in
     (left step.cell v listed, (is step.cell v listed).1)
 
-at_holding : (Struck : CandidatesValue → Reason → ℕ → ℕ → Type 0) (w : ℕ) (c : CandidatesValue) (step : Step) → HoldsAt Struck w c step → IsHolding Struck c step
+at_holding : (Struck : Striking) (w : ℕ) (c : CandidatesValue) (step : Step) → HoldsAt Struck w c step → IsHolding Struck c step
 at_holding Struck w c step holds = λ v has.
     let (pair, may, struck) = (holds v has).1 in
     (record { pair = pair; may = may }, struck)
 
 -- the steps after some of a chain
-chain_on : (Struck : CandidatesValue → Reason → ℕ → ℕ → Type 0) (c : CandidatesValue) (steps rest : List Step) → IsChain Struck c (steps_of (steps ++ rest))
+chain_on : (Struck : Striking) (c : CandidatesValue) (steps rest : List Step) → IsChain Struck c (steps_of (steps ++ rest))
     → IsChain Struck (left_by c (steps_of steps)) (steps_of rest)
 chain_on Struck c [] rest h = h
 chain_on Struck c (step ∷ steps) rest h = chain_on Struck (without c (step_value step).strikes) steps rest h.1
@@ -64,7 +65,7 @@ counts_held c reason cell values v n None told one hidden = tt
 counts_held c reason cell values v n (Some shows) told one hidden =
     false_from_ne_true (has_number (slice_index shows v) n) (λ has. hidden ((told.1 v n one).0 has))
 
-strike_held : (Struck : CandidatesValue → Reason → ℕ → ℕ → Type 0) (clue : ℕ → ℕ) (w : ℕ) → IsToldBy Struck clue w → (c : CandidatesValue) (reason : Reason)
+strike_held : (Struck : Striking) (clue : ℕ → ℕ) (w : ℕ) → IsToldBy Struck clue w → (c : CandidatesValue) (reason : Reason)
     (step : Step) (strike : Strike) → c.size ≡ w → step.reason ≡ reason → IsHolding Struck c step → IsToldStrike c reason step strike
     → IsHeldStrike Struck clue c reason strike
 strike_held Struck clue w law c reason step strike size same holds told = λ v has.
@@ -76,7 +77,7 @@ strike_held Struck clue w law c reason step strike size same holds told = λ v h
       counts_held c reason step.cell step.values v (clue_at clue reason) strike.shows told.shows one (law c reason step.cell v size by),
     )
 
-strikes_held : (Struck : CandidatesValue → Reason → ℕ → ℕ → Type 0) (clue : ℕ → ℕ) (w : ℕ) → IsToldBy Struck clue w → (c : CandidatesValue) (reason : Reason)
+strikes_held : (Struck : Striking) (clue : ℕ → ℕ) (w : ℕ) → IsToldBy Struck clue w → (c : CandidatesValue) (reason : Reason)
     (steps : List Step) (strikes : List Strike) → c.size ≡ w → All (λ step. step.reason ≡ reason) steps → All (λ step. IsHolding Struck c step) steps
     → AreToldStrikes c reason steps strikes → All (IsHeldStrike Struck clue c reason) strikes
 strikes_held Struck clue w law c reason [] [] size same holds told = All-nil (IsHeldStrike Struck clue c reason)
@@ -127,7 +128,7 @@ in_order c reason first more [] rising told = absurd told
 in_order c reason first more (strike ∷ strikes) rising told = strikes_after c reason first.cell strike.cell more strikes told.0.cell rising told.1
 
 -- all that is told of a chain holds where it stands, where each step strikes only what those before it leave
-pub all_held : (Struck : CandidatesValue → Reason → ℕ → ℕ → Type 0) (clue : ℕ → ℕ) (w : ℕ) → IsToldBy Struck clue w
+pub all_held : (Struck : Striking) (clue : ℕ → ℕ) (w : ℕ) → IsToldBy Struck clue w
     → (Live : CandidatesValue → List StepValue → Type 0) → IsLive Live → (c : CandidatesValue) (steps : List Step) (told : List ToldStep) → c.size ≡ w
     → IsChain Struck c (steps_of steps) → Live c (steps_of steps) → AreTold Struck w c steps told → AreHeld Struck clue c told
 all_held Struck clue w law Live is c steps [] size chain live are = tt

@@ -4,16 +4,16 @@ use Rattle.std.proofs.lemmas.List.{take_more, map-append}
 use Rattle.std.proofs.lemmas.List.Elements.{All-push}
 use Rattle.trail_solver.specs.Pairs.{has_pair}
 use Rattle.trail_solver.specs.Candidates.{CandidatesValue}
-use Rattle.named_steps.specs.Left.{AreAlike, without}
+use Rattle.clue_rules.specs.Left.{AreAlike, without}
 use Rattle.named_steps.specs.Chains.{left_by}
-use Rattle.named_steps.specs.Inner.Takes.{Takes}
+use Rattle.clue_rules.specs.Takes.{Takes}
 use Rattle.named_steps.proofs.Antitone.{left_size}
 use Rattle.named_steps.proofs.Parts.{left_append}
 use Rattle.step_chains.specs.ChainValues.{step_value, steps_of}
 use Rattle.step_chains.proofs.Followed.{taken_alike}
-use Rattle.named_steps.specs.declared.reason.Reason.{Reason}
 use Rattle.step_chains.specs.declared.chain.Step.{Step}
 use Rattle.step_texts.specs.Looks.{HoldsAt, IsJoinable, AreRising, last_cell, AreJoined}
+use Rattle.clue_rules.specs.Reasons.{Striking}
 
 -- one more, at the end of those before
 pub grown : (steps : List Step) (at : ℕ) (step : Step) → at < length steps → step ≡ get_or steps at step → take (at + 1) steps ≡ take at steps ++ step ∷ []
@@ -33,7 +33,7 @@ pub last_is : (cell at : ℕ) (steps : List Step) (step : Step) → at < length 
 last_is cell at steps step inside is = sym (ap (last_cell cell) (grown steps at step inside is) ∙ last_more cell (take at steps) step)
 
 -- those joined by now and one more
-pub joined_more : (Struck : CandidatesValue → Reason → ℕ → ℕ → Type 0) (w : ℕ) (c : CandidatesValue) (first : Step) (steps : List Step) (at : ℕ) (step : Step)
+pub joined_more : (Struck : Striking) (w : ℕ) (c : CandidatesValue) (first : Step) (steps : List Step) (at : ℕ) (step : Step)
     (last : ℕ) → at < length steps → step ≡ get_or steps at step → last ≡ last_cell first.cell (take at steps)
     → AreJoined Struck w c first (take at steps) → IsJoinable Struck w c first.reason last step → AreJoined Struck w c first (take (at + 1) steps)
 joined_more Struck w c first steps at step last inside is latest are new =

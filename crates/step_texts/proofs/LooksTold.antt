@@ -4,10 +4,10 @@ use Rattle.std.specs.Prelude.{slice_get}
 use Rattle.std.proofs.lemmas.List.{take-append-drop}
 use Rattle.std.proofs.lemmas.List.Elements.{All-weaker}
 use Rattle.trail_solver.specs.Candidates.{CandidatesValue}
-use Rattle.named_steps.specs.Left.{IsLeft, IsFewer, AreAlike, without}
+use Rattle.clue_rules.specs.Left.{IsLeft, IsFewer, AreAlike, without}
 use Rattle.named_steps.specs.Chains.{StepValue, left_by}
 use Rattle.named_steps.proofs.Antitone.{IsAntitone, fewer_without, left_size}
-use Rattle.named_steps.specs.declared.reason.Reason.{Reason}
+use Rattle.clue_rules.specs.declared.reason.Reason.{Reason}
 use Rattle.step_chains.specs.declared.chain.Step.{Step}
 use Rattle.step_chains.specs.ChainValues.{steps_of}
 use Rattle.step_texts.specs.declared.told.Strike.{Strike}
@@ -16,6 +16,7 @@ use Rattle.step_texts.specs.Looks.{HoldsAt, AreJoined, HasNoMore}
 use Rattle.step_texts.specs.Told.{IsToldStrike, AreToldStrikes, IsToldOf, AreTold}
 use Rattle.step_texts.proofs.JoinedSteps.{grown}
 use Rattle.step_texts.proofs.ToldAlike.{told_alike}
+use Rattle.clue_rules.specs.Reasons.{Striking}
 
 -- ---- the strikes of a look
 
@@ -42,7 +43,7 @@ left_less c d [] fewer = fewer
 left_less c d (step ∷ steps) fewer = left_less (without c step.strikes) (without d step.strikes) steps (fewer_without c d step.strikes fewer)
 
 -- a step holds by candidates of which the same is left
-holds_alike : (Struck : CandidatesValue → Reason → ℕ → ℕ → Type 0) → IsAntitone Struck → (w : ℕ) (c d : CandidatesValue) (step : Step) → d.size ≡ c.size
+holds_alike : (Struck : Striking) → IsAntitone Struck → (w : ℕ) (c d : CandidatesValue) (step : Step) → d.size ≡ c.size
     → AreAlike c d → HoldsAt Struck w d step → HoldsAt Struck w c step
 holds_alike Struck less w c d step size alike h = λ v has.
     let (same, rest) = h v has in
@@ -50,7 +51,7 @@ holds_alike Struck less w c d step size alike h = λ v has.
     let left : IsLeft c step.cell v = alike.0 step.cell v (record { pair = pair; may = may }) in
     (sym size ∙ same, (left.pair, left.may, less d c step.reason step.cell v alike.1 struck))
 
-joined_alike : (Struck : CandidatesValue → Reason → ℕ → ℕ → Type 0) → IsAntitone Struck → (w : ℕ) (c d : CandidatesValue) (first : Step) (more : List Step)
+joined_alike : (Struck : Striking) → IsAntitone Struck → (w : ℕ) (c d : CandidatesValue) (first : Step) (more : List Step)
     → d.size ≡ c.size → AreAlike c d → AreJoined Struck w d first more → AreJoined Struck w c first more
 joined_alike Struck less w c d first more size alike h = record {
   one = h.one;
@@ -58,7 +59,7 @@ joined_alike Struck less w c d first more size alike h = record {
   rising = h.rising;
 }
 
-no_more_alike : (Struck : CandidatesValue → Reason → ℕ → ℕ → Type 0) → IsAntitone Struck → (w : ℕ) (c d : CandidatesValue) (first : Step) (more rest : List Step)
+no_more_alike : (Struck : Striking) → IsAntitone Struck → (w : ℕ) (c d : CandidatesValue) (first : Step) (more rest : List Step)
     → d.size ≡ c.size → AreAlike c d → HasNoMore Struck w d first more rest → HasNoMore Struck w c first more rest
 no_more_alike Struck less w c d first more [] size alike h = tt
 no_more_alike Struck less w c d first more (step ∷ rest) size alike h = λ j. h (record {
@@ -68,13 +69,13 @@ no_more_alike Struck less w c d first more (step ∷ rest) size alike h = λ j. 
 })
 
 -- however the rest is told, all is told by what was told before it and that
-pub record GoesOn (Struck : CandidatesValue → Reason → ℕ → ℕ → Type 0) (w : ℕ) (start d : CandidatesValue) (steps rest : List Step) (told : List ToldStep) : Type 0 where
+pub record GoesOn (Struck : Striking) (w : ℕ) (start d : CandidatesValue) (steps rest : List Step) (told : List ToldStep) : Type 0 where
   pub c : CandidatesValue
   pub size : d.size ≡ c.size
   pub alike : AreAlike c d
   pub onward : (later : List ToldStep) → AreTold Struck w c rest later → AreTold Struck w start steps (told ++ later)
 
-pub none_yet : (Struck : CandidatesValue → Reason → ℕ → ℕ → Type 0) (w : ℕ) (c : CandidatesValue) (steps : List Step) → GoesOn Struck w c c steps steps []
+pub none_yet : (Struck : Striking) (w : ℕ) (c : CandidatesValue) (steps : List Step) → GoesOn Struck w c c steps steps []
 none_yet Struck w c steps = record { c = c; size = refl; alike = (λ cell v h. h, λ cell v h. h); onward = λ later are. are }
 
 pub headed : (steps : List Step) (first : Step) → slice_get steps 0 ≡ Some first → steps ≡ first ∷ drop 1 steps
@@ -84,7 +85,7 @@ headed (step ∷ steps) first is = let same : step ≡ first = cc is in ap (λ s
 one_suc : (n : ℕ) → n + 1 ≡ suc n
 one_suc n = omega arith
 
-pub one_look : (Struck : CandidatesValue → Reason → ℕ → ℕ → Type 0) → IsAntitone Struck → (w : ℕ) (start d e : CandidatesValue) (steps rest look behind : List Step)
+pub one_look : (Struck : Striking) → IsAntitone Struck → (w : ℕ) (start d e : CandidatesValue) (steps rest look behind : List Step)
     (first : Step) (n : ℕ) (told next : List ToldStep) (new : ToldStep) → rest ≡ first ∷ drop 1 rest → AreJoined Struck w d first (take n (drop 1 rest))
     → HasNoMore Struck w d first (take n (drop 1 rest)) (drop n (drop 1 rest)) → IsToldOf d first.reason look new
     → look ≡ take (n + 1) rest → behind ≡ drop (n + 1) rest → (e.size ≡ d.size) × AreAlike (left_by d (steps_of look)) e
@@ -119,6 +120,6 @@ one_look Struck less w start d e steps rest look behind first n told next new he
           ));
     }
 
-pub all_told : (Struck : CandidatesValue → Reason → ℕ → ℕ → Type 0) (w : ℕ) (start d : CandidatesValue) (steps rest : List Step) (told : List ToldStep)
+pub all_told : (Struck : Striking) (w : ℕ) (start d : CandidatesValue) (steps rest : List Step) (told : List ToldStep)
     → rest ≡ [] → GoesOn Struck w start d steps rest told → AreTold Struck w start steps told
 all_told Struck w start d steps rest told none g = subst (λ xs. AreTold Struck w start steps xs) (append-nil told) (g.onward [] none)

@@ -1,10 +1,10 @@
 -- What is told of steps is the same by candidates of which the same is left.
 use Rattle.std.proofs.Common.{◌≡◌, ℕ, List, [], ◌∷◌, sym, ap, ◌∙◌, subst, Option, Some, None}
 use Rattle.trail_solver.specs.Candidates.{CandidatesValue}
-use Rattle.named_steps.specs.Left.{IsLeft, IsFewer, AreAlike}
-use Rattle.named_steps.specs.Fillings.{Anything, Standing}
-use Rattle.named_steps.specs.declared.reason.Reason.{Reason}
-use Rattle.named_steps.specs.declared.reason.Reason.TheVariants.{Given, Peer, Place, Bound, Stand, Clue, Sign, Set}
+use Rattle.clue_rules.specs.Left.{IsLeft, IsFewer, AreAlike}
+use Rattle.clue_rules.specs.Fillings.{Anything, Standing}
+use Rattle.clue_rules.specs.declared.reason.Reason.{Reason}
+use Rattle.clue_rules.specs.declared.reason.Reason.TheVariants.{Given, Peer, Place, Bound, Stand, Clue, Sign, Set}
 use Rattle.step_chains.specs.declared.chain.Step.{Step}
 use Rattle.shown_counts.specs.Shown.{IsShown, IsShownBy, is_at_clue}
 use Rattle.step_texts.specs.declared.told.Strike.{Strike}

@@ -1,13 +1,14 @@
 -- Chains as they are told: which steps are one, what is told of each, and what holds of it.
-use Rattle.std.specs.Prelude.{◌≡◌, ◌<◌, ◌*◌, ◌^◌, ℕ, true, false, List, [], ◌∷◌, ◌++◌, All, map, slice_index, Option, Some, None, IfSome}
+use Rattle.std.specs.Prelude.{◌≡◌, ◌<◌, ◌*◌, ◌^◌, ℕ, true, false, List, [], ◌∷◌, ◌++◌, All, map, slice_index, Option}
+use Rattle.std.specs.Prelude.{Some, None, IfSome}
 use Rattle.number_sets.specs.Sets.{has_number}
 use Rattle.clue_rules.specs.Views.{view_cell}
 use Rattle.trail_solver.specs.Candidates.{CandidatesValue}
 use Rattle.trail_solver.specs.Pairs.{pairs_of}
-use Rattle.named_steps.specs.Left.{IsLeft}
+use Rattle.clue_rules.specs.Left.{IsLeft}
 use Rattle.named_steps.specs.Chains.{StepValue, left_by}
-use Rattle.named_steps.specs.declared.reason.Reason.{Reason}
-use Rattle.named_steps.specs.declared.reason.Reason.TheVariants.{Given, Peer, Place, Bound, Stand, Clue, Sign, Set}
+use Rattle.clue_rules.specs.declared.reason.Reason.{Reason}
+use Rattle.clue_rules.specs.declared.reason.Reason.TheVariants.{Given, Peer, Place, Bound, Stand, Clue, Sign, Set}
 use Rattle.step_chains.specs.ChainValues.{steps_of}
 use Rattle.step_chains.specs.declared.chain.Step.{Step}
 use Rattle.shown_counts.specs.Shown.{is_at_clue, AreShown}
@@ -15,11 +16,14 @@ use Rattle.step_texts.specs.declared.told.Strike.{Strike}
 use Rattle.step_texts.specs.declared.told.ToldStep.{ToldStep}
 use Rattle.step_texts.specs.Lines.{AreShort, line_texts}
 use Rattle.step_texts.specs.Looks.{AreJoined, HasNoMore}
+use Rattle.clue_rules.specs.Reasons.{Striking}
 
--- what is told of the counts of towers: for each number that is struck those of the lines with it there, where the reason looks from a clue
+-- what is told of the counts of towers: for each number that is struck those of the lines with it there, where the
+-- reason looks from a clue
 abbrev pub AreToldCounts : CandidatesValue → Reason → ℕ → ℕ → Option (List ℕ) → Type 0
 AreToldCounts c reason cell values None = is_at_clue c.size reason ≡ false
-AreToldCounts c reason cell values (Some shows) = (is_at_clue c.size reason ≡ true) × AreShown c reason cell values shows
+AreToldCounts c reason cell values (Some shows) =
+    (is_at_clue c.size reason ≡ true) × AreShown c reason cell values shows
 
 -- the strike is told of the step, by the candidates before it
 pub record IsToldStrike (c : CandidatesValue) (reason : Reason) (step : Step) (strike : Strike) : Type 0 where
@@ -33,7 +37,8 @@ abbrev pub AreToldStrikes : CandidatesValue → Reason → List Step → List St
 AreToldStrikes c reason [] [] = Unit {0}
 AreToldStrikes c reason [] (strike ∷ strikes) = ⊥
 AreToldStrikes c reason (step ∷ steps) [] = ⊥
-AreToldStrikes c reason (step ∷ steps) (strike ∷ strikes) = IsToldStrike c reason step strike × AreToldStrikes c reason steps strikes
+AreToldStrikes c reason (step ∷ steps) (strike ∷ strikes) =
+    IsToldStrike c reason step strike × AreToldStrikes c reason steps strikes
 
 -- the told step is of these steps of a reason, by the candidates before them, and has short lines
 pub record IsToldOf (c : CandidatesValue) (why : Reason) (look : List Step) (told : ToldStep) : Type 0 where
@@ -41,12 +46,13 @@ pub record IsToldOf (c : CandidatesValue) (why : Reason) (look : List Step) (tol
   pub strikes : AreToldStrikes c why look told.strikes.items
   pub short : AreShort (line_texts told.text.items)
 
--- the steps are told one look after another, each by what the looks before it leave: the first step that isn't told yet, with all right after it that
--- hold where it stands
-abbrev pub AreTold : (CandidatesValue → Reason → ℕ → ℕ → Type 0) → ℕ → CandidatesValue → List Step → List ToldStep → Type 0
+-- the steps are told one look after another, each by what the looks before it leave: the first step that isn't told
+-- yet, with all right after it that hold where it stands
+abbrev pub AreTold : Striking → ℕ → CandidatesValue → List Step → List ToldStep → Type 0
 AreTold Struck w c steps [] = steps ≡ []
 AreTold Struck w c steps (told ∷ later) =
-    (first : Step) × (more rest : List Step) × (steps ≡ first ∷ more ++ rest) × AreJoined Struck w c first more × HasNoMore Struck w c first more rest
+    (first : Step) × (more rest : List Step) × (steps ≡ first ∷ more ++ rest) × AreJoined Struck w c first more
+    × HasNoMore Struck w c first more rest
     × IsToldOf c first.reason (first ∷ more) told × AreTold Struck w (left_by c (steps_of (first ∷ more))) rest later
 
 -- ---- what holds of the told steps of a chain
@@ -81,9 +87,10 @@ IsInView w (Sign from to) cell = ⊥
 IsInView w (Set line squares values) cell = ⊥
 
 -- each number of the strike is left of its square and struck there by the reason, and the clue isn't among its counts
-abbrev pub IsHeldStrike : (CandidatesValue → Reason → ℕ → ℕ → Type 0) → (ℕ → ℕ) → CandidatesValue → Reason → Strike → Type 0
+abbrev pub IsHeldStrike : Striking → (ℕ → ℕ) → CandidatesValue → Reason → Strike → Type 0
 IsHeldStrike Struck clue c reason strike = (v : ℕ) → has_number strike.values v ≡ true
-    → IsLeft c strike.cell v × Struck c reason strike.cell v × IfSome strike.shows (λ shows. has_number (slice_index shows v) (clue_at clue reason) ≡ false)
+    → IsLeft c strike.cell v × Struck c reason strike.cell v
+    × IfSome strike.shows (λ shows. has_number (slice_index shows v) (clue_at clue reason) ≡ false)
 
 -- the square of each strike is after that of the one before it, and that of the first is after this one
 abbrev pub AreAfter : ℕ → List Strike → Type 0
@@ -104,7 +111,8 @@ abbrev pub told_values : ToldStep → List StepValue
 told_values told = map (strike_value told.reason) told.strikes.items
 
 -- each told step holds by what those before it leave
-abbrev pub AreHeld : (CandidatesValue → Reason → ℕ → ℕ → Type 0) → (ℕ → ℕ) → CandidatesValue → List ToldStep → Type 0
+abbrev pub AreHeld : Striking → (ℕ → ℕ) → CandidatesValue → List ToldStep → Type 0
 AreHeld Struck clue c [] = Unit {0}
 AreHeld Struck clue c (told ∷ later) =
-    AreInOrder told.strikes.items × All (IsHeldStrike Struck clue c told.reason) told.strikes.items × AreHeld Struck clue (left_by c (told_values told)) later
+    AreInOrder told.strikes.items × All (IsHeldStrike Struck clue c told.reason) told.strikes.items
+    × AreHeld Struck clue (left_by c (told_values told)) later

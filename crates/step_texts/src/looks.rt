@@ -3,9 +3,9 @@ ghost use Rattle.std.specs.Prelude.{◌≡◌, ◌≢◌, ◌↔◌, ◌<◌, �
 ghost use Rattle.number_sets.specs.Sets.{has_number};
 ghost use Rattle.trail_solver.specs.Pairs.{IsPair, has_pair};
 ghost use Rattle.trail_solver.specs.Candidates.{may_be};
-ghost use Rattle.named_steps.specs.Left.{AreAlike};
+ghost use Rattle.clue_rules.specs.Left.{AreAlike};
 ghost use Rattle.named_steps.specs.Chains.{left_by};
-ghost use Rattle.named_steps.specs.Inner.Takes.{Takes};
+ghost use Rattle.clue_rules.specs.Takes.{Takes};
 ghost use Rattle.step_chains.specs.ChainValues.{step_value, steps_of};
 ghost use Rattle.step_texts.specs.Looks.{HoldsAt, IsJoinable, AreJoined, HasNoMore};
 
@@ -25,7 +25,8 @@ pub(crate) fn joined_steps<P: Steps>(
 ) -> usize
     ensures within { result ≤ length steps.now }
     ensures room { result + 1 < 2 ^ 64 }
-    ensures joined { AreJoined (P.struck_by p.now) (P.puzzle p.now).size candidates.now first.now (take result steps.now) }
+    ensures joined { AreJoined (P.struck_by p.now) (P.puzzle p.now).size candidates.now first.now
+        (take result steps.now) }
     ensures ends { HasNoMore (P.struck_by p.now) (P.puzzle p.now).size candidates.now first.now (take result steps.now)
         (drop result steps.now) }
 {
@@ -50,7 +51,8 @@ fn is_joinable<P: Steps>(
     step: &Step,
     known: &mut KnownRows,
 ) -> bool
-    ensures { IsTrue result ↔ IsJoinable (P.struck_by p.now) (P.puzzle p.now).size candidates.now reason after step.now }
+    ensures { IsTrue result
+        ↔ IsJoinable (P.struck_by p.now) (P.puzzle p.now).size candidates.now reason after step.now }
 {
     if step.reason != reason || step.cell <= after {
         return false;

@@ -2,7 +2,7 @@
 ghost use Rattle.std.specs.Prelude.{◌≡◌, ◌*◌, ◌<◌, ℕ, Bool, List};
 ghost use Rattle.trail_solver.specs.Candidates.{CandidatesValue};
 ghost use Rattle.named_steps.specs.declared.grade.Grade.{Grade};
-ghost use Rattle.named_steps.specs.declared.reason.Reason.{Reason};
+ghost use Rattle.clue_rules.specs.declared.reason.Reason.{Reason};
 ghost use Rattle.shown_counts.specs.Shown.{IsShownBy};
 ghost use Rattle.step_texts.specs.Told.{clue_at, IsInView};
 
@@ -35,13 +35,16 @@ pub trait StepNames: Steps {
         ensures { result ≡ says_greater_of self.now first second };
 
     // What a clue strikes is told by the counts: the clue is in none of those with a number that it strikes.
-    ghost struck_unshown: { (p : Self) (c : CandidatesValue) (reason : Reason) (cell value : ℕ) → c.size ≡ (Self.Rules.puzzle p).size
+    ghost struck_unshown: { (p : Self) (c : CandidatesValue) (reason : Reason) (cell value : ℕ)
+        → c.size ≡ (Self.Rules.puzzle p).size
         → Self.struck_by p c reason cell value → IsShownBy c reason cell value (clue_at (edge_clue_of p) reason) → ⊥ };
 
     // And a clue strikes each number of its squares of which it isn't among the counts.
-    ghost unshown_struck: { (p : Self) (c : CandidatesValue) (reason : Reason) (cell value : ℕ) → c.size ≡ (Self.Rules.puzzle p).size
+    ghost unshown_struck: { (p : Self) (c : CandidatesValue) (reason : Reason) (cell value : ℕ)
+        → c.size ≡ (Self.Rules.puzzle p).size
         → 0 < clue_at (edge_clue_of p) reason → IsInView (Self.Rules.puzzle p).size reason cell
-        → (IsShownBy c reason cell value (clue_at (edge_clue_of p) reason) → ⊥) → Self.struck_by p c reason cell value };
+        → (IsShownBy c reason cell value (clue_at (edge_clue_of p) reason) → ⊥)
+        → Self.struck_by p c reason cell value };
 }
 
 impl StepNames for Towers {

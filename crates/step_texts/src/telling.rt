@@ -1,7 +1,7 @@
 //! The steps of a chain, told one after another.
 ghost use Rattle.std.specs.Prelude.{IfOk};
 ghost use Rattle.trail_solver.specs.Candidates.{CandidatesValue};
-ghost use Rattle.named_steps.specs.declared.reason.Reason.{Reason};
+ghost use Rattle.clue_rules.specs.declared.reason.Reason.{Reason};
 ghost use Rattle.shown_counts.specs.Shown.{IsLineOf};
 ghost use Rattle.step_texts.specs.Told.{AreToldCounts, AreToldStrikes, IsToldOf, AreTold};
 
@@ -27,7 +27,8 @@ pub fn told_steps<P: StepNames>(
     candidates: Candidates,
     steps: &[Step],
 ) -> Result<Vec<ToldStep>, AllocError>
-    ensures { IfOk result (λ told. AreTold (P.struck_by p.now) (P.Rules.puzzle p.now).size candidates steps.now told.items) }
+    ensures { IfOk result
+        (λ told. AreTold (P.struck_by p.now) (P.Rules.puzzle p.now).size candidates steps.now told.items) }
 {
     let mut candidates = candidates;
     let mut known = KnownRows::none();

@@ -4,10 +4,12 @@
 //! that value has to show all the towers of the clue: it is at the last level, whose number is the clue, and there is no other start. So the
 //! masks are without the greatest value, and without the least, 1, too: whether a start has it is told by how many other values it has.
 
-ghost use Rattle.std.specs.Prelude.{◌≡◌, ℕ, ◌+◌, ◌-◌, ◌*◌, ◌^◌, ◌<◌, ◌≤◌, ◌↔◌, ◌==◌, ◌&&◌, true, false, count_ones, IsTrue};
+ghost use Rattle.std.specs.Prelude.{◌≡◌, ℕ, ◌+◌, ◌-◌, ◌*◌, ◌^◌, ◌<◌, ◌≤◌, ◌↔◌, ◌==◌, ◌&&◌, true, false, count_ones};
+ghost use Rattle.std.specs.Prelude.{IsTrue};
 ghost use Rattle.number_sets.specs.Sets.{has_number};
 ghost use Rattle.tower_lines.specs.Inner.MaskSets.{has_mask, has_at};
-ghost use Rattle.tower_lines.specs.Inner.Levels.{AreAdded, AreNoted, AreFew, IsCommon, IsReachedBy, IsReachedFrom, LacksLeast, LeadsTo, IsPassing, IsPassed, IsKeptBy};
+ghost use Rattle.tower_lines.specs.Inner.Levels.{AreAdded, AreNoted, AreFew, IsCommon, IsReachedBy, IsReachedFrom};
+ghost use Rattle.tower_lines.specs.Inner.Levels.{LacksLeast, LeadsTo, IsPassing, IsPassed, IsKeptBy};
 
 use crate::mask_sets::MaskSet;
 use number_sets::NumberSet;

@@ -1,6 +1,7 @@
 //! The values that each square of a line with a clue can take.
 
-ghost use Rattle.std.specs.Prelude.{◌≡◌, ℕ, ◌+◌, ◌<◌, ◌≤◌, ◌↔◌, true, false, [], length, replicate, slice_index, slice_index_or, IsTrue, List};
+ghost use Rattle.std.specs.Prelude.{◌≡◌, ℕ, ◌+◌, ◌<◌, ◌≤◌, ◌↔◌, true, false, [], length, replicate, slice_index};
+ghost use Rattle.std.specs.Prelude.{slice_index_or, IsTrue, List};
 ghost use Rattle.number_sets.specs.Sets.{has_number, no_numbers};
 ghost use Rattle.tower_lines.specs.LineFillings.{IsFilling, IsSupported};
 ghost use Rattle.tower_lines.specs.Inner.MaskSets.{has_at};
@@ -104,7 +105,8 @@ fn add_starts<const W: usize>(sets: &[NumberSet], clue: usize, starts: &mut [Lev
     requires room { length sets.now ≤ 7 + W }
     requires words { 0 < W }
     requires small { W ≤ 2 }
-    requires blank { (place level mask : ℕ) → place < 10 → has_at (slice_index_or starts.old place []) level mask ≡ false }
+    requires blank { (place level mask : ℕ) → place < 10
+        → has_at (slice_index_or starts.old place []) level mask ≡ false }
     ensures { (place : ℕ) → place ≤ length sets.now
         → AreReached sets.now clue place (slice_index_or starts.new place []) }
 {

@@ -1,6 +1,7 @@
 //! Sets of masks of values. Bit k of a mask stands for the value k + 2, since the least value is in no mask.
 
-ghost use Rattle.std.specs.Prelude.{◌≡◌, ℕ, ◌+◌, ◌-◌, ◌*◌, ◌^◌, ◌<◌, ◌≤◌, ◌==◌, ◌&&◌, ◌||◌, true, false, not, length, nat_le, nat_lt, List, count_ones};
+ghost use Rattle.std.specs.Prelude.{◌≡◌, ℕ, ◌+◌, ◌-◌, ◌*◌, ◌^◌, ◌<◌, ◌≤◌, ◌==◌, ◌&&◌, ◌||◌, true, false, not, length};
+ghost use Rattle.std.specs.Prelude.{nat_le, nat_lt, List, count_ones};
 ghost use Rattle.std.specs.Bool.{MatchBool};
 ghost use Rattle.number_sets.specs.Sets.{has_number};
 ghost use Rattle.tower_lines.specs.Inner.MaskSets.{has_mask};

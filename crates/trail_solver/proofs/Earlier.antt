@@ -5,7 +5,7 @@ use Rattle.std.proofs.lemmas.List.Folds.{list_any-append}
 use Rattle.std.proofs.lemmas.List.{length-take, take-take}
 use Rattle.latin_board.specs.Squares.{GridValue, number_at}
 use Rattle.trail_solver.specs.Pairs.{IsPrefix, has_pair, with_pair}
-use Rattle.trail_solver.specs.Candidates.{CandidatesValue, IsEarlier, IsOnly, IsWithin, may_be}
+use Rattle.trail_solver.specs.Candidates.{CandidatesValue, IsEarlier, IsWithin, may_be}
 
 -- ---- one list in front of another
 
@@ -58,19 +58,6 @@ stays_gone a b cell value h k =
 pub was_left : (a b : CandidatesValue) (cell value : ℕ) → IsEarlier a b → may_be b cell value ≡ true → may_be a cell value ≡ true
 was_left a b cell value h k =
     true_from_ne_false (may_be a cell value) (λ e. both_ways (may_be b cell value) (stays_gone a b cell value h e) k)
-
--- a square that had one candidate still has that one, if it has one
-pub only_later : (a b : CandidatesValue) (cell value other : ℕ) → IsEarlier a b → IsOnly a cell value → 1 ≤ other → other ≤ b.size
-    → may_be b cell other ≡ true → IsOnly b cell value
-only_later a b cell value other h o low high left =
-    let first : other ≡ value = o.alone other low (omega (arith, h.size)) (was_left a b cell other h left) in
-    let P : ℕ → Type 0 = λ v. may_be b cell v ≡ true in
-    record {
-      low = o.low;
-      high = omega (arith, o.high, h.size);
-      left = subst P first left;
-      alone = λ v low high left. o.alone v low (omega (arith, h.size)) (was_left a b cell v h left);
-    }
 
 -- a grid within later candidates is within earlier ones
 pub within_earlier : (a b : CandidatesValue) (g : GridValue) → IsEarlier a b → IsWithin b g → IsWithin a g

@@ -3,8 +3,8 @@ use Rattle.std.specs.Prelude.{◌≡◌, ℕ, ◌*◌, ◌<◌, Bool, ◌==◌, 
 use Rattle.std.specs.List.{range_with_len, list_all}
 use Rattle.latin_board.specs.Squares.{GridValue, IsGrid, IsLatin, number_at, latin_test}
 
--- a width, the given number of each square, 0 for none, whether a grid meets the puzzle's clues or signs, and at which edge
--- places a clue stands, which doesn't matter for its solutions
+-- a width, the given number of each square, 0 for none, whether a grid meets the puzzle's clues or signs, and at which
+-- edge places a clue stands, which doesn't matter for its solutions
 pub record Puzzle : Type 0 where
   pub size : ℕ
   pub given : ℕ → ℕ

@@ -63,9 +63,10 @@ outcome_number OutOfRoom = 4
 
 -- ---- the turn
 
--- The text before is a save of a session, or there is none; the line is answered to it, by a response that says `said` and ends the
--- session as `ends` says; and the session that this leaves has the text `saved`.
-pub record IsTurn {P : Type 0} (f : GameFacts P) (reply : GameReply P) (before : List ℕ) (line : Line) (said saved : List ℕ)
+-- The text before is a save of a session, or there is none; the line is answered to it, by a response that says `said`
+-- and ends the session as `ends` says; and the session that this leaves has the text `saved`.
+pub record IsTurn {P : Type 0} (f : GameFacts P) (reply : GameReply P) (before : List ℕ) (line : Line)
+    (said saved : List ℕ)
     (ends : Bool) : Type 0 where
   pub old : Option (History P)
   pub new : Option (History P)
@@ -90,7 +91,8 @@ IsAnswer f reply before line said saved OutOfMemory = ⊥
 IsAnswer f reply before line said saved OutOfRoom = ⊥
 
 -- What comes of the line has one text of so many bytes and one of so many, and one of both has no place in its room.
-pub record IsTooLong {P : Type 0} (f : GameFacts P) (reply : GameReply P) (before : List ℕ) (line : Line) (said_bytes saved_bytes : ℕ)
+pub record IsTooLong {P : Type 0} (f : GameFacts P) (reply : GameReply P) (before : List ℕ) (line : Line)
+    (said_bytes saved_bytes : ℕ)
     (said_room saved_room : ℕ) : Type 0 where
   pub said : List ℕ
   pub saved : List ℕ

@@ -1,5 +1,6 @@
 -- The laws of what Towers demands: it stands along the lines of the grid's edge places, and is all that the clues ask.
-use Rattle.std.proofs.Common.{◌≡◌, ◌↔◌, ℕ, ◌*◌, ◌<◌, nat_lt, Some, length, map, refl, sym, ap, ◌∙◌, subst, inl, inr, arith}
+use Rattle.std.proofs.Common.{◌≡◌, ◌↔◌, ℕ, ◌*◌, ◌<◌, nat_lt, Some, length, map, refl, sym, ap, ◌∙◌, subst, inl, inr}
+use Rattle.std.proofs.Common.{arith}
 use Rattle.std.specs.Bool.{IsTrue}
 use Rattle.std.specs.List.{range_with_len}
 use Rattle.std.proofs.lemmas.Bool.{cases_lt, ltb-true, lt-ltb, eqb-true, eq-eqb}
@@ -39,7 +40,8 @@ placed v place valid clued = elim (cases_lt place (4 * v.size)) [
       absurd (omega arith)
 ]
 
-pub demand_spot : (v : TowersValue) (spot : Spot) (d : Demand) → IsTowers v → towers_demand v spot ≡ Some d → IsSpot v.size spot
+pub demand_spot : (v : TowersValue) (spot : Spot) (d : Demand) → IsTowers v → towers_demand v spot ≡ Some d
+    → IsSpot v.size spot
 demand_spot v (Edge place) d valid e = placed v place valid (demanded v place d e).0
 demand_spot v (RightOf cell) d valid e = absurd (none-some d e)
 demand_spot v (Below cell) d valid e = absurd (none-some d e)
@@ -64,7 +66,8 @@ clue_on_line v place inside =
           (view_index_apart w place i j first second (λ same. omega arith)));
     }
 
-pub demand_line : (v : TowersValue) (spot : Spot) (d : Demand) → IsTowers v → towers_demand v spot ≡ Some d → IsOnLine v.size d
+pub demand_line : (v : TowersValue) (spot : Spot) (d : Demand) → IsTowers v → towers_demand v spot ≡ Some d
+    → IsOnLine v.size d
 demand_line v (Edge place) d valid e =
     let there = demanded v place d e in
     subst (IsOnLine v.size) there.1 (clue_on_line v place (placed v place valid there.0))
@@ -80,7 +83,8 @@ view_numbers v g place size inside =
     let cells = map (view_cell v.size place) (range_with_len 0 v.size) in
     let count : length cells ≡ v.size = length-map-range_with_len (view_cell v.size place) 0 v.size in
     let both : length (map (number_at g) cells) ≡ length cells = length-map cells (number_at g) in
-    same_number_lists (map (number_at g) cells) (view_of g place) (both ∙ count ∙ sym size ∙ sym (length-view_of g place))
+    same_number_lists (map (number_at g) cells) (view_of g place)
+    (both ∙ count ∙ sym size ∙ sym (length-view_of g place))
     (λ k low.
     let within : k < v.size = omega (arith, both, count) in
     let cell = get_or-map-range_with_len (view_cell v.size place) 0 v.size k k 0 within (omega arith) in
@@ -96,7 +100,8 @@ demand_all v g valid is_grid full size = (
   λ all. (clues_decide v g).1 (record {
     each = λ place inside clued.
         let says = all (Edge place) (clue_demand v place) (rw (lt-ltb 0 (clue_of v place) clued) refl) in
-        ap seen (sym (view_numbers v g place size inside)) ∙ eqb-true (seen (numbers_of g (clue_demand v place))) (clue_of v place) says;
+        ap seen (sym (view_numbers v g place size inside))
+        ∙ eqb-true (seen (numbers_of g (clue_demand v place))) (clue_of v place) says;
   }),
 )
   where

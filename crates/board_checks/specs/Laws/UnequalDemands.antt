@@ -8,7 +8,8 @@ use Rattle.latin_board.specs.Lines.{ArePeers}
 use Rattle.latin_board.proofs.PeerLines.{line_peers}
 use Rattle.clue_rules.specs.declared.unequal.sign.Sign.{Sign}
 use Rattle.clue_rules.specs.declared.unequal.sign.Sign.TheVariants.{Absent, FirstGreater, SecondGreater}
-use Rattle.clue_rules.specs.Unequal.{UnequalValue, IsUnequal, HoldsSigns, sign_between, holds_sign, holds_signs, is_present}
+use Rattle.clue_rules.specs.Unequal.{UnequalValue, IsUnequal, HoldsSigns, sign_between, holds_sign, holds_signs}
+use Rattle.clue_rules.specs.Unequal.{is_present}
 use Rattle.clue_rules.specs.Laws.Neighbours.{IsNext, right_of, below_of, next_line, next_inside}
 use Rattle.clue_rules.specs.Laws.Signs.{IsSaid, right_between, below_between, said_next, greater_next}
 use Rattle.clue_rules.proofs.SignLemmas.{signs_held, held_signs}
@@ -32,7 +33,8 @@ record IsDemanded (v : UnequalValue) (a b : ℕ) (d : Demand) : Type 0 where
   next : IsNext v.size a b
   is : sign_demand (sign_between v a b) a b ≡ d
 
-demanded_between : (v : UnequalValue) (a b : ℕ) (d : Demand) → IsUnequal v → demand_if_present (sign_between v a b) a b ≡ Some d
+demanded_between : (v : UnequalValue) (a b : ℕ) (d : Demand) → IsUnequal v
+    → demand_if_present (sign_between v a b) a b ≡ Some d
     → IsDemanded v a b d
 demanded_between v a b d valid e =
     let s = sign_between v a b in
@@ -40,7 +42,8 @@ demanded_between v a b d valid e =
     record { next = said_next v a b valid (present_said s there.0); is = there.1 }
 
 -- the demand of the sign between a square and the next on its right
-pub right_demand : (v : UnequalValue) (cell : ℕ) → demand_if_present (sign_between v cell (cell + 1)) cell (cell + 1) ≡ unequal_demand v (RightOf cell)
+pub right_demand : (v : UnequalValue) (cell : ℕ)
+    → demand_if_present (sign_between v cell (cell + 1)) cell (cell + 1) ≡ unequal_demand v (RightOf cell)
 right_demand v cell = ap (λ (s : Sign). demand_if_present s cell (cell + 1)) (right_between v cell)
 
 -- the demand of the sign between a square and the next below
@@ -54,11 +57,13 @@ right_demanded v cell d valid e = demanded_between v cell (cell + 1) d valid (ri
 
 below_demanded : (v : UnequalValue) (cell : ℕ) (d : Demand) → IsUnequal v → unequal_demand v (Below cell) ≡ Some d
     → IsDemanded v cell (cell + v.size) d
-below_demanded v cell d valid e = demanded_between v cell (cell + v.size) d valid (below_demand v cell valid.givens.smallest ∙ e)
+below_demanded v cell d valid e =
+    demanded_between v cell (cell + v.size) d valid (below_demand v cell valid.givens.smallest ∙ e)
 
 -- ---- the two squares
 
-pub demand_spot : (v : UnequalValue) (spot : Spot) (d : Demand) → IsUnequal v → unequal_demand v spot ≡ Some d → IsSpot v.size spot
+pub demand_spot : (v : UnequalValue) (spot : Spot) (d : Demand) → IsUnequal v → unequal_demand v spot ≡ Some d
+    → IsSpot v.size spot
 demand_spot v (Edge place) d valid e = absurd (none-some d e)
 demand_spot v (RightOf cell) d valid e = (right_demanded v cell d valid e).next.inside
 demand_spot v (Below cell) d valid e = (below_demanded v cell d valid e).next.inside
@@ -66,7 +71,9 @@ demand_spot v (Below cell) d valid e = (below_demanded v cell d valid e).next.in
 next_peers : (w a b : ℕ) → 3 ≤ w → IsNext w a b → ArePeers w a b
 next_peers w a b small next =
     let on = next_line w a b small next in
-    let peers = line_peers w on.line on.place (on.place + 1) on.line_is (omega (arith, on.place_is)) on.place_is (λ same. omega arith) in
+    let peers =
+    line_peers w on.line on.place (on.place + 1) on.line_is (omega (arith, on.place_is)) on.place_is
+    (λ same. omega arith) in
     rw (on.first, on.second) at peers
 
 demanded_on_line : (v : UnequalValue) (a b : ℕ) (d : Demand) → IsUnequal v → IsDemanded v a b d → IsOnLine v.size d
@@ -77,7 +84,8 @@ demanded_on_line v a b d valid h =
       peers = two_pairs (ArePeers v.size) a b (next_peers v.size a b small h.next);
     })
 
-pub demand_line : (v : UnequalValue) (spot : Spot) (d : Demand) → IsUnequal v → unequal_demand v spot ≡ Some d → IsOnLine v.size d
+pub demand_line : (v : UnequalValue) (spot : Spot) (d : Demand) → IsUnequal v → unequal_demand v spot ≡ Some d
+    → IsOnLine v.size d
 demand_line v (Edge place) d valid e = absurd (none-some d e)
 demand_line v (RightOf cell) d valid e = demanded_on_line v cell (cell + 1) d valid (right_demanded v cell d valid e)
 demand_line v (Below cell) d valid e = demanded_on_line v cell (cell + v.size) d valid (below_demanded v cell d valid e)
@@ -97,18 +105,21 @@ demanded_met v g a b d held h =
     subst (λ (d : Demand). IsTrue (d.says (numbers_of g d))) h.is (sign_held v g a b held (sign_between v a b) refl)
 
 -- what stands between a square and the next is demanded at a spot
-met_between : (v : UnequalValue) (g : GridValue) (a b : ℕ) → IsUnequal v → MeetsAll (unequal_demand v) g → IsNext v.size a b
+met_between : (v : UnequalValue) (g : GridValue) (a b : ℕ) → IsUnequal v → MeetsAll (unequal_demand v) g
+    → IsNext v.size a b
     → (s : Sign) → sign_between v a b ≡ s → is_present s ≡ true → holds_sign s (number_at g a) (number_at g b) ≡ true
 met_between v g a b valid all next s is present =
     let there : demand_if_present (sign_between v a b) a b ≡ Some (sign_demand s a b) = rw (is, present) refl in
     elim next.points [
       | inl right ↦
           let e : a + 1 ≡ b = sym (right_of v.size a b right).1 in
-          let moved = subst (λ (n : ℕ). demand_if_present (sign_between v a n) a n ≡ Some (sign_demand s a b)) (sym e) there in
+          let moved =
+          subst (λ (n : ℕ). demand_if_present (sign_between v a n) a n ≡ Some (sign_demand s a b)) (sym e) there in
           all (RightOf a) (sign_demand s a b) (sym (right_demand v a) ∙ moved)
       | inr below ↦
           let e : a + v.size ≡ b = sym (below_of v.size a b below).1 in
-          let moved = subst (λ (n : ℕ). demand_if_present (sign_between v a n) a n ≡ Some (sign_demand s a b)) (sym e) there in
+          let moved =
+          subst (λ (n : ℕ). demand_if_present (sign_between v a n) a n ≡ Some (sign_demand s a b)) (sym e) there in
           all (Below a) (sign_demand s a b) (sym (below_demand v a valid.givens.smallest) ∙ moved)
     ]
 
@@ -119,7 +130,8 @@ demand_all v g valid is_grid full size = (
   λ all. held_signs v g (record {
     each = λ a b greater. elim (greater_next v a b valid greater) [
       | inl up ↦ ltb-true (number_at g b) (number_at g a) (met_between v g a b valid all up.0 FirstGreater up.1 refl)
-      | inr down ↦ ltb-true (number_at g b) (number_at g a) (met_between v g b a valid all down.0 SecondGreater down.1 refl)
+      | inr down ↦ ltb-true (number_at g b) (number_at g a)
+          (met_between v g b a valid all down.0 SecondGreater down.1 refl)
     ];
   }),
 )

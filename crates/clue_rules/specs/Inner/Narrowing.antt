@@ -53,11 +53,13 @@ pub record AreSetsTo (c : CandidatesValue) (place n : ℕ) (sets : List ℕ) : T
 abbrev pub AreSetsOf : CandidatesValue → ℕ → List ℕ → Type 0
 AreSetsOf c place sets = AreSetsTo c place c.size sets
 
--- new is old with only the values of these sets kept in the squares from a place; by the answer, one of the sets is empty
+-- new is old with only the values of these sets kept in the squares from a place; by the answer, one of the sets is
+-- empty
 pub record KeepsInView (place : ℕ) (kept : List ℕ) (old new : CandidatesValue) (left : Bool) : Type 0 where
   pub less : IsEarlier old new
   pub keeps : (g : GridValue) → g.size ≡ old.size
-      → ((k : ℕ) → k < old.size → has_number (slice_index kept k) (number_at g (view_cell old.size place k)) ≡ true) → IsWithin old g
+      → ((k : ℕ) → k < old.size → has_number (slice_index kept k) (number_at g (view_cell old.size place k)) ≡ true)
+      → IsWithin old g
       → IsWithin new g
   pub empty : OnFalse left ((k : ℕ) × (k < old.size) × ((v : ℕ) → has_number (slice_index kept k) v ≡ false))
   pub gone : OnTrue left ((k v : ℕ) → k < old.size → IsPair old.size (view_cell old.size place k) v
@@ -69,6 +71,12 @@ pub record KeepsInView (place : ℕ) (kept : List ℕ) (old new : CandidatesValu
 abbrev pub IsStruckByLines : (ℕ → CandidatesValue → ℕ → ℕ → Type 0) → CandidatesValue → ℕ → ℕ → Type 0
 IsStruckByLines Struck c cell value = IsLatinStruck c cell value ⊎ StruckBelow Struck (2 * c.size) c cell value
 
+-- the cell has a given, and it is another value
+pub record IsGivenStruck (givens : GridValue) (cell value : ℕ) : Type 0 where
+  pub given : 0 < number_at givens cell
+  pub apart : value ≢ number_at givens cell
+
 -- the grid has each given in its square
 pub record Agrees (givens g : GridValue) : Type 0 where
-  pub each : (cell : ℕ) → cell < givens.size * givens.size → 0 < number_at givens cell → number_at g cell ≡ number_at givens cell
+  pub each : (cell : ℕ) → cell < givens.size * givens.size → 0 < number_at givens cell
+      → number_at g cell ≡ number_at givens cell

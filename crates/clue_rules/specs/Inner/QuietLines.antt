@@ -14,7 +14,8 @@ pub record AreSameAlong (line : ℕ) (a b : CandidatesValue) : Type 0 where
 -- what is struck can be told from the squares of the line
 abbrev pub IsOfLine : ℕ → ℕ → (CandidatesValue → ℕ → ℕ → Type 0) → Type 0
 IsOfLine w line Struck =
-    (a b : CandidatesValue) → a.size ≡ w → AreSameAlong line a b → (cell value : ℕ) → Struck a cell value → Struck b cell value
+    (a b : CandidatesValue) → a.size ≡ w → AreSameAlong line a b → (cell value : ℕ) → Struck a cell value
+    → Struck b cell value
 
 -- no candidate is left that is struck along a line, for each line that isn't in the set
 abbrev pub AreQuietBut : ℕ → (ℕ → CandidatesValue → ℕ → ℕ → Type 0) → CandidatesValue → Type 0
@@ -22,7 +23,8 @@ AreQuietBut set Struck c = (line : ℕ) → line < 2 * c.size → has_number set
 
 -- after a step, a line that isn't in the set wasn't before, and lost no candidate
 abbrev pub IsUntouched : CandidatesValue → CandidatesValue → ℕ → ℕ → ℕ → Type 0
-IsUntouched old new before after line = has_number after line ≡ false → (has_number before line ≡ false) × AreSameAlong line old new
+IsUntouched old new before after line =
+    has_number after line ≡ false → (has_number before line ≡ false) × AreSameAlong line old new
 
 -- where a step takes no candidate, no line comes into the set
 abbrev pub GainsByLoss : CandidatesValue → CandidatesValue → ℕ → ℕ → Type 0
@@ -39,8 +41,10 @@ pub record Notes (old new : CandidatesValue) (before after : ChangedLines) : Typ
   pub latin : NotesIn old new before.latin after.latin
   pub rule : NotesIn old new before.rule after.rule
 
--- the set has gained the other lines that lost candidates; and along this one nothing is left, unless it is to be looked at again
-pub record Strikes (Struck : CandidatesValue → ℕ → ℕ → Type 0) (line : ℕ) (old new : CandidatesValue) (before after : ℕ) : Type 0 where
+-- the set has gained the other lines that lost candidates; and along this one nothing is left, unless it is to be
+-- looked at again
+pub record Strikes (Struck : CandidatesValue → ℕ → ℕ → Type 0) (line : ℕ) (old new : CandidatesValue)
+    (before after : ℕ) : Type 0 where
   pub others : (k : ℕ) → k < 2 * old.size → k ≢ line → IsUntouched old new before after k
   pub own : has_number after line ≡ false → LacksStruck Struck new new
   pub gains : GainsByLoss old new before after

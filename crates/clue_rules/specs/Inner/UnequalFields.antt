@@ -9,7 +9,8 @@ use Rattle.clue_rules.specs.declared.unequal.sign.Sign.TheVariants.{Absent}
 use Rattle.clue_rules.specs.Inner.Filled.{IsFilledTo}
 use Rattle.clue_rules.specs.Unequal.{UnequalValue, neighbour, signs_towards}
 
--- the signs of squares towards their neighbours in a direction, a place for each square of the largest grid: absent where the grid ends, and past its last square
+-- the signs of squares towards their neighbours in a direction, a place for each square of the largest grid: absent
+-- where the grid ends, and past its last square
 pub record KeepsSigns (w : ℕ) (d : Direction) (places : List Sign) : Type 0 where
   pub padded : IsFilledTo Absent CELLS (w * w) places
   pub ends : (cell : ℕ) → neighbour w cell d ≡ None → slice_index_or (take (w * w) places) cell Absent ≡ Absent

@@ -1,10 +1,10 @@
 -- What the signs of Unequal rule out along one line, sign by sign.
-use Rattle.std.specs.Prelude.{◌≡◌, ℕ, ◌+◌, ◌-◌, ◌*◌, ◌<◌, ◌⊎◌}
+use Rattle.std.specs.Prelude.{◌≡◌, ℕ, ◌+◌, ◌-◌, ◌*◌, ◌<◌, ◌≤◌, ◌⊎◌}
 use Rattle.latin_board.specs.Lines.{line_cell}
 use Rattle.trail_solver.specs.Candidates.{CandidatesValue}
 use Rattle.clue_rules.specs.declared.unequal.sign.Sign.TheVariants.{FirstGreater, SecondGreater}
 use Rattle.clue_rules.specs.Inner.Narrowing.{StruckBelow, IsSquare}
-use Rattle.clue_rules.specs.Struck.{HasNoneAbove, HasNoneBelow}
+use Rattle.clue_rules.specs.Left.{IsLeft}
 use Rattle.clue_rules.specs.Unequal.{UnequalValue, sign_between}
 use Rattle.latin_board.specs.Squares.{GridValue, number_at}
 use Rattle.clue_rules.specs.Inner.ViewSquares.{IsCrossed}
@@ -28,7 +28,8 @@ pub record AreCrossed (w : ℕ) (s : SignSquares) : Type 0 where
   pub greater : IsCrossed w s.greater.cell s.greater.line s.greater.crossing
   pub lesser : IsCrossed w s.lesser.cell s.lesser.line s.lesser.crossing
 
--- the ends are two squares with a sign between them, the greater end being the one that it says holds the greater number
+-- the ends are two squares with a sign between them, the greater end being the one that it says holds the greater
+-- number
 pub record AreEnds (v : UnequalValue) (first second : ℕ) (ends : SignEnds) : Type 0 where
   pub inside : AreInside v.size ends
   pub is : ((sign_between v first second ≡ FirstGreater) × (ends.greater ≡ first) × (ends.lesser ≡ second))
@@ -42,12 +43,12 @@ pub record AreEndsOf (v : UnequalValue) (first second : ℕ) (s : SignSquares) :
 -- what the lesser end can't hold
 pub record IsLesserStruck (ends : SignEnds) (c : CandidatesValue) (cell value : ℕ) : Type 0 where
   pub here : cell ≡ ends.lesser
-  pub none : HasNoneAbove c ends.greater value
+  pub none : (u : ℕ) → IsLeft c ends.greater u → u ≤ value
 
 -- what the greater end can't hold
 pub record IsGreaterStruck (ends : SignEnds) (c : CandidatesValue) (cell value : ℕ) : Type 0 where
   pub here : cell ≡ ends.greater
-  pub none : HasNoneBelow c ends.lesser value
+  pub none : (u : ℕ) → IsLeft c ends.lesser u → value ≤ u
 
 -- what either end can't hold
 abbrev pub IsEndStruck : SignEnds → CandidatesValue → ℕ → ℕ → Type 0

@@ -19,4 +19,5 @@ IsWithoutLastComma text rest =
 -- the letters of a square and of its neighbour in a direction each say that their square is the greater one
 abbrev pub contradicts_towards : ℕ → List (List ℕ) → Direction → ℕ → Bool
 contradicts_towards w pieces d cell =
-    option_map_or (λ other. says_greater w pieces cell other && says_greater w pieces other cell) (neighbour w cell d) false
+    option_map_or (λ other. says_greater w pieces cell other && says_greater w pieces other cell)
+    (neighbour w cell d) false

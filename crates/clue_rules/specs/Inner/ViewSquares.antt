@@ -1,4 +1,5 @@
--- The squares from an edge place or of a line, as the first of them and the way from each to the next; and the lines of a square.
+-- The squares from an edge place or of a line, as the first of them and the way from each to the next; and the lines of
+-- a square.
 use Rattle.std.specs.Prelude.{◌≡◌, ℕ, ◌+◌, ◌*◌, ◌<◌, ◌≤◌, ◌⊎◌, nat_lt, if◌then◌else◌}
 use Rattle.latin_board.specs.Lines.{line_cell}
 use Rattle.clue_rules.specs.Views.{view_cell}
@@ -27,4 +28,5 @@ pub record IsCrossed (w cell line crossing : ℕ) : Type 0 where
   pub inside : cell < w * w
   pub line_is : line < 2 * w
   pub crossing_is : crossing < 2 * w
-  pub none_else : (other k : ℕ) → other < 2 * w → k < w → line_cell w other k ≡ cell → (other ≡ line) ⊎ (other ≡ crossing)
+  pub none_else : (other k : ℕ) → other < 2 * w → k < w → line_cell w other k ≡ cell
+      → (other ≡ line) ⊎ (other ≡ crossing)

@@ -1,5 +1,6 @@
 -- The clue part of a Towers description: what is read is written so, and what is written so is read.
-use Rattle.std.proofs.Common.{◌≡◌, ◌≢◌, ℕ, ◌+◌, ◌-◌, ◌*◌, ◌<◌, ◌≤◌, true, false, ◌==◌, nat_le, List, [], ◌∷◌, length, map, Ok, refl, sym, ap, ◌∙◌, subst, arith, if◌then◌else◌}
+use Rattle.std.proofs.Common.{◌≡◌, ◌≢◌, ℕ, ◌+◌, ◌-◌, ◌*◌, ◌<◌, ◌≤◌, true, false, ◌==◌, nat_le, List, [], ◌∷◌, length}
+use Rattle.std.proofs.Common.{map, Ok, refl, sym, ap, ◌∙◌, subst, arith, if◌then◌else◌}
 use Rattle.std.specs.List.{AllByRecursion, list_all, join_with_byte}
 use Rattle.std.proofs.lemmas.List.{length-map}
 use Rattle.std.proofs.lemmas.List.Splits.{join_with_byte-slice_split}
@@ -30,11 +31,18 @@ field_taken w (b ∷ c ∷ bs) is = cc
 
 field_again : (w clue : ℕ) → clue ≤ w → (is_clue_field w (clue_field clue) ≡ true) × (clue_in (clue_field clue) ≡ clue)
 field_again w clue within =
-    elim (clue == 0) as (λ t. (clue == 0) ≡ t → (is_clue_field w (if t then [] else ((digit_zero + clue) ∷ [])) ≡ true) × (clue_in (if t then [] else ((digit_zero + clue) ∷ [])) ≡ clue)) [
+    elim (clue == 0) as
+    (λ t. (clue == 0) ≡ t
+    → (is_clue_field w (if t then [] else ((digit_zero + clue) ∷ [])) ≡ true)
+    × (clue_in (if t then [] else ((digit_zero + clue) ∷ [])) ≡ clue)) [
       | true ↦ λ none. let e = eqb-true clue 0 none in (refl, omega arith)
       | false ↦ λ some.
-          let apart = eqb-false clue 0 some in
-          (and_from (nat_le (digit_zero + 1) (digit_zero + clue)) (nat_le (digit_zero + clue) (digit_zero + w)) (le-leb (digit_zero + 1) (digit_zero + clue) (omega arith)) (le-leb (digit_zero + clue) (digit_zero + w) (omega arith)), omega arith)
+          let apart = eqb-false clue 0 some in (
+            and_from (nat_le (digit_zero + 1) (digit_zero + clue)) (nat_le (digit_zero + clue) (digit_zero + w))
+                (le-leb (digit_zero + 1) (digit_zero + clue) (omega arith))
+                (le-leb (digit_zero + clue) (digit_zero + w) (omega arith)),
+            omega arith,
+          )
     ] refl
 
 fields_taken : (w : ℕ) (fs : List (List ℕ)) → list_all (is_clue_field w) fs ≡ true
@@ -44,7 +52,8 @@ fields_taken w (f ∷ fs) all =
     let tests = and_parts (is_clue_field w f) (list_all (is_clue_field w) fs) all in
     let one = field_taken w f tests.0 in
     let more = fields_taken w fs tests.1 in
-    let whole : clue_field (clue_in f) ∷ map clue_field (map clue_in fs) ≡ f ∷ fs = let e = one.0 in let es = more.0 in cc in
+    let whole : clue_field (clue_in f) ∷ map clue_field (map clue_in fs) ≡ f ∷ fs =
+    let e = one.0 in let es = more.0 in cc in
     (whole, (one.1, more.1))
 
 fields_again : (w : ℕ) (clues : List ℕ) → AllByRecursion (λ clue. clue ≤ w) clues
@@ -53,7 +62,8 @@ fields_again w [] within = (refl, refl)
 fields_again w (clue ∷ clues) within =
     let one = field_again w clue within.0 in
     let more = fields_again w clues within.1 in
-    let whole : clue_in (clue_field clue) ∷ map clue_in (map clue_field clues) ≡ clue ∷ clues = let e = one.1 in let es = more.1 in cc in
+    let whole : clue_in (clue_field clue) ∷ map clue_in (map clue_field clues) ≡ clue ∷ clues =
+    let e = one.1 in let es = more.1 in cc in
     (and_from _ _ one.0 more.0, whole)
 
 -- no field has a byte that is not a digit
@@ -69,7 +79,8 @@ fields_lack c [] small = tt
 fields_lack c (clue ∷ clues) small = (field_lacks c clue small, fields_lack c clues small)
 
 pub clue_part_lacks_comma : (clues : List ℕ) → Lacks comma (clue_part clues)
-clue_part_lacks_comma clues = lacks_join comma slash (map clue_field clues) (omega arith) (fields_lack comma clues (omega arith))
+clue_part_lacks_comma clues =
+    lacks_join comma slash (map clue_field clues) (omega arith) (fields_lack comma clues (omega arith))
 
 -- clues that are read are those that the text spells, one for each place and none above the width
 pub clues_taken : (w : ℕ) (part clues : List ℕ) → clues_at w part ≡ Ok clues
@@ -78,7 +89,8 @@ unfolding clues_at
 clues_taken w part clues read =
     let steps = bind_taken (exactly (4 * w) (fields part)) (clues_in w) clues read in
     let (same, count) = exactly_taken (4 * w) (fields part) steps.value steps.gives in
-    let (readable, said) = refused_else (list_all (is_clue_field w) steps.value) (Ok (map clue_in steps.value)) BadClue clues steps.rest in
+    let (readable, said) =
+    refused_else (list_all (is_clue_field w) steps.value) (Ok (map clue_in steps.value)) BadClue clues steps.rest in
     let clues_are : map clue_in steps.value ≡ clues = cc in
     let (fields_are, within) = fields_taken w steps.value readable in
     let written : map clue_field clues ≡ fields part = ap (map clue_field) (sym clues_are) ∙ (fields_are ∙ sym same) in
@@ -92,7 +104,8 @@ unfolding clues_at
 clues_again w clues some count within =
     let fs = map clue_field clues in
     let lengths : length fs ≡ length clues = length-map clues clue_field in
-    let pieces : fields (clue_part clues) ≡ fs = pieces_join slash fs (omega arith) (fields_lack slash clues (omega arith)) in
+    let pieces : fields (clue_part clues) ≡ fs =
+    pieces_join slash fs (omega arith) (fields_lack slash clues (omega arith)) in
     let right = fields_again w clues within in
     let counts : exactly (4 * w) (fields (clue_part clues)) ≡ Ok fs =
     ap (exactly (4 * w)) pieces ∙ exactly_again (4 * w) fs (lengths ∙ count) in

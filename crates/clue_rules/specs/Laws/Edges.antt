@@ -18,10 +18,12 @@ edge_cases P w place upper lower left right at_upper at_lower at_left at_right =
 -- a place looks along one of the lines
 pub view_line_low : (w place : ℕ) → place < 4 * w → view_line w place < 2 * w
 view_line_low w place inside =
-    edge_cases (λ line. line < 2 * w) w place _ _ _ _ (λ upper. omega arith) (λ from lower. lower) (λ from left. omega arith)
+    edge_cases (λ line. line < 2 * w) w place _ _ _ _ (λ upper. omega arith) (λ from lower. lower)
+    (λ from left. omega arith)
     (λ right. omega arith)
 
 -- a square along that line is one of its squares
 pub view_index_low : (w place k : ℕ) → k < w → view_index w place k < w
 view_index_low w place k low =
-    edge_cases (λ i. i < w) w place _ _ _ _ (λ upper. low) (λ from lower. omega arith) (λ from left. low) (λ right. omega arith)
+    edge_cases (λ i. i < w) w place _ _ _ _ (λ upper. low) (λ from lower. omega arith) (λ from left. low)
+    (λ right. omega arith)

@@ -1,5 +1,6 @@
 -- The pieces of a description: from the text and back, and when there is no fault in them.
-use Rattle.std.proofs.Common.{◌≡◌, ℕ, ◌*◌, ◌<◌, ◌≤◌, true, false, not, List, [], ◌∷◌, ◌++◌, length, map, Some, is_some, unwrap_or, Ok, refl, sym, ap, ◌∙◌, inl, inr, arith}
+use Rattle.std.proofs.Common.{◌≡◌, ℕ, ◌*◌, ◌<◌, ◌≤◌, true, false, not, List, [], ◌∷◌, ◌++◌, length, map, Some, is_some}
+use Rattle.std.proofs.Common.{unwrap_or, Ok, refl, sym, ap, ◌∙◌, inl, inr, arith}
 use Rattle.std.specs.List.{list_all, range_with_len, join_with_byte, Contains, AllByRecursion}
 use Rattle.std.specs.Option.{IsSome}
 use Rattle.std.proofs.lemmas.Bool.{and_parts, not-false}
@@ -12,9 +13,13 @@ use Rattle.byte_text.proofs.CutLaws.{pieces_join}
 use Rattle.clue_rules.specs.declared.id_fault.IdFault.TheVariants.{BadClue, BadSquares, OffGrid, Contradiction}
 use Rattle.clue_rules.specs.declared.unequal.direction.Direction.{Direction}
 use Rattle.clue_rules.specs.Unequal.{UnequalValue, IsUnequal, neighbour}
-use Rattle.clue_rules.specs.UnequalText.{Piece, letter_of, piece_text, without_empty_last, pieces_of, number_in, has_number, direction_of, has_letters, is_inside, points_inside, sign_said, contradicts, grid_in, puzzle_in, puzzle_at, ArePiecesOf}
+use Rattle.clue_rules.specs.UnequalText.{Piece, letter_of, piece_text, without_empty_last, pieces_of, number_in}
+use Rattle.clue_rules.specs.UnequalText.{has_number, direction_of, has_letters, is_inside, points_inside, sign_said}
+use Rattle.clue_rules.specs.UnequalText.{contradicts, grid_in, puzzle_in, puzzle_at, ArePiecesOf}
 use Rattle.clue_rules.specs.Laws.Pieces.{comma_pieces, join-push, dropped_last, drop-push, pieces-push}
-use Rattle.clue_rules.specs.Laws.Letters.{direction_of-letter, contains_here, contains_there, contains_cases, number_in-piece, letters_piece, lacks_comma, read_piece, read_piece_written, number_small}
+use Rattle.clue_rules.specs.Laws.Letters.{direction_of-letter, contains_here, contains_there, contains_cases}
+use Rattle.clue_rules.specs.Laws.Letters.{number_in-piece, letters_piece, lacks_comma, read_piece, read_piece_written}
+use Rattle.clue_rules.specs.Laws.Letters.{number_small}
 use Rattle.clue_rules.specs.Laws.Refusals.{refused_then}
 use Rattle.clue_rules.specs.Laws.Signs.{signed_valid}
 
@@ -32,16 +37,25 @@ pub good_taken : (w : ℕ) (pieces : List (List ℕ)) (v : UnequalValue) → puz
 good_taken w pieces v h =
     let numbers = refused_then (not (list_all (has_number w) pieces)) BadSquares _ v h in
     let letters = refused_then (not (list_all has_letters pieces)) BadClue _ v numbers.1 in
-    let inside = refused_then (not (list_all (points_inside w pieces) (range_with_len 0 (w * w)))) OffGrid _ v letters.1 in
+    let inside =
+    refused_then (not (list_all (points_inside w pieces) (range_with_len 0 (w * w)))) OffGrid _ v letters.1 in
     let agree = refused_then (contradicts w pieces) Contradiction (Ok (puzzle_in w pieces)) v inside.1 in
-    let same : Ok (puzzle_in w pieces) ≡ Ok v = agree.1 in
-    (record { numbers = not-false _ numbers.0; letters = not-false _ letters.0; inside = not-false _ inside.0; agree = agree.0 }, cc)
+    let same : Ok (puzzle_in w pieces) ≡ Ok v = agree.1 in (
+      record {
+        numbers = not-false _ numbers.0;
+        letters = not-false _ letters.0;
+        inside = not-false _ inside.0;
+        agree = agree.0;
+      },
+      cc,
+    )
 
 pub good_again : (w : ℕ) (pieces : List (List ℕ)) → AreGood w pieces → puzzle_at w pieces ≡ Ok (puzzle_in w pieces)
 good_again w pieces h = rw (h.numbers, h.letters, h.inside, h.agree) refl
 
 -- the pieces that were read, written again
-pub read_pieces : (w : ℕ) (bytes : List (List ℕ)) → list_all (has_number w) bytes ≡ true → list_all has_letters bytes ≡ true
+pub read_pieces : (w : ℕ) (bytes : List (List ℕ)) → list_all (has_number w) bytes ≡ true
+    → list_all has_letters bytes ≡ true
     → map piece_text (map (read_piece w) bytes) ≡ bytes
 read_pieces w [] numbers letters = refl
 read_pieces w (p ∷ ps) numbers letters =
@@ -54,7 +68,8 @@ pub map-number : (w : ℕ) (bytes : List (List ℕ))
 map-number w [] = refl
 map-number w (p ∷ ps) = ap (λ ns. unwrap_or (number_in w p) 0 ∷ ns) (map-number w ps)
 
-pub numbers_within : (w : ℕ) (bytes : List (List ℕ)) → AllByRecursion (λ n. n ≤ w) (map (λ p. unwrap_or (number_in w p) 0) bytes)
+pub numbers_within : (w : ℕ) (bytes : List (List ℕ))
+    → AllByRecursion (λ n. n ≤ w) (map (λ p. unwrap_or (number_in w p) 0) bytes)
 numbers_within w [] = tt
 numbers_within w (p ∷ ps) = (number_small w p, numbers_within w ps)
 
@@ -67,7 +82,8 @@ read_valid w bytes small large count = signed_valid w (sign_said w bytes) (grid_
 })
 
 -- the letters of the pieces point to squares of the grid
-pub letters_inside : (w cell : ℕ) (ds : List Direction) (d : Direction) → list_all (is_inside w cell) (map letter_of ds) ≡ true
+pub letters_inside : (w cell : ℕ) (ds : List Direction) (d : Direction)
+    → list_all (is_inside w cell) (map letter_of ds) ≡ true
     → Contains ds d → IsSome (neighbour w cell d)
 letters_inside w cell [] d e h = absurd (omega (arith, h.1))
 letters_inside w cell (x ∷ ds) d e h =
@@ -80,7 +96,8 @@ letters_inside w cell (x ∷ ds) d e h =
       | inr there ↦ letters_inside w cell ds d parts.1 there
     ]
 
-pub inside_letters : (w cell : ℕ) (ds : List Direction) → ((d : Direction) → Contains ds d → IsSome (neighbour w cell d))
+pub inside_letters : (w cell : ℕ) (ds : List Direction)
+    → ((d : Direction) → Contains ds d → IsSome (neighbour w cell d))
     → list_all (is_inside w cell) (map letter_of ds) ≡ true
 inside_letters w cell [] h = refl
 inside_letters w cell (x ∷ ds) h =
@@ -89,7 +106,8 @@ inside_letters w cell (x ∷ ds) h =
 
 -- the text, from its pieces and back
 
-pub joined_text : (text : List ℕ) (p : List ℕ) (ps : List (List ℕ)) → pieces_of text ≡ p ∷ ps → ArePiecesOf text (p ∷ ps)
+pub joined_text : (text : List ℕ) (p : List ℕ) (ps : List (List ℕ)) → pieces_of text ≡ p ∷ ps
+    → ArePiecesOf text (p ∷ ps)
 joined_text text p ps e =
     let whole : text ≡ join_with_byte comma (comma_pieces text) = sym (join_with_byte-slice_split comma text) in
     elim (dropped_last (comma_pieces text)) [
@@ -101,7 +119,8 @@ pub all_lack : (pieces : List Piece) → AllByRecursion (Lacks comma) (map piece
 all_lack [] = tt
 all_lack (p ∷ ps) = (lacks_comma p, all_lack ps)
 
-pub none_empty : (p : Piece) (pieces : List Piece) → without_empty_last (map piece_text (p ∷ pieces)) ≡ map piece_text (p ∷ pieces)
+pub none_empty : (p : Piece) (pieces : List Piece)
+    → without_empty_last (map piece_text (p ∷ pieces)) ≡ map piece_text (p ∷ pieces)
 none_empty p [] = refl
 none_empty p (q ∷ pieces) = ap (λ qs. piece_text p ∷ qs) (none_empty q pieces)
 
@@ -113,7 +132,8 @@ pieces_again text p pieces h =
     elim h [
       | inl same ↦ rw (same, split) (none_empty p pieces)
       | inr more ↦
-          rw (more, pieces-push (join_with_byte comma (map piece_text (p ∷ pieces))), split) (drop-push (map piece_text (p ∷ pieces)))
+          rw (more, pieces-push (join_with_byte comma (map piece_text (p ∷ pieces))), split)
+          (drop-push (map piece_text (p ∷ pieces)))
     ]
 
 pub some_pieces : (text : List ℕ) (pieces : List Piece) → 0 < length pieces → pieces_of text ≡ map piece_text pieces
@@ -145,5 +165,6 @@ pub numbers_again : (w : ℕ) (pieces : List Piece) → AllByRecursion (λ n. n 
     → map (λ p. unwrap_or (number_in w p) 0) (map piece_text pieces) ≡ map (λ p. p.number) pieces
 numbers_again w [] h = refl
 numbers_again w (p ∷ pieces) h =
-    let first : unwrap_or (number_in w (piece_text p)) 0 ≡ p.number = ap (λ o. unwrap_or o 0) (number_in-piece w p h.0) in
+    let first : unwrap_or (number_in w (piece_text p)) 0 ≡ p.number =
+    ap (λ o. unwrap_or o 0) (number_in-piece w p h.0) in
     rw (first, numbers_again w pieces h.1) refl

@@ -1,5 +1,8 @@
--- Lists of which only some items are kept, and a puzzle's items as two lists: its clues or signs, and its givens after them.
-use Rattle.std.proofs.Common.{◌≡◌, ℕ, zero, suc, ◌+◌, ◌-◌, ◌*◌, ◌<◌, ◌≤◌, Bool, true, false, if◌then◌else◌, nat_lt, ◌&&◌, List, [], ◌∷◌, length, slice_index, slice_index_or, refl, sym, ap, subst, ◌∙◌, inl, inr, arith}
+-- Lists of which only some items are kept, and a puzzle's items as two lists: its clues or signs, and its givens after
+-- them.
+use Rattle.std.proofs.Common.{◌≡◌, ℕ, zero, suc, ◌+◌, ◌-◌, ◌*◌, ◌<◌, ◌≤◌, Bool, true, false, if◌then◌else◌, nat_lt}
+use Rattle.std.proofs.Common.{◌&&◌, List, [], ◌∷◌, length, slice_index, slice_index_or, refl, sym, ap, subst, ◌∙◌, inl}
+use Rattle.std.proofs.Common.{inr, arith}
 use Rattle.std.specs.List.{AllByRecursion, All}
 use Rattle.std.proofs.lemmas.Bool.{lt-ltb, le-ltb, cases_lt, and_right}
 use Rattle.std.proofs.lemmas.List.Elements.{All-from_recursion, recursion_from_All}
@@ -10,7 +13,8 @@ use Rattle.clue_rules.specs.Items.{kept_items}
 -- ---- one list
 
 -- what is kept of a list is as long as the list
-pub length-kept : {X : Type 0} (empty : X) (keep : ℕ → Bool) (i : ℕ) (xs : List X) → length (kept_items empty keep i xs) ≡ length xs
+pub length-kept : {X : Type 0} (empty : X) (keep : ℕ → Bool) (i : ℕ) (xs : List X)
+    → length (kept_items empty keep i xs) ≡ length xs
 length-kept empty keep i [] = refl
 length-kept empty keep i (x ∷ xs) = ap suc (length-kept empty keep (i + 1) xs)
 
@@ -50,23 +54,31 @@ kept-agrees : {X : Type 0} (empty : X) (present : X → Bool) → ((x : X) → p
     → kept_items empty a i xs ≡ kept_items empty b i xs
 kept-agrees empty present gone a b i [] h = refl
 kept-agrees {X} empty present gone a b i (x ∷ xs) h =
-    let first : present x ≡ true → a i ≡ b i = λ here. (let e : i + 0 ≡ i = omega arith in rw e at (h 0 (omega arith) here)) in
-    rw (one_agrees first, kept-agrees empty present gone a b (i + 1) xs (λ k inside here. later k (h (suc k) (omega arith) here))) refl
+    let first : present x ≡ true → a i ≡ b i =
+    λ here. (let e : i + 0 ≡ i = omega arith in rw e at (h 0 (omega arith) here)) in
+    rw (
+      one_agrees first,
+      kept-agrees empty present gone a b (i + 1) xs (λ k inside here. later k (h (suc k) (omega arith) here)),
+    ) refl
   where
     one_agrees : (present x ≡ true → a i ≡ b i) → (if a i then x else empty) ≡ (if b i then x else empty)
-    one_agrees same = elim (present x) as (λ t. present x ≡ t → (if a i then x else empty) ≡ (if b i then x else empty)) [
-      | true ↦ λ here. rw (same here) refl
-      | false ↦ λ here. rw (gone x here) (sym (same_either (a i) empty) ∙ same_either (b i) empty)
-    ] refl
+    one_agrees same =
+        elim (present x) as (λ t. present x ≡ t → (if a i then x else empty) ≡ (if b i then x else empty)) [
+          | true ↦ λ here. rw (same here) refl
+          | false ↦ λ here. rw (gone x here) (sym (same_either (a i) empty) ∙ same_either (b i) empty)
+        ] refl
 
     later : (k : ℕ) → a (i + suc k) ≡ b (i + suc k) → a (i + 1 + k) ≡ b (i + 1 + k)
     later k same = let e : i + 1 + k ≡ i + suc k = omega arith in rw e same
 
 -- the same where the list is numbered from 0
-pub kept-same : {X : Type 0} (empty : X) (present : X → Bool) → ((x : X) → present x ≡ false → x ≡ empty) → (a b : ℕ → Bool) (xs : List X)
-    → ((k : ℕ) → k < length xs → present (slice_index_or xs k empty) ≡ true → a k ≡ b k) → kept_items empty a 0 xs ≡ kept_items empty b 0 xs
+pub kept-same : {X : Type 0} (empty : X) (present : X → Bool) → ((x : X) → present x ≡ false → x ≡ empty)
+    → (a b : ℕ → Bool) (xs : List X)
+    → ((k : ℕ) → k < length xs → present (slice_index_or xs k empty) ≡ true → a k ≡ b k)
+    → kept_items empty a 0 xs ≡ kept_items empty b 0 xs
 kept-same empty present gone a b xs h =
-    kept-agrees empty present gone a b 0 xs (λ k inside here. let back : 0 + k ≡ k = omega arith in rw back (h k inside here))
+    kept-agrees empty present gone a b 0 xs
+    (λ k inside here. let back : 0 + k ≡ k = omega arith in rw back (h k inside here))
 
 kept-within : (w : ℕ) (keep : ℕ → Bool) (i : ℕ) (xs : List ℕ) → AllByRecursion (λ n. n ≤ w) xs
     → AllByRecursion (λ n. n ≤ w) (kept_items zero keep i xs)
@@ -78,12 +90,15 @@ kept-within w keep i (x ∷ xs) h = (either (keep i) h.0, kept-within w keep (i 
     either false h = omega arith
 
 -- numbers that were no greater than the width are so still
-pub All-kept : (w : ℕ) (keep : ℕ → Bool) (i : ℕ) (xs : List ℕ) → All (λ n. n ≤ w) xs → All (λ n. n ≤ w) (kept_items zero keep i xs)
+pub All-kept : (w : ℕ) (keep : ℕ → Bool) (i : ℕ) (xs : List ℕ) → All (λ n. n ≤ w) xs
+    → All (λ n. n ≤ w) (kept_items zero keep i xs)
 All-kept w keep i xs h =
-    All-from_recursion (λ n. n ≤ w) (kept_items zero keep i xs) (kept-within w keep i xs (recursion_from_All (λ n. n ≤ w) xs h))
+    All-from_recursion (λ n. n ≤ w) (kept_items zero keep i xs)
+    (kept-within w keep i xs (recursion_from_All (λ n. n ≤ w) xs h))
 
 -- a grid of givens is one still
-pub IsGrid-kept : (g : GridValue) (keep : ℕ → Bool) (i : ℕ) → IsGrid g → IsGrid (record { size = g.size; numbers = kept_items zero keep i g.numbers })
+pub IsGrid-kept : (g : GridValue) (keep : ℕ → Bool) (i : ℕ) → IsGrid g
+    → IsGrid (record { size = g.size; numbers = kept_items zero keep i g.numbers })
 IsGrid-kept g keep i h = record {
   smallest = h.smallest;
   largest = h.largest;
@@ -92,7 +107,8 @@ IsGrid-kept g keep i h = record {
 }
 
 -- what an item asks for, it asks for still if it is kept
-pub still_asked : (keep : ℕ → Bool) (i : ℕ) (xs : List ℕ) (k number : ℕ) → (0 < slice_index xs k → number ≡ slice_index xs k)
+pub still_asked : (keep : ℕ → Bool) (i : ℕ) (xs : List ℕ) (k number : ℕ)
+    → (0 < slice_index xs k → number ≡ slice_index xs k)
     → 0 < slice_index (kept_items zero keep i xs) k → number ≡ slice_index (kept_items zero keep i xs) k
 still_asked keep i xs k number asks = rw (entry-kept zero keep i xs k (i + k) refl) (either (keep (i + k)) asks)
   where
@@ -109,7 +125,8 @@ none_asked i xs k number = rw (entry-kept zero (λ j. false) i xs k (i + k) refl
 
 -- whether it has one, where n are entries of one list, of which some say nothing, and the others are givens
 abbrev pub has_item : {X : Type 0} → (X → Bool) → X → ℕ → List X → List ℕ → ℕ → Bool
-has_item present empty n xs givens i = if nat_lt i n then present (slice_index_or xs i empty) else nat_lt 0 (slice_index givens (i - n))
+has_item present empty n xs givens i =
+    if nat_lt i n then present (slice_index_or xs i empty) else nat_lt 0 (slice_index givens (i - n))
 
 -- an item is there where it was there and is kept
 pub present_kept : {X : Type 0} (present : X → Bool) (empty : X) → present empty ≡ false → (b : Bool) (x : X)
@@ -149,12 +166,15 @@ items_agree present empty gone n xs givens a b count same = (
 )
 
 -- a puzzle has every item that gives each number of a Latin square
-pub has_item-full : {X : Type 0} (present : X → Bool) (empty : X) (n : ℕ) (xs : List X) (g : GridValue) (i : ℕ) → IsLatin g
-    → (i < n → present (slice_index_or xs i empty) ≡ true) → i < n + g.size * g.size → has_item present empty n xs g.numbers i ≡ true
+pub has_item-full : {X : Type 0} (present : X → Bool) (empty : X) (n : ℕ) (xs : List X) (g : GridValue) (i : ℕ)
+    → IsLatin g
+    → (i < n → present (slice_index_or xs i empty) ≡ true) → i < n + g.size * g.size
+    → has_item present empty n xs g.numbers i ≡ true
 has_item-full present empty n xs g i latin here inside =
     elim (cases_lt i n) [
       | inl low ↦ rw (lt-ltb i n low) (here low)
-      | inr high ↦ rw (le-ltb i n high) (lt-ltb 0 (number_at g (i - n)) ((latin_full g latin).each (i - n) (omega arith)))
+      | inr high ↦ rw (le-ltb i n high)
+          (lt-ltb 0 (number_at g (i - n)) ((latin_full g latin).each (i - n) (omega arith)))
     ]
 
 -- what holds at the widths 3 to 6 holds at each that is generated

@@ -1,5 +1,8 @@
--- Letters and numbers as the bytes of a piece: what is read of a piece that was written, and what is written of one that was read.
-use Rattle.std.proofs.Common.{◌≡◌, ◌≢◌, ℕ, zero, suc, ◌+◌, ◌-◌, ◌<◌, ◌≤◌, ◌⊎◌, Bool, true, false, nat_le, not, ◌&&◌, List, [], ◌∷◌, length, drop, map, Option, Some, None, is_some, unwrap_or, refl, sym, ap, ◌∙◌, inl, inr, arith, ◌==◌, if◌then◌else◌}
+-- Letters and numbers as the bytes of a piece: what is read of a piece that was written, and what is written of one
+-- that was read.
+use Rattle.std.proofs.Common.{◌≡◌, ◌≢◌, ℕ, zero, suc, ◌+◌, ◌-◌, ◌<◌, ◌≤◌, ◌⊎◌, Bool, true, false, nat_le, not, ◌&&◌}
+use Rattle.std.proofs.Common.{List, [], ◌∷◌, length, drop, map, Option, Some, None, is_some, unwrap_or, refl, sym, ap}
+use Rattle.std.proofs.Common.{◌∙◌, inl, inr, arith, ◌==◌, if◌then◌else◌}
 use Rattle.std.specs.List.{list_all, list_any, filter, filter_map, Contains}
 use Rattle.std.proofs.lemmas.Bool.{eq-eqb, eqb-true, false≢true, and_parts, cond_both, or_cases, or_right}
 use Rattle.std.proofs.lemmas.Bool.Decides.{nat_tests}
@@ -8,7 +11,8 @@ use Rattle.byte_text.specs.Decimals.{begins_digit}
 use Rattle.byte_text.specs.Bytes.{capital_u, capital_r, capital_d, capital_l, comma, digit_zero}
 use Rattle.clue_rules.specs.declared.unequal.direction.Direction.{Direction}
 use Rattle.clue_rules.specs.declared.unequal.direction.Direction.TheVariants.{Up, Right, Down, Left}
-use Rattle.clue_rules.specs.UnequalText.{Piece, letter_of, piece_text, directions_at, number_in, has_number, direction_of, has_letters, piece_at, says}
+use Rattle.clue_rules.specs.UnequalText.{Piece, letter_of, piece_text, directions_at, number_in, has_number}
+use Rattle.clue_rules.specs.UnequalText.{direction_of, has_letters, piece_at, says}
 use Rattle.clue_rules.specs.Laws.RangeTests.{some_if}
 
 -- directions and letters
@@ -62,37 +66,46 @@ pub contains_cases : {X : Type 0} (x y : X) (xs : List X) → Contains (y ∷ xs
 contains_cases x y xs (zero, inside, here) = inl here
 contains_cases x y xs (suc k, inside, here) = inr (k, omega (arith, inside), here)
 
-pub contains_filter : {X : Type 0} (p : X → Bool) (x : X) (xs : List X) → Contains xs x → p x ≡ true → Contains (filter p xs) x
+pub contains_filter : {X : Type 0} (p : X → Bool) (x : X) (xs : List X) → Contains xs x → p x ≡ true
+    → Contains (filter p xs) x
 contains_filter p x [] h e = absurd (omega (arith, h.1))
 contains_filter p x (y ∷ xs) h e = elim (contains_cases x y xs h) [
   | inl here ↦ rw (ap p here ∙ e) (contains_here x y (filter p xs) here)
   | inr there ↦
       let rest = contains_filter p x xs there e in
-      cond_both (p y) (y ∷ filter p xs) (filter p xs) (λ ys. Contains ys x) (λ is. contains_there x y (filter p xs) rest) (λ is. rest)
+      cond_both (p y) (y ∷ filter p xs) (filter p xs) (λ ys. Contains ys x)
+      (λ is. contains_there x y (filter p xs) rest) (λ is. rest)
 ]
 
 pub filter_contains : {X : Type 0} (p : X → Bool) (x : X) (xs : List X) → Contains (filter p xs) x → p x ≡ true
 filter_contains p x [] h = absurd (omega (arith, h.1))
 filter_contains p x (y ∷ xs) h =
     cond_both (p y) (y ∷ filter p xs) (filter p xs) (λ ys. Contains ys x → p x ≡ true)
-    (λ e h. elim (contains_cases x y (filter p xs) h) [ inl here ↦ ap p (sym here) ∙ e | inr there ↦ filter_contains p x xs there ])
+    (λ e h. elim (contains_cases x y (filter p xs) h) [
+      | inl here ↦ ap p (sym here)
+          ∙ e
+      | inr there ↦ filter_contains p x xs there
+    ])
     (λ e h. filter_contains p x xs h) h
 
 -- a letter among letters is its direction among directions
 
-pub letter_among : (ds : List Direction) (d : Direction) → Contains ds d → list_any (λ b. b == letter_of d) (map letter_of ds) ≡ true
+pub letter_among : (ds : List Direction) (d : Direction) → Contains ds d
+    → list_any (λ b. b == letter_of d) (map letter_of ds) ≡ true
 letter_among [] d h = absurd (omega (arith, h.1))
 letter_among (x ∷ ds) d h = elim (contains_cases d x ds h) [
   | inl here ↦ rw (eq-eqb (letter_of x) (letter_of d) (ap letter_of here)) refl
   | inr there ↦ or_right (letter_of x == letter_of d) _ (letter_among ds d there)
 ]
 
-pub among_letters : (ds : List Direction) (d : Direction) → list_any (λ b. b == letter_of d) (map letter_of ds) ≡ true → Contains ds d
+pub among_letters : (ds : List Direction) (d : Direction) → list_any (λ b. b == letter_of d) (map letter_of ds) ≡ true
+    → Contains ds d
 among_letters [] d e = absurd (false≢true e)
-among_letters (x ∷ ds) d e = elim (or_cases (letter_of x == letter_of d) (list_any (λ b. b == letter_of d) (map letter_of ds)) e) [
-  | inl here ↦ contains_here d x ds (same_letter x d here)
-  | inr there ↦ contains_there d x ds (among_letters ds d there)
-]
+among_letters (x ∷ ds) d e =
+    elim (or_cases (letter_of x == letter_of d) (list_any (λ b. b == letter_of d) (map letter_of ds)) e) [
+      | inl here ↦ contains_here d x ds (same_letter x d here)
+      | inr there ↦ contains_there d x ds (among_letters ds d there)
+    ]
 
 -- the pieces as texts
 
@@ -112,7 +125,8 @@ pub contains_says : (pieces : List Piece) (cell : ℕ) (d : Direction) → Conta
 contains_says pieces cell d h = rw (letters_at pieces cell) (letter_among (directions_at pieces cell) d h)
 
 -- a square past the last piece has no direction
-pub directions_inside : (pieces : List Piece) (cell : ℕ) (d : Direction) → Contains (directions_at pieces cell) d → cell < length pieces
+pub directions_inside : (pieces : List Piece) (cell : ℕ) (d : Direction) → Contains (directions_at pieces cell) d
+    → cell < length pieces
 directions_inside [] cell d h = absurd (omega (arith, h.1))
 directions_inside (p ∷ pieces) zero d h = omega arith
 directions_inside (p ∷ pieces) (suc cell) d h = omega (arith, directions_inside pieces cell d h)
@@ -157,7 +171,8 @@ read_piece w bytes = record {
   greater = filter_map direction_of (drop 1 bytes);
 }
 
-letters_written : (bs : List ℕ) → list_all (λ b. is_some (direction_of b)) bs ≡ true → map letter_of (filter_map direction_of bs) ≡ bs
+letters_written : (bs : List ℕ) → list_all (λ b. is_some (direction_of b)) bs ≡ true
+    → map letter_of (filter_map direction_of bs) ≡ bs
 letters_written [] e = refl
 letters_written (b ∷ bs) e =
     go (λ h. letters_written bs h) (direction_of b) refl
@@ -170,7 +185,8 @@ letters_written (b ∷ bs) e =
     go rest None none parts = absurd (false≢true (sym (ap is_some none) ∙ parts.0))
     go rest (Some d) some parts = rw (some, letter_of-direction b d some, rest parts.1) refl
 
-number_written : (w b : ℕ) (bs : List ℕ) → has_number w (b ∷ bs) ≡ true → digit_zero + unwrap_or (number_in w (b ∷ bs)) 0 ≡ b
+number_written : (w b : ℕ) (bs : List ℕ) → has_number w (b ∷ bs) ≡ true
+    → digit_zero + unwrap_or (number_in w (b ∷ bs)) 0 ≡ b
 number_written w b bs e = go (nat_le digit_zero b && nat_le b (digit_zero + w) && not (begins_digit bs)) refl e
   where
     go : (t : Bool) → (nat_le digit_zero b && nat_le b (digit_zero + w) && not (begins_digit bs)) ≡ t

@@ -1,6 +1,7 @@
--- A square and its neighbours: of each two, one is the right or the lower neighbour of the other, and they follow each other on
--- a line.
-use Rattle.std.proofs.Common.{◌≡◌, ℕ, ◌+◌, ◌-◌, ◌*◌, ◌/◌, ◌%◌, ◌<◌, ◌≤◌, ◌⊎◌, Bool, true, false, if◌then◌else◌, ◌==◌, nat_lt, Some, None, refl, sym, ◌∙◌, inl, inr, arith}
+-- A square and its neighbours: of each two, one is the right or the lower neighbour of the other, and they follow each
+-- other on a line.
+use Rattle.std.proofs.Common.{◌≡◌, ℕ, ◌+◌, ◌-◌, ◌*◌, ◌/◌, ◌%◌, ◌<◌, ◌≤◌, ◌⊎◌, Bool, true, false, if◌then◌else◌, ◌==◌}
+use Rattle.std.proofs.Common.{nat_lt, Some, None, refl, sym, ◌∙◌, inl, inr, arith}
 use Rattle.std.proofs.lemmas.Nat.{div_below, mod_below, div-mul-add, mod-mul-add}
 use Rattle.std.proofs.lemmas.Bool.{lt-ltb, le-ltb, ne_eqb, ltb-true, ltb-false, eqb-false}
 use Rattle.std.proofs.lemmas.Option.{cond_some}
@@ -125,7 +126,8 @@ next_towards w a b small h = (forth h.points, back h.points)
           let there = right_of w a b right in
           let column : a % w < w = mod_below a w (omega (arith, small)) in
           let parts : b ≡ a / w * w + (a % w + 1) = omega (arith, there.1) in
-          let right_column : b % w ≡ a % w + 1 = rw parts (mod-mul-add (a / w) w (a % w + 1) (omega (arith, there.0))) in
+          let right_column : b % w ≡ a % w + 1 =
+          rw parts (mod-mul-add (a / w) w (a % w + 1) (omega (arith, there.0))) in
           let before : b - 1 ≡ a = omega (arith, there.1) in
           let more : (b % w == 0) ≡ false = ne_eqb (b % w) 0 (λ none. omega arith) in
           record { inside = next_inside w a b small h; direction = Left; points = rw (more, before) refl }

@@ -1,13 +1,14 @@
 -- What is struck along a line can be told from the candidates of its squares.
 use Rattle.std.proofs.Common.{◌≡◌, ℕ, ◌+◌, ◌-◌, ◌<◌, List, slice_index, inl, inr, sym, ap, ◌∙◌, subst, arith}
 use Rattle.latin_board.specs.Lines.{line_cell}
-use Rattle.trail_solver.specs.Candidates.{CandidatesValue, IsOnly, may_be}
+use Rattle.trail_solver.specs.Candidates.{CandidatesValue, may_be}
 use Rattle.trail_solver.specs.Pairs.{IsPair}
 use Rattle.clue_rules.specs.Inner.LineTallies.{IsLineStruck}
 use Rattle.clue_rules.specs.Inner.QuietLines.{AreSameAlong, IsOfLine}
-use Rattle.clue_rules.specs.Inner.TowersLines.{IsStruckAlong, IsStruckAt}
+use Rattle.clue_rules.specs.Inner.TowersLines.{IsStruckAlong, IsStruckAt, IsViewStruck}
 use Rattle.clue_rules.specs.Inner.UnequalLines as unequal
-use Rattle.clue_rules.specs.Struck.{IsOnePlace, IsViewFilling, IsViewStruck}
+use Rattle.clue_rules.specs.Left.{IsLeft}
+use Rattle.clue_rules.specs.Fillings.{IsFilling}
 use Rattle.clue_rules.specs.Towers.{TowersValue, clue_of}
 use Rattle.clue_rules.specs.Unequal.{UnequalValue}
 use Rattle.clue_rules.specs.Views.{view_cell, view_index, view_line}
@@ -17,7 +18,8 @@ use Rattle.clue_rules.specs.Inner.UnequalLines.{SignEnds}
 -- ---- rows and columns
 
 -- a square of the line, by the width of the second
-there : (line : ℕ) (a b : CandidatesValue) → AreSameAlong line a b → (k : ℕ) → line_cell b.size line k ≡ line_cell a.size line k
+there : (line : ℕ) (a b : CandidatesValue) → AreSameAlong line a b → (k : ℕ)
+    → line_cell b.size line k ≡ line_cell a.size line k
 there line a b same k = ap (λ (w : ℕ). line_cell w line k) same.size
 
 -- its candidates in the second are those in the first
@@ -25,22 +27,13 @@ left_there : (line : ℕ) (a b : CandidatesValue) → AreSameAlong line a b → 
     → may_be b (line_cell b.size line k) v ≡ may_be a (line_cell a.size line k) v
 left_there line a b same k v inside = ap (λ (i : ℕ). may_be b i v) (there line a b same k) ∙ same.each k v inside
 
-only_there : (line : ℕ) (a b : CandidatesValue) → AreSameAlong line a b → (k v : ℕ) → k < a.size → IsOnly a (line_cell a.size line k) v
-    → IsOnly b (line_cell b.size line k) v
-only_there line a b same k v inside only = record {
-  low = only.low;
-  high = omega (arith, only.high, same.size);
-  left = left_there line a b same k v inside ∙ only.left;
-  alone = λ u low high has. only.alone u low (omega (arith, high, same.size)) (sym (left_there line a b same k u inside) ∙ has);
-}
-
-one_there : (line : ℕ) (a b : CandidatesValue) → AreSameAlong line a b → (v k : ℕ) → IsOnePlace a line v k → IsOnePlace b line v k
-one_there line a b same v k one = record {
-  inside = omega (arith, one.inside, same.size);
-  left = left_there line a b same k v one.inside ∙ one.left;
-  alone = λ j inside has.
-      let low : j < a.size = omega (arith, inside, same.size) in
-      one.alone j low (sym (left_there line a b same j v low) ∙ has);
+-- what is left of it in the second is left in the first
+line_left : (line : ℕ) (a b : CandidatesValue) → AreSameAlong line a b → (k v : ℕ) → k < a.size
+    → IsLeft b (line_cell b.size line k) v
+    → IsLeft a (line_cell a.size line k) v
+line_left line a b same k v inside left = record {
+  pair = subst (λ (w : ℕ). IsPair w (line_cell w line k) v) same.size left.pair;
+  may = sym (left_there line a b same k v inside) ∙ left.may;
 }
 
 pub line_own : (w line : ℕ) → IsOfLine w line (IsLineStruck line)
@@ -49,55 +42,66 @@ line_own w line a b size same cell v s = record {
   inside = omega (arith, s.inside, same.size);
   here = there line a b same s.index ∙ s.here;
   why = elim s.why [
-    | inl taken ↦ inl (record {
-      by = taken.by;
-      inside = omega (arith, taken.inside, same.size);
-      apart = taken.apart;
-      only = only_there line a b same taken.by v taken.inside taken.only;
-    })
-    | inr displaced ↦ inr (record {
-      other = displaced.other;
-      low = displaced.low;
-      high = omega (arith, displaced.high, same.size);
-      apart = displaced.apart;
-      one = one_there line a b same displaced.other s.index displaced.one;
-    })
+    | inl other ↦
+        inl (
+          other.0,
+          omega (arith, other.1, same.size),
+          other.2,
+          λ u left. other.3 u (line_left line a b same other.0 u other.1 left),
+        )
+    | inr last ↦ inr (
+      last.0,
+      last.1,
+      omega (arith, last.2, same.size),
+      last.3,
+      λ j low left.
+          let inside : j < a.size = omega (arith, low, same.size) in
+          last.4 j inside (line_left line a b same j last.0 inside left),
+    )
   ];
 }
 
 -- ---- the clues of Towers
 
 -- a filling by the second candidates is one by the first
-filling_there : (line place clue : ℕ) (a b : CandidatesValue) → view_line a.size place ≡ line → AreSameAlong line a b → (values : List ℕ)
-    → IsViewFilling b place clue values → IsViewFilling a place clue values
+filling_there : (line place clue : ℕ) (a b : CandidatesValue) → view_line a.size place ≡ line → AreSameAlong line a b
+    → (values : List ℕ)
+    → IsFilling b.size (IsLeft b) place clue values → IsFilling a.size (IsLeft a) place clue values
 filling_there line place clue a b on same values f =
-    let cell : (k : ℕ) → view_cell b.size place k ≡ view_cell a.size place k = λ k. ap (λ (w : ℕ). view_cell w place k) same.size in
+    let cell : (k : ℕ) → view_cell b.size place k ≡ view_cell a.size place k =
+    λ k. ap (λ (w : ℕ). view_cell w place k) same.size in
+    let pair : (k : ℕ) → k < a.size → IsPair a.size (view_cell a.size place k) (slice_index values k) =
+    λ k low.
+    let P : ℕ → Type 0 = λ w. IsPair w (view_cell w place k) (slice_index values k) in
+    subst P same.size (f.pairs k (omega (arith, low, same.size))) in
     record {
       whole = f.whole ∙ same.size;
-      pairs = λ k low.
-          let pair = f.pairs k (omega (arith, low, same.size)) in
-          let P : ℕ → Type 0 = λ w. IsPair w (view_cell w place k) (slice_index values k) in
-          subst P same.size pair;
-      candidates = λ k low.
+      pairs = pair;
+      may = λ k low.
           let v = slice_index values k in
-          let has = f.candidates k (omega (arith, low, same.size)) in
+          let has = (f.may k (omega (arith, low, same.size))).may in
           let at : view_cell a.size place k ≡ line_cell a.size line (view_index a.size place k) =
           ap (λ (l : ℕ). line_cell a.size l (view_index a.size place k)) on in
-          ap (λ (i : ℕ). may_be a i v) at
-          ∙ sym (same.each (view_index a.size place k) v (view_index_low a.size place k low))
-          ∙ ap (λ (i : ℕ). may_be b i v) (sym at ∙ sym (cell k))
-          ∙ has;
+          record {
+            pair = pair k low;
+            may =
+                ap (λ (i : ℕ). may_be a i v) at
+                ∙ sym (same.each (view_index a.size place k) v (view_index_low a.size place k low))
+                ∙ ap (λ (i : ℕ). may_be b i v) (sym at ∙ sym (cell k))
+                ∙ has;
+          };
       apart = λ i j before low. f.apart i j before (omega (arith, low, same.size));
       shown = f.shown;
     }
 
-view_there : (line place clue : ℕ) (a b : CandidatesValue) → view_line a.size place ≡ line → AreSameAlong line a b → (cell v : ℕ)
+view_there : (line place clue : ℕ) (a b : CandidatesValue) → view_line a.size place ≡ line → AreSameAlong line a b
+    → (cell v : ℕ)
     → IsViewStruck place clue a cell v → IsViewStruck place clue b cell v
 view_there line place clue a b on same cell v s = record {
   index = s.index;
   inside = omega (arith, s.inside, same.size);
   here = ap (λ (w : ℕ). view_cell w place s.index) same.size ∙ s.here;
-  unfilled = record { none = λ values f. s.unfilled.none values (filling_there line place clue a b on same values f) };
+  none = λ values f. s.none values (filling_there line place clue a b on same values f);
 }
 
 -- what one end's clue strikes
@@ -129,11 +133,14 @@ ends_on_line v line k ends low are = elim are.is [
   | inr (sign, greater, lesser) ↦ record { greater = (k + 1, omega arith, greater); lesser = (k, omega arith, lesser) }
 ]
 
--- a candidate of a square of the line in the second is one in the first
-square_there : (line : ℕ) (a b : CandidatesValue) (cell : ℕ) → AreSameAlong line a b → ((k : ℕ) × (k < a.size) × (cell ≡ line_cell a.size line k))
-    → (u : ℕ) → may_be b cell u ≡ may_be a cell u
-square_there line a b cell same (k, inside, is) u =
-    ap (λ (i : ℕ). may_be b i u) is ∙ same.each k u inside ∙ ap (λ (i : ℕ). may_be a i u) (sym is)
+-- what is left of a square of the line in the second is left in the first
+square_there : (line : ℕ) (a b : CandidatesValue) (cell : ℕ) → AreSameAlong line a b
+    → ((k : ℕ) × (k < a.size) × (cell ≡ line_cell a.size line k))
+    → (u : ℕ) → IsLeft b cell u → IsLeft a cell u
+square_there line a b cell same (k, inside, is) u left = record {
+  pair = subst (λ (w : ℕ). IsPair w cell u) same.size left.pair;
+  may = ap (λ (i : ℕ). may_be a i u) is ∙ sym (same.each k u inside) ∙ ap (λ (i : ℕ). may_be b i u) (sym is) ∙ left.may;
+}
 
 -- what the signs along a line strike can be told from its squares
 pub signs_own : (v : UnequalValue) (line : ℕ) → IsOfLine v.size line (unequal.IsStruckAlong v line)
@@ -148,11 +155,11 @@ signs_own v line a b size same cell value (k, low, at) =
         struck = elim at.struck [
           | inl lesser ↦ inl (record {
             here = lesser.here;
-            none = λ u above most. square_there line a b at.ends.greater same on.greater u ∙ lesser.none u above (omega (arith, most, same.size));
+            none = λ u left. lesser.none u (square_there line a b at.ends.greater same on.greater u left);
           })
           | inr greater ↦ inr (record {
             here = greater.here;
-            none = λ u least below. square_there line a b at.ends.lesser same on.lesser u ∙ greater.none u least below;
+            none = λ u left. greater.none u (square_there line a b at.ends.lesser same on.lesser u left);
           })
         ];
       },

@@ -1,5 +1,6 @@
 -- What commas separate: pieces that are joined again, and a comma at the end.
-use Rattle.std.proofs.Common.{◌≡◌, ℕ, ◌⊎◌, true, false, List, [], ◌∷◌, ◌++◌, Option, Some, None, refl, sym, ap, ◌∙◌, inl, inr, append_assoc, ◌==◌, if◌then◌else◌}
+use Rattle.std.proofs.Common.{◌≡◌, ℕ, ◌⊎◌, true, false, List, [], ◌∷◌, ◌++◌, Option, Some, None, refl, sym, ap, ◌∙◌}
+use Rattle.std.proofs.Common.{inl, inr, append_assoc, ◌==◌, if◌then◌else◌}
 use Rattle.std.specs.List.{slice_split, join_with_byte, onto_first}
 use Rattle.byte_text.specs.Cuts.{before, behind}
 use Rattle.byte_text.proofs.CutLaws.{cut_whole, pieces_more, pieces_last}
@@ -17,13 +18,15 @@ pieces_left (Some rest) = comma_pieces rest
 
 -- the pieces of a text are what comes before its first comma, and those of what comes after
 pub split_once : (bs : List ℕ) → comma_pieces bs ≡ before comma bs ∷ pieces_left (behind comma bs)
-split_once bs = elim (behind comma bs) as (λ o. behind comma bs ≡ o → comma_pieces bs ≡ before comma bs ∷ pieces_left o) [
-  | None ↦ λ e. pieces_last comma bs e ∙ ap (λ xs. xs ∷ []) (sym (cut_whole comma bs e))
-  | Some rest ↦ λ e. pieces_more comma bs rest e
-] refl
+split_once bs =
+    elim (behind comma bs) as (λ o. behind comma bs ≡ o → comma_pieces bs ≡ before comma bs ∷ pieces_left o) [
+      | None ↦ λ e. pieces_last comma bs e ∙ ap (λ xs. xs ∷ []) (sym (cut_whole comma bs e))
+      | Some rest ↦ λ e. pieces_more comma bs rest e
+    ] refl
 
 -- an empty piece more at the end is a separator more
-pub join-push : (c : ℕ) (p : List ℕ) (ps : List (List ℕ)) → join_with_byte c ((p ∷ ps) ++ [] ∷ []) ≡ join_with_byte c (p ∷ ps) ++ c ∷ []
+pub join-push : (c : ℕ) (p : List ℕ) (ps : List (List ℕ))
+    → join_with_byte c ((p ∷ ps) ++ [] ∷ []) ≡ join_with_byte c (p ∷ ps) ++ c ∷ []
 join-push c p [] = refl
 join-push c p (q ∷ ps) = rw (join-push c q ps) (sym (append_assoc p (c ∷ join_with_byte c (q ∷ ps)) (c ∷ [])))
 
@@ -48,7 +51,9 @@ drop-push (p ∷ q ∷ ps) = ap (λ qs. p ∷ qs) (drop-push (q ∷ ps))
 pub pieces-push : (bs : List ℕ) → comma_pieces (bs ++ comma ∷ []) ≡ comma_pieces bs ++ [] ∷ []
 pieces-push [] = refl
 pieces-push (b ∷ bs) =
-    elim (b == comma) as (λ t. (if t then ([] ∷ comma_pieces (bs ++ comma ∷ [])) else onto_first b (comma_pieces (bs ++ comma ∷ []))) ≡ (if t then ([] ∷ comma_pieces bs) else onto_first b (comma_pieces bs)) ++ [] ∷ []) [
+    elim (b == comma) as
+    (λ t. (if t then ([] ∷ comma_pieces (bs ++ comma ∷ [])) else onto_first b (comma_pieces (bs ++ comma ∷ [])))
+    ≡ (if t then ([] ∷ comma_pieces bs) else onto_first b (comma_pieces bs)) ++ [] ∷ []) [
       | true ↦ ap (λ ps. [] ∷ ps) (pieces-push bs)
       | false ↦ rw (pieces-push bs, split_once bs) refl
     ]

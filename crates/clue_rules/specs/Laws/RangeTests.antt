@@ -1,5 +1,6 @@
 -- Tests of the numbers of a range.
-use Rattle.std.proofs.Common.{◌≡◌, ℕ, zero, suc, ◌+◌, ◌<◌, ◌≤◌, Bool, true, false, Option, Some, ◌⊎◌, refl, sym, ◌∙◌, inl, inr, arith, if◌then◌else◌}
+use Rattle.std.proofs.Common.{◌≡◌, ℕ, zero, suc, ◌+◌, ◌<◌, ◌≤◌, Bool, true, false, Option, Some, ◌⊎◌, refl, sym, ◌∙◌}
+use Rattle.std.proofs.Common.{inl, inr, arith, if◌then◌else◌}
 use Rattle.std.specs.List.{list_all, list_any, range_with_len}
 use Rattle.std.proofs.lemmas.Bool.{false≢true, cases_lt, and_parts, or_cases, or_right, false_from_ne_true}
 
@@ -19,7 +20,8 @@ all_in_range p a (suc n) i e low high =
     ]
 
 -- a test that holds for each number of a range holds for all
-pub range_all : (p : ℕ → Bool) (a n : ℕ) → ((i : ℕ) → a ≤ i → i < a + n → p i ≡ true) → list_all p (range_with_len a n) ≡ true
+pub range_all : (p : ℕ → Bool) (a n : ℕ) → ((i : ℕ) → a ≤ i → i < a + n → p i ≡ true)
+    → list_all p (range_with_len a n) ≡ true
 range_all p a zero h = refl
 range_all p a (suc n) h =
     rw (h a (omega arith) (omega arith)) (range_all p (a + 1) n (λ i low high. h i (omega arith) (omega arith)))
@@ -28,11 +30,13 @@ range_all p a (suc n) h =
 pub range_some : (p : ℕ → Bool) (a n i : ℕ) → a ≤ i → i < a + n → p i ≡ true → list_any p (range_with_len a n) ≡ true
 range_some p a zero i low high h = absurd (omega arith)
 range_some p a (suc n) i low high h = elim (cases_lt a i) [
-  | inl below ↦ or_right (p a) (list_any p (range_with_len (a + 1) n)) (range_some p (a + 1) n i (omega arith) (omega arith) h)
+  | inl below ↦ or_right (p a) (list_any p (range_with_len (a + 1) n))
+      (range_some p (a + 1) n i (omega arith) (omega arith) h)
   | inr same ↦ let here : p a ≡ true = let e : a ≡ i = omega arith in rw e h in rw here refl
 ]
 
-pub some_in_range : (p : ℕ → Bool) (a n : ℕ) → list_any p (range_with_len a n) ≡ true → (i : ℕ) × (a ≤ i) × (i < a + n) × (p i ≡ true)
+pub some_in_range : (p : ℕ → Bool) (a n : ℕ) → list_any p (range_with_len a n) ≡ true
+    → (i : ℕ) × (a ≤ i) × (i < a + n) × (p i ≡ true)
 some_in_range p a zero e = absurd (false≢true e)
 some_in_range p a (suc n) e = elim (or_cases (p a) (list_any p (range_with_len (a + 1) n)) e) [
   | inl here ↦ (a, omega arith, omega arith, here)
@@ -41,11 +45,13 @@ some_in_range p a (suc n) e = elim (or_cases (p a) (list_any p (range_with_len (
 ]
 
 -- a test that holds of no number of a range
-pub none_in_range : (p : ℕ → Bool) (a n i : ℕ) → list_any p (range_with_len a n) ≡ false → a ≤ i → i < a + n → p i ≡ false
+pub none_in_range : (p : ℕ → Bool) (a n i : ℕ) → list_any p (range_with_len a n) ≡ false → a ≤ i → i < a + n
+    → p i ≡ false
 none_in_range p a n i e low high = false_from_ne_true (p i) (λ h. false≢true (sym e ∙ range_some p a n i low high h))
 
 -- one that fails for each number of a range holds for none
-pub range_none : (p : ℕ → Bool) (a n : ℕ) → ((i : ℕ) → a ≤ i → i < a + n → p i ≡ false) → list_any p (range_with_len a n) ≡ false
+pub range_none : (p : ℕ → Bool) (a n : ℕ) → ((i : ℕ) → a ≤ i → i < a + n → p i ≡ false)
+    → list_any p (range_with_len a n) ≡ false
 range_none p a n h =
     false_from_ne_true (list_any p (range_with_len a n))
     (λ some. let (k, low, high, holds) = some_in_range p a n some in false≢true (sym (h k low high) ∙ holds))

@@ -1,6 +1,7 @@
--- What the letters of pieces say of which of two squares is the greater, and that no two squares contradict each other where no
--- two neighbours do.
-use Rattle.std.proofs.Common.{◌≡◌, ℕ, ◌*◌, ◌<◌, ◌≤◌, true, false, ◌&&◌, List, map, Option, Some, None, refl, sym, ap, ◌∙◌, inl, inr, arith, ◌==◌}
+-- What the letters of pieces say of which of two squares is the greater, and that no two squares contradict each other
+-- where no two neighbours do.
+use Rattle.std.proofs.Common.{◌≡◌, ℕ, ◌*◌, ◌<◌, ◌≤◌, true, false, ◌&&◌, List, map, Option, Some, None, refl, sym, ap}
+use Rattle.std.proofs.Common.{◌∙◌, inl, inr, arith, ◌==◌}
 use Rattle.std.specs.Option.{option_map_or}
 use Rattle.std.specs.List.{list_any, range_with_len, Contains}
 use Rattle.std.proofs.lemmas.Bool.{eqb-true, eq-eqb, false≢true, false_from_ne_true, and_parts, and_from}
@@ -39,13 +40,17 @@ said : (w : ℕ) (pieces : List (List ℕ)) (a b : ℕ) (d : Direction) → says
 said w pieces a b d letter points =
     let (place, inside, here) = all_has d in
     list_any_at (λ d. says pieces a d && option_map_or (λ c. c == b) (neighbour w a d) false) directions place d inside
-    (rw here (and_from (says pieces a d) (option_map_or (λ c. c == b) (neighbour w a d) false) letter (rw points (eq-eqb b b refl))))
+    (rw here (and_from (says pieces a d) (option_map_or (λ c. c == b) (neighbour w a d) false) letter
+    (rw points (eq-eqb b b refl))))
 
 -- a letter says of two squares which is the greater exactly where the test finds one
-pub says_tested : (w : ℕ) (pieces : List Piece) (a b : ℕ) → Says w pieces a b → says_greater w (map piece_text pieces) a b ≡ true
-says_tested w pieces a b h = said w (map piece_text pieces) a b h.direction (contains_says pieces a h.direction h.letter) h.points
+pub says_tested : (w : ℕ) (pieces : List Piece) (a b : ℕ) → Says w pieces a b
+    → says_greater w (map piece_text pieces) a b ≡ true
+says_tested w pieces a b h =
+    said w (map piece_text pieces) a b h.direction (contains_says pieces a h.direction h.letter) h.points
 
-pub tested_says : (w : ℕ) (pieces : List Piece) (a b : ℕ) → says_greater w (map piece_text pieces) a b ≡ true → Says w pieces a b
+pub tested_says : (w : ℕ) (pieces : List Piece) (a b : ℕ) → says_greater w (map piece_text pieces) a b ≡ true
+    → Says w pieces a b
 tested_says w pieces a b e =
     let (d, letter, points) = said_by w (map piece_text pieces) a b e in
     record { direction = d; letter = says_contains pieces a d letter; points = points }
@@ -54,7 +59,8 @@ tested_says w pieces a b e =
 
 -- pieces that say of no two squares that each is greater contradict nowhere
 pub never_contradict : (w : ℕ) (pieces : List (List ℕ))
-    → ((a b : ℕ) → a < w * w → says_greater w pieces a b ≡ true → says_greater w pieces b a ≡ true → ⊥) → contradicts w pieces ≡ false
+    → ((a b : ℕ) → a < w * w → says_greater w pieces a b ≡ true → says_greater w pieces b a ≡ true → ⊥)
+    → contradicts w pieces ≡ false
 unfolding contradicts
 never_contradict w pieces apart =
     range_none _ 0 (w * w) (λ a low a_in. range_none _ 0 (w * w) (λ b low b_in.
@@ -66,7 +72,8 @@ pub contradict_never : (w : ℕ) (pieces : List (List ℕ)) (a b : ℕ) → cont
     → (says_greater w pieces a b && says_greater w pieces b a) ≡ false
 unfolding contradicts
 contradict_never w pieces a b agree a_in b_in =
-    none_in_range _ 0 (w * w) b (none_in_range _ 0 (w * w) a agree (omega arith) (omega arith)) (omega arith) (omega arith)
+    none_in_range _ 0 (w * w) b (none_in_range _ 0 (w * w) a agree (omega arith) (omega arith)) (omega arith)
+    (omega arith)
 
 -- where no square contradicts its right or its lower neighbour, no two squares do
 pub neighbours_agree : (w : ℕ) (pieces : List (List ℕ)) → 3 ≤ w
@@ -81,8 +88,12 @@ neighbours_agree w pieces small right below = never_contradict w pieces (λ a b 
   where
     apart : (a b : ℕ) → IsNext w a b → says_greater w pieces a b ≡ true → says_greater w pieces b a ≡ true → ⊥
     apart a b next first second = elim next.points [
-      | inl points ↦ none a b Right points (none_in_range (contradicts_towards w pieces Right) 0 (w * w) a right (omega arith) (omega (arith, next.inside))) first second
-      | inr points ↦ none a b Down points (none_in_range (contradicts_towards w pieces Down) 0 (w * w) a below (omega arith) (omega (arith, next.inside))) first second
+      | inl points ↦ none a b Right points
+          (none_in_range (contradicts_towards w pieces Right) 0 (w * w) a right (omega arith)
+          (omega (arith, next.inside))) first second
+      | inr points ↦ none a b Down points
+          (none_in_range (contradicts_towards w pieces Down) 0 (w * w) a below (omega arith)
+          (omega (arith, next.inside))) first second
     ]
       where
         none : (a b : ℕ) (d : Direction) → neighbour w a d ≡ Some b → contradicts_towards w pieces d a ≡ false
@@ -96,9 +107,15 @@ pub squares_contradict : (w : ℕ) (pieces : List (List ℕ)) (cell : ℕ) (d : 
     → contradicts_towards w pieces d cell ≡ true → contradicts w pieces ≡ true
 unfolding contradicts
 squares_contradict w pieces cell d small inside both =
-    elim (neighbour w cell d) as (λ o. neighbour w cell d ≡ o → option_map_or (λ b. says_greater w pieces cell b && says_greater w pieces b cell) o false ≡ true → contradicts w pieces ≡ true) [
+    elim (neighbour w cell d) as
+    (λ o. neighbour w cell d ≡ o
+    → option_map_or (λ b. says_greater w pieces cell b && says_greater w pieces b cell) o false ≡ true
+    → contradicts w pieces ≡ true) [
       | None ↦ λ e none. absurd (false≢true none)
       | Some b ↦ λ e both.
-          let b_in : b < w * w = elim (towards w cell b d small inside e) [ inl next ↦ next_inside w cell b small next | inr next ↦ next.inside ] in
-          range_some _ 0 (w * w) cell (omega arith) (omega arith) (range_some _ 0 (w * w) b (omega arith) (omega arith) both)
+          let b_in : b < w * w =
+          elim (towards w cell b d small inside e)
+          [ inl next ↦ next_inside w cell b small next | inr next ↦ next.inside ] in
+          range_some _ 0 (w * w) cell (omega arith) (omega arith)
+          (range_some _ 0 (w * w) b (omega arith) (omega arith) both)
     ] refl both

@@ -1,8 +1,11 @@
--- The signs of a puzzle: between which squares they stand, which square they say to be the greater, and those that a rule gives.
-use Rattle.std.proofs.Common.{◌≡◌, ◌↔◌, Bool, ℕ, ◌+◌, ◌*◌, ◌<◌, ◌≤◌, ◌⊎◌, true, List, length, Option, Some, None, refl, sym, ap, ◌∙◌, inl, inr, arith, slice_index_or}
+-- The signs of a puzzle: between which squares they stand, which square they say to be the greater, and those that a
+-- rule gives.
+use Rattle.std.proofs.Common.{◌≡◌, ◌↔◌, Bool, ℕ, ◌+◌, ◌*◌, ◌<◌, ◌≤◌, ◌⊎◌, true, List, length, Option, Some, None, refl}
+use Rattle.std.proofs.Common.{sym, ap, ◌∙◌, inl, inr, arith, slice_index_or}
 use Rattle.std.specs.Bool.{IsTrue}
 use Rattle.std.specs.Option.{option_map_or}
-use Rattle.std.proofs.lemmas.Bool.{and_from, and_parts, eq-eqb, ne_eqb, cases_eq, cases_lt, false≢true, or_cases, or_right}
+use Rattle.std.proofs.lemmas.Bool.{and_from, and_parts, eq-eqb, ne_eqb, cases_eq, cases_lt, false≢true, or_cases}
+use Rattle.std.proofs.lemmas.Bool.{or_right}
 use Rattle.std.proofs.lemmas.List.{get_or_past}
 use Rattle.std.proofs.lemmas.List.FromFn.{length-map-range_with_len, get_or-map-range_with_len}
 use Rattle.latin_board.specs.Squares.{GridValue, IsGrid, number_at}
@@ -10,7 +13,9 @@ use Rattle.clue_rules.specs.declared.unequal.direction.Direction.{Direction}
 use Rattle.clue_rules.specs.declared.unequal.direction.Direction.TheVariants.{Right, Down}
 use Rattle.clue_rules.specs.declared.unequal.sign.Sign.{Sign}
 use Rattle.clue_rules.specs.declared.unequal.sign.Sign.TheVariants.{Absent, FirstGreater, SecondGreater}
-use Rattle.clue_rules.specs.Unequal.{UnequalValue, IsUnequal, IsGreater, neighbour, right_sign, lower_sign, sign_between, says_first, says_second, is_greater, holds_sign, holds_signs, holds_towards, sign_towards, signs_towards, signed_puzzle}
+use Rattle.clue_rules.specs.Unequal.{UnequalValue, IsUnequal, IsGreater, neighbour, right_sign, lower_sign}
+use Rattle.clue_rules.specs.Unequal.{sign_between, says_first, says_second, is_greater, holds_sign, holds_signs}
+use Rattle.clue_rules.specs.Unequal.{holds_towards, sign_towards, signs_towards, signed_puzzle}
 use Rattle.clue_rules.specs.Laws.Neighbours.{IsNext, right_of, below_of, next_order}
 use Rattle.clue_rules.specs.Laws.RangeTests.{all_in_range, range_all}
 
@@ -34,7 +39,8 @@ right_between v a = rw (eq-eqb (a + 1) (a + 1) refl) refl
 
 -- the sign between a square and the next below
 pub below_between : (v : UnequalValue) (a : ℕ) → 3 ≤ v.size → sign_between v a (a + v.size) ≡ lower_sign v a
-below_between v a small = rw (ne_eqb (a + v.size) (a + 1) (λ e. omega arith), eq-eqb (a + v.size) (a + v.size) refl) refl
+below_between v a small =
+    rw (ne_eqb (a + v.size) (a + 1) (λ e. omega arith), eq-eqb (a + v.size) (a + v.size) refl) refl
 
 -- a sign in a list of them, which has none where the grid ends, stands between a square and its neighbour
 has_neighbour : (w : ℕ) (d : Direction) (signs : List Sign) (a : ℕ)
@@ -59,13 +65,19 @@ said_next v a b valid said = elim (cases_eq b (a + 1)) [
       let here : IsSaid (right_sign v a) = rw (eq-eqb b (a + 1) same) at said in
       let there = has_neighbour v.size Right v.right a valid.right_ends here in
       let one : there.0 ≡ b = (right_of v.size a there.0 there.1).1 ∙ sym same in
-      record { inside = in_list v.right (v.size * v.size) a valid.right_count here; points = inl (there.1 ∙ ap (λ n. Some n) one) }
+      record {
+        inside = in_list v.right (v.size * v.size) a valid.right_count here;
+        points = inl (there.1 ∙ ap (λ n. Some n) one);
+      }
   | inr other ↦ elim (cases_eq b (a + v.size)) [
     | inl same ↦
         let here : IsSaid (lower_sign v a) = rw (ne_eqb b (a + 1) other, eq-eqb b (a + v.size) same) at said in
         let there = has_neighbour v.size Down v.below a valid.below_ends here in
         let one : there.0 ≡ b = (below_of v.size a there.0 there.1).1 ∙ sym same in
-        record { inside = in_list v.below (v.size * v.size) a valid.below_count here; points = inr (there.1 ∙ ap (λ n. Some n) one) }
+        record {
+          inside = in_list v.below (v.size * v.size) a valid.below_count here;
+          points = inr (there.1 ∙ ap (λ n. Some n) one);
+        }
     | inr apart ↦ absurd ((rw (ne_eqb b (a + 1) other, ne_eqb b (a + v.size) apart) at said) refl)
   ]
 ]
@@ -74,24 +86,33 @@ said_next v a b valid said = elim (cases_eq b (a + 1)) [
 
 -- the sign between two squares where the first is the greater, or the second
 pub greater_next : (v : UnequalValue) (a b : ℕ) → IsUnequal v → IsGreater v a b
-    → (IsNext v.size a b × (sign_between v a b ≡ FirstGreater)) ⊎ (IsNext v.size b a × (sign_between v b a ≡ SecondGreater))
+    → (IsNext v.size a b × (sign_between v a b ≡ FirstGreater))
+    ⊎ (IsNext v.size b a × (sign_between v b a ≡ SecondGreater))
 greater_next v a b valid h = elim h [
   | inl e ↦ inl (said_next v a b valid (λ none. first_said (none ∙ e)), e)
   | inr e ↦ inr (said_next v b a valid (λ none. second_said (none ∙ e)), e)
 ]
 
 -- the sign between a square and the next says which is the greater
-pub greater_first : (v : UnequalValue) (a b : ℕ) → IsUnequal v → IsNext v.size a b → IsGreater v a b → sign_between v a b ≡ FirstGreater
+pub greater_first : (v : UnequalValue) (a b : ℕ) → IsUnequal v → IsNext v.size a b → IsGreater v a b
+    → sign_between v a b ≡ FirstGreater
 greater_first v a b valid next h = elim (greater_next v a b valid h) [
   | inl up ↦ up.1
   | inr down ↦
-      absurd (omega (arith, next_order v.size a b valid.givens.smallest next, next_order v.size b a valid.givens.smallest down.0))
+      absurd (omega
+      (arith, next_order v.size a b valid.givens.smallest next, next_order v.size b a valid.givens.smallest down.0))
 ]
 
 -- where the second of two neighbours is the greater one, the sign says so
-pub greater_second : (v : UnequalValue) (a b : ℕ) → IsUnequal v → IsNext v.size a b → IsGreater v b a → sign_between v a b ≡ SecondGreater
+pub greater_second : (v : UnequalValue) (a b : ℕ) → IsUnequal v → IsNext v.size a b → IsGreater v b a
+    → sign_between v a b ≡ SecondGreater
 greater_second v a b valid next h = elim (greater_next v b a valid h) [
-  | inl up ↦ absurd (omega (arith, next_order v.size a b valid.givens.smallest next, next_order v.size b a valid.givens.smallest up.0))
+  | inl up ↦ absurd
+      (omega (
+        arith,
+        next_order v.size a b valid.givens.smallest next,
+        next_order v.size b a valid.givens.smallest up.0,
+      ))
   | inr down ↦ down.1
 ]
 
@@ -143,14 +164,16 @@ sign_held v g a b h next =
 
 -- and it is passed where they are for each square and the next
 pub each_sign_held : (v : UnequalValue) (g : GridValue)
-    → ((a b : ℕ) → IsNext v.size a b → holds_sign (sign_between v a b) (number_at g a) (number_at g b) ≡ true) → holds_signs v g ≡ true
+    → ((a b : ℕ) → IsNext v.size a b → holds_sign (sign_between v a b) (number_at g a) (number_at g b) ≡ true)
+    → holds_signs v g ≡ true
 each_sign_held v g each =
     range_all _ 0 (v.size * v.size) (λ a low high.
     and_from (holds_towards v g a Right) (holds_towards v g a Down)
     (towards a (neighbour v.size a Right) (λ b is. each a b (record { inside = omega arith; points = inl is })))
     (towards a (neighbour v.size a Down) (λ b is. each a b (record { inside = omega arith; points = inr is }))))
   where
-    towards : (a : ℕ) (o : Option ℕ) → ((b : ℕ) → o ≡ Some b → holds_sign (sign_between v a b) (number_at g a) (number_at g b) ≡ true)
+    towards : (a : ℕ) (o : Option ℕ)
+        → ((b : ℕ) → o ≡ Some b → holds_sign (sign_between v a b) (number_at g a) (number_at g b) ≡ true)
         → option_map_or (λ b. holds_sign (sign_between v a b) (number_at g a) (number_at g b)) o true ≡ true
     towards a None held = refl
     towards a (Some b) held = held b refl
@@ -160,7 +183,8 @@ each_sign_held v g each =
 -- an entry of the signs towards a direction is the sign there
 pub sign_at : (w : ℕ) (sign : ℕ → ℕ → Sign) (d : Direction) (cell : ℕ) → cell < w * w
     → slice_index_or (signs_towards w sign d) cell Absent ≡ sign_towards w sign d cell
-sign_at w sign d cell inside = get_or-map-range_with_len (sign_towards w sign d) 0 (w * w) cell cell Absent inside (omega arith)
+sign_at w sign d cell inside =
+    get_or-map-range_with_len (sign_towards w sign d) 0 (w * w) cell cell Absent inside (omega arith)
 
 -- where there is no neighbour in a direction, there is no sign
 pub none_at_end : (w : ℕ) (sign : ℕ → ℕ → Sign) (d : Direction) (cell : ℕ) → neighbour w cell d ≡ None
@@ -168,7 +192,8 @@ pub none_at_end : (w : ℕ) (sign : ℕ → ℕ → Sign) (d : Direction) (cell 
 none_at_end w sign d cell none = elim (cases_lt cell (w * w)) [
   | inl inside ↦ sign_at w sign d cell inside ∙ ap (λ o. option_map_or (sign cell) o Absent) none
   | inr past ↦
-      get_or_past (signs_towards w sign d) cell Absent (omega (arith, length-map-range_with_len (sign_towards w sign d) 0 (w * w)))
+      get_or_past (signs_towards w sign d) cell Absent
+      (omega (arith, length-map-range_with_len (sign_towards w sign d) 0 (w * w)))
 ]
 
 -- a puzzle of any signs between neighbours and of a valid grid's numbers is one of Unequal
@@ -196,7 +221,8 @@ signed_between w sign givens a b small h = elim h.points [
 ]
 
 -- which square is the greater, by the rule
-pub signed_greater : (w : ℕ) (sign : ℕ → ℕ → Sign) (givens : List ℕ) (a b : ℕ) → IsGrid (record { size = w; numbers = givens })
+pub signed_greater : (w : ℕ) (sign : ℕ → ℕ → Sign) (givens : List ℕ) (a b : ℕ)
+    → IsGrid (record { size = w; numbers = givens })
     → IsGreater (signed_puzzle w sign givens) a b
     ↔ ((IsNext w a b × (sign a b ≡ FirstGreater)) ⊎ (IsNext w b a × (sign b a ≡ SecondGreater)))
 signed_greater w sign givens a b is_grid =

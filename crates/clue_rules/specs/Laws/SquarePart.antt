@@ -1,22 +1,28 @@
 -- The square part of a Towers description: what is read has the grammar, and what has the grammar is read.
-use Rattle.std.proofs.Common.{◌≡◌, ℕ, zero, suc, ◌+◌, ◌-◌, ◌*◌, ◌<◌, ◌≤◌, true, false, ◌==◌, ◌&&◌, ◌||◌, not, nat_le, List, [], ◌∷◌, ◌++◌, length, replicate, Ok, ◌⊎◌, inl, inr, refl, sym, ap, ◌∙◌, subst, arith}
+use Rattle.std.proofs.Common.{◌≡◌, ℕ, zero, suc, ◌+◌, ◌-◌, ◌*◌, ◌<◌, ◌≤◌, true, false, ◌==◌, ◌&&◌, ◌||◌, not, nat_le}
+use Rattle.std.proofs.Common.{List, [], ◌∷◌, ◌++◌, length, replicate, Ok, ◌⊎◌, inl, inr, refl, sym, ap, ◌∙◌, subst}
+use Rattle.std.proofs.Common.{arith}
 use Rattle.std.specs.List.{AllByRecursion, flat_map}
-use Rattle.std.proofs.lemmas.Bool.{and_parts, and_from, or_cases, or_right, eqb-true, eq-eqb, leb-true, le-leb, lt-leb, not-true}
+use Rattle.std.proofs.lemmas.Bool.{and_parts, and_from, or_cases, or_right, eqb-true, eq-eqb, leb-true, le-leb, lt-leb}
+use Rattle.std.proofs.lemmas.Bool.{not-true}
 use Rattle.byte_text.specs.Decimals.{is_digit, begins_digit}
 use Rattle.byte_text.specs.Bytes.{underscore, letter_a, letter_z, digit_zero, digit_nine}
 use Rattle.clue_rules.specs.declared.id_fault.IdFault.TheVariants.{BadSquares}
 use Rattle.clue_rules.specs.IdFaults.{exactly}
-use Rattle.clue_rules.specs.TowersText.{IsSquareText, is_blank_letter, is_square_byte, is_square_part, squares_of, givens_at, blanks_of}
+use Rattle.clue_rules.specs.TowersText.{IsSquareText, is_blank_letter, is_square_byte, is_square_part, squares_of}
+use Rattle.clue_rules.specs.TowersText.{givens_at, blanks_of}
 use Rattle.clue_rules.specs.Laws.Exactly.{exactly_taken, exactly_again}
 use Rattle.clue_rules.specs.Laws.Refusals.{refused_else}
 
 -- what a byte of a square part may be
 abbrev pub SquareByte : ℕ → ℕ → List ℕ → Type 0
 SquareByte w b bs =
-    (b ≡ underscore) ⊎ ((letter_a ≤ b) × (b ≤ letter_z)) ⊎ ((digit_zero + 1 ≤ b) × (b ≤ digit_zero + w) × (begins_digit bs ≡ false))
+    (b ≡ underscore) ⊎ ((letter_a ≤ b) × (b ≤ letter_z))
+    ⊎ ((digit_zero + 1 ≤ b) × (b ≤ digit_zero + w) × (begins_digit bs ≡ false))
 
 letter_true : (b : ℕ) → letter_a ≤ b → b ≤ letter_z → is_blank_letter b ≡ true
-letter_true b low high = and_from (nat_le letter_a b) (nat_le b letter_z) (le-leb letter_a b low) (le-leb b letter_z high)
+letter_true b low high =
+    and_from (nat_le letter_a b) (nat_le b letter_z) (le-leb letter_a b low) (le-leb b letter_z high)
 
 letter_false : (b : ℕ) → b < letter_a → is_blank_letter b ≡ false
 letter_false b low = rw (lt-leb letter_a b low) refl
@@ -32,9 +38,15 @@ byte_taken w b bs is =
                 let bounds = and_parts (nat_le letter_a b) (nat_le b letter_z) letter in
                 inr (inl (leb-true letter_a b bounds.0, leb-true b letter_z bounds.1))
             | inr is_given ↦
-                let first = and_parts (nat_le (digit_zero + 1) b) (nat_le b (digit_zero + w) && not (begins_digit bs)) is_given in
+                let first =
+                and_parts (nat_le (digit_zero + 1) b)
+                (nat_le b (digit_zero + w) && not (begins_digit bs)) is_given in
                 let second = and_parts (nat_le b (digit_zero + w)) (not (begins_digit bs)) first.1 in
-                inr (inr (leb-true (digit_zero + 1) b first.0, leb-true b (digit_zero + w) second.0, not-true (begins_digit bs) second.1))
+                inr (inr (
+                  leb-true (digit_zero + 1) b first.0,
+                  leb-true b (digit_zero + w) second.0,
+                  not-true (begins_digit bs) second.1,
+                ))
           ]
     ]
 
@@ -51,7 +63,8 @@ squares_of_digit b low high =
     and_from (nat_le digit_zero b) (nat_le b digit_nine) (le-leb digit_zero b low) (le-leb b digit_nine high) in
     rw (letter_false b (omega arith), digit) refl
 
-pub squares_taken : (w : ℕ) (bs : List ℕ) → w ≤ 9 → is_square_part w bs ≡ true → IsSquareText w bs (flat_map squares_of bs)
+pub squares_taken : (w : ℕ) (bs : List ℕ) → w ≤ 9 → is_square_part w bs ≡ true
+    → IsSquareText w bs (flat_map squares_of bs)
 squares_taken w [] small is = refl
 squares_taken w (b ∷ bs) small is =
     let (byte, others) = and_parts (is_square_byte w b bs) (is_square_part w bs) is in
@@ -61,9 +74,15 @@ squares_taken w (b ∷ bs) small is =
       | inl same ↦ inl (same, rw (squares_of_underscore b same) more)
       | inr other ↦
           elim other [
-            | inl (low, high) ↦ inr (inl (low, high, (rest, ap (λ xs. xs ++ rest) (squares_of_letter b low high), more)))
+            | inl (low, high) ↦ inr
+                (inl (low, high, (rest, ap (λ xs. xs ++ rest) (squares_of_letter b low high), more)))
             | inr (low, high, ends) ↦
-                inr (inr (low, high, ends, (rest, ap (λ xs. xs ++ rest) (squares_of_digit b (omega arith) (omega arith)), more)))
+                inr (inr (
+                  low,
+                  high,
+                  ends,
+                  (rest, ap (λ xs. xs ++ rest) (squares_of_digit b (omega arith) (omega arith)), more),
+                ))
           ]
     ]
 
@@ -86,7 +105,8 @@ squares_again w (b ∷ bs) squares small (inl (same, text)) =
 squares_again w (b ∷ bs) squares small (inr (inl (low, high, (rest, says, text)))) =
     let (passes, are) = squares_again w bs rest small text in (
       and_from _ _ (byte_again w b bs (inr (inl (low, high)))) passes,
-      ap (λ xs. xs ++ flat_map squares_of bs) (squares_of_letter b low high) ∙ (ap (λ xs. replicate (blanks_of b) 0 ++ xs) are ∙ sym says),
+      ap (λ xs. xs ++ flat_map squares_of bs) (squares_of_letter b low high)
+          ∙ (ap (λ xs. replicate (blanks_of b) 0 ++ xs) are ∙ sym says),
     )
 squares_again w (b ∷ bs) squares small (inr (inr (low, high, ends, (rest, says, text)))) =
     let (passes, are) = squares_again w bs rest small text in
@@ -113,7 +133,8 @@ pub givens_taken : (w : ℕ) (part givens : List ℕ) → w ≤ 9 → givens_at 
     → (length givens ≡ w * w) × IsSquareText w part givens
 unfolding givens_at
 givens_taken w part givens small read =
-    let readable = refused_else (is_square_part w part) (exactly (w * w) (flat_map squares_of part)) BadSquares givens read in
+    let readable =
+    refused_else (is_square_part w part) (exactly (w * w) (flat_map squares_of part)) BadSquares givens read in
     let count = exactly_taken (w * w) (flat_map squares_of part) givens readable.1 in
     (ap length (sym count.0) ∙ count.1, subst (IsSquareText w part) count.0 (squares_taken w part small readable.0))
 

@@ -1,5 +1,7 @@
 -- The square part that is written is a text of its squares.
-use Rattle.std.proofs.Common.{◌≡◌, ◌≢◌, ℕ, zero, suc, ◌+◌, ◌-◌, ◌*◌, ◌/◌, ◌%◌, ◌<◌, ◌≤◌, Bool, true, false, ◌==◌, ◌&&◌, List, [], ◌∷◌, ◌++◌, replicate, inl, inr, refl, sym, ap, ◌∙◌, subst, arith, append_assoc, append-nil, nat_le, if◌then◌else◌}
+use Rattle.std.proofs.Common.{◌≡◌, ◌≢◌, ℕ, zero, suc, ◌+◌, ◌-◌, ◌*◌, ◌/◌, ◌%◌, ◌<◌, ◌≤◌, Bool, true, false, ◌==◌, ◌&&◌}
+use Rattle.std.proofs.Common.{List, [], ◌∷◌, ◌++◌, replicate, inl, inr, refl, sym, ap, ◌∙◌, subst, arith, append_assoc}
+use Rattle.std.proofs.Common.{append-nil, nat_le, if◌then◌else◌}
 use Rattle.std.specs.List.{AllByRecursion}
 use Rattle.std.proofs.lemmas.List.{replicate-append-replicate, replicate_more}
 use Rattle.std.proofs.lemmas.Bool.{and_right, cases_eq, cond_both, eqb-true, eqb-false, ne_eqb, lt-leb}
@@ -19,14 +21,17 @@ zs_text : (w k : ℕ) (bs squares : List ℕ) → IsSquareText w bs squares
     → IsSquareText w (replicate k letter_z ++ bs) (replicate (k * 26) 0 ++ squares)
 zs_text w zero bs squares text = text
 zs_text w (suc k) bs squares text =
-    let more = letter_text w 25 (replicate k letter_z ++ bs) (replicate (k * 26) 0 ++ squares) (omega arith) (zs_text w k bs squares text) in
+    let more =
+    letter_text w 25 (replicate k letter_z ++ bs) (replicate (k * 26) 0 ++ squares) (omega arith)
+    (zs_text w k bs squares text) in
     let runs : replicate 26 0 ++ (replicate (k * 26) 0 ++ squares) ≡ replicate (suc k * 26) 0 ++ squares =
     let count : 26 + k * 26 ≡ suc k * 26 = omega arith in
     sym (append_assoc (replicate 26 0) (replicate (k * 26) 0) squares)
     ∙ ap (λ xs. xs ++ squares) (replicate-append-replicate 26 (k * 26) 0 ∙ ap (λ m. replicate m 0) count) in
     subst (IsSquareText w (letter_z ∷ (replicate k letter_z ++ bs))) runs more
 
-blank_letters_some : (n : ℕ) → n ≢ 0 → blank_letters n ≡ replicate ((n - 1) / 26) letter_z ++ ((letter_a + (n - 1) % 26) ∷ [])
+blank_letters_some : (n : ℕ) → n ≢ 0
+    → blank_letters n ≡ replicate ((n - 1) / 26) letter_z ++ ((letter_a + (n - 1) % 26) ∷ [])
 blank_letters_some n some = rw (ne_eqb n 0 some) refl
 
 -- `z` so many times, and one more letter
@@ -51,14 +56,17 @@ blanks_text w n bs squares text = elim (cases_eq n 0) [
   | inr some ↦
       let count : (n - 1) / 26 * 26 + ((n - 1) % 26 + 1) ≡ n = omega arith in
       let run = run_text w ((n - 1) / 26) ((n - 1) % 26) bs squares (omega arith) text in
-      rw (blank_letters_some n some) (subst (λ m. IsSquareText w ((replicate ((n - 1) / 26) letter_z ++ ((letter_a + (n - 1) % 26) ∷ [])) ++ bs) (replicate m 0 ++ squares)) count run)
+      rw (blank_letters_some n some)
+      (subst (λ m. IsSquareText w ((replicate ((n - 1) / 26) letter_z ++ ((letter_a + (n - 1) % 26) ∷ [])) ++ bs)
+      (replicate m 0 ++ squares)) count run)
 ]
 
 -- No digit follows a given.
 digit_not : (b : ℕ) → digit_nine < b → is_digit b ≡ false
 digit_not b above = rw (lt-leb b digit_nine above) (and_right (nat_le digit_zero b) false refl)
 
-letters_begin_at : (k r : ℕ) (bs : List ℕ) → begins_digit ((replicate k letter_z ++ ((letter_a + r) ∷ [])) ++ bs) ≡ false
+letters_begin_at : (k r : ℕ) (bs : List ℕ)
+    → begins_digit ((replicate k letter_z ++ ((letter_a + r) ∷ [])) ++ bs) ≡ false
 letters_begin_at zero r bs = digit_not (letter_a + r) (omega arith)
 letters_begin_at (suc k) r bs = refl
 
@@ -75,7 +83,8 @@ given_whole n after_given s bs = simp append_assoc
 given_begins : (n s : ℕ) (bs : List ℕ) → begins_digit (given_written n true s ++ bs) ≡ false
 given_begins n s bs = elim (cases_eq n 0) [
   | inl none ↦ rw none refl
-  | inr some ↦ subst (λ xs. begins_digit xs ≡ false) (given_whole n true s bs) (letters_begin n ((if (n == 0) && true then (underscore ∷ []) else []) ++ ((digit_zero + s) ∷ bs)) some)
+  | inr some ↦ subst (λ xs. begins_digit xs ≡ false) (given_whole n true s bs)
+      (letters_begin n ((if (n == 0) && true then (underscore ∷ []) else []) ++ ((digit_zero + s) ∷ bs)) some)
 ]
 
 begins_written : (n : ℕ) (squares : List ℕ) → begins_digit (squares_written n true squares) ≡ false
@@ -84,7 +93,8 @@ begins_written n [] = elim (cases_eq n 0) [
   | inr some ↦ subst (λ xs. begins_digit xs ≡ false) (append-nil (blank_letters n)) (letters_begin n [] some)
 ]
 begins_written n (s ∷ ss) =
-    cond_both (s == 0) (squares_written (n + 1) true ss) (given_written n true s ++ squares_written 0 true ss) (λ bs. begins_digit bs ≡ false)
+    cond_both (s == 0) (squares_written (n + 1) true ss) (given_written n true s ++ squares_written 0 true ss)
+    (λ bs. begins_digit bs ≡ false)
     (λ none. begins_written (n + 1) ss) (λ some. given_begins n s (squares_written 0 true ss))
 
 -- a given, and `_` before it or not
@@ -94,7 +104,8 @@ digit_text w s bs squares some within ends text =
     let value : s ≡ digit_zero + s - digit_zero = omega arith in
     inr (inr (omega arith, omega arith, ends, (squares, ap (λ x. x ∷ squares) value, text)))
 
-given_text : (w s : ℕ) (separate : Bool) (bs squares : List ℕ) → s ≢ 0 → s ≤ w → begins_digit bs ≡ false → IsSquareText w bs squares
+given_text : (w s : ℕ) (separate : Bool) (bs squares : List ℕ) → s ≢ 0 → s ≤ w → begins_digit bs ≡ false
+    → IsSquareText w bs squares
     → IsSquareText w ((if separate then (underscore ∷ []) else []) ++ ((digit_zero + s) ∷ bs)) (s ∷ squares)
 given_text w s true bs squares some within ends text = inl (refl, digit_text w s bs squares some within ends text)
 given_text w s false bs squares some within ends text = digit_text w s bs squares some within ends text
@@ -108,15 +119,19 @@ written_text : (w n : ℕ) (after_given : Bool) (squares : List ℕ) → AllByRe
 written_text w n after_given [] within =
     subst (λ t. IsSquareText w t (replicate n 0 ++ [])) (append-nil (blank_letters n)) (blanks_text w n [] [] refl)
 written_text w n after_given (s ∷ ss) within =
-    cond_both (s == 0) (squares_written (n + 1) after_given ss) (given_written n after_given s ++ squares_written 0 true ss)
+    cond_both (s == 0) (squares_written (n + 1) after_given ss)
+    (given_written n after_given s ++ squares_written 0 true ss)
     (λ bs. IsSquareText w bs (replicate n 0 ++ s ∷ ss))
     (λ none.
     let squares_are : replicate (n + 1) 0 ++ ss ≡ replicate n 0 ++ s ∷ ss =
     zeros_more n ss ∙ ap (λ x. replicate n 0 ++ x ∷ ss) (sym (eqb-true s 0 none)) in
-    subst (IsSquareText w (squares_written (n + 1) after_given ss)) squares_are (written_text w (n + 1) after_given ss within.1))
+    subst (IsSquareText w (squares_written (n + 1) after_given ss)) squares_are
+    (written_text w (n + 1) after_given ss within.1))
     (λ some.
     subst (λ t. IsSquareText w t (replicate n 0 ++ s ∷ ss)) (given_whole n after_given s (squares_written 0 true ss))
-    (blanks_text w n _ (s ∷ ss) (given_text w s ((n == 0) && after_given) (squares_written 0 true ss) ss (eqb-false s 0 some) within.0 (begins_written 0 ss) (written_text w 0 true ss within.1))))
+    (blanks_text w n _ (s ∷ ss)
+    (given_text w s ((n == 0) && after_given) (squares_written 0 true ss) ss (eqb-false s 0 some) within.0
+    (begins_written 0 ss) (written_text w 0 true ss within.1))))
 
 -- what is written is a text of the squares
 pub squares_written_text : (w : ℕ) (squares : List ℕ) → AllByRecursion (λ s. s ≤ w) squares

@@ -1,5 +1,7 @@
--- The laws of Towers items: what a cut keeps, what two cuts make, and that the full puzzle of a Latin square is solved by it.
-use Rattle.std.proofs.Common.{◌≡◌, ◌↔◌, ℕ, zero, ◌+◌, ◌-◌, ◌*◌, ◌<◌, ◌≤◌, Bool, true, false, ◌&&◌, ◌||◌, [], length, refl, sym, ◌∙◌, inl, inr, arith, nat_lt, ◌==◌, slice_index, slice_index_or}
+-- The laws of Towers items: what a cut keeps, what two cuts make, and that the full puzzle of a Latin square is solved
+-- by it.
+use Rattle.std.proofs.Common.{◌≡◌, ◌↔◌, ℕ, zero, ◌+◌, ◌-◌, ◌*◌, ◌<◌, ◌≤◌, Bool, true, false, ◌&&◌, ◌||◌, [], length}
+use Rattle.std.proofs.Common.{refl, sym, ◌∙◌, inl, inr, arith, nat_lt, ◌==◌, slice_index, slice_index_or}
 use Rattle.std.specs.Bool.{Decides, IsTrue}
 use Rattle.std.specs.List.{range_with_len}
 use Rattle.std.proofs.lemmas.Bool.{lt-ltb, cases_lt}
@@ -14,9 +16,12 @@ use Rattle.tower_lines.specs.TowersSeen.{seen}
 use Rattle.tower_lines.proofs.SeenLemmas.{seen_most, seen_some}
 use Rattle.trail_solver.specs.Puzzles.{Solves}
 use Rattle.clue_rules.specs.declared.game.TheConstants.{MOST_ITEMS}
-use Rattle.clue_rules.specs.Towers.{TowersValue, IsTowers, clue_of, HoldsClues, holds_clue, holds_clues, towers_puzzle, towers_items, has_towers, cut_towers, full_towers, towers_given_grid}
+use Rattle.clue_rules.specs.Towers.{TowersValue, IsTowers, clue_of, HoldsClues, holds_clue, holds_clues, towers_puzzle}
+use Rattle.clue_rules.specs.Towers.{towers_items, has_towers, cut_towers, full_towers, towers_given_grid}
 use Rattle.clue_rules.specs.Views.{view_of}
-use Rattle.clue_rules.specs.Laws.KeptItems.{length-kept, kept-all, kept-kept, All-kept, still_asked, none_asked, has_item-kept, items_agree, has_item-full, not_positive, small_widths, IsGrid-kept}
+use Rattle.clue_rules.specs.Laws.KeptItems.{length-kept, kept-all, kept-kept, All-kept, still_asked, none_asked}
+use Rattle.clue_rules.specs.Laws.KeptItems.{has_item-kept, items_agree, has_item-full, not_positive, small_widths}
+use Rattle.clue_rules.specs.Laws.KeptItems.{IsGrid-kept}
 use Rattle.clue_rules.specs.Laws.Edges.{edge_cases}
 
 -- ---- the test of the clues
@@ -47,7 +52,8 @@ pub valid_size : (v : TowersValue) → IsTowers v → (3 ≤ v.size) × (v.size 
 valid_size v h = (h.givens.smallest, h.givens.largest)
 
 -- a given is at most the width
-pub valid_given : (v : TowersValue) (cell : ℕ) → IsTowers v → cell < v.size * v.size → slice_index v.givens cell ≤ v.size
+pub valid_given : (v : TowersValue) (cell : ℕ) → IsTowers v → cell < v.size * v.size
+    → slice_index v.givens cell ≤ v.size
 valid_given v cell h inside = number_within (towers_given_grid v) h.givens cell inside
 
 -- ---- cuts
@@ -61,7 +67,8 @@ cut_valid v keep h = record {
 }
 
 -- a cut has the items that were there and are in the set
-pub cut_has : (v : TowersValue) (keep : ℕ → Bool) (i : ℕ) → has_towers (cut_towers v keep) i ≡ (has_towers v i && keep i)
+pub cut_has : (v : TowersValue) (keep : ℕ → Bool) (i : ℕ)
+    → has_towers (cut_towers v keep) i ≡ (has_towers v i && keep i)
 cut_has v keep i = has_item-kept (nat_lt 0) zero refl (4 * v.size) v.clues v.givens keep i
 
 -- to keep every item changes nothing
@@ -69,12 +76,15 @@ pub cut_all : (v : TowersValue) → cut_towers v (λ i. true) ≡ v
 cut_all v = rw (kept-all zero 0 v.clues, kept-all zero (4 * v.size) v.givens) refl
 
 -- two cuts are one, by the items in both sets
-pub cut_cut : (v : TowersValue) (first second : ℕ → Bool) → cut_towers (cut_towers v first) second ≡ cut_towers v (λ i. first i && second i)
-cut_cut v first second = rw (kept-kept zero first second 0 v.clues, kept-kept zero first second (4 * v.size) v.givens) refl
+pub cut_cut : (v : TowersValue) (first second : ℕ → Bool)
+    → cut_towers (cut_towers v first) second ≡ cut_towers v (λ i. first i && second i)
+cut_cut v first second =
+    rw (kept-kept zero first second 0 v.clues, kept-kept zero first second (4 * v.size) v.givens) refl
 
 -- the widths that are generated have few items
 pub few_items : (w : ℕ) → 3 ≤ w → w ≤ 6 → towers_items w ≤ MOST_ITEMS
-few_items w low high = small_widths (λ n. towers_items n ≤ MOST_ITEMS) (omega arith) (omega arith) (omega arith) (omega arith) w low high
+few_items w low high =
+    small_widths (λ n. towers_items n ≤ MOST_ITEMS) (omega arith) (omega arith) (omega arith) (omega arith) w low high
 
 -- sets that agree on the items that the puzzle has cut it alike
 pub cut_agrees : (v : TowersValue) (a b : ℕ → Bool) → IsTowers v
@@ -94,7 +104,8 @@ cut_solved v keep g h = record {
   latin = h.latin;
   givens = λ cell inside. still_asked keep (4 * v.size) v.givens cell (number_at g cell) (h.givens cell inside);
   clues = (clues_decide (cut_towers v keep) g).1 (record {
-    each = λ place inside. still_asked keep 0 v.clues place (seen (view_of g place)) (((clues_decide v g).0 h.clues).each place inside);
+    each = λ place inside. still_asked keep 0 v.clues place (seen (view_of g place))
+        (((clues_decide v g).0 h.clues).each place inside);
   });
 }
 
@@ -146,10 +157,12 @@ full_valid g h = record {
 }
 
 -- the full puzzle has every item
-pub full_has : (g : GridValue) (i : ℕ) → IsGrid g → IsLatin g → i < towers_items g.size → has_towers (full_towers g) i ≡ true
+pub full_has : (g : GridValue) (i : ℕ) → IsGrid g → IsLatin g → i < towers_items g.size
+    → has_towers (full_towers g) i ≡ true
 full_has g i is_grid latin inside =
     has_item-full (nat_lt 0) zero (4 * g.size) (full_towers g).clues g i latin
-    (λ low. rw (full_clue g i low) (lt-ltb 0 (seen (view_of g i)) (seen_some (view_of g i) (omega (arith, length-view_of g i, is_grid.smallest)))))
+    (λ low. rw (full_clue g i low)
+    (lt-ltb 0 (seen (view_of g i)) (seen_some (view_of g i) (omega (arith, length-view_of g i, is_grid.smallest)))))
     inside
 
 -- a Latin square solves its full puzzle

@@ -13,5 +13,9 @@ same_towers p q = p.size == q.size && pointwise ◌==◌ p.clues q.clues && poin
 pub same_towers_decides : (p q : TowersValue) → Decides (same_towers p q) (p ≡ q)
 same_towers_decides p q =
     Decides-like (same_towers p q) (λ h i. record { size = h.0.0 i; clues = h.0.1 i; givens = h.1 i })
-    (λ same. ((ap (λ (v : TowersValue). v.size) same, ap (λ (v : TowersValue). v.clues) same), ap (λ (v : TowersValue). v.givens) same))
-    (Decides-and _ _ (Decides-and _ _ (Decides-eqb p.size q.size) (bytes_decides p.clues q.clues)) (bytes_decides p.givens q.givens))
+    (λ same. (
+      (ap (λ (v : TowersValue). v.size) same, ap (λ (v : TowersValue). v.clues) same),
+      ap (λ (v : TowersValue). v.givens) same,
+    ))
+    (Decides-and _ _ (Decides-and _ _ (Decides-eqb p.size q.size) (bytes_decides p.clues q.clues))
+    (bytes_decides p.givens q.givens))

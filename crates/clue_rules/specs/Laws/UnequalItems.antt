@@ -1,5 +1,7 @@
--- The laws of Unequal items: what a cut keeps, what two cuts make, and that the full puzzle of a Latin square is solved by it.
-use Rattle.std.proofs.Common.{◌≡◌, ◌≢◌, ℕ, zero, ◌+◌, ◌-◌, ◌*◌, ◌/◌, ◌%◌, ◌<◌, ◌≤◌, nat_lt, ◌⊎◌, Bool, true, false, ◌&&◌, List, refl, sym, ap, subst, ◌∙◌, inl, inr, arith, if◌then◌else◌, slice_index, ◌==◌}
+-- The laws of Unequal items: what a cut keeps, what two cuts make, and that the full puzzle of a Latin square is solved
+-- by it.
+use Rattle.std.proofs.Common.{◌≡◌, ◌≢◌, ℕ, zero, ◌+◌, ◌-◌, ◌*◌, ◌/◌, ◌%◌, ◌<◌, ◌≤◌, nat_lt, ◌⊎◌, Bool, true, false}
+use Rattle.std.proofs.Common.{◌&&◌, List, refl, sym, ap, subst, ◌∙◌, inl, inr, arith, if◌then◌else◌, slice_index, ◌==◌}
 use Rattle.std.proofs.Math.Nat.{mul_comm}
 use Rattle.std.proofs.lemmas.Nat.{div_below, mod_below, div-mul-add, mod-mul-add, mul-add-lt}
 use Rattle.std.proofs.lemmas.Bool.{false≢true, lt-ltb, le-ltb, cases_lt, cases_eq, eq-eqb, ne_eqb}
@@ -13,11 +15,16 @@ use Rattle.clue_rules.specs.declared.unequal.item.Item.{Item}
 use Rattle.clue_rules.specs.declared.unequal.item.Item.TheVariants.{RightSign, LowerSign, Given}
 use Rattle.clue_rules.specs.declared.unequal.sign.Sign.{Sign}
 use Rattle.clue_rules.specs.declared.unequal.sign.Sign.TheVariants.{Absent, FirstGreater, SecondGreater}
-use Rattle.clue_rules.specs.Unequal.{UnequalValue, IsUnequal, IsGreater, right_sign, lower_sign, sign_between, holds_sign, unequal_puzzle, pairs_across, unequal_items, item_at, item_number, is_present, has_item, has_unequal, keeps_kind, cut_unequal, sign_of, sign_in_grid, full_unequal, unequal_given_grid}
+use Rattle.clue_rules.specs.Unequal.{UnequalValue, IsUnequal, IsGreater, right_sign, lower_sign, sign_between}
+use Rattle.clue_rules.specs.Unequal.{holds_sign, unequal_puzzle, pairs_across, unequal_items, item_at, item_number}
+use Rattle.clue_rules.specs.Unequal.{is_present, has_item, has_unequal, keeps_kind, cut_unequal, sign_of, sign_in_grid}
+use Rattle.clue_rules.specs.Unequal.{full_unequal, unequal_given_grid}
 use Rattle.clue_rules.specs.Items.{kept_items}
 use Rattle.clue_rules.specs.Laws.Neighbours.{IsNext, right_of, below_of, next_line, next_inside}
-use Rattle.clue_rules.specs.Laws.Signs.{IsSaid, first_said, second_said, said_next, right_between, below_between, sign_held, each_sign_held, signed_between, signed_valid}
-use Rattle.clue_rules.specs.Laws.KeptItems.{length-kept, entry-kept, kept-all, kept-kept, kept-same, present_kept, not_positive, still_asked, none_asked, small_widths, IsGrid-kept}
+use Rattle.clue_rules.specs.Laws.Signs.{IsSaid, first_said, second_said, said_next, right_between, below_between}
+use Rattle.clue_rules.specs.Laws.Signs.{sign_held, each_sign_held, signed_between, signed_valid}
+use Rattle.clue_rules.specs.Laws.KeptItems.{length-kept, entry-kept, kept-all, kept-kept, kept-same, present_kept}
+use Rattle.clue_rules.specs.Laws.KeptItems.{not_positive, still_asked, none_asked, small_widths, IsGrid-kept}
 
 -- what holds of every puzzle
 
@@ -26,7 +33,8 @@ pub valid_size : (v : UnequalValue) → IsUnequal v → (3 ≤ v.size) × (v.siz
 valid_size v h = (h.givens.smallest, h.givens.largest)
 
 -- a given is at most the width
-pub valid_given : (v : UnequalValue) (cell : ℕ) → IsUnequal v → cell < v.size * v.size → slice_index v.givens cell ≤ v.size
+pub valid_given : (v : UnequalValue) (cell : ℕ) → IsUnequal v → cell < v.size * v.size
+    → slice_index v.givens cell ≤ v.size
 valid_given v cell h inside = number_within (unequal_given_grid v) h.givens cell inside
 
 -- ---- items and their numbers
@@ -74,7 +82,11 @@ is_right_item w cell small inside room =
     record {
       inside = omega (arith, low);
       back =
-          rw (lt-ltb n (pairs_across w) low, div-mul-add (cell / w) (w - 1) (cell % w) column, mod-mul-add (cell / w) (w - 1) (cell % w) column)
+          rw (
+            lt-ltb n (pairs_across w) low,
+            div-mul-add (cell / w) (w - 1) (cell % w) column,
+            mod-mul-add (cell / w) (w - 1) (cell % w) column,
+          )
           (ap (λ k. RightSign k) whole);
     }
 
@@ -84,7 +96,8 @@ is_lower_item w cell low =
     let back : n + cell - n ≡ cell = omega arith in
     record {
       inside = omega arith;
-      back = rw (le-ltb (n + cell) n (omega arith), lt-ltb (n + cell) (2 * n) (omega arith)) (ap (λ k. LowerSign k) back);
+      back = rw (le-ltb (n + cell) n (omega arith), lt-ltb (n + cell) (2 * n) (omega arith))
+          (ap (λ k. LowerSign k) back);
     }
 
 is_given_item : (w cell : ℕ) → cell < w * w → IsItem w (Given cell)
@@ -93,7 +106,8 @@ is_given_item w cell inside =
     let back : 2 * n + cell - 2 * n ≡ cell = omega arith in
     record {
       inside = omega arith;
-      back = rw (le-ltb (2 * n + cell) n (omega arith), le-ltb (2 * n + cell) (2 * n) (omega arith)) (ap (λ k. Given k) back);
+      back = rw (le-ltb (2 * n + cell) n (omega arith), le-ltb (2 * n + cell) (2 * n) (omega arith))
+          (ap (λ k. Given k) back);
     }
 
 -- a sign that isn't present is none
@@ -103,7 +117,8 @@ not_present FirstGreater h = cc
 not_present SecondGreater h = cc
 
 present_said : (s : Sign) → is_present s ≡ true → IsSaid s
-present_said s here none = let P : Sign → Type 0 = λ t. is_present t ≡ true in absurd (false≢true (subst P (sym none) here))
+present_said s here none =
+    let P : Sign → Type 0 = λ t. is_present t ≡ true in absurd (false≢true (subst P (sym none) here))
 
 square_parts : (m w : ℕ) → w ≡ m + 1 → w * w ≡ w * m + w
 square_parts m w e = rw e (omega arith)
@@ -120,12 +135,16 @@ has_is_item v (RightSign cell) valid here =
       | inr below ↦ absurd (omega (arith, (below_of v.size cell (cell + 1) below).1, valid.givens.smallest))
     ]
 has_is_item v (LowerSign cell) valid here =
-    let next = said_next v cell (cell + v.size) valid (present_said _ (rw (below_between v cell valid.givens.smallest) here)) in
+    let next =
+    said_next v cell (cell + v.size) valid
+    (present_said _ (rw (below_between v cell valid.givens.smallest) here)) in
     let inside = next_inside v.size cell (cell + v.size) valid.givens.smallest next in
-    is_lower_item v.size cell (omega (arith, inside, square_parts (v.size - 1) v.size (omega (arith, valid.givens.smallest))))
+    is_lower_item v.size cell
+    (omega (arith, inside, square_parts (v.size - 1) v.size (omega (arith, valid.givens.smallest))))
 has_is_item v (Given cell) valid here = elim (cases_lt cell (v.size * v.size)) [
   | inl inside ↦ is_given_item v.size cell inside
-  | inr past ↦ absurd (false≢true (ap (nat_lt 0) (sym (get_or_past v.givens cell 0 (omega (arith, valid.givens.count)))) ∙ here))
+  | inr past ↦ absurd
+      (false≢true (ap (nat_lt 0) (sym (get_or_past v.givens cell 0 (omega (arith, valid.givens.count)))) ∙ here))
 ]
 
 -- ---- cuts
@@ -149,17 +168,21 @@ cut_valid v keep h = record {
 cut_has_item : (v : UnequalValue) (keep : ℕ → Bool) (item : Item)
     → has_item (cut_unequal v keep) item ≡ (has_item v item && keep (item_number v.size item))
 cut_has_item v keep (RightSign cell) =
-    rw (entry-kept Absent (keeps_kind v.size keep RightSign) 0 v.right cell cell (omega arith)) (present_kept is_present Absent refl _ (right_sign v cell))
+    rw (entry-kept Absent (keeps_kind v.size keep RightSign) 0 v.right cell cell (omega arith))
+    (present_kept is_present Absent refl _ (right_sign v cell))
 cut_has_item v keep (LowerSign cell) =
-    rw (entry-kept Absent (keeps_kind v.size keep LowerSign) 0 v.below cell cell (omega arith)) (present_kept is_present Absent refl _ (lower_sign v cell))
+    rw (entry-kept Absent (keeps_kind v.size keep LowerSign) 0 v.below cell cell (omega arith))
+    (present_kept is_present Absent refl _ (lower_sign v cell))
 cut_has_item v keep (Given cell) =
-    rw (entry-kept zero (keeps_kind v.size keep Given) 0 v.givens cell cell (omega arith)) (present_kept (nat_lt 0) zero refl _ (slice_index v.givens cell))
+    rw (entry-kept zero (keeps_kind v.size keep Given) 0 v.givens cell cell (omega arith))
+    (present_kept (nat_lt 0) zero refl _ (slice_index v.givens cell))
 
 -- a cut has the items that were there and are in the set
 pub cut_has : (v : UnequalValue) (keep : ℕ → Bool) (i : ℕ) → IsUnequal v
     → has_unequal (cut_unequal v keep) i ≡ (has_unequal v i && keep i)
 cut_has v keep i h =
-    cut_has_item v keep (item_at v.size i) ∙ ap (λ j. has_unequal v i && keep j) (number_of_item_at v.size i h.givens.smallest)
+    cut_has_item v keep (item_at v.size i)
+    ∙ ap (λ j. has_unequal v i && keep j) (number_of_item_at v.size i h.givens.smallest)
 
 -- to keep every item changes nothing
 pub cut_all : (v : UnequalValue) → cut_unequal v (λ i. true) ≡ v
@@ -178,15 +201,22 @@ cut_cut v first second =
 
 -- the widths that are generated have few items
 pub few_items : (w : ℕ) → 3 ≤ w → w ≤ 6 → unequal_items w ≤ MOST_ITEMS
-few_items w low high = small_widths (λ n. unequal_items n ≤ MOST_ITEMS) (omega arith) (omega arith) (omega arith) (omega arith) w low high
+few_items w low high =
+    small_widths (λ n. unequal_items n ≤ MOST_ITEMS) (omega arith) (omega arith) (omega arith) (omega arith) w low high
 
 -- only the items that a puzzle has matter to what is kept of it
 pub cut_agrees : (v : UnequalValue) (a b : ℕ → Bool) → IsUnequal v
     → ((i : ℕ) → i < unequal_items v.size → has_unequal v i ≡ true → a i ≡ b i) → cut_unequal v a ≡ cut_unequal v b
 cut_agrees v a b h same =
-    let right = kept-same Absent is_present not_present (keeps_kind v.size a RightSign) (keeps_kind v.size b RightSign) v.right (λ cell inside here. at (RightSign cell) here) in
-    let below = kept-same Absent is_present not_present (keeps_kind v.size a LowerSign) (keeps_kind v.size b LowerSign) v.below (λ cell inside here. at (LowerSign cell) here) in
-    let givens = kept-same zero (nat_lt 0) not_positive (keeps_kind v.size a Given) (keeps_kind v.size b Given) v.givens (λ cell inside here. at (Given cell) here) in
+    let right =
+    kept-same Absent is_present not_present (keeps_kind v.size a RightSign) (keeps_kind v.size b RightSign) v.right
+    (λ cell inside here. at (RightSign cell) here) in
+    let below =
+    kept-same Absent is_present not_present (keeps_kind v.size a LowerSign) (keeps_kind v.size b LowerSign) v.below
+    (λ cell inside here. at (LowerSign cell) here) in
+    let givens =
+    kept-same zero (nat_lt 0) not_positive (keeps_kind v.size a Given) (keeps_kind v.size b Given) v.givens
+    (λ cell inside here. at (Given cell) here) in
     λ i. record { size = v.size; right = right i; below = below i; givens = givens i }
   where
     at : (item : Item) → has_item v item ≡ true → a (item_number v.size item) ≡ b (item_number v.size item)
@@ -201,7 +231,11 @@ cut_between v keep a b = elim (cases_eq b (a + 1)) [
       (either (keeps_kind v.size keep RightSign a) (right_sign v a))
   | inr other ↦ elim (cases_eq b (a + v.size)) [
     | inl below ↦
-        rw (ne_eqb b (a + 1) other, eq-eqb b (a + v.size) below, entry-kept Absent (keeps_kind v.size keep LowerSign) 0 v.below a a (omega arith))
+        rw (
+          ne_eqb b (a + 1) other,
+          eq-eqb b (a + v.size) below,
+          entry-kept Absent (keeps_kind v.size keep LowerSign) 0 v.below a a (omega arith),
+        )
         (either (keeps_kind v.size keep LowerSign a) (lower_sign v a))
     | inr apart ↦ rw (ne_eqb b (a + 1) other, ne_eqb b (a + v.size) apart) (inl refl)
   ]
@@ -228,19 +262,22 @@ cut_greater v keep a b h = elim h [
 pub cut_given : (v : UnequalValue) (keep : ℕ → Bool) (cell : ℕ) → 0 < slice_index (cut_unequal v keep).givens cell
     → slice_index (cut_unequal v keep).givens cell ≡ slice_index v.givens cell
 cut_given v keep cell =
-    rw (entry-kept zero (keeps_kind v.size keep Given) 0 v.givens cell cell (omega arith)) (either (keeps_kind v.size keep Given cell))
+    rw (entry-kept zero (keeps_kind v.size keep Given) 0 v.givens cell cell (omega arith))
+    (either (keeps_kind v.size keep Given cell))
   where
     either : {n : ℕ} (b : Bool) → 0 < (if b then n else zero) → (if b then n else zero) ≡ n
     either true low = refl
     either false low = absurd (omega arith)
 
 -- a cut loses no solution
-pub cut_solved : (v : UnequalValue) (keep : ℕ → Bool) (g : GridValue) → Solves (unequal_puzzle v) g → Solves (unequal_puzzle (cut_unequal v keep)) g
+pub cut_solved : (v : UnequalValue) (keep : ℕ → Bool) (g : GridValue) → Solves (unequal_puzzle v) g
+    → Solves (unequal_puzzle (cut_unequal v keep)) g
 cut_solved v keep g h = record {
   is_grid = h.is_grid;
   same_size = h.same_size;
   latin = h.latin;
-  givens = λ cell inside. still_asked (keeps_kind v.size keep Given) 0 v.givens cell (number_at g cell) (h.givens cell inside);
+  givens = λ cell inside. still_asked (keeps_kind v.size keep Given) 0 v.givens cell (number_at g cell)
+      (h.givens cell inside);
   clues = each_sign_held (cut_unequal v keep) g (λ a b next. elim (cut_between v keep a b) [
     | inl same ↦ rw same (sign_held v g a b h.clues next)
     | inr none ↦ rw none refl
@@ -250,8 +287,10 @@ cut_solved v keep g h = record {
 -- without items there is no sign
 none_between : (v : UnequalValue) (a b : ℕ) → sign_between (cut_unequal v (λ i. false)) a b ≡ Absent
 none_between v a b =
-    let right : right_sign (cut_unequal v (λ i. false)) a ≡ Absent = entry-kept Absent (λ k. false) 0 v.right a a (omega arith) in
-    let lower : lower_sign (cut_unequal v (λ i. false)) a ≡ Absent = entry-kept Absent (λ k. false) 0 v.below a a (omega arith) in
+    let right : right_sign (cut_unequal v (λ i. false)) a ≡ Absent =
+    entry-kept Absent (λ k. false) 0 v.right a a (omega arith) in
+    let lower : lower_sign (cut_unequal v (λ i. false)) a ≡ Absent =
+    entry-kept Absent (λ k. false) 0 v.below a a (omega arith) in
     rw (right, lower) (either (b == a + 1) (b == a + v.size))
   where
     either : (s t : Bool) → (if s then Absent else (if t then Absent else Absent)) ≡ Absent
@@ -299,19 +338,24 @@ full_solved g is_grid latin = record {
   latin = latin;
   givens = λ cell inside low. refl;
   clues = each_sign_held (full_unequal g) g (λ a b next.
-      rw (signed_between g.size (sign_in_grid g) g.numbers a b is_grid.smallest next) (sign_of_holds (number_at g a) (number_at g b)));
+      rw (signed_between g.size (sign_in_grid g) g.numbers a b is_grid.smallest next)
+      (sign_of_holds (number_at g a) (number_at g b)));
 }
 
 -- squares that are next to each other have different numbers, and so a sign
-full_present : (g : GridValue) (a b : ℕ) → IsGrid g → IsLatin g → IsNext g.size a b → is_present (sign_between (full_unequal g) a b) ≡ true
+full_present : (g : GridValue) (a b : ℕ) → IsGrid g → IsLatin g → IsNext g.size a b
+    → is_present (sign_between (full_unequal g) a b) ≡ true
 full_present g a b is_grid latin next =
     let on = next_line g.size a b is_grid.smallest next in
-    let differ = line_differs g is_grid latin on.line on.place (on.place + 1) on.line_is (omega (arith, on.place_is)) on.place_is (λ e. omega arith) in
+    let differ =
+    line_differs g is_grid latin on.line on.place (on.place + 1) on.line_is (omega (arith, on.place_is)) on.place_is
+    (λ e. omega arith) in
     rw (signed_between g.size (sign_in_grid g) g.numbers a b is_grid.smallest next)
     (sign_present (number_at g a) (number_at g b) (rw (on.first, on.second) at differ))
 
 -- the full puzzle has every item
-pub full_has : (g : GridValue) (i : ℕ) → IsGrid g → IsLatin g → i < unequal_items g.size → has_unequal (full_unequal g) i ≡ true
+pub full_has : (g : GridValue) (i : ℕ) → IsGrid g → IsLatin g → i < unequal_items g.size
+    → has_unequal (full_unequal g) i ≡ true
 full_has g i is_grid latin inside =
     let n : ℕ = pairs_across g.size in
     let v : UnequalValue = full_unequal g in
@@ -319,14 +363,17 @@ full_has g i is_grid latin inside =
       | inl right ↦
           let at = right_item g.size i is_grid.smallest right in
           let a : ℕ = i / (g.size - 1) * g.size + i % (g.size - 1) in
-          let apart : (a % g.size + 1 == g.size) ≡ false = ne_eqb (a % g.size + 1) g.size (λ e. omega (arith, at.column)) in
+          let apart : (a % g.size + 1 == g.size) ≡ false =
+          ne_eqb (a % g.size + 1) g.size (λ e. omega (arith, at.column)) in
           let next : IsNext g.size a (a + 1) = record { inside = at.inside; points = inl (rw apart refl) } in
           rw (lt-ltb i n right) (rw (right_between v a) at (full_present g a (a + 1) is_grid latin next))
       | inr past ↦ elim (cases_lt i (2 * n)) [
         | inl below ↦
             let a : ℕ = i - n in
-            let fits : a + g.size < g.size * g.size = omega (arith, square_parts (g.size - 1) g.size (omega (arith, is_grid.smallest))) in
-            let next : IsNext g.size a (a + g.size) = record { inside = omega arith; points = inr (rw (lt-ltb (a + g.size) (g.size * g.size) fits) refl) } in
+            let fits : a + g.size < g.size * g.size =
+            omega (arith, square_parts (g.size - 1) g.size (omega (arith, is_grid.smallest))) in
+            let next : IsNext g.size a (a + g.size) =
+            record { inside = omega arith; points = inr (rw (lt-ltb (a + g.size) (g.size * g.size) fits) refl) } in
             rw (le-ltb i n past, lt-ltb i (2 * n) below)
             (rw (below_between v a is_grid.smallest) at (full_present g a (a + g.size) is_grid latin next))
         | inr given ↦

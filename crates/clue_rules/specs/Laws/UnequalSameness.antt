@@ -22,7 +22,9 @@ same_sign SecondGreater FirstGreater = false
 
 -- both puzzles have the same width, signs and givens
 abbrev pub same_unequal : UnequalValue → UnequalValue → Bool
-same_unequal p q = p.size == q.size && pointwise same_sign p.right q.right && pointwise same_sign p.below q.below && pointwise ◌==◌ p.givens q.givens
+same_unequal p q =
+    p.size == q.size && pointwise same_sign p.right q.right && pointwise same_sign p.below q.below
+    && pointwise ◌==◌ p.givens q.givens
 
 same_sign_decides : (s t : Sign) → Decides (same_sign s t) (s ≡ t)
 same_sign_decides Absent Absent = (λ e. refl, λ e. refl)
@@ -38,12 +40,19 @@ same_sign_decides SecondGreater FirstGreater = (λ e. absurd (cc), λ e. absurd 
 -- the test of two puzzles answers whether they are equal
 pub same_unequal_decides : (p q : UnequalValue) → Decides (same_unequal p q) (p ≡ q)
 same_unequal_decides p q =
-    Decides-like (same_unequal p q) (λ h i. record { size = h.0.0.0 i; right = h.0.0.1 i; below = h.0.1 i; givens = h.1 i })
+    Decides-like (same_unequal p q)
+    (λ h i. record { size = h.0.0.0 i; right = h.0.0.1 i; below = h.0.1 i; givens = h.1 i })
     (λ same. (
-      ((ap (λ (v : UnequalValue). v.size) same, ap (λ (v : UnequalValue). v.right) same), ap (λ (v : UnequalValue). v.below) same),
+      (
+        (ap (λ (v : UnequalValue). v.size) same, ap (λ (v : UnequalValue). v.right) same),
+        ap (λ (v : UnequalValue). v.below) same,
+      ),
       ap (λ (v : UnequalValue). v.givens) same,
     ))
-    (Decides-and _ _ (Decides-and _ _ (Decides-and _ _ (Decides-eqb p.size q.size) (pointwise_decides same_sign_decides p.right q.right)) (pointwise_decides same_sign_decides p.below q.below)) (bytes_decides p.givens q.givens))
+    (Decides-and _ _
+    (Decides-and _ _
+    (Decides-and _ _ (Decides-eqb p.size q.size) (pointwise_decides same_sign_decides p.right q.right))
+    (pointwise_decides same_sign_decides p.below q.below)) (bytes_decides p.givens q.givens))
 
 -- and so does a value that is known to be its answer
 pub same_unequal_tested : (p q : UnequalValue) (t : Bool) → t ≡ same_unequal p q → IsTrue t ↔ (p ≡ q)

@@ -1,5 +1,6 @@
 -- The laws of Unequal descriptions: what is read describes the puzzle, and what describes it is read.
-use Rattle.std.proofs.Common.{◌≡◌, ◌↔◌, ℕ, ◌*◌, ◌<◌, ◌≤◌, Bool, true, false, ◌&&◌, List, length, map, Some, None, unwrap_or, Ok, refl, sym, ap, subst, ◌∙◌, inl, inr, arith, slice_index_or}
+use Rattle.std.proofs.Common.{◌≡◌, ◌↔◌, ℕ, ◌*◌, ◌<◌, ◌≤◌, Bool, true, false, ◌&&◌, List, length, map, Some, None}
+use Rattle.std.proofs.Common.{unwrap_or, Ok, refl, sym, ap, subst, ◌∙◌, inl, inr, arith, slice_index_or}
 use Rattle.std.specs.List.{AllByRecursion}
 use Rattle.std.specs.Option.{option_map_or}
 use Rattle.std.proofs.lemmas.Bool.{false≢true}
@@ -11,13 +12,19 @@ use Rattle.clue_rules.specs.declared.unequal.direction.Direction.TheVariants.{Ri
 use Rattle.clue_rules.specs.declared.unequal.sign.Sign.{Sign}
 use Rattle.clue_rules.specs.declared.unequal.sign.Sign.TheVariants.{Absent, FirstGreater, SecondGreater}
 use Rattle.clue_rules.specs.IdFaults.{exactly}
-use Rattle.clue_rules.specs.Unequal.{UnequalValue, IsUnequal, IsGreater, neighbour, sign_between, sign_towards, signs_towards}
-use Rattle.clue_rules.specs.UnequalText.{Piece, IsUnequalText, piece_text, directions_at, pieces_of, number_in, points_inside, says_greater, said_sign, sign_said, contradicts, puzzle_in, unequal_at, puzzle_at, Says}
+use Rattle.clue_rules.specs.Unequal.{UnequalValue, IsUnequal, IsGreater, neighbour, sign_between, sign_towards}
+use Rattle.clue_rules.specs.Unequal.{signs_towards}
+use Rattle.clue_rules.specs.UnequalText.{Piece, IsUnequalText, piece_text, directions_at, pieces_of, number_in}
+use Rattle.clue_rules.specs.UnequalText.{points_inside, says_greater, said_sign, sign_said, contradicts, puzzle_in}
+use Rattle.clue_rules.specs.UnequalText.{unequal_at, puzzle_at, Says}
 use Rattle.clue_rules.specs.Laws.RangeTests.{all_in_range, range_all}
 use Rattle.clue_rules.specs.Laws.Neighbours.{IsNext, towards, right_of, below_of}
-use Rattle.clue_rules.specs.Laws.Signs.{right_between, below_between, greater_first, greater_second, never_both, sign_at, signed_greater}
+use Rattle.clue_rules.specs.Laws.Signs.{right_between, below_between, greater_first, greater_second, never_both}
+use Rattle.clue_rules.specs.Laws.Signs.{sign_at, signed_greater}
 use Rattle.clue_rules.specs.Laws.Letters.{letters_at, directions_inside, read_piece}
-use Rattle.clue_rules.specs.Laws.GoodPieces.{AreGood, good_taken, good_again, read_pieces, map-number, read_valid, letters_inside, inside_letters, some_pieces, pieces_some, square_some, good_numbers, good_letters, numbers_again}
+use Rattle.clue_rules.specs.Laws.GoodPieces.{AreGood, good_taken, good_again, read_pieces, map-number, read_valid}
+use Rattle.clue_rules.specs.Laws.GoodPieces.{letters_inside, inside_letters, some_pieces, pieces_some, square_some}
+use Rattle.clue_rules.specs.Laws.GoodPieces.{good_numbers, good_letters, numbers_again}
 use Rattle.clue_rules.specs.Laws.Exactly.{exactly_taken, exactly_again}
 use Rattle.clue_rules.specs.Laws.SaidSigns.{says_tested, tested_says, never_contradict, contradict_never}
 use Rattle.byte_text.proofs.ReadingLaws.{bind_taken}
@@ -38,7 +45,8 @@ second_said : (s t : Bool) → (t && s) ≡ false → t ≡ true → said_sign s
 second_said true t apart e = absurd (false≢true (sym apart ∙ (rw e refl)))
 second_said false t apart e = rw e refl
 
-sign_matches : (s : Sign) (first second : Bool) → (s ≡ FirstGreater → first ≡ true) → (s ≡ SecondGreater → second ≡ true)
+sign_matches : (s : Sign) (first second : Bool) → (s ≡ FirstGreater → first ≡ true)
+    → (s ≡ SecondGreater → second ≡ true)
     → (first ≡ true → s ≡ FirstGreater) → (second ≡ true → s ≡ SecondGreater) → said_sign first second ≡ s
 sign_matches s true second a b c d = sym (c refl)
 sign_matches s false true a b c d = sym (d refl)
@@ -47,8 +55,10 @@ sign_matches FirstGreater false false a b c d = absurd (false≢true (a refl))
 sign_matches SecondGreater false false a b c d = absurd (false≢true (b refl))
 
 -- the puzzle that pieces describe has the greater square where they say so
-greater_said : (w : ℕ) (pieces : List Piece) (a b : ℕ) → IsUnequal (puzzle_in w (map piece_text pieces)) → length pieces ≡ w * w
-    → contradicts w (map piece_text pieces) ≡ false → IsGreater (puzzle_in w (map piece_text pieces)) a b ↔ Says w pieces a b
+greater_said : (w : ℕ) (pieces : List Piece) (a b : ℕ) → IsUnequal (puzzle_in w (map piece_text pieces))
+    → length pieces ≡ w * w
+    → contradicts w (map piece_text pieces) ≡ false
+    → IsGreater (puzzle_in w (map piece_text pieces)) a b ↔ Says w pieces a b
 greater_said w pieces a b valid count agree =
     let bytes : List (List ℕ) = map piece_text pieces in
     let small : 3 ≤ w = valid.givens.smallest in
@@ -83,19 +93,23 @@ read_text w text pieces small large count split good numbers =
       numbers = numbers;
       inside = λ cell d h.
           let inside : cell < w * w = omega (arith, directions_inside pieces cell d h) in
-          let letters = all_in_range (points_inside w (map piece_text pieces)) 0 (w * w) cell good.inside (omega arith) (omega arith) in
+          let letters =
+          all_in_range (points_inside w (map piece_text pieces)) 0 (w * w) cell good.inside (omega arith)
+          (omega arith) in
           letters_inside w cell (directions_at pieces cell) d (rw (letters_at pieces cell) at letters) h;
       signs = λ a b. greater_said w pieces a b valid count good.agree;
     }
 
-taken_pieces : (w : ℕ) (text : List ℕ) (bytes : List (List ℕ)) → 3 ≤ w → w ≤ 9 → length bytes ≡ w * w → pieces_of text ≡ bytes
+taken_pieces : (w : ℕ) (text : List ℕ) (bytes : List (List ℕ)) → 3 ≤ w → w ≤ 9 → length bytes ≡ w * w
+    → pieces_of text ≡ bytes
     → AreGood w bytes → IsUnequalText (puzzle_in w bytes) text
 taken_pieces w text bytes small large count split good =
     let same : map piece_text (map (read_piece w) bytes) ≡ bytes = read_pieces w bytes good.numbers good.letters in
     let P : List (List ℕ) → Type 0 = λ bs. IsUnequalText (puzzle_in w bs) text in
     let Good : List (List ℕ) → Type 0 = λ bs. AreGood w bs in
     subst P same
-    (read_text w text (map (read_piece w) bytes) small large (length-map bytes (read_piece w) ∙ count) (split ∙ sym same)
+    (read_text w text (map (read_piece w) bytes) small large (length-map bytes (read_piece w) ∙ count)
+    (split ∙ sym same)
     (subst Good (sym same) good)
     (map-number w bytes ∙ ap (map (λ p. unwrap_or (number_in w p) 0)) (sym same)))
 
@@ -114,7 +128,8 @@ sign_again : (v : UnequalValue) (text : List ℕ) (h : IsUnequalText v text) (a 
     → sign_said v.size (map piece_text h.pieces) a b ≡ sign_between v a b
 sign_again v text h a b next =
     let pieces : List Piece = h.pieces in
-    sign_matches (sign_between v a b) (says_greater v.size (map piece_text pieces) a b) (says_greater v.size (map piece_text pieces) b a)
+    sign_matches (sign_between v a b) (says_greater v.size (map piece_text pieces) a b)
+    (says_greater v.size (map piece_text pieces) b a)
     (λ e. says_tested v.size pieces a b ((h.signs a b).0 (inl e)))
     (λ e. says_tested v.size pieces b a ((h.signs b a).0 (inr e)))
     (λ t. greater_first v a b h.puzzle next ((h.signs a b).1 (tested_says v.size pieces a b t)))
@@ -139,7 +154,8 @@ signs_again v text h d signs count ends between =
         → sign_towards v.size (sign_said v.size (map piece_text h.pieces)) d cell ≡ slice_index_or signs cell Absent
     here cell inside =
         let sign : ℕ → ℕ → Sign = sign_said v.size (map piece_text h.pieces) in
-        elim (neighbour v.size cell d) as (λ o. neighbour v.size cell d ≡ o → option_map_or (sign cell) o Absent ≡ slice_index_or signs cell Absent) [
+        elim (neighbour v.size cell d) as
+        (λ o. neighbour v.size cell d ≡ o → option_map_or (sign cell) o Absent ≡ slice_index_or signs cell Absent) [
           | None ↦ λ e. sym (ends cell e)
           | Some b ↦ λ e. let there = between cell b inside e in sign_again v text h cell b there.0 ∙ there.1
         ] refl
@@ -169,9 +185,11 @@ again_pieces v text h =
         letters = good_letters pieces;
         inside =
             range_all (points_inside w bytes) 0 (w * w)
-            (λ cell low high. rw (letters_at pieces cell) (inside_letters w cell (directions_at pieces cell) (h.inside cell)));
+            (λ cell low high. rw (letters_at pieces cell)
+            (inside_letters w cell (directions_at pieces cell) (h.inside cell)));
         agree = never_contradict w bytes (λ a b inside first second.
-            never_both v a b h.puzzle ((h.signs a b).1 (tested_says w pieces a b first)) ((h.signs b a).1 (tested_says w pieces b a second)));
+            never_both v a b h.puzzle ((h.signs a b).1 (tested_says w pieces a b first))
+            ((h.signs b a).1 (tested_says w pieces b a second)));
       },
       λ j. record { size = w; right = right j; below = below j; givens = givens j },
     )

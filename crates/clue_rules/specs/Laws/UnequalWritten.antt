@@ -1,12 +1,15 @@
 -- The written form of an Unequal puzzle describes it.
-use Rattle.std.proofs.Common.{◌≡◌, ℕ, zero, suc, ◌+◌, ◌*◌, ◌<◌, ◌≤◌, Bool, true, false, List, [], ◌∷◌, ◌++◌, length, map, Option, Some, None, is_some, refl, sym, ap, ◌∙◌, inl, inr, arith, append-nil, append_assoc, slice_index, slice_index_or}
+use Rattle.std.proofs.Common.{◌≡◌, ℕ, zero, suc, ◌+◌, ◌*◌, ◌<◌, ◌≤◌, Bool, true, false, List, [], ◌∷◌, ◌++◌, length}
+use Rattle.std.proofs.Common.{map, Option, Some, None, is_some, refl, sym, ap, ◌∙◌, inl, inr, arith, append-nil}
+use Rattle.std.proofs.Common.{append_assoc, slice_index, slice_index_or}
 use Rattle.std.specs.List.{flat_map, range_with_len, join_with_byte, Contains}
 use Rattle.std.specs.Option.{option_map_or}
 use Rattle.std.proofs.lemmas.Bool.{false≢true}
 use Rattle.std.proofs.lemmas.List.FromFn.{length-map-range_with_len, get_or-map-range_with_len, fill_by_all}
 use Rattle.clue_rules.specs.declared.unequal.direction.Direction.{Direction}
 use Rattle.clue_rules.specs.Unequal.{UnequalValue, IsUnequal, IsGreater, AreNeighbours, neighbour, is_greater}
-use Rattle.clue_rules.specs.UnequalText.{directions, Piece, Says, IsUnequalText, piece_text, directions_at, is_greater_towards, piece_of, unequal_text}
+use Rattle.clue_rules.specs.UnequalText.{directions, Piece, Says, IsUnequalText, piece_text, directions_at}
+use Rattle.clue_rules.specs.UnequalText.{is_greater_towards, piece_of, unequal_text}
 use Rattle.clue_rules.specs.Laws.SaidSigns.{all_has}
 use Rattle.clue_rules.specs.Laws.Neighbours.{next_towards}
 use Rattle.clue_rules.specs.Laws.Signs.{greater_next, greater_decides}
@@ -29,7 +32,8 @@ commas-join f k (m ∷ ks) =
     ∙ sym (append_assoc (f k) (comma ∷ join_with_byte comma (map f (m ∷ ks))) (comma ∷ []))
 
 commas-range : (f : ℕ → List ℕ) (n : ℕ) → 0 < n
-    → flat_map (λ i. f i ++ comma ∷ []) (range_with_len 0 n) ≡ join_with_byte comma (map f (range_with_len 0 n)) ++ comma ∷ []
+    → flat_map (λ i. f i ++ comma ∷ []) (range_with_len 0 n) ≡ join_with_byte comma (map f (range_with_len 0 n))
+    ++ comma ∷ []
 commas-range f zero some = absurd (omega arith)
 commas-range f (suc n) some = commas-join f 0 (range_with_len (0 + 1) n)
 
@@ -71,7 +75,12 @@ written_says v a b valid h = elim (greater_next v a b valid h) [
 ]
   where
     at : AreNeighbours v.size a b → Says v.size (pieces_written v) a b
-    at there = record { direction = there.direction; letter = letter_written v a b there.direction there.inside there.points h; points = there.points }
+    at there =
+        record {
+          direction = there.direction;
+          letter = letter_written v a b there.direction there.inside there.points h;
+          points = there.points;
+        }
 
 says_written : (v : UnequalValue) (a b : ℕ) → Says v.size (pieces_written v) a b → IsGreater v a b
 says_written v a b h = (greater_decides v a b).0 (rw h.points at (written_letter v a h.direction h.letter).1)
@@ -85,7 +94,8 @@ unequal_canonical v valid =
       pieces = pieces_written v;
       written = inr (
           commas-range (λ cell. piece_text (piece_of v cell)) n (square_some v.size small)
-          ∙ ap (λ ps. join_with_byte comma ps ++ comma ∷ []) (sym (map_twice piece_text (piece_of v) (range_with_len 0 n))));
+          ∙ ap (λ ps. join_with_byte comma ps ++ comma ∷ [])
+          (sym (map_twice piece_text (piece_of v) (range_with_len 0 n))));
       numbers =
           map_twice (λ p. p.number) (piece_of v) (range_with_len 0 n)
           ∙ sym (fill_by_all (λ cell. slice_index v.givens cell) v.givens n 0 valid.givens.count (λ k inside. refl));

@@ -1,17 +1,20 @@
 //! Which rows and columns have to be looked at again.
 
-ghost use Rattle.clue_rules.specs.Inner.ChangedLines.{GainsLine, GainsBoth, HasNoneBelow, IsOneBelow, IsTaken, LosesLine};
-ghost use Rattle.std.specs.Prelude.{◌≡◌, ℕ, ◌+◌, ◌*◌, ◌<◌, ◌==◌, nat_lt, true, IfNone, MatchOption};
+ghost use Rattle.clue_rules.specs.ChangedLines.{GainsLine, GainsBoth, GainsAcross, HasNoneBelow, IsOneBelow, IsTaken};
+ghost use Rattle.clue_rules.specs.ChangedLines.{LosesLine};
+ghost use Rattle.clue_rules.specs.Takes.{is_crossing};
+ghost use Rattle.std.specs.Prelude.{◌≡◌, ℕ, ◌+◌, ◌*◌, ◌<◌, ◌≤◌, ◌==◌, ◌||◌, nat_lt, true, IfNone, MatchOption};
 ghost use Rattle.number_sets.specs.Sets.{has_number, no_numbers};
 
 use crate::lines::views::Square;
 use latin_board::Size;
+use number_sets::NumberSet;
 use std::marker::Model;
 
 /// A set of lines, the rows from the top and then the columns from the left. Contracts see it as a number of which
 /// `has_number` tells the members.
-#[derive(Clone, Copy)]
-pub(crate) struct Lines {
+#[derive(Clone, Copy, Debug)]
+pub struct Lines {
     bits: u32,
 }
 
@@ -30,8 +33,8 @@ impl Lines {
         Lines { bits: 0 }
     }
 
-    // The first lines, as many as are asked for.
-    fn first(count: u8) -> Lines
+    /// The first lines, as many as are asked for.
+    pub fn first(count: u8) -> Lines
         requires { count < 32 }
         ensures { (k : ℕ) → has_number result k ≡ nat_lt k count }
     {
@@ -78,8 +81,28 @@ impl Lines {
         Some(next.trailing_zeros() as u8)
     }
 
-    // Takes one of the first lines out of the set, if any is in it: the next from a line on, or else the least.
-    fn take_next(&mut self, from: u8, count: u8) -> Option<u8>
+    /// A line, and those that cross it at some places.
+    #[tactic(auto, using(crate::proofs::LineBits::has_crossing))]
+    pub fn across(line: u8, places: NumberSet, width: u8) -> Lines
+        requires width { width ≤ 9 }
+        requires line { line < 2 * width }
+        ensures { (k : ℕ) → has_number result k ≡ ((k == line) || is_crossing width line places k) }
+    {
+        Lines {
+            bits: bits_across(line, places, width) | 1 << line,
+        }
+    }
+
+    /// Puts in other lines.
+    #[tactic(auto, using(crate::proofs::LineBits::has_either))]
+    pub fn add(&mut self, more: Lines)
+        ensures { (k : ℕ) → has_number self.new k ≡ (has_number self.old k || has_number more k) }
+    {
+        self.bits |= more.bits;
+    }
+
+    /// Takes one of the first lines out of the set, if any is in it: the next from a line on, or else the least.
+    pub fn take_next(&mut self, from: u8, count: u8) -> Option<u8>
         requires from { from < 32 }
         requires count { count < 32 }
         ensures line { MatchOption result (HasNoneBelow count self.old)
@@ -89,6 +112,21 @@ impl Lines {
         let line = self.next(from, count)?;
         self.remove(line);
         Some(line)
+    }
+}
+
+// The bits of the lines that cross a line at some places: of a row the columns, which come after all rows, and of a column the
+// rows, which are those below the width.
+#[tactic(auto, using(crate::proofs::LineBits::has_columns, crate::proofs::LineBits::has_rows))]
+fn bits_across(line: u8, places: NumberSet, width: u8) -> u32
+    requires width { width ≤ 9 }
+    requires line { line < 2 * width }
+    ensures { (k : ℕ) → has_number result k ≡ is_crossing width line places k }
+{
+    if line < width {
+        u32::from(places.bits()) << width
+    } else {
+        u32::from(places.at_most(width - 1).bits())
     }
 }
 
@@ -134,6 +172,18 @@ impl ChangedLines {
         self.latin.insert(square.crossing);
         self.rule.insert(square.line);
         self.rule.insert(square.crossing);
+    }
+
+    /// Notes that the squares of a line at some places lost candidates.
+    pub fn note_across(&mut self, line: u8, places: NumberSet, width: u8)
+        requires width { width ≤ 9 }
+        requires line { line < 2 * width }
+        ensures latin { GainsAcross width line places self.old.latin self.new.latin }
+        ensures rule { GainsAcross width line places self.old.rule self.new.rule }
+    {
+        let across = Lines::across(line, places, width);
+        self.latin.add(across);
+        self.rule.add(across);
     }
 
     /// A line among the first that is to be looked at again for what it says as a row or column, if any is: the next from

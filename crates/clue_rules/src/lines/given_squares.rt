@@ -4,8 +4,8 @@ ghost use Rattle.std.specs.Prelude.{◌≡◌, ◌≢◌, ℕ, ◌*◌, ◌<◌,
 ghost use Rattle.latin_board.specs.Squares.{number_at};
 ghost use Rattle.trail_solver.specs.Candidates.{IsEarlier, may_be};
 ghost use Rattle.trail_solver.specs.Pairs.{IsPair};
-ghost use Rattle.clue_rules.specs.Inner.Narrowing.{Agrees, KeepsEach};
-ghost use Rattle.clue_rules.specs.Struck.{IsGivenStruck, NoneLeft};
+ghost use Rattle.clue_rules.specs.Inner.Narrowing.{Agrees, IsGivenStruck, KeepsEach};
+ghost use Rattle.clue_rules.specs.Struck.{NoneLeft};
 
 use crate::lines::view_candidates::strike_missing;
 use latin_board::Grid;

@@ -1,34 +1,42 @@
-//! What the squares of a row or a column rule out among themselves.
+//! What the squares of a row or column strike in one another.
 
-ghost use Rattle.std.specs.Prelude.{◌≡◌, ◌*◌, ◌<◌, MatchOption};
-ghost use Rattle.clue_rules.specs.Inner.Narrowing.{IsSquare, Narrows};
-ghost use Rattle.clue_rules.specs.Inner.QuietLines.{Notes};
-ghost use Rattle.clue_rules.specs.Inner.LineTallies.{AreImpossible, IsWholeTally, IsSinglesOf, IsLineStruck, sets_along};
+ghost use Rattle.std.specs.Prelude.{◌≡◌, ◌*◌, ◌<◌, IfErr, IfOk, OnErr};
+ghost use Rattle.clue_rules.specs.LineStrikes.{IsDead, StrikesRest};
+ghost use Rattle.clue_rules.specs.Inner.LineTallies.{IsStuckAt, IsTallyOf, IsSinglesOf};
 
-use crate::lines::changed::ChangedLines;
-use crate::lines::view_candidates::keep_in_square;
 use crate::lines::views::Along;
 use number_sets::NumberSet;
 use trail_solver::Candidates;
 
-/// Takes away what one row or column rules out, and notes the lines that lost candidates: the value of a square that has just
-/// one goes from the rest of the line, and all other values go from a square that is the one place of a value in it. Answers
-/// false where nothing is left for some square or value.
+/// Why the squares of a row or column can't hold its numbers.
+#[derive(Clone, Copy, PartialEq, Eq, Debug)]
+pub enum DeadLine {
+    /// Nothing is left of a square, or a number is left of no square.
+    Void,
+    /// The one value that is left of the square at the place is alone in an earlier one, too.
+    Clash { place: u8 },
+}
+
+/// Takes away what the squares of a row or column strike in one another, and gives the places of those of which something went:
+/// the value that is alone in a square goes from the rest of the line, and all other values go from a square that is the one
+/// place of a value in it. Where the line can't hold its numbers nothing is taken.
 // Searches spend most of their time here.
 #[inline(always)]
-pub(crate) fn strike_line(candidates: &mut Candidates, line: u8, changed: &mut ChangedLines) -> bool
+pub fn strike_line(candidates: &mut Candidates, line: u8) -> Result<NumberSet, DeadLine>
     requires { line < 2 * candidates.old.size }
-    ensures narrows { Narrows IsSquare (IsLineStruck line) candidates.old candidates.new result }
-    ensures notes { Notes candidates.old candidates.new changed.old changed.new }
+    ensures ok { IfOk result (λ places. StrikesRest line places candidates.old candidates.new) }
+    ensures err { IfErr result (IsDead line candidates.old) }
+    ensures same { OnErr result (candidates.new ≡ candidates.old) }
 {
     let squares = Along::line(candidates.size(), line);
-    let Some(tally) = tally_of(candidates, &squares) else {
-        return false;
+    let tally = match tally_of(candidates, &squares) {
+        Ok(tally) => tally,
+        Err(place) => return Err(dead_at(candidates, &squares, place)),
     };
     if tally.is_quiet() {
-        return true;
+        return Ok(NumberSet::empty());
     }
-    tally.keep_along(candidates, &squares, changed)
+    Ok(tally.strike_along(candidates, &squares))
 }
 
 // What the sets of candidates of a line say together: the values of which one of them has one, of which two have one,
@@ -40,13 +48,12 @@ struct LineTally {
     singles: NumberSet,
 }
 
-// The tally of a line's sets, or none where they can't be the candidates of a row or column.
-fn tally_of(candidates: &Candidates, squares: &Along) -> Option<LineTally>
+// The tally of a line's sets, or the place up to which they can't be the candidates of a row or column.
+fn tally_of(candidates: &Candidates, squares: &Along) -> Result<LineTally, u8>
     requires size { squares.now.size ≡ candidates.now.size }
     requires line { squares.now.line < 2 * candidates.now.size }
-    ensures { MatchOption result
-        (AreImpossible (sets_along candidates.now squares.now.line) candidates.now.size)
-        (IsWholeTally (sets_along candidates.now squares.now.line) candidates.now.size) }
+    ensures ok { IfOk result (IsTallyOf squares.now.line candidates.now) }
+    ensures err { IfErr result (IsStuckAt squares.now.line candidates.now) }
 {
     let width = candidates.size().get();
     let mut tally = LineTally {
@@ -54,14 +61,34 @@ fn tally_of(candidates: &Candidates, squares: &Along) -> Option<LineTally>
         twice: NumberSet::empty(),
         singles: NumberSet::empty(),
     };
-    for k in 0..width as usize {
-        tally = tally.with(candidates.values(squares.cell(k)))?;
+    for place in 0..width {
+        let set = candidates.values(squares.cell(place as usize));
+        let Some(more) = tally.with(set) else {
+            return Err(place);
+        };
+        tally = more;
     }
-    let every = NumberSet::up_to(width);
-    if !every.is_subset(tally.once) {
-        return None;
+    if NumberSet::up_to(width).difference(tally.once).is_empty() {
+        Ok(tally)
+    } else {
+        Err(width)
     }
-    Some(tally)
+}
+
+// Why they can't, by that place.
+fn dead_at(candidates: &Candidates, squares: &Along, place: u8) -> DeadLine
+    requires size { squares.now.size ≡ candidates.now.size }
+    requires line { squares.now.line < 2 * candidates.now.size }
+    requires stuck { IsStuckAt squares.now.line candidates.now place }
+    ensures { IsDead squares.now.line candidates.now result }
+{
+    if place == candidates.size().get() {
+        return DeadLine::Void;
+    }
+    if candidates.values(squares.cell(place as usize)).is_empty() {
+        return DeadLine::Void;
+    }
+    DeadLine::Clash { place }
 }
 
 // The set where it has just one value, and none otherwise.
@@ -79,14 +106,14 @@ fn single_of(set: NumberSet) -> NumberSet
 impl LineTally {
     ghost use Rattle.std.specs.Prelude.{◌≡◌, ◌*◌, ◌<◌, MatchOption};
     ghost use Rattle.std.specs.Bool.{OnTrue};
-    ghost use Rattle.clue_rules.specs.Inner.Narrowing.{IsSquare, Narrows};
-    ghost use Rattle.clue_rules.specs.Inner.QuietLines.{Notes};
-    ghost use Rattle.clue_rules.specs.Inner.LineTallies.{IsCounted, IsClash, IsForced, IsFree, IsKeptOf, IsLineStruck, IsQuietTally, IsWholeTally, sets_along};
+    ghost use Rattle.clue_rules.specs.LineStrikes.{StrikesRest};
+    ghost use Rattle.clue_rules.specs.Inner.LineTallies.{IsCounted, IsClashing, IsForced, IsFree, IsKeptOf};
+    ghost use Rattle.clue_rules.specs.Inner.LineTallies.{IsQuietTally, IsTallyOf};
 
     // The tally with one set more, or none where the set is empty or its only value is alone in another set.
     #[tactic(auto, using(crate::proofs::LineTallying::clash_twice))]
     fn with(self, set: NumberSet) -> Option<LineTally>
-        ensures { MatchOption result (IsClash self set) (IsCounted self set) }
+        ensures { MatchOption result (IsClashing self set) (IsCounted self set) }
     {
         if set.is_empty() {
             return None;
@@ -109,34 +136,29 @@ impl LineTally {
         self.once.difference(self.twice) == self.singles
     }
 
-    // Keeps in the squares of the line, of which this is the tally, the values that may stay.
-    fn keep_along(
-        &self,
-        candidates: &mut Candidates,
-        squares: &Along,
-        changed: &mut ChangedLines,
-    ) -> bool
+    // Takes from the squares of the line, of which this is the tally, the values that can't stay, and gives the places of those
+    // of which something went.
+    fn strike_along(&self, candidates: &mut Candidates, squares: &Along) -> NumberSet
         requires size { squares.now.size ≡ candidates.old.size }
         requires line { squares.now.line < 2 * candidates.old.size }
-        requires tally { IsWholeTally (sets_along candidates.old squares.now.line)
-            candidates.old.size self.now }
-        ensures narrows { Narrows IsSquare (IsLineStruck squares.now.line)
-            candidates.old candidates.new result }
-        ensures notes { Notes candidates.old candidates.new changed.old changed.new }
+        requires tally { IsTallyOf squares.now.line candidates.old self.now }
+        ensures { StrikesRest squares.now.line result candidates.old candidates.new }
     {
-        let width = candidates.size().get() as usize;
+        let width = candidates.size().get();
+        let mut places = NumberSet::empty();
         for k in 0..width {
-            let square = squares.square(k);
-            let kept = self.kept(candidates.values(square.cell));
-            if !keep_in_square(candidates, square, kept, changed) {
-                return false;
+            let cell = squares.cell(k as usize);
+            let set = candidates.values(cell);
+            let struck = set.difference(self.kept(set));
+            if !struck.is_empty() {
+                candidates.remove_all(cell, struck);
+                places = places.union(NumberSet::one(k));
             }
         }
-        true
+        places
     }
 
-    // The values of a set that may stay.
-    #[tactic(auto, using(crate::proofs::LineTallying::kept_free))]
+    // The values of a set that can stay.
     fn kept(&self, set: NumberSet) -> NumberSet
         ensures { IsKeptOf self.now set result }
     {
@@ -151,6 +173,7 @@ impl LineTally {
         if forced.is_single() {
             return forced.intersection(free);
         }
+        let _bits = forced.bits();
         NumberSet::empty()
     }
 

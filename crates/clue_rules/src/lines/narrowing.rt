@@ -7,7 +7,7 @@ ghost use Rattle.latin_board.specs.Squares.{GridValue};
 ghost use Rattle.trail_solver.specs.Candidates.{CandidatesValue};
 ghost use Rattle.clue_rules.specs.Inner.LineTallies.{IsLineStruck};
 ghost use Rattle.clue_rules.specs.Inner.Narrowing.{IsSquare, Narrows, NoneStruck, IsStruckByLines, LacksStruck};
-ghost use Rattle.clue_rules.specs.Inner.QuietLines.{AreQuietBut, NotesIn, Strikes, IsOfLine};
+ghost use Rattle.clue_rules.specs.Inner.QuietLines.{AreQuietBut, Notes, NotesIn, Strikes, IsOfLine};
 
 use crate::lines::changed::ChangedLines;
 use crate::lines::latin::strike_line;
@@ -89,7 +89,7 @@ fn settle<P: LineRules>(p: &P, candidates: &mut Candidates, changed: &mut Change
         let _length = candidates.trail_len();
         if let Some(line) = changed.take_latin(latin_from, count) {
             latin_from = line + 1;
-            if !strike_line(candidates, line, changed) {
+            if !strike_noted(candidates, line, changed) {
                 return false;
             }
         } else if let Some(line) = changed.take_rule(rule_from, count) {
@@ -102,4 +102,23 @@ fn settle<P: LineRules>(p: &P, candidates: &mut Candidates, changed: &mut Change
             return true;
         }
     }
+}
+
+// Takes away what the squares of a row or column strike in one another, and notes the lines that lost candidates. Answers false
+// where the line can't hold its numbers.
+#[inline(always)]
+fn strike_noted(candidates: &mut Candidates, line: u8, changed: &mut ChangedLines) -> bool
+    requires { line < 2 * candidates.old.size }
+    ensures narrows { Narrows IsSquare (IsLineStruck line) candidates.old candidates.new result }
+    ensures notes { Notes candidates.old candidates.new changed.old changed.new }
+{
+    let width = candidates.size().get();
+    let Ok(places) = strike_line(candidates, line) else {
+        return false;
+    };
+    if places.is_empty() {
+        return true;
+    }
+    changed.note_across(line, places, width);
+    true
 }

@@ -5,12 +5,16 @@
 //! givens that stand side by side. This is the collection's form.
 
 ghost use Rattle.byte_text.specs.Bytes.{slash};
-ghost use Rattle.std.specs.Prelude.{◌≡◌, ◌+◌, ◌*◌, ◌<◌, ◌≤◌, ◌==◌, ◌++◌, ◌&&◌, not, false, count_by, true, take, length, if◌then◌else◌, Some, None, Result, Ok, Err, IfOk, IfErr, OnOk, IfSome, IfNone, All};
+ghost use Rattle.std.specs.Prelude.{◌≡◌, ◌+◌, ◌*◌, ◌<◌, ◌≤◌, ◌==◌, ◌++◌, ◌&&◌, not, false, count_by, true, take};
+ghost use Rattle.std.specs.Prelude.{length, if◌then◌else◌, Some, None, Result, Ok, Err, IfOk, IfErr, OnOk, IfSome};
+ghost use Rattle.std.specs.Prelude.{IfNone, All};
 ghost use Rattle.std.specs.List.{flat_map, list_any};
 ghost use Rattle.byte_text.specs.Reading.{Gives};
 ghost use Rattle.clue_rules.specs.IdFaults.{exactly};
 ghost use Rattle.clue_rules.specs.Inner.Filled.{IsFilledTo};
-ghost use Rattle.clue_rules.specs.TowersText.{clue_field, clue_part, given_written, blank_letters, squares_written, towers_text, fields, is_clue_field, clue_in, clues_in, clues_at, is_square_byte, is_square_part, squares_of, givens_at, towers_at};
+ghost use Rattle.clue_rules.specs.TowersText.{clue_field, clue_part, given_written, blank_letters, squares_written};
+ghost use Rattle.clue_rules.specs.TowersText.{towers_text, fields, is_clue_field, clue_in, clues_in, clues_at};
+ghost use Rattle.clue_rules.specs.TowersText.{is_square_byte, is_square_part, squares_of, givens_at, towers_at};
 
 use crate::id_fault::IdFault;
 use crate::towers::{PLACES, Towers};

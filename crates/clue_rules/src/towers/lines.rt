@@ -4,13 +4,11 @@ ghost use Rattle.std.specs.Prelude.{◌≡◌, ◌≢◌, ◌+◌, ◌*◌, ◌<
 ghost use Rattle.std.specs.Bool.{OnTrue};
 ghost use Rattle.tower_lines.specs.TowersSeen.{seen};
 ghost use Rattle.trail_solver.specs.Puzzles.{Solves};
-ghost use Rattle.clue_rules.specs.Inner.ChangedLines.{LosesLine};
+ghost use Rattle.clue_rules.specs.ChangedLines.{LosesLine};
 ghost use Rattle.clue_rules.specs.Inner.Narrowing.{Narrows, NoneStruck, LacksStruck};
 ghost use Rattle.clue_rules.specs.Inner.QuietLines.{Notes, NotesIn, NotesBut};
 ghost use Rattle.clue_rules.specs.Towers.{towers_puzzle};
-ghost use Rattle.clue_rules.specs.Struck.{IsViewStruck};
-ghost use Rattle.clue_rules.specs.Inner.TowersLines.{IsStruckAt, ShowsClue, AreSupported};
-ghost use Rattle.clue_rules.specs.Inner.LineTallies.{HoldValuesTo};
+ghost use Rattle.clue_rules.specs.Inner.TowersLines.{IsStruckAt, IsViewStruck, ShowsClue, AreSupported, HoldValuesTo};
 
 use crate::lines::changed::ChangedLines;
 use crate::lines::narrowing::LineRules;

@@ -7,7 +7,8 @@ ghost use Rattle.tower_lines.specs.TowersSeen.{seen};
 ghost use Rattle.clue_rules.specs.Views.{view_of};
 ghost use Rattle.trail_solver.specs.Candidates.{IsEarlier};
 ghost use Rattle.trail_solver.specs.Solutions.{HasNoSolutionWithin, KeepsSolutions};
-ghost use Rattle.clue_rules.specs.Towers.{IsTowers, holds_clue, holds_clues, HoldsClues, towers_puzzle, towers_items, has_towers, cut_towers, full_towers};
+ghost use Rattle.clue_rules.specs.Towers.{IsTowers, holds_clue, holds_clues, HoldsClues, towers_puzzle, towers_items};
+ghost use Rattle.clue_rules.specs.Towers.{has_towers, cut_towers, full_towers};
 ghost use Rattle.clue_rules.specs.Inner.Narrowing.{KeepsEach};
 ghost use Rattle.clue_rules.specs.Struck.{IsTowersStruck, NoneLeft};
 
@@ -72,7 +73,8 @@ impl Towers {
 
 impl Rules for Towers {
     ghost use Rattle.std.specs.Prelude.{refl};
-    ghost use Rattle.clue_rules.specs.Towers.{IsTowers, towers_puzzle, towers_items, has_towers, cut_towers, full_towers};
+    ghost use Rattle.clue_rules.specs.Towers.{IsTowers, towers_puzzle, towers_items, has_towers, cut_towers};
+    ghost use Rattle.clue_rules.specs.Towers.{full_towers};
     ghost use Rattle.clue_rules.specs.Laws.TowersItems as laws;
 
     ghost puzzle = { towers_puzzle };

@@ -3,11 +3,14 @@
 //! Each square in reading order has a piece: its number, 0 where none is given, and a letter `U`, `R`, `D` or `L` for
 //! each neighbour than which it is greater. Commas separate the pieces. This is the collection's form.
 
-ghost use Rattle.std.specs.Prelude.{◌≡◌, ◌*◌, ◌<◌, ◌++◌, [], ◌∷◌, true, false, length, IfSome, IfNone, Some, None, IfOk, IfErr, OnOk, Ok, if◌then◌else◌};
+ghost use Rattle.std.specs.Prelude.{◌≡◌, ◌*◌, ◌<◌, ◌++◌, [], ◌∷◌, true, false, length, IfSome, IfNone, Some, None};
+ghost use Rattle.std.specs.Prelude.{IfOk, IfErr, OnOk, Ok, if◌then◌else◌};
 ghost use Rattle.std.specs.List.{list_all, list_any, range_with_len};
 ghost use Rattle.clue_rules.specs.Unequal.{sign_towards};
 ghost use Rattle.clue_rules.specs.Inner.UnequalFields.{HoldsSignsOf};
-ghost use Rattle.clue_rules.specs.UnequalText.{letter_of, is_greater_towards, piece_written, unequal_text, has_number, grid_in, has_letters, points_inside, piece_at, says_greater, sign_said, contradicts, puzzle_at, unequal_at};
+ghost use Rattle.clue_rules.specs.UnequalText.{letter_of, is_greater_towards, piece_written, unequal_text, has_number};
+ghost use Rattle.clue_rules.specs.UnequalText.{grid_in, has_letters, points_inside, piece_at, says_greater, sign_said};
+ghost use Rattle.clue_rules.specs.UnequalText.{contradicts, puzzle_at, unequal_at};
 ghost use Rattle.clue_rules.specs.Inner.UnequalPieces.{texts_of, contradicts_towards};
 
 use crate::id_fault::IdFault;

@@ -104,7 +104,8 @@ struct SignSquares {
 }
 
 impl SignSquares {
-    ghost use Rattle.clue_rules.specs.Inner.UnequalLines.{AreCrossed, IsLesserStruck, IsGreaterStruck, IsEndStruck, HoldsGreater, ends_of};
+    ghost use Rattle.clue_rules.specs.Inner.UnequalLines.{AreCrossed, IsLesserStruck, IsGreaterStruck, IsEndStruck};
+    ghost use Rattle.clue_rules.specs.Inner.UnequalLines.{HoldsGreater, ends_of};
 
     // Takes away what doesn't let the greater end hold the greater number.
     fn strike(self, candidates: &mut Candidates, changed: &mut ChangedLines) -> bool

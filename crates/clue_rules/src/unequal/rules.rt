@@ -5,7 +5,8 @@ ghost use Rattle.std.specs.Bool.{OnFalse, OnTrue};
 ghost use Rattle.latin_board.specs.Squares.{IsFull, IsLatin, number_at};
 ghost use Rattle.trail_solver.specs.Candidates.{IsEarlier};
 ghost use Rattle.trail_solver.specs.Solutions.{Denies, HasNoSolutionWithin, KeepsSolutions};
-ghost use Rattle.clue_rules.specs.Unequal.{IsUnequal, IsGreater, AreNeighbours, HoldsSigns, holds_signs, holds_towards, unequal_puzzle, sign_towards, sign_in_grid, full_unequal};
+ghost use Rattle.clue_rules.specs.Unequal.{IsUnequal, IsGreater, AreNeighbours, HoldsSigns, holds_signs, holds_towards};
+ghost use Rattle.clue_rules.specs.Unequal.{unequal_puzzle, sign_towards, sign_in_grid, full_unequal};
 ghost use Rattle.clue_rules.specs.Inner.UnequalFields.{HoldsSignsOf};
 ghost use Rattle.clue_rules.specs.Inner.UnequalItems.{denied_item, item_cell, without_item};
 ghost use Rattle.clue_rules.specs.Struck.{IsUnequalStruck, NoneLeft};
@@ -140,7 +141,8 @@ fn sign_towards(grid: &Grid, cell: usize, direction: Direction) -> Sign
 /// reading order.
 impl Rules for Unequal {
     ghost use Rattle.std.specs.Prelude.{refl};
-    ghost use Rattle.clue_rules.specs.Unequal.{IsUnequal, unequal_puzzle, unequal_items, has_unequal, cut_unequal, full_unequal};
+    ghost use Rattle.clue_rules.specs.Unequal.{IsUnequal, unequal_puzzle, unequal_items, has_unequal, cut_unequal};
+    ghost use Rattle.clue_rules.specs.Unequal.{full_unequal};
     ghost use Rattle.clue_rules.specs.Laws.UnequalItems as laws;
 
     ghost puzzle = { unequal_puzzle };

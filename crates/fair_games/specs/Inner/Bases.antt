@@ -2,13 +2,13 @@
 use Rattle.std.specs.Prelude.{◌≡◌, ℕ, List}
 use Rattle.latin_board.specs.Squares.{GridValue}
 use Rattle.trail_solver.specs.Candidates.{CandidatesValue, IsWithin}
-use Rattle.named_steps.specs.Left.{IsFewer, all_of}
+use Rattle.clue_rules.specs.Left.{IsFewer, all_of}
 use Rattle.named_steps.specs.Chains.{StepValue, IsChain, AreOfGrade, left_by}
-use Rattle.named_steps.specs.declared.reason.Reason.{Reason}
 use Rattle.named_steps.specs.declared.grade.Grade.{Grade}
+use Rattle.clue_rules.specs.Reasons.{Striking}
 
 -- a chain of the grade's steps from all pairs leaves no more, and the square's numbers are left
-pub record IsBase (Struck : CandidatesValue → Reason → ℕ → ℕ → Type 0) (grade : Grade) (g : GridValue) (c : CandidatesValue) : Type 0 where
+pub record IsBase (Struck : Striking) (grade : Grade) (g : GridValue) (c : CandidatesValue) : Type 0 where
   pub size : c.size ≡ g.size
   pub steps : List StepValue
   pub chain : IsChain Struck (all_of g.size) steps

@@ -7,7 +7,8 @@ use Rattle.clue_rules.specs.Unequal.{unequal_items}
 use Rattle.clue_rules.specs.Laws.KeptItems.{small_widths}
 
 -- what holds of each width from 3 to 9
-widths : (Holds : ℕ → Type 0) → Holds 3 → Holds 4 → Holds 5 → Holds 6 → Holds 7 → Holds 8 → Holds 9 → (w : ℕ) → 3 ≤ w → w ≤ 9 → Holds w
+widths : (Holds : ℕ → Type 0) → Holds 3 → Holds 4 → Holds 5 → Holds 6 → Holds 7 → Holds 8 → Holds 9 → (w : ℕ) → 3 ≤ w
+    → w ≤ 9 → Holds w
 widths Holds three four five six seven eight nine w low high =
     elim (cases_lt w 7) [
       | inl below ↦ small_widths Holds three four five six w low (omega arith)
@@ -27,7 +28,11 @@ pub towers_few : (w : ℕ) → 3 ≤ w → w ≤ 9 → towers_items w ≤ w * w 
 towers_few w low high = omega arith
 
 pub unequal_some : (w : ℕ) → 3 ≤ w → w ≤ 9 → w * w ≤ unequal_items w
-unequal_some w low high = widths (λ n. n * n ≤ unequal_items n) (omega arith) (omega arith) (omega arith) (omega arith) (omega arith) (omega arith) (omega arith) w low high
+unequal_some w low high =
+    widths (λ n. n * n ≤ unequal_items n) (omega arith) (omega arith) (omega arith) (omega arith) (omega arith)
+    (omega arith) (omega arith) w low high
 
 pub unequal_few : (w : ℕ) → 3 ≤ w → w ≤ 9 → unequal_items w ≤ w * w + 144
-unequal_few w low high = widths (λ n. unequal_items n ≤ n * n + 144) (omega arith) (omega arith) (omega arith) (omega arith) (omega arith) (omega arith) (omega arith) w low high
+unequal_few w low high =
+    widths (λ n. unequal_items n ≤ n * n + 144) (omega arith) (omega arith) (omega arith) (omega arith) (omega arith)
+    (omega arith) (omega arith) w low high

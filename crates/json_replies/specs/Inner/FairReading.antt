@@ -1,5 +1,6 @@
 -- The words of a line `fair`, as functions on lists.
-use Rattle.std.specs.Prelude.{ℕ, ◌==◌, Bool, ◌&&◌, not, if◌then◌else◌, List, length, codes, Option, Some, None, is_none, option_and_then}
+use Rattle.std.specs.Prelude.{ℕ, ◌==◌, Bool, ◌&&◌, not, if◌then◌else◌, List, length, codes, Option, Some, None, is_none}
+use Rattle.std.specs.Prelude.{option_and_then}
 use Rattle.byte_text.specs.Bytes.{space}
 use Rattle.byte_text.specs.Cuts.{before, behind}
 use Rattle.puzzle_cli.specs.Lines.{Line}
@@ -13,7 +14,8 @@ is_word text = not (length text == 0) && is_none (behind space text)
 -- these words, where each is one
 abbrev pub words_of : List ℕ → List ℕ → List ℕ → Option (FairWords (List ℕ))
 words_of size grade seed =
-    if is_word size && is_word grade && is_word seed then Some (record { size = size; grade = grade; seed = seed }) else None
+    if is_word size && is_word grade && is_word seed then Some (record { size = size; grade = grade; seed = seed })
+    else None
 
 -- the second and the third after a first
 abbrev pub two_at : List ℕ → List ℕ → Option (FairWords (List ℕ))

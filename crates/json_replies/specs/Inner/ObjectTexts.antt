@@ -12,7 +12,8 @@ key_text later key = comma_if later ++ (quoted key ++ 58 ∷ [])
 
 -- the text goes on with this member
 abbrev pub AddsMember : Bool → List ℕ → Data → List ℕ → List ℕ → Type 0
-AddsMember later key d old new = (rest : Members) → new ++ members_text true rest ≡ old ++ members_text later (member key d rest)
+AddsMember later key d old new =
+    (rest : Members) → new ++ members_text true rest ≡ old ++ members_text later (member key d rest)
 
 -- the texts of the data's numbers are numbers, and read as those that they are of
 pub record IsPlain (d : Data) : Type 0 where

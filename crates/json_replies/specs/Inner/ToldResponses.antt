@@ -22,6 +22,7 @@ TellsResponse f (Err refusal) new (Reply text) = OrLost (IsReplyLine f (Err refu
 TellsResponse f _ new _ = ⊥
 
 -- what is told to `fair` and these words
-abbrev pub TellsFair : {P : Type 0} → GameFacts P → BoardFacts P → Option (History P) → FairWords (List ℕ) → List ℕ → Option (History P) → Type 0
+abbrev pub TellsFair : {P : Type 0} → GameFacts P → BoardFacts P → Option (History P) → FairWords (List ℕ) → List ℕ
+    → Option (History P) → Type 0
 TellsFair {P} f b old words bytes new =
     (answer : Answer P) × FairGives f b old words answer × (new ≡ left_by old answer) × TellsAnswer f answer new bytes

@@ -15,13 +15,15 @@ towers_known Easy code is = listed (codes "ehxu") 101 code (0, omega arith, refl
 towers_known Hard code is = listed (codes "ehxu") 104 code (1, omega arith, refl) is
 
 -- one code is no other
-other_code : {A : Type 0} (own another code : ℕ) → (own ≡ another → ⊥) → Some own ≡ Some code → Some another ≡ Some code → A
+other_code : {A : Type 0} (own another code : ℕ) → (own ≡ another → ⊥) → Some own ≡ Some code → Some another ≡ Some code
+    → A
 other_code own another code apart is so =
     let both : Some own ≡ Some another = is ∙ sym so in
     let same : own ≡ another = cc both in
     absurd (apart same)
 
-towers_apart : (one other : Grade) (code : ℕ) → towers_letter one ≡ Some code → towers_letter other ≡ Some code → one ≡ other
+towers_apart : (one other : Grade) (code : ℕ) → towers_letter one ≡ Some code → towers_letter other ≡ Some code
+    → one ≡ other
 towers_apart Latin other code is so = absurd (cc is)
 towers_apart Easy Latin code is so = absurd (cc so)
 towers_apart Easy Easy code is so = refl
@@ -38,7 +40,8 @@ unequal_known Latin code is = listed (codes "tekxr") 116 code (0, omega arith, r
 unequal_known Easy code is = listed (codes "tekxr") 101 code (1, omega arith, refl) is
 unequal_known Hard code is = listed (codes "tekxr") 107 code (2, omega arith, refl) is
 
-unequal_apart : (one other : Grade) (code : ℕ) → unequal_letter one ≡ Some code → unequal_letter other ≡ Some code → one ≡ other
+unequal_apart : (one other : Grade) (code : ℕ) → unequal_letter one ≡ Some code → unequal_letter other ≡ Some code
+    → one ≡ other
 unequal_apart Latin Latin code is so = refl
 unequal_apart Latin Easy code is so = other_code 116 101 code (λ e. absurd (omega (arith, e))) is so
 unequal_apart Latin Hard code is so = other_code 116 107 code (λ e. absurd (omega (arith, e))) is so

@@ -1,5 +1,6 @@
 -- Which data have one text: those without floats that are not too deep.
-use Rattle.std.proofs.Common.{◌≡◌, ℕ, suc, ◌≤◌, Bool, true, false, ◌||◌, ℤ, pos, negsuc, List, [], ◌∷◌, ◌++◌, map, Option, Some, None, refl, arith}
+use Rattle.std.proofs.Common.{◌≡◌, ℕ, suc, ◌≤◌, Bool, true, false, ◌||◌, ℤ, pos, negsuc, List, [], ◌∷◌, ◌++◌, map}
+use Rattle.std.proofs.Common.{Option, Some, None, refl, arith}
 use Rattle.std.specs.List.{flat_map}
 use Rattle.serde_json.specs.Data.{Data, items_depth}
 use Rattle.serde_json.specs.Find.{is_float, of_integer}
@@ -26,11 +27,13 @@ pub no_float_or : (a b : Bool) → a ≡ false → b ≡ false → (a || b) ≡ 
 no_float_or true b e h = e
 no_float_or false b e h = h
 
-pub items_whole : {A : Type 0} (n : ℕ) (f : A → Data) → ((a : A) → Fits n (f a)) → (xs : List A) → items_have_float (items_of (map f xs)) ≡ false
+pub items_whole : {A : Type 0} (n : ℕ) (f : A → Data) → ((a : A) → Fits n (f a)) → (xs : List A)
+    → items_have_float (items_of (map f xs)) ≡ false
 items_whole n f each [] = refl
 items_whole n f each (x ∷ xs) = no_float_or (has_float (f x)) _ (each x).whole (items_whole n f each xs)
 
-pub items_flat : {A : Type 0} (n : ℕ) (f : A → Data) → ((a : A) → Fits n (f a)) → (xs : List A) → items_depth (items_of (map f xs)) ≤ n
+pub items_flat : {A : Type 0} (n : ℕ) (f : A → Data) → ((a : A) → Fits n (f a)) → (xs : List A)
+    → items_depth (items_of (map f xs)) ≤ n
 items_flat n f each [] = omega arith
 items_flat n f each (x ∷ xs) =
     let here = (each x).flat in
@@ -38,7 +41,8 @@ items_flat n f each (x ∷ xs) =
     omega arith
 
 -- a list of such data is one level deeper
-pub list_fits : {A : Type 0} (n : ℕ) (f : A → Data) → ((a : A) → Fits n (f a)) → (xs : List A) → Fits (suc n) (list_data f xs)
+pub list_fits : {A : Type 0} (n : ℕ) (f : A → Data) → ((a : A) → Fits n (f a)) → (xs : List A)
+    → Fits (suc n) (list_data f xs)
 list_fits n f each xs =
     let flat = items_flat n f each xs in
     record { whole = items_whole n f each xs; flat = omega arith }
@@ -55,11 +59,15 @@ name_fits None = record { whole = refl; flat = omega arith }
 name_fits (Some name) = text_fits name
 
 -- the object of a reply, where what is told of the session fits
-pub spelled_reply : (refused : Option (List ℕ)) (reply : List ℕ) (session : Data) → Fits 1 session → IsSpelled (reply_data refused reply session)
+pub spelled_reply : (refused : Option (List ℕ)) (reply : List ℕ) (session : Data) → Fits 1 session
+    → IsSpelled (reply_data refused reply session)
 spelled_reply refused reply session fits =
     let name = name_fits refused in
     let lines = lines_fit reply in
-    let whole = no_float_or (has_float (name_data refused)) _ name.whole (no_float_or (has_float (lines_data reply)) _ lines.whole (no_float_or (has_float session) false fits.whole refl)) in
+    let whole =
+    no_float_or (has_float (name_data refused)) _ name.whole
+    (no_float_or (has_float (lines_data reply)) _ lines.whole
+    (no_float_or (has_float session) false fits.whole refl)) in
     let a = name.flat in
     let b = lines.flat in
     let c = fits.flat in
@@ -120,7 +128,8 @@ clue_fits p b e place = record {
 pub clues_fit : (p : TowersValue) (b : BoardValue) (e : ErrorsValue) → Fits 2 (clues_data p b e)
 clues_fit p b e =
     listed_fits 1 (λ place. when (nat_lt 0 (clue_of p place)) (clue_data p b e place))
-    (λ place. when_fits 1 (nat_lt 0 (clue_of p place)) (clue_data p b e place) (clue_fits p b e place)) (range_with_len 0 (4 * p.size))
+    (λ place. when_fits 1 (nat_lt 0 (clue_of p place)) (clue_data p b e place) (clue_fits p b e place))
+    (range_with_len 0 (4 * p.size))
 
 sign_fits : (error : Bool) (greater less : ℕ) → Fits 1 (sign_data error greater less)
 sign_fits error greater less = record { whole = refl; flat = omega arith }
@@ -137,4 +146,5 @@ sign_at_fits v error a b =
 
 pub signs_fit : (v : UnequalValue) (e : ErrorsValue) → Fits 2 (signs_data v e)
 signs_fit v e =
-    listed_fits 1 (signs_at v e) (λ cell. all_append 1 _ _ (sign_at_fits v _ cell _) (sign_at_fits v _ cell _)) (range_with_len 0 (v.size * v.size))
+    listed_fits 1 (signs_at v e) (λ cell. all_append 1 _ _ (sign_at_fits v _ cell _) (sign_at_fits v _ cell _))
+    (range_with_len 0 (v.size * v.size))

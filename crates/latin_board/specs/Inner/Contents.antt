@@ -5,5 +5,12 @@ use Rattle.latin_board.specs.Changes.{ChangeValue, OneSquare, WholeBoard}
 
 -- the change that a content stands for
 abbrev pub change_value : Content → ChangeValue
-change_value (Square s) = OneSquare (record { cell = s.cell; number = s.number; marks = s.marks; completed = s.completed; cheated = s.cheated })
+change_value (Square s) =
+    OneSquare (record {
+      cell = s.cell;
+      number = s.number;
+      marks = s.marks;
+      completed = s.completed;
+      cheated = s.cheated;
+    })
 change_value (Whole board) = WholeBoard board.value

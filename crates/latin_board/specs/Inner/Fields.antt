@@ -24,5 +24,6 @@ pub record KeepsMarks (w : ℕ) (places : List ℕ) (done : ℕ) : Type 0 where
   pub done_within : (place : ℕ) → has_number done place ≡ true → place < 4 * w
 
 -- the squares' places and the empty rest are all
-pub front_and_rest : (w : ℕ) (places : List ℕ) → IsPadded w places → take (w * w) places ++ replicate (CELLS - w * w) 0 ≡ places
+pub front_and_rest : (w : ℕ) (places : List ℕ) → IsPadded w places
+    → take (w * w) places ++ replicate (CELLS - w * w) 0 ≡ places
 front_and_rest w places h = rw (← h.rest) (take-append-drop (w * w) places)

@@ -1,12 +1,14 @@
 -- What was found of rows of sets, a row a slot.
-use Rattle.std.specs.Prelude.{◌≡◌, ◌≢◌, ◌↔◌, ℕ, ◌<◌, ◌≤◌, true, false, [], List, length, take, slice_index, slice_index_or}
+use Rattle.std.specs.Prelude.{◌≡◌, ◌≢◌, ◌↔◌, ℕ, ◌<◌, ◌≤◌, true, false, [], List, length, take, slice_index}
+use Rattle.std.specs.Prelude.{slice_index_or}
 use Rattle.number_sets.specs.Sets.{has_number, IsSubset, IsSingle}
 use Rattle.tower_lines.specs.LineFillings.{IsSupported}
 use Rattle.named_steps.specs.declared.known_rows.TheConstants.{SLOTS}
 
 -- the sets are of the values that the fillings of a row have in each of its places
 abbrev pub AreKept : List ℕ → ℕ → List ℕ → Type 0
-AreKept row clue kept = (place value : ℕ) → (has_number (slice_index kept place) value ≡ true) ↔ IsSupported row clue place value
+AreKept row clue kept =
+    (place value : ℕ) → (has_number (slice_index kept place) value ≡ true) ↔ IsSupported row clue place value
 
 -- each set of the first row is within that of the second
 abbrev pub AreWithin : List ℕ → List ℕ → Type 0
@@ -27,7 +29,8 @@ pub record IsKnown (width clue : ℕ) (sets kept : List ℕ) : Type 0 where
 -- so in each of the slots
 pub record AreKnown (widths clues : List ℕ) (sets kept : List (List ℕ)) : Type 0 where
   pub each : (slot : ℕ) → slot < SLOTS
-      → IsKnown (slice_index widths slot) (slice_index clues slot) (slice_index_or sets slot []) (slice_index_or kept slot [])
+      → IsKnown (slice_index widths slot) (slice_index clues slot) (slice_index_or sets slot [])
+      (slice_index_or kept slot [])
 
 -- the number is the only one of some of the row's first sets
 pub record IsLone (width : ℕ) (sets : List ℕ) (number : ℕ) : Type 0 where

@@ -1,25 +1,10 @@
 -- What the squares of a row or column strike in one another.
-use Rattle.std.specs.Prelude.{◌≡◌, ◌≢◌, ℕ, ◌<◌, ◌≤◌, ◌^◌, ◌⊎◌, true, false, List, length, slice_index, count_ones}
+use Rattle.std.specs.Prelude.{◌≡◌, ◌≢◌, ℕ, ◌<◌, ◌^◌, ◌⊎◌, true, false, List, length, slice_index, count_ones}
 use Rattle.number_sets.specs.Sets.{has_number, IsSubset}
 use Rattle.latin_board.specs.Lines.{line_cell}
 use Rattle.trail_solver.specs.Pairs.{IsPair}
 use Rattle.trail_solver.specs.Candidates.{CandidatesValue, IsSetOf, may_be}
-use Rattle.named_steps.specs.Left.{IsLeft, HasNoOther, HasNoOtherPlace}
-
--- nothing but the value is left of another square of the line, or another value has no other place in it
-abbrev pub IsByRest : CandidatesValue → ℕ → ℕ → ℕ → Type 0
-IsByRest c line index v =
-    ((k : ℕ) × (k < c.size) × (k ≢ index) × HasNoOther c (line_cell c.size line k) v)
-    ⊎ ((u : ℕ) × (1 ≤ u) × (u ≤ c.size) × (v ≢ u) × HasNoOtherPlace c line u index)
-
--- that is left of the square
-abbrev pub IsLeftByRest : CandidatesValue → ℕ → ℕ → ℕ → Type 0
-IsLeftByRest c line index v = IsByRest c line index v × IsLeft c (line_cell c.size line index) v
-
--- nothing of that is left
-abbrev pub IsRestQuiet : ℕ → CandidatesValue → Type 0
-IsRestQuiet line c =
-    (k v : ℕ) → k < c.size → IsPair c.size (line_cell c.size line k) v → IsByRest c line k v → may_be c (line_cell c.size line k) v ≡ false
+use Rattle.clue_rules.specs.Left.{IsLeft}
 
 -- the first n sets are of what is left of the line's squares
 pub record AreLineSets (c : CandidatesValue) (line n : ℕ) (sets : List ℕ) : Type 0 where
@@ -29,14 +14,15 @@ pub record AreLineSets (c : CandidatesValue) (line n : ℕ) (sets : List ℕ) : 
 -- the values that are left of some of a line's squares
 pub record IsUnion (w : ℕ) (c : CandidatesValue) (line squares union : ℕ) : Type 0 where
   pub all : (k v : ℕ) → has_number squares k ≡ true → IsLeft c (line_cell w line k) v → has_number union v ≡ true
-  pub only : (v : ℕ) → has_number union v ≡ true → (k : ℕ) × (has_number squares k ≡ true) × IsLeft c (line_cell w line k) v
+  pub only : (v : ℕ) → has_number union v ≡ true
+      → (k : ℕ) × (has_number squares k ≡ true) × IsLeft c (line_cell w line k) v
 
 -- two values are left of the square, or more
 abbrev pub HasSeveral : CandidatesValue → ℕ → Type 0
 HasSeveral c cell = (u : ℕ) × (v : ℕ) × (u ≢ v) × IsLeft c cell u × IsLeft c cell v
 
--- the square is another one of the line than those of a group, of each of which several values are left, and of all together as many
--- as they are; and the value is one of these
+-- the square is another one of the line than those of a group, of each of which several values are left, and of all
+-- together as many as they are; and the value is one of these
 pub record IsByGroup (c : CandidatesValue) (line cell value : ℕ) : Type 0 where
   pub squares : ℕ
   pub below : squares < 2 ^ c.size
@@ -52,14 +38,18 @@ pub record IsByGroup (c : CandidatesValue) (line cell value : ℕ) : Type 0 wher
 
 -- none of that is left
 abbrev pub IsGroupQuiet : ℕ → CandidatesValue → Type 0
-IsGroupQuiet line c = (cell value : ℕ) → IsPair c.size cell value → IsByGroup c line cell value → may_be c cell value ≡ false
+IsGroupQuiet line c =
+    (cell value : ℕ) → IsPair c.size cell value → IsByGroup c line cell value → may_be c cell value ≡ false
 
 -- the numbers of the sets at some places
 pub record IsUnionOf (sets : List ℕ) (squares union : ℕ) : Type 0 where
-  pub all : (k v : ℕ) → has_number squares k ≡ true → has_number (slice_index sets k) v ≡ true → has_number union v ≡ true
-  pub only : (v : ℕ) → has_number union v ≡ true → (k : ℕ) × (has_number squares k ≡ true) × (has_number (slice_index sets k) v ≡ true)
+  pub all : (k v : ℕ) → has_number squares k ≡ true → has_number (slice_index sets k) v ≡ true
+      → has_number union v ≡ true
+  pub only : (v : ℕ) → has_number union v ≡ true
+      → (k : ℕ) × (has_number squares k ≡ true) × (has_number (slice_index sets k) v ≡ true)
 
--- the places have these squares, and beside them some of the further ones; their sets have as many numbers together as they are
+-- the places have these squares, and beside them some of the further ones; their sets have as many numbers together as
+-- they are
 pub record IsGroupAmong (sets : List ℕ) (further squares group union : ℕ) : Type 0 where
   pub has : IsSubset squares group
   pub within : (k : ℕ) → has_number group k ≡ true → (has_number squares k ≡ true) ⊎ (has_number further k ≡ true)
@@ -69,4 +59,5 @@ pub record IsGroupAmong (sets : List ℕ) (further squares group union : ℕ) : 
 -- such a group has the value, and not the place
 abbrev pub IsStruckAmong : List ℕ → ℕ → ℕ → ℕ → ℕ → Type 0
 IsStruckAmong sets further squares k v =
-    (group : ℕ) × (union : ℕ) × IsGroupAmong sets further squares group union × (has_number group k ≡ false) × (has_number union v ≡ true)
+    (group : ℕ) × (union : ℕ) × IsGroupAmong sets further squares group union × (has_number group k ≡ false)
+    × (has_number union v ≡ true)

@@ -4,8 +4,8 @@ use Rattle.number_sets.specs.Sets.{has_number, IsEmpty, IsSubset}
 use Rattle.trail_solver.specs.Pairs.{IsPair}
 use Rattle.trail_solver.specs.Candidates.{CandidatesValue}
 use Rattle.clue_rules.specs.Views.{view_cell, view_index}
-use Rattle.named_steps.specs.Left.{IsLeft}
-use Rattle.named_steps.specs.Fillings.{Anything, Standing}
+use Rattle.clue_rules.specs.Left.{IsLeft}
+use Rattle.clue_rules.specs.Fillings.{Anything, Standing}
 use Rattle.named_steps.specs.declared.grade.Grade.{Grade}
 use Rattle.named_steps.specs.declared.grade.Grade.TheVariants.{Easy, Hard}
 use Rattle.named_steps.specs.declared.clue_strikes.Look.{Look}
@@ -33,10 +33,12 @@ pub record AreFull (all n : ℕ) (row : List ℕ) : Type 0 where
   pub each : (k : ℕ) → k < n → slice_index row k ≡ all
   pub rest : (k : ℕ) → n ≤ k → IsEmpty (slice_index row k)
 
--- what stands in a square of which a set of all these values is left: its only one, none where it is empty, and else any
+-- what stands in a square of which a set of all these values is left: its only one, none where it is empty, and else
+-- any
 abbrev pub IsStandingSet : ℕ → ℕ → ℕ → Type 0
 IsStandingSet all left set = IsSubset left all → (v : ℕ)
-    → (has_number set v ≡ true) ↔ ((has_number all v ≡ true) × ((alone : ℕ) → ((n : ℕ) → has_number left n ≡ true → n ≡ alone) → v ≡ alone))
+    → (has_number set v ≡ true)
+    ↔ ((has_number all v ≡ true) × ((alone : ℕ) → ((n : ℕ) → has_number left n ≡ true → n ≡ alone) → v ≡ alone))
 
 -- so in each of the first n sets of a row
 pub record AreStandingSets (all : ℕ) (left : List ℕ) (n : ℕ) (row : List ℕ) : Type 0 where
@@ -46,7 +48,8 @@ pub record AreStandingSets (all : ℕ) (left : List ℕ) (n : ℕ) (row : List �
 -- the first n sets of the row are of the values of the size that those kept lack
 pub record AreMissing (w : ℕ) (kept : List ℕ) (n : ℕ) (row : List ℕ) : Type 0 where
   pub count : length row ≡ 9
-  pub each : (k v : ℕ) → k < n → has_number (slice_index row k) v ≡ ((nat_le 1 v && nat_le v w) && not (has_number (slice_index kept k) v))
+  pub each : (k v : ℕ) → k < n
+      → has_number (slice_index row k) v ≡ ((nat_le 1 v && nat_le v w) && not (has_number (slice_index kept k) v))
 
 -- the least grade that has it
 abbrev pub look_grade : Look → Grade

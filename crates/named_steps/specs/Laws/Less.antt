@@ -3,21 +3,25 @@ use Rattle.std.proofs.Common.{ℕ, inl, inr}
 use Rattle.trail_solver.specs.Candidates.{CandidatesValue}
 use Rattle.clue_rules.specs.Towers.{TowersValue}
 use Rattle.clue_rules.specs.Unequal.{UnequalValue}
-use Rattle.named_steps.specs.Left.{IsLeft, IsFewer, HasNoOther}
-use Rattle.named_steps.specs.Fillings.{Standing, IsUnfilled}
-use Rattle.named_steps.specs.Reasons.{IsByPeer, IsByPlace, IsBySet, IsByClue, IsBySign, IsTowersStruckBy, IsUnequalStruckBy}
-use Rattle.named_steps.specs.declared.reason.Reason.{Reason}
-use Rattle.named_steps.specs.declared.reason.Reason.TheVariants.{Given, Peer, Place, Bound, Stand, Clue, Sign, Set}
+use Rattle.clue_rules.specs.Left.{IsLeft, IsFewer, HasNoOther}
+use Rattle.clue_rules.specs.Fillings.{Standing, IsUnfilled}
+use Rattle.clue_rules.specs.Reasons.{IsByPeer, IsByPlace, IsBySet, IsByClue, IsBySign, IsTowersStruckBy}
+use Rattle.clue_rules.specs.Reasons.{IsUnequalStruckBy}
+use Rattle.clue_rules.specs.declared.reason.Reason.{Reason}
+use Rattle.clue_rules.specs.declared.reason.Reason.TheVariants.{Given, Peer, Place, Bound, Stand, Clue, Sign, Set}
 
-pub no_other_less : (c d : CandidatesValue) (cell value : ℕ) → IsFewer c d → HasNoOther c cell value → HasNoOther d cell value
+pub no_other_less : (c d : CandidatesValue) (cell value : ℕ) → IsFewer c d → HasNoOther c cell value
+    → HasNoOther d cell value
 no_other_less c d cell value fewer alone = λ other left. alone other (fewer cell other left)
 
 -- what a lone value strikes it strikes from fewer
-pub peer_less : (w : ℕ) (c d : CandidatesValue) (by cell value : ℕ) → IsFewer c d → IsByPeer w c by cell value → IsByPeer w d by cell value
+pub peer_less : (w : ℕ) (c d : CandidatesValue) (by cell value : ℕ) → IsFewer c d → IsByPeer w c by cell value
+    → IsByPeer w d by cell value
 peer_less w c d by cell value fewer h = record { peers = h.peers; alone = no_other_less c d by value fewer h.alone }
 
 -- what a last place strikes it strikes from fewer
-pub place_less : (w : ℕ) (c d : CandidatesValue) (line index other cell value : ℕ) → IsFewer c d → IsByPlace w c line index other cell value
+pub place_less : (w : ℕ) (c d : CandidatesValue) (line index other cell value : ℕ) → IsFewer c d
+    → IsByPlace w c line index other cell value
     → IsByPlace w d line index other cell value
 place_less w c d line index other cell value fewer h = record {
   line_is = h.line_is;
@@ -30,7 +34,8 @@ place_less w c d line index other cell value fewer h = record {
 }
 
 -- what a group strikes it strikes from fewer
-pub set_less : (w : ℕ) (c d : CandidatesValue) (line squares values cell value : ℕ) → IsFewer c d → IsBySet w c line squares values cell value
+pub set_less : (w : ℕ) (c d : CandidatesValue) (line squares values cell value : ℕ) → IsFewer c d
+    → IsBySet w c line squares values cell value
     → IsBySet w d line squares values cell value
 set_less w c d line squares values cell value fewer h = record {
   line_is = h.line_is;
@@ -45,7 +50,8 @@ set_less w c d line squares values cell value fewer h = record {
 }
 
 -- what is in no filling is in none of those by less
-pub unfilled_less : (w : ℕ) (May Less : ℕ → ℕ → Type 0) (place clue cell value : ℕ) → ((cell value : ℕ) → Less cell value → May cell value)
+pub unfilled_less : (w : ℕ) (May Less : ℕ → ℕ → Type 0) (place clue cell value : ℕ)
+    → ((cell value : ℕ) → Less cell value → May cell value)
     → IsUnfilled w May place clue cell value → IsUnfilled w Less place clue cell value
 unfilled_less w May Less place clue cell value fewer h = record {
   index = h.index;
@@ -61,7 +67,8 @@ unfilled_less w May Less place clue cell value fewer h = record {
 }
 
 -- what a clue strikes by what may stand it strikes by less
-pub clue_less : (v : TowersValue) (May Less : ℕ → ℕ → Type 0) (place cell value : ℕ) → ((cell value : ℕ) → Less cell value → May cell value)
+pub clue_less : (v : TowersValue) (May Less : ℕ → ℕ → Type 0) (place cell value : ℕ)
+    → ((cell value : ℕ) → Less cell value → May cell value)
     → IsByClue v May place cell value → IsByClue v Less place cell value
 clue_less v May Less place cell value fewer h = record {
   place_is = h.place_is;
@@ -72,7 +79,8 @@ clue_less v May Less place cell value fewer h = record {
 standing_less : (c d : CandidatesValue) → IsFewer c d → (cell value : ℕ) → Standing d cell value → Standing c cell value
 standing_less c d fewer cell value h = λ alone none. h alone (no_other_less c d cell alone fewer none)
 
-sign_less : (v : UnequalValue) (c d : CandidatesValue) (from to cell value : ℕ) → IsFewer c d → IsBySign v c from to cell value
+sign_less : (v : UnequalValue) (c d : CandidatesValue) (from to cell value : ℕ) → IsFewer c d
+    → IsBySign v c from to cell value
     → IsBySign v d from to cell value
 sign_less v c d from to cell value fewer h = record {
   here = h.here;
@@ -87,21 +95,26 @@ pub towers_less : (v : TowersValue) (c d : CandidatesValue) (reason : Reason) (c
     → IsTowersStruckBy v c reason cell value → IsTowersStruckBy v d reason cell value
 towers_less v c d (Given at) cell value fewer h = h
 towers_less v c d (Peer by) cell value fewer h = peer_less v.size c d by cell value fewer h
-towers_less v c d (Place line index other) cell value fewer h = place_less v.size c d line index other cell value fewer h
+towers_less v c d (Place line index other) cell value fewer h =
+    place_less v.size c d line index other cell value fewer h
 towers_less v c d (Bound place) cell value fewer h = h
-towers_less v c d (Stand place) cell value fewer h = clue_less v (Standing c) (Standing d) place cell value (standing_less c d fewer) h
+towers_less v c d (Stand place) cell value fewer h =
+    clue_less v (Standing c) (Standing d) place cell value (standing_less c d fewer) h
 towers_less v c d (Clue place) cell value fewer h = clue_less v (IsLeft c) (IsLeft d) place cell value fewer h
 towers_less v c d (Sign from to) cell value fewer h = absurd h
-towers_less v c d (Set line squares values) cell value fewer h = set_less v.size c d line squares values cell value fewer h
+towers_less v c d (Set line squares values) cell value fewer h =
+    set_less v.size c d line squares values cell value fewer h
 
 -- what a reason of Unequal strikes it strikes from fewer
 pub unequal_less : (v : UnequalValue) (c d : CandidatesValue) (reason : Reason) (cell value : ℕ) → IsFewer c d
     → IsUnequalStruckBy v c reason cell value → IsUnequalStruckBy v d reason cell value
 unequal_less v c d (Given at) cell value fewer h = h
 unequal_less v c d (Peer by) cell value fewer h = peer_less v.size c d by cell value fewer h
-unequal_less v c d (Place line index other) cell value fewer h = place_less v.size c d line index other cell value fewer h
+unequal_less v c d (Place line index other) cell value fewer h =
+    place_less v.size c d line index other cell value fewer h
 unequal_less v c d (Bound place) cell value fewer h = absurd h
 unequal_less v c d (Stand place) cell value fewer h = absurd h
 unequal_less v c d (Clue place) cell value fewer h = absurd h
 unequal_less v c d (Sign from to) cell value fewer h = sign_less v c d from to cell value fewer h
-unequal_less v c d (Set line squares values) cell value fewer h = set_less v.size c d line squares values cell value fewer h
+unequal_less v c d (Set line squares values) cell value fewer h =
+    set_less v.size c d line squares values cell value fewer h

@@ -4,15 +4,16 @@ use Rattle.trail_solver.specs.Candidates.{CandidatesValue}
 use Rattle.clue_rules.specs.Towers.{TowersValue, towers_puzzle}
 use Rattle.clue_rules.specs.Unequal.{UnequalValue, unequal_puzzle}
 use Rattle.named_steps.specs.Grades.{is_of_lines}
-use Rattle.named_steps.specs.Reasons.{IsByGiven, IsByLine, IsTowersStruckBy, IsUnequalStruckBy}
-use Rattle.named_steps.specs.declared.reason.Reason.{Reason}
-use Rattle.named_steps.specs.declared.reason.Reason.TheVariants.{Given, Peer, Place, Bound, Stand, Clue, Sign, Set}
+use Rattle.clue_rules.specs.Reasons.{IsByGiven, IsByLine, IsTowersStruckBy, IsUnequalStruckBy}
+use Rattle.clue_rules.specs.declared.reason.Reason.{Reason}
+use Rattle.clue_rules.specs.declared.reason.Reason.TheVariants.{Given, Peer, Place, Bound, Stand, Clue, Sign, Set}
 
 pub towers_givens : (v : TowersValue) (c : CandidatesValue) (at cell value : ℕ)
     → IsByGiven (towers_puzzle v) at cell value ↔ IsTowersStruckBy v c (Given at) cell value
 towers_givens v c at cell value = (λ h. h, λ h. h)
 
-pub towers_lines : (v : TowersValue) (c : CandidatesValue) (reason : Reason) (cell value : ℕ) → is_of_lines reason ≡ true
+pub towers_lines : (v : TowersValue) (c : CandidatesValue) (reason : Reason) (cell value : ℕ)
+    → is_of_lines reason ≡ true
     → IsByLine v.size c reason cell value ↔ IsTowersStruckBy v c reason cell value
 towers_lines v c (Given at) cell value is = absurd (cc)
 towers_lines v c (Peer by) cell value is = (λ h. h, λ h. h)
@@ -27,7 +28,8 @@ pub unequal_givens : (v : UnequalValue) (c : CandidatesValue) (at cell value : �
     → IsByGiven (unequal_puzzle v) at cell value ↔ IsUnequalStruckBy v c (Given at) cell value
 unequal_givens v c at cell value = (λ h. h, λ h. h)
 
-pub unequal_lines : (v : UnequalValue) (c : CandidatesValue) (reason : Reason) (cell value : ℕ) → is_of_lines reason ≡ true
+pub unequal_lines : (v : UnequalValue) (c : CandidatesValue) (reason : Reason) (cell value : ℕ)
+    → is_of_lines reason ≡ true
     → IsByLine v.size c reason cell value ↔ IsUnequalStruckBy v c reason cell value
 unequal_lines v c (Given at) cell value is = absurd (cc)
 unequal_lines v c (Peer by) cell value is = (λ h. h, λ h. h)

@@ -1,5 +1,6 @@
 -- Records taken in turn: what was met after one more, and what the code keeps of it.
-use Rattle.std.specs.Prelude.{◌≡◌, ◌⊎◌, ℕ, ◌+◌, ◌≤◌, if◌then◌else◌, List, [], ◌∷◌, ◌++◌, length, map, Option, Some, None, option_map, Result, Ok, Err}
+use Rattle.std.specs.Prelude.{◌≡◌, ◌⊎◌, ℕ, ◌+◌, ◌≤◌, if◌then◌else◌, List, [], ◌∷◌, ◌++◌, length, map, Option, Some}
+use Rattle.std.specs.Prelude.{None, option_map, Result, Ok, Err}
 use Rattle.std.specs.Borrow.{Bor}
 use Rattle.play_midend.specs.declared.session.TheConstants.{MOST_STATES}
 use Rattle.play_save.specs.declared.fault.LoadFault.{LoadFault}
@@ -26,9 +27,11 @@ bytes_of kept = option_map (λ bytes. bytes.now) kept
 
 -- what was met, as contracts see it
 abbrev pub met_of : Met → MetValue
-met_of f = record { first = λ k. first_of (values_of k (map header_of f.headers.items)); states = map state_of f.states.items }
+met_of f =
+    record { first = λ k. first_of (values_of k (map header_of f.headers.items)); states = map state_of f.states.items }
 
--- the records can be played and gone back along: there are fewer than MOST_STATES states after the first, and the position is one of them
+-- the records can be played and gone back along: there are fewer than MOST_STATES states after the first, and the
+-- position is one of them
 pub record IsPlayable (m : MetValue) : Type 0 where
   pub few : length m.states + 1 ≤ MOST_STATES
   pub inside : (position : ℕ) → count_met m Position ≡ Some position → (1 ≤ position) × (position ≤ length m.states + 1)
@@ -44,6 +47,7 @@ added m (State k) value = record m { states = m.states ++ record { key = k; valu
 added m Other value = m
 
 -- A record is taken, or refused with its fault or for memory.
-abbrev pub Taken : {P : Type 0} → SavedGame P → MetValue → Key → List ℕ → Result (Unit {0}) LoadFault → MetValue → Type 0
+abbrev pub Taken : {P : Type 0} → SavedGame P → MetValue → Key → List ℕ → Result (Unit {0}) LoadFault → MetValue
+    → Type 0
 Taken game old k value (Ok u) new = (fault_by game old k value ≡ None) × (new ≡ added old k value)
 Taken game old k value (Err fault) new = (fault ≡ OutOfMemory) ⊎ (fault_by game old k value ≡ Some fault)

@@ -10,13 +10,16 @@ use Rattle.puzzle_cli.specs.SessionReplies.{IsCallRead}
 use Rattle.puzzle_cli.specs.SolutionTexts.{EndsInSolution}
 
 -- what a call that is asked for answers, and the session that it leaves
-abbrev pub ReadAnswered : {P : Type 0} → Puzzle → History P → Result Call PlayFault → Result (Unit {0}) PlayFault → History P → Type 0
+abbrev pub ReadAnswered : {P : Type 0} → Puzzle → History P → Result Call PlayFault → Result (Unit {0}) PlayFault
+    → History P → Type 0
 ReadAnswered p h (Ok call) answer new = Answered p h call answer new
 ReadAnswered p h (Err fault) answer new = (new ≡ h) × (answer ≡ Err fault)
 
 -- what an action answers: its call is read, and then made
-abbrev pub ActionAnswered : {P : Type 0} → Puzzle → History P → Action (List ℕ) → Result (Unit {0}) PlayFault → History P → Type 0
-ActionAnswered p h action answer new = (read : Result Call PlayFault) × IsCallRead action read × ReadAnswered p h read answer new
+abbrev pub ActionAnswered : {P : Type 0} → Puzzle → History P → Action (List ℕ) → Result (Unit {0}) PlayFault
+    → History P → Type 0
+ActionAnswered p h action answer new =
+    (read : Result Call PlayFault) × IsCallRead action read × ReadAnswered p h read answer new
 
 -- the last move of a session filled in these numbers, and the board shows them
 pub record IsFilledIn {P : Type 0} (p : Puzzle) (h : History P) (g : GridValue) : Type 0 where

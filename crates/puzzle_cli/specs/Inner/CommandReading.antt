@@ -1,5 +1,6 @@
 -- Reading a line: the command that it is, as a function on lists.
-use Rattle.std.specs.Prelude.{ℕ, ◌==◌, if◌then◌else◌, List, [], ◌∷◌, length, take, drop, codes, bytes_eq, Option, Some, None, option_map, option_and_then, Ok, Err, ok_or}
+use Rattle.std.specs.Prelude.{ℕ, ◌==◌, if◌then◌else◌, List, [], ◌∷◌, length, take, drop, codes, bytes_eq, Option, Some}
+use Rattle.std.specs.Prelude.{None, option_map, option_and_then, Ok, Err, ok_or}
 use Rattle.std.specs.Option.{option_or}
 use Rattle.byte_text.specs.Decimals.{decimal_value}
 use Rattle.trail_solver.specs.declared.listing.TheConstants.{MOST_LISTED}

@@ -12,7 +12,8 @@ pushed (Some bytes) b = if nat_lt (length bytes) LINE_BYTES then Some (bytes ++ 
 -- the lines that LF ends, after the part
 abbrev pub ended_from : Line → List ℕ → List Line
 ended_from part [] = []
-ended_from part (b ∷ bs) = if b == line_feed then as_line part ∷ ended_from (Some []) bs else ended_from (pushed part b) bs
+ended_from part (b ∷ bs) =
+    if b == line_feed then as_line part ∷ ended_from (Some []) bs else ended_from (pushed part b) bs
 
 -- the part after the last LF
 abbrev pub last_from : Line → List ℕ → Line

@@ -13,7 +13,9 @@ use Rattle.puzzle_cli.specs.CommandLine.{AreRead, IsCommandLine, NotBoth, game_r
 
 -- the rule asks for the word of one of the two games
 abbrev pub IsGameRule : Rule → Type 0
-IsGameRule rule = (games : Bor (List (Bor Text))) × (word_texts games.now ≡ codes "towers" ∷ codes "unequal" ∷ []) × (rule ≡ game_rule games)
+IsGameRule rule =
+    (games : Bor (List (Bor Text))) × (word_texts games.now ≡ codes "towers" ∷ codes "unequal" ∷ [])
+    × (rule ≡ game_rule games)
 
 -- what was found is what the command line gives the words, and there is no fault in them
 pub record AreParsed (words : List Text) (found : Found) : Type 0 where

@@ -3,7 +3,8 @@
 ghost use Rattle.std.specs.Prelude.{◌≡◌, ◌≢◌, false, true, is_some, option_map, vec_items, IfOk, IfErr, OnErr, OnOk};
 ghost use Rattle.std.specs.Option.{option_copied};
 ghost use Rattle.puzzle_cli.specs.Faults.{fault_status};
-ghost use Rattle.puzzle_cli.specs.Programs.{IsBroken, IsFirst, IsFirstRefused, IsFinished, IsPlayed, IsUnplayed, text_to_save};
+ghost use Rattle.puzzle_cli.specs.Programs.{IsBroken, IsFirst, IsFirstRefused, IsFinished, IsPlayed, IsUnplayed};
+ghost use Rattle.puzzle_cli.specs.Programs.{text_to_save};
 ghost use Rattle.puzzle_cli.specs.RunLaws.{IsNoneOrStorable};
 ghost use Rattle.puzzle_cli.specs.Runs.{point_at};
 

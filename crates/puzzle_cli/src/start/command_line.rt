@@ -6,8 +6,10 @@ ghost use Rattle.std.specs.String.{string_bytes};
 ghost use Rattle.clap.specs.Values.{kind_of};
 ghost use Rattle.clap.specs.Words.{app_of, first_value, found_of, rule_of};
 ghost use Rattle.puzzle_cli.specs.declared.start.command_line.GameName.{GameName};
-ghost use Rattle.puzzle_cli.specs.CommandLine.{AreRead, AreUnfit, IsCommandLine, NotBoth, game_word, option_rule, program_line, word_texts};
-ghost use Rattle.puzzle_cli.specs.Inner.WordReading.{AreParsed, IsFound, IsGameRule, IsParseFault, IsRefusal, IsToldOfKind};
+ghost use Rattle.puzzle_cli.specs.CommandLine.{AreRead, AreUnfit, IsCommandLine, NotBoth, game_word, option_rule};
+ghost use Rattle.puzzle_cli.specs.CommandLine.{program_line, word_texts};
+ghost use Rattle.puzzle_cli.specs.Inner.WordReading.{AreParsed, IsFound, IsGameRule, IsParseFault, IsRefusal};
+ghost use Rattle.puzzle_cli.specs.Inner.WordReading.{IsToldOfKind};
 
 use crate::start::command_fault::CommandFault;
 use crate::start::program_texts::{PUZZLES, ProgramTexts};
@@ -48,7 +50,7 @@ const ID_HELP: &str = "Begin with the puzzle of this game ID";
 
 const LOAD_HELP: &str = "Begin with the session that was saved to this file";
 
-const SAVE_HELP: &str = "Save the session to this file once the commands are at their end";
+const SAVE_HELP: &str = "Save the session to this file after the last command";
 
 static GAMES: [&str; 2] = ["towers", "unequal"];
 

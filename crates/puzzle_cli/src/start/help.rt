@@ -4,30 +4,30 @@
 pub(crate) const MORE_HELP: &str = "\
 Game IDs:
   SIZE:DESCRIPTION  this puzzle, of size 3 to 9: towers 3:3//////3/////, unequal 3:1,0,0R,0,0,0,0,0,0,
-  SIZE!SEED         a puzzle made from a number, of size 3 to 6, as 5!7; it has one solution
+  SIZE!SEED         a puzzle made from a number, of size 3 to 6, such as 5!7; it has one solution
 
-Commands, one a line:
+Commands, one per line:
   new ID     begin the game of this ID
   show       draw the board
-  move TEXT  make a move, as below
-  undo       take the last move back
+  move TEXT  make a move (see below)
+  undo       take back the last move
   redo       make it again
-  restart    go back to the start, which undo takes back
+  restart    go back to the start; undo takes this back
   solve      fill in the only solution
   list N     list the first solutions, at most N, from 1 to 100
   marks      list the pencil marks
   done       list the clues with a done mark
-  status     playing, solved or helped, and which of how many states is shown
+  status     print playing, solved or helped, the position and the number of states
   id         print the game's ID
   save       print the save text
-  quit       end, as the end of the input does
+  quit       end, just as the end of the input does
 
 Moves, in column x and row y, counted from 0 at the top left:
   Rx,y,n     put number n into a square; n = 0 clears it
   Px,y,n     flip pencil mark n of a square
   M          mark every empty square with all numbers
   SDIGITS    fill the board with this solution, row by row
-  Dx,y       flip the done mark of a Towers clue, as D0,-1 above column 0
+  Dx,y       flip the done mark of a Towers clue; D0,-1 is the one above column 0
 
 Examples:
   puzzles towers --id '5!7' --save tower.sav
@@ -35,7 +35,7 @@ Examples:
   printf 'show\\nsolve\\nshow\\n' | puzzles unequal --id '4!1'
 
 Exit status:
-  0  the commands are at their end, or help was asked for
+  0  all commands were read, or help was printed
   1  a file, the input or the output failed, or memory was refused
   2  the command line is refused
   3  the game ID or the loaded file is refused

@@ -5,7 +5,8 @@ use Rattle.latin_board.specs.Lines.{ArePeers}
 
 -- the grid h has each number that was found
 pub record HasFound (found h : GridValue) : Type 0 where
-  pub each : (cell : ℕ) → cell < found.size * found.size → 0 < number_at found cell → number_at h cell ≡ number_at found cell
+  pub each : (cell : ℕ) → cell < found.size * found.size → 0 < number_at found cell
+      → number_at h cell ≡ number_at found cell
 
 -- the value stands in another square of the cell's row or column
 pub record StandsAtPeer (found : GridValue) (cell value : ℕ) : Type 0 where

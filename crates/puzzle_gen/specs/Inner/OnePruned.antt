@@ -12,4 +12,5 @@ pub record IsOnePruned {P : Type 0} (f : Ghosts P) (g : GridValue) (order : List
   pub valid : f.valid p
   pub size : (f.puzzle p).size ≡ g.size
   pub only_solution : IsOnlySolution (f.puzzle p) g
-  pub all_needed : (i : ℕ) → i < f.items_of g.size → IsTrue (f.has p i) → HasSeveralSolutions (f.puzzle (f.cut p (all_but i)))
+  pub all_needed : (i : ℕ) → i < f.items_of g.size → IsTrue (f.has p i)
+      → HasSeveralSolutions (f.puzzle (f.cut p (all_but i)))

@@ -1,5 +1,6 @@
 -- What was found of the fillings of a row.
-use Rattle.std.specs.Prelude.{◌≡◌, ◌≢◌, ◌↔◌, ℕ, ◌<◌, ◌≤◌, ◌+◌, ◌*◌, true, [], List, length, slice_index, slice_index_or, take, ◌==◌, Option, Some, None}
+use Rattle.std.specs.Prelude.{◌≡◌, ◌≢◌, ◌↔◌, ℕ, ◌<◌, ◌≤◌, ◌+◌, ◌*◌, true, [], List, length, slice_index, slice_index_or}
+use Rattle.std.specs.Prelude.{take, ◌==◌, Option, Some, None}
 use Rattle.number_sets.specs.Sets.{has_number}
 use Rattle.tower_lines.specs.LineFillings.{IsSupported}
 
@@ -12,22 +13,27 @@ pub record IsAlone (row : List ℕ) (place value : ℕ) (alone : List ℕ) : Typ
 
 -- the set has the counts below a number that fillings with the value at the place show
 abbrev pub AreCounts : List ℕ → ℕ → ℕ → ℕ → ℕ → Type 0
-AreCounts sets place value n counts = (count : ℕ) → (has_number counts count ≡ true) ↔ ((count < n) × IsSupported sets count place value)
+AreCounts sets place value n counts =
+    (count : ℕ) → (has_number counts count ≡ true) ↔ ((count < n) × IsSupported sets count place value)
 
 -- for each of these values below a number at a place, at its own index, the counts of the fillings with it there
 abbrev pub AreCountsBelow : List ℕ → ℕ → ℕ → ℕ → List ℕ → Type 0
 AreCountsBelow sets place values n shows =
-    (v count : ℕ) → v < n → has_number values v ≡ true → (has_number (slice_index shows v) count ≡ true) ↔ IsSupported sets count place v
+    (v count : ℕ) → v < n → has_number values v ≡ true
+    → (has_number (slice_index shows v) count ≡ true) ↔ IsSupported sets count place v
 
 -- so for all of the values
 abbrev pub AreCountsOf : List ℕ → ℕ → ℕ → List ℕ → Type 0
 AreCountsOf sets place values shows =
-    (v count : ℕ) → has_number values v ≡ true → (has_number (slice_index shows v) count ≡ true) ↔ IsSupported sets count place v
+    (v count : ℕ) → has_number values v ≡ true
+    → (has_number (slice_index shows v) count ≡ true) ↔ IsSupported sets count place v
 
 -- for each count below a number, at its own index, the values of each place that fillings with the count have there
 abbrev pub AreKeptBelow : List ℕ → ℕ → List (List ℕ) → Type 0
 AreKeptBelow sets n rows =
-    (count place value : ℕ) → 1 ≤ count → count < n → (has_number (slice_index (slice_index_or rows count []) place) value ≡ true) ↔ IsSupported sets count place value
+    (count place value : ℕ) → 1 ≤ count → count < n
+    → (has_number (slice_index (slice_index_or rows count []) place) value ≡ true)
+    ↔ IsSupported sets count place value
 
 -- so for each count that a row of this width can show, where they were found
 abbrev pub AreListed : ℕ → List ℕ → Option (List (List ℕ)) → Type 0

@@ -2,9 +2,8 @@
 use Rattle.std.specs.Prelude.{ℕ, ◌*◌, ◌<◌, List}
 use Rattle.latin_board.specs.Squares.{GridValue}
 use Rattle.trail_solver.specs.Candidates.{CandidatesValue}
-use Rattle.named_steps.specs.Left.{IsLeft}
+use Rattle.clue_rules.specs.Left.{IsLeft}
 use Rattle.named_steps.specs.Chains.{StepValue, IsGoalOf, IsView, Shows, IsTight}
-use Rattle.named_steps.specs.declared.reason.Reason.{Reason}
 use Rattle.named_steps.specs.declared.grade.Grade.{Grade}
 use Rattle.named_steps.specs.declared.grade.Grade.TheVariants.{Hard}
 use Rattle.named_steps.specs.declared.goal.Goal.{Goal}
@@ -17,6 +16,7 @@ use Rattle.step_chains.specs.declared.kinds.Sought.TheVariants.{NumberShown, Squ
 use Rattle.step_chains.specs.Explanations.{IsRefutedGrid, NothingIsShown}
 use Rattle.step_chains.specs.NextHints.{NoneBelowShows, NoneBelowRefutes, IsForcedSquare}
 use Rattle.step_chains.specs.Inner.Goals.{IsOpen, IsOpenShown, IsShownByAll}
+use Rattle.clue_rules.specs.Reasons.{Striking}
 
 -- the goal that an aim stands for: where nothing is left of a square, nothing but 0 is
 abbrev pub aim_goal : Aim → Goal
@@ -29,7 +29,8 @@ IsAimOf w (Number goal) = IsGoalOf w goal
 IsAimOf w (Nothing cell) = cell < w * w
 
 -- from what is in view of the grid the steps come to the goal, and none of them can be left out
-pub record IsReached (Struck : CandidatesValue → Reason → ℕ → ℕ → Type 0) (grade : Grade) (g : GridValue) (steps : List StepValue) (goal : Goal) : Type 0 where
+pub record IsReached (Struck : Striking) (grade : Grade) (g : GridValue) (steps : List StepValue)
+    (goal : Goal) : Type 0 where
   pub view : CandidatesValue
   pub in_view : IsView g view
   pub shows : Shows Struck grade view steps goal
@@ -61,25 +62,25 @@ IsFound SquareEmptied g c (Number goal) = ⊥
 IsFound SquareEmptied g c (Nothing cell) = IsEmpty c cell
 
 -- no steps show a number of an empty square, none refute the grid's numbers, and no square is forced
-pub record LeadNowhere (Struck : CandidatesValue → Reason → ℕ → ℕ → Type 0) (g : GridValue) : Type 0 where
+pub record LeadNowhere (Struck : Striking) (g : GridValue) : Type 0 where
   pub shown : NothingIsShown Struck Hard g
   pub holds : IsRefutedGrid Struck Hard g → ⊥
   pub forced : (cell : ℕ) → IsForcedSquare Struck g cell → ⊥
 
 -- all steps of the hardest grade come to the aim: a square is left nothing; or no square is, and a number of an empty
 -- one is shown
-abbrev pub IsFirstAim : (CandidatesValue → Reason → ℕ → ℕ → Type 0) → GridValue → Aim → Type 0
+abbrev pub IsFirstAim : Striking → GridValue → Aim → Type 0
 IsFirstAim Struck g (Number goal) = IsOpen g goal × IsShownByAll Struck Hard g goal × (IsRefutedGrid Struck Hard g → ⊥)
 IsFirstAim Struck g (Nothing cell) = (cell < g.size * g.size) × IsShownByAll Struck Hard g (OnlyValue cell 0)
 
 -- all steps of the grade come to the aim, those of no grade below to one of its kind, and where it is a number no steps
 -- refute the grid's
-abbrev pub IsLeastBy : (CandidatesValue → Reason → ℕ → ℕ → Type 0) → GridValue → Grade → Aim → Type 0
+abbrev pub IsLeastBy : Striking → GridValue → Grade → Aim → Type 0
 IsLeastBy Struck g grade (Number goal) =
     IsOpen g goal × IsShownByAll Struck grade g goal × NoneBelowShows Struck grade g × (IsRefutedGrid Struck Hard g → ⊥)
 IsLeastBy Struck g grade (Nothing cell) =
     (cell < g.size * g.size) × IsShownByAll Struck grade g (OnlyValue cell 0) × NoneBelowRefutes Struck grade g
 
 -- the same of both together
-abbrev pub IsLeastAim : (CandidatesValue → Reason → ℕ → ℕ → Type 0) → GridValue → LeastAim → Type 0
+abbrev pub IsLeastAim : Striking → GridValue → LeastAim → Type 0
 IsLeastAim Struck g least = IsLeastBy Struck g least.grade least.aim

@@ -4,9 +4,9 @@ use Rattle.latin_board.specs.Squares.{GridValue, number_at}
 use Rattle.trail_solver.specs.Candidates.{CandidatesValue}
 use Rattle.named_steps.specs.Chains.{IsGoalOf, IsShown, IsView, goal_cell}
 use Rattle.named_steps.specs.Following.{IsClosure}
-use Rattle.named_steps.specs.declared.reason.Reason.{Reason}
 use Rattle.named_steps.specs.declared.grade.Grade.{Grade}
 use Rattle.named_steps.specs.declared.goal.Goal.{Goal}
+use Rattle.clue_rules.specs.Reasons.{Striking}
 
 -- the goal speaks of an empty square of the grid
 abbrev pub IsOpen : GridValue → Goal → Type 0
@@ -19,5 +19,6 @@ pub record IsOpenShown (g : GridValue) (c : CandidatesValue) (goal : Goal) : Typ
   pub shown : IsShown c goal
 
 -- all that the grade leaves of what is in view shows it
-abbrev pub IsShownByAll : (CandidatesValue → Reason → ℕ → ℕ → Type 0) → Grade → GridValue → Goal → Type 0
-IsShownByAll Struck grade g goal = (view d : CandidatesValue) → IsView g view → IsClosure Struck grade view d → IsShown d goal
+abbrev pub IsShownByAll : Striking → Grade → GridValue → Goal → Type 0
+IsShownByAll Struck grade g goal =
+    (view d : CandidatesValue) → IsView g view → IsClosure Struck grade view d → IsShown d goal

@@ -1,22 +1,23 @@
 -- Chains of a grade, and candidates that stand for what they leave.
 use Rattle.std.specs.Prelude.{◌≡◌, ℕ, true, List}
 use Rattle.trail_solver.specs.Candidates.{CandidatesValue}
-use Rattle.named_steps.specs.Left.{AreAlike}
+use Rattle.clue_rules.specs.Left.{AreAlike}
 use Rattle.named_steps.specs.Grades.{has_reason}
 use Rattle.named_steps.specs.Chains.{StepValue, IsStep, IsChain, AreOfGrade, left_by}
-use Rattle.named_steps.specs.declared.reason.Reason.{Reason}
 use Rattle.named_steps.specs.declared.grade.Grade.{Grade}
+use Rattle.clue_rules.specs.Reasons.{Striking}
 
 -- the step is one by the candidates, and of a kind that the grade has
-abbrev pub IsGradeStep : (CandidatesValue → Reason → ℕ → ℕ → Type 0) → Grade → CandidatesValue → StepValue → Type 0
+abbrev pub IsGradeStep : Striking → Grade → CandidatesValue → StepValue → Type 0
 IsGradeStep Struck grade c step = (has_reason grade step.reason ≡ true) × IsStep Struck c step
 
 -- the steps are a chain, each of a kind that the grade has
-abbrev pub IsGradeChain : (CandidatesValue → Reason → ℕ → ℕ → Type 0) → Grade → CandidatesValue → List StepValue → Type 0
+abbrev pub IsGradeChain : Striking → Grade → CandidatesValue → List StepValue → Type 0
 IsGradeChain Struck grade c steps = IsChain Struck c steps × AreOfGrade grade steps
 
 -- they are, and leave what is left of the second candidates
-pub record Leads (Struck : CandidatesValue → Reason → ℕ → ℕ → Type 0) (grade : Grade) (c : CandidatesValue) (steps : List StepValue) (d : CandidatesValue) : Type 0 where
+pub record Leads (Struck : Striking) (grade : Grade) (c : CandidatesValue) (steps : List StepValue)
+    (d : CandidatesValue) : Type 0 where
   pub chain : IsChain Struck c steps
   pub allowed : AreOfGrade grade steps
   pub size : d.size ≡ c.size

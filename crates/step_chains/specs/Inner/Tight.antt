@@ -4,36 +4,37 @@ use Rattle.number_sets.specs.Sets.{has_number}
 use Rattle.trail_solver.specs.Pairs.{has_pair}
 use Rattle.trail_solver.specs.Candidates.{CandidatesValue}
 use Rattle.named_steps.specs.Chains.{StepValue, Shows}
-use Rattle.named_steps.specs.declared.reason.Reason.{Reason}
 use Rattle.named_steps.specs.declared.grade.Grade.{Grade}
 use Rattle.named_steps.specs.declared.goal.Goal.{Goal}
 use Rattle.step_chains.specs.declared.chain.Step.{Step}
 use Rattle.step_chains.specs.ChainValues.{StrikesLess, step_value, steps_of}
+use Rattle.clue_rules.specs.Reasons.{Striking}
 
 -- no step from a place on can be left out
 abbrev pub IsTightFrom :
-    ℕ → (CandidatesValue → Reason → ℕ → ℕ → Type 0) → Grade → CandidatesValue → List StepValue → Goal → Type 0
+    ℕ → Striking → Grade → CandidatesValue → List StepValue → Goal → Type 0
 IsTightFrom place Struck grade c steps goal =
     (front back : List StepValue) (step : StepValue) → steps ≡ front ++ step ∷ back → place ≤ length front
     → Shows Struck grade c (front ++ back) goal → ⊥
 
 -- from a place on no step can strike less
 abbrev pub IsNeededFrom :
-    ℕ → (CandidatesValue → Reason → ℕ → ℕ → Type 0) → Grade → CandidatesValue → List StepValue → Goal → Type 0
+    ℕ → Striking → Grade → CandidatesValue → List StepValue → Goal → Type 0
 IsNeededFrom place Struck grade c steps goal =
     (front back : List StepValue) (step less : StepValue) (cell v : ℕ) → steps ≡ front ++ step ∷ back
     → place ≤ length front → StrikesLess cell v less step → Shows Struck grade c (front ++ less ∷ back) goal → ⊥
 
 -- the step at a place can't do without a value below this one
 abbrev pub IsNeededBelow :
-    ℕ → ℕ → (CandidatesValue → Reason → ℕ → ℕ → Type 0) → Grade → CandidatesValue → List StepValue → Goal → Type 0
+    ℕ → ℕ → Striking → Grade → CandidatesValue → List StepValue → Goal → Type 0
 IsNeededBelow value place Struck grade c steps goal =
     (front back : List StepValue) (step less : StepValue) (cell v : ℕ) → steps ≡ front ++ step ∷ back
-    → length front ≡ place → StrikesLess cell v less step → v < value → Shows Struck grade c (front ++ less ∷ back) goal → ⊥
+    → length front ≡ place → StrikesLess cell v less step → v < value → Shows Struck grade c (front ++ less ∷ back) goal
+    → ⊥
 
 -- it can't strike less
 abbrev pub IsNeededAt :
-    ℕ → (CandidatesValue → Reason → ℕ → ℕ → Type 0) → Grade → CandidatesValue → List StepValue → Goal → Type 0
+    ℕ → Striking → Grade → CandidatesValue → List StepValue → Goal → Type 0
 IsNeededAt place Struck grade c steps goal =
     (front back : List StepValue) (step less : StepValue) (cell v : ℕ) → steps ≡ front ++ step ∷ back
     → length front ≡ place → StrikesLess cell v less step → Shows Struck grade c (front ++ less ∷ back) goal → ⊥
@@ -45,7 +46,7 @@ pub record Lacks (value : ℕ) (step less : Step) : Type 0 where
   pub values : (n : ℕ) → (has_number less.values n ≡ true) ↔ ((has_number step.values n ≡ true) × (n ≢ value))
 
 -- the step at a place strikes no more than before, and can't do without the value; all others are as they were
-pub record IsLeftOut (Struck : CandidatesValue → Reason → ℕ → ℕ → Type 0) (grade : Grade)
+pub record IsLeftOut (Struck : Striking) (grade : Grade)
     (c : CandidatesValue) (place value : ℕ) (old new : List Step) (goal : Goal) : Type 0 where
   pub front : List Step
   pub back : List Step
@@ -61,14 +62,14 @@ pub record IsLeftOut (Struck : CandidatesValue → Reason → ℕ → ℕ → Ty
       → Shows Struck grade c (steps_of front ++ less ∷ steps_of back) goal → ⊥
 
 -- what is so of the steps while the numbers of one are left out
-pub record IsNarrowed (Struck : CandidatesValue → Reason → ℕ → ℕ → Type 0) (grade : Grade)
+pub record IsNarrowed (Struck : Striking) (grade : Grade)
     (c : CandidatesValue) (place value : ℕ) (steps : List Step) (goal : Goal) : Type 0 where
   pub tight : IsTightFrom (place + 1) Struck grade c (steps_of steps) goal
   pub needed : IsNeededFrom (place + 1) Struck grade c (steps_of steps) goal
   pub here : IsNeededBelow value place Struck grade c (steps_of steps) goal
 
 -- what is so of the steps once those from a place on are done
-pub record IsDoneFrom (Struck : CandidatesValue → Reason → ℕ → ℕ → Type 0) (grade : Grade)
+pub record IsDoneFrom (Struck : Striking) (grade : Grade)
     (c : CandidatesValue) (place : ℕ) (steps : List Step) (goal : Goal) : Type 0 where
   pub inside : place ≤ length steps
   pub shows : Shows Struck grade c (steps_of steps) goal

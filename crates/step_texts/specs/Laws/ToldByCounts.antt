@@ -4,22 +4,25 @@ use Rattle.clue_rules.specs.Towers.{TowersValue, clue_of}
 use Rattle.clue_rules.specs.Unequal.{UnequalValue}
 use Rattle.clue_rules.proofs.LineSquares.{view_cell_once}
 use Rattle.trail_solver.specs.Candidates.{CandidatesValue}
-use Rattle.named_steps.specs.Left.{IsLeft}
-use Rattle.named_steps.specs.Fillings.{Anything, Standing, IsUnfilled}
-use Rattle.named_steps.specs.Reasons.{IsTowersStruckBy, IsUnequalStruckBy}
-use Rattle.named_steps.specs.declared.reason.Reason.{Reason}
-use Rattle.named_steps.specs.declared.reason.Reason.TheVariants.{Given, Peer, Place, Bound, Stand, Clue, Sign, Set}
+use Rattle.clue_rules.specs.Left.{IsLeft}
+use Rattle.clue_rules.specs.Fillings.{Anything, Standing, IsUnfilled}
+use Rattle.clue_rules.specs.Reasons.{IsTowersStruckBy, IsUnequalStruckBy}
+use Rattle.clue_rules.specs.declared.reason.Reason.{Reason}
+use Rattle.clue_rules.specs.declared.reason.Reason.TheVariants.{Given, Peer, Place, Bound, Stand, Clue, Sign, Set}
 use Rattle.shown_counts.specs.Shown.{IsShown, IsShownBy}
 use Rattle.step_texts.specs.Told.{clue_at, IsSeenFrom, IsInView}
 
 -- no line shows the clue with a value there that none of its lines has there
-unfilled_unshown : (w : ℕ) (May : ℕ → ℕ → Type 0) (place clue cell value : ℕ) → IsUnfilled w May place clue cell value → IsShown w May place cell value clue → ⊥
+unfilled_unshown : (w : ℕ) (May : ℕ → ℕ → Type 0) (place clue cell value : ℕ) → IsUnfilled w May place clue cell value
+    → IsShown w May place cell value clue → ⊥
 unfilled_unshown w May place clue cell value u s =
-    let same : u.index ≡ s.index = view_cell_once w place u.index s.index s.edge u.inside s.inside (u.here ∙ sym s.here) in
+    let same : u.index ≡ s.index =
+    view_cell_once w place u.index s.index s.edge u.inside s.inside (u.here ∙ sym s.here) in
     u.none s.line s.filling (ap (slice_index s.line) same ∙ s.there)
 
 -- and where none shows the clue with the value there, none of its lines has it there
-unshown_unfilled : (w : ℕ) (May : ℕ → ℕ → Type 0) (place clue cell value : ℕ) → IsSeenFrom w place cell → (IsShown w May place cell value clue → ⊥)
+unshown_unfilled : (w : ℕ) (May : ℕ → ℕ → Type 0) (place clue cell value : ℕ) → IsSeenFrom w place cell
+    → (IsShown w May place cell value clue → ⊥)
     → IsUnfilled w May place clue cell value
 unshown_unfilled w May place clue cell value seen none = record {
   index = seen.index;
@@ -36,22 +39,28 @@ unshown_unfilled w May place clue cell value seen none = record {
   });
 }
 
-pub towers_unshown : (v : TowersValue) (c : CandidatesValue) (reason : Reason) (cell value : ℕ) → c.size ≡ v.size → IsTowersStruckBy v c reason cell value
+pub towers_unshown : (v : TowersValue) (c : CandidatesValue) (reason : Reason) (cell value : ℕ) → c.size ≡ v.size
+    → IsTowersStruckBy v c reason cell value
     → IsShownBy c reason cell value (clue_at (clue_of v) reason) → ⊥
 towers_unshown v c (Given at) cell value size h s = s
 towers_unshown v c (Peer by) cell value size h s = s
 towers_unshown v c (Place line index other) cell value size h s = s
 towers_unshown v c (Bound place) cell value size h s =
-    unfilled_unshown v.size Anything place (clue_of v place) cell value h.unfilled (subst (λ w. IsShown w Anything place cell value (clue_of v place)) size s)
+    unfilled_unshown v.size Anything place (clue_of v place) cell value h.unfilled
+    (subst (λ w. IsShown w Anything place cell value (clue_of v place)) size s)
 towers_unshown v c (Stand place) cell value size h s =
-    unfilled_unshown v.size (Standing c) place (clue_of v place) cell value h.unfilled (subst (λ w. IsShown w (Standing c) place cell value (clue_of v place)) size s)
+    unfilled_unshown v.size (Standing c) place (clue_of v place) cell value h.unfilled
+    (subst (λ w. IsShown w (Standing c) place cell value (clue_of v place)) size s)
 towers_unshown v c (Clue place) cell value size h s =
-    unfilled_unshown v.size (IsLeft c) place (clue_of v place) cell value h.unfilled (subst (λ w. IsShown w (IsLeft c) place cell value (clue_of v place)) size s)
+    unfilled_unshown v.size (IsLeft c) place (clue_of v place) cell value h.unfilled
+    (subst (λ w. IsShown w (IsLeft c) place cell value (clue_of v place)) size s)
 towers_unshown v c (Sign from to) cell value size h s = s
 towers_unshown v c (Set line squares values) cell value size h s = s
 
-pub towers_told : (v : TowersValue) (c : CandidatesValue) (reason : Reason) (cell value : ℕ) → c.size ≡ v.size → 0 < clue_at (clue_of v) reason
-    → IsInView v.size reason cell → (IsShownBy c reason cell value (clue_at (clue_of v) reason) → ⊥) → IsTowersStruckBy v c reason cell value
+pub towers_told : (v : TowersValue) (c : CandidatesValue) (reason : Reason) (cell value : ℕ) → c.size ≡ v.size
+    → 0 < clue_at (clue_of v) reason
+    → IsInView v.size reason cell → (IsShownBy c reason cell value (clue_at (clue_of v) reason) → ⊥)
+    → IsTowersStruckBy v c reason cell value
 towers_told v c (Given at) cell value size some seen none = absurd seen
 towers_told v c (Peer by) cell value size some seen none = absurd seen
 towers_told v c (Place line index other) cell value size some seen none = absurd seen
@@ -77,7 +86,8 @@ towers_told v c (Sign from to) cell value size some seen none = absurd seen
 towers_told v c (Set line squares values) cell value size some seen none = absurd seen
 
 -- in Unequal no clue strikes
-pub unequal_unshown : (v : UnequalValue) (c : CandidatesValue) (reason : Reason) (cell value : ℕ) → c.size ≡ v.size → IsUnequalStruckBy v c reason cell value
+pub unequal_unshown : (v : UnequalValue) (c : CandidatesValue) (reason : Reason) (cell value : ℕ) → c.size ≡ v.size
+    → IsUnequalStruckBy v c reason cell value
     → IsShownBy c reason cell value (clue_at (λ _. zero) reason) → ⊥
 unequal_unshown v c (Given at) cell value size h s = s
 unequal_unshown v c (Peer by) cell value size h s = s
@@ -98,6 +108,8 @@ no_clue (Clue place) some = omega (arith, some)
 no_clue (Sign from to) some = omega (arith, some)
 no_clue (Set line squares values) some = omega (arith, some)
 
-pub unequal_told : (v : UnequalValue) (c : CandidatesValue) (reason : Reason) (cell value : ℕ) → c.size ≡ v.size → 0 < clue_at (λ _. zero) reason
-    → IsInView v.size reason cell → (IsShownBy c reason cell value (clue_at (λ _. zero) reason) → ⊥) → IsUnequalStruckBy v c reason cell value
+pub unequal_told : (v : UnequalValue) (c : CandidatesValue) (reason : Reason) (cell value : ℕ) → c.size ≡ v.size
+    → 0 < clue_at (λ _. zero) reason
+    → IsInView v.size reason cell → (IsShownBy c reason cell value (clue_at (λ _. zero) reason) → ⊥)
+    → IsUnequalStruckBy v c reason cell value
 unequal_told v c reason cell value size some seen none = absurd (no_clue reason some)

@@ -1,4 +1,5 @@
--- Words that stand for lines, bit i for the i-th of them: a place has one for each value, from 1 on, of the lines that have the value there.
+-- Words that stand for lines, bit i for the i-th of them: a place has one for each value, from 1 on, of the lines that
+-- have the value there.
 use Rattle.std.specs.Prelude.{◌≡◌, ℕ, ◌+◌, ◌<◌, true, List, [], slice_index, slice_index_or}
 use Rattle.number_sets.specs.Sets.{has_number}
 
@@ -11,7 +12,8 @@ pub record HasCandidate (having : List ℕ) (set count line : ℕ) : Type 0 wher
 
 -- at each of so many places the line has a candidate
 abbrev pub IsWithin : List (List ℕ) → List ℕ → ℕ → ℕ → Type 0
-IsWithin having sets count line = (place : ℕ) → place < count → HasCandidate (slice_index_or having place []) (slice_index sets place) 5 line
+IsWithin having sets count line =
+    (place : ℕ) → place < count → HasCandidate (slice_index_or having place []) (slice_index sets place) 5 line
 
 -- at the place of these words one of the lines has the value, one of so many
 pub record IsKept (having : List ℕ) (lines count value : ℕ) : Type 0 where

@@ -1,7 +1,9 @@
--- Starts of a line by levels: how many towers they show, and which values they have but for the greatest of all, of the line's length, and
--- the least, 1. Nothing after the greatest value is seen, so a start has it just where it shows all the towers of the clue: that is the last level.
--- And whether a start has the least value is told by how many values it has.
-use Rattle.std.specs.Prelude.{◌≡◌, ℕ, ◌+◌, ◌^◌, ◌<◌, ◌≤◌, ◌⊎◌, ◌↔◌, true, false, ◌&&◌, Bool, nat_lt, List, ◌++◌, length, ◌==◌, count_ones}
+-- Starts of a line by levels: how many towers they show, and which values they have but for the greatest of all, of the
+-- line's length, and the least, 1. Nothing after the greatest value is seen, so a start has it just where it shows all
+-- the towers of the clue: that is the last level. And whether a start has the least value is told by how many values it
+-- has.
+use Rattle.std.specs.Prelude.{◌≡◌, ℕ, ◌+◌, ◌^◌, ◌<◌, ◌≤◌, ◌⊎◌, ◌↔◌, true, false, ◌&&◌, Bool, nat_lt, List, ◌++◌, length}
+use Rattle.std.specs.Prelude.{◌==◌, count_ones}
 use Rattle.number_sets.specs.Sets.{has_number}
 use Rattle.tower_lines.specs.TowersSeen.{seen}
 use Rattle.tower_lines.specs.LineFillings.{IsStart, IsFilling}
@@ -27,14 +29,18 @@ pub record IsLastStep (width clue k level mask level_then mask_then : ℕ) : Typ
   pub after : level_then ≡ clue
   pub same : mask_then ≡ mask
 
--- a start at the level with so many values lacks the least one: its mask has all of them but for the greatest, which it has at the last level
+-- a start at the level with so many values lacks the least one: its mask has all of them but for the greatest, which it
+-- has at the last level
 abbrev pub LacksLeast : ℕ → ℕ → ℕ → ℕ → Type 0
-LacksLeast place clue level mask = ((level < clue) × (count_ones mask ≡ place)) ⊎ ((level ≡ clue) × (count_ones mask + 1 ≡ place))
+LacksLeast place clue level mask =
+    ((level < clue) × (count_ones mask ≡ place)) ⊎ ((level ≡ clue) × (count_ones mask + 1 ≡ place))
 
--- how the least value leads from a level of starts with so many values that lack it to another: it is seen where it is the first, and else hidden
+-- how the least value leads from a level of starts with so many values that lack it to another: it is seen where it is
+-- the first, and else hidden
 pub data IsLeastMove (place clue level mask level_then : ℕ) : Type 0 where
   First : place ≡ 0 → level_then ≡ level + 1 → level_then < clue → IsLeastMove place clue level mask level_then
-  Later : 0 < place → level_then ≡ level → LacksLeast place clue level mask → IsLeastMove place clue level mask level_then
+  Later : 0 < place → level_then ≡ level → LacksLeast place clue level mask
+      → IsLeastMove place clue level mask level_then
 
 -- the least value leads to the same mask
 pub record IsLeastStep (place width clue k level mask level_then mask_then : ℕ) : Type 0 where
@@ -43,7 +49,8 @@ pub record IsLeastStep (place width clue k level mask level_then mask_then : ℕ
   pub same : mask_then ≡ mask
   pub moves : IsLeastMove place clue level mask level_then
 
--- how a value between them leads from one level to another: it is seen where it is above all of the mask, at any level but the last
+-- how a value between them leads from one level to another: it is seen where it is above all of the mask, at any level
+-- but the last
 pub data IsMove (clue bit level mask level_then : ℕ) : Type 0 where
   Within : level ≡ clue → level_then ≡ clue → IsMove clue bit level mask level_then
   Hidden : level < clue → 2 ^ bit ≤ mask → level_then ≡ level → IsMove clue bit level mask level_then
@@ -58,14 +65,18 @@ pub record IsLowStep (width clue bit level mask level_then mask_then : ℕ) : Ty
 
 -- the value k + 1 leads from a level and mask of starts with so many values to others
 pub data IsStep (place width clue k level mask level_then mask_then : ℕ) : Type 0 where
-  Greatest : IsLastStep width clue k level mask level_then mask_then → IsStep place width clue k level mask level_then mask_then
-  Least : IsLeastStep place width clue k level mask level_then mask_then → IsStep place width clue k level mask level_then mask_then
-  Between : (bit : ℕ) → k ≡ bit + 1 → IsLowStep width clue bit level mask level_then mask_then → IsStep place width clue k level mask level_then mask_then
+  Greatest : IsLastStep width clue k level mask level_then mask_then
+      → IsStep place width clue k level mask level_then mask_then
+  Least : IsLeastStep place width clue k level mask level_then mask_then
+      → IsStep place width clue k level mask level_then mask_then
+  Between : (bit : ℕ) → k ≡ bit + 1 → IsLowStep width clue bit level mask level_then mask_then
+      → IsStep place width clue k level mask level_then mask_then
 
 -- the levels have the masks of all starts with so many values, and no other
 abbrev pub AreReached : List ℕ → ℕ → ℕ → List (List ℕ) → Type 0
 AreReached sets clue place levels = (level mask : ℕ)
-    → (has_at levels level mask ≡ true) ↔ ((line : List ℕ) × (length line ≡ place) × IsAtLevel sets clue level mask line)
+    → (has_at levels level mask ≡ true)
+    ↔ ((line : List ℕ) × (length line ≡ place) × IsAtLevel sets clue level mask line)
 
 -- the levels have the masks of the starts with so many values that some filling begins with, and of no other start
 pub record AreContinued (sets : List ℕ) (clue place : ℕ) (levels : List (List ℕ)) : Type 0 where
@@ -81,11 +92,13 @@ pub record IsLinked (Link : ℕ → ℕ → Type 0) (levels : List (List ℕ)) :
 
 -- the value leads from the levels to the mask at the level
 abbrev pub IsReachedBy : ℕ → ℕ → ℕ → ℕ → List (List ℕ) → ℕ → ℕ → Type 0
-IsReachedBy place width clue k levels level_then mask_then = IsLinked (λ level mask. IsStep place width clue k level mask level_then mask_then) levels
+IsReachedBy place width clue k levels level_then mask_then =
+    IsLinked (λ level mask. IsStep place width clue k level mask level_then mask_then) levels
 
 -- the value leads from the mask at the level to the levels
 abbrev pub LeadsTo : ℕ → ℕ → ℕ → ℕ → List (List ℕ) → ℕ → ℕ → Type 0
-LeadsTo place width clue k levels level mask = IsLinked (λ level_then mask_then. IsStep place width clue k level mask level_then mask_then) levels
+LeadsTo place width clue k levels level mask =
+    IsLinked (λ level_then mask_then. IsStep place width clue k level mask level_then mask_then) levels
 
 -- a mask of the level that is in the set too
 pub record IsCommon (levels : List (List ℕ)) (set : List ℕ) (level mask : ℕ) : Type 0 where
@@ -94,15 +107,16 @@ pub record IsCommon (levels : List (List ℕ)) (set : List ℕ) (level mask : �
 
 -- the new levels have the masks of the old ones and those that are added, and no other
 abbrev pub AreAdded : (ℕ → ℕ → Type 0) → List (List ℕ) → List (List ℕ) → Type 0
-AreAdded Added old new = (level mask : ℕ) → (has_at new level mask ≡ true) ↔ ((has_at old level mask ≡ true) ⊎ Added level mask)
+AreAdded Added old new =
+    (level mask : ℕ) → (has_at new level mask ≡ true) ↔ ((has_at old level mask ≡ true) ⊎ Added level mask)
 
 -- the same, and it is told whether any are added
 pub record AreNoted (Added : ℕ → ℕ → Type 0) (old new : List (List ℕ)) (told : Bool) : Type 0 where
   pub added : AreAdded Added old new
   pub some : (told ≡ true) ↔ ((level : ℕ) × (mask : ℕ) × Added level mask)
 
--- what a start with so many values shows: no more towers than values, and one at least where it has a value. It has one where its mask has one, and
--- at the last level, where it has the greatest.
+-- what a start with so many values shows: no more towers than values, and one at least where it has a value. It has one
+-- where its mask has one, and at the last level, where it has the greatest.
 pub record IsFew (clue place level mask : ℕ) : Type 0 where
   pub most : level ≤ place
   pub least : 0 < place → 0 < level

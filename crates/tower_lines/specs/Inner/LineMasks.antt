@@ -10,7 +10,8 @@ is_in value line = list_any (λ x. x == value) line
 -- whether the value can stand at the place: from 1 to the length, a candidate there, and not used
 abbrev pub can_be : List ℕ → ℕ → ℕ → ℕ → Bool
 can_be sets place used value =
-    nat_le 1 value && (nat_le value (length sets) && (has_number (slice_index sets place) value && not (has_number used value)))
+    nat_le 1 value
+    && (nat_le value (length sets) && (has_number (slice_index sets place) value && not (has_number used value)))
 
 -- the list's values are those of the mask, whose bit k stands for k + 1
 pub record IsMask (mask : ℕ) (line : List ℕ) : Type 0 where

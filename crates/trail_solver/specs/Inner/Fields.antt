@@ -1,5 +1,6 @@
 -- What holds of the fields of `Candidates`: the sets say what the trail says.
-use Rattle.std.specs.Prelude.{◌≡◌, ℕ, ◌*◌, ◌^◌, ◌<◌, ◌≤◌, ◌==◌, nat_le, Bool, true, false, not, ◌&&◌, if◌then◌else◌, List, length, slice_index, take, All}
+use Rattle.std.specs.Prelude.{◌≡◌, ℕ, ◌*◌, ◌^◌, ◌<◌, ◌≤◌, ◌==◌, nat_le, Bool, true, false, not, ◌&&◌, if◌then◌else◌}
+use Rattle.std.specs.Prelude.{List, length, slice_index, take, All}
 use Rattle.std.specs.List.{flat_map}
 use Rattle.latin_board.specs.declared.grid.TheConstants.{CELLS}
 use Rattle.number_sets.specs.Sets.{has_number, IsEmpty, IsSubset}
@@ -39,7 +40,8 @@ pub record AreFields (size : ℕ) (sets : List ℕ) (removals : List Removal) (p
 pub record FlipsSet (old new : List ℕ) (cell set : ℕ) : Type 0 where
   pub places : length new ≡ length old
   pub values : (c v : ℕ) → has_number (slice_index new c) v
-      ≡ (if (c == cell) && has_number set v then not (has_number (slice_index old c) v) else has_number (slice_index old c) v)
+      ≡ (if (c == cell) && has_number set v then not (has_number (slice_index old c) v)
+      else has_number (slice_index old c) v)
 
 -- some numbers of a set, and all that are greater than one of them
 pub record IsUpperPart (set part : ℕ) : Type 0 where

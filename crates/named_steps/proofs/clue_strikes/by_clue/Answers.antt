@@ -3,7 +3,7 @@ use Rattle.std.proofs.Common.{ℕ, ◌≡◌, ◌<◌, ◌≤◌, ◌↔◌, tru
 use Rattle.number_sets.specs.Sets.{has_number}
 use Rattle.trail_solver.specs.Pairs.{IsPair}
 use Rattle.clue_rules.specs.Views.{view_cell}
-use Rattle.named_steps.specs.Fillings.{IsUnfilled}
+use Rattle.clue_rules.specs.Fillings.{IsUnfilled}
 use Rattle.named_steps.specs.Inner.Rows.{May}
 use Rattle.named_steps.proofs.clue_strikes.by_clue.Goals as goal
 

@@ -1,4 +1,4 @@
-use Rattle.named_steps.specs.Left.{IsLeft}
+use Rattle.clue_rules.specs.Left.{IsLeft}
 use Rattle.named_steps.specs.Inner.Rows.{AreMaySets}
 use Rattle.named_steps.proofs.clue_strikes.left_row.Given as goal
 

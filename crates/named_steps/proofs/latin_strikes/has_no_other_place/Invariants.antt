@@ -1,6 +1,6 @@
 use Rattle.std.proofs.Common.{◌≡◌, ℕ, ◌<◌}
 use Rattle.latin_board.specs.Lines.{line_cell}
-use Rattle.named_steps.specs.Left.{IsLeft}
+use Rattle.clue_rules.specs.Left.{IsLeft}
 use Rattle.named_steps.proofs.latin_strikes.has_no_other_place.Given as goal
 
 abbrev pub invariant-loop-k : goal.invariant-loop-k

@@ -1,21 +1,24 @@
 use Rattle.std.proofs.Common.{◌≡◌, ℕ, ◌<◌, true, slice_index}
 use Rattle.number_sets.specs.Sets.{has_number}
 use Rattle.latin_board.specs.Lines.{line_cell}
-use Rattle.named_steps.specs.Left.{IsLeft}
-use Rattle.named_steps.specs.Inner.LineStrikes.{IsLeftByRest}
+use Rattle.clue_rules.specs.Left.{IsLeft}
+use Rattle.clue_rules.specs.LineStrikes.{IsLeftByRest}
 use Rattle.named_steps.proofs.LinePasses.{void_struck}
-use Rattle.named_steps.proofs.Takes.{takes_map}
+use Rattle.clue_rules.proofs.Takes.{takes_map}
 use Rattle.named_steps.proofs.line_passes.strike_all.Goals as goal
 
-pub returns-clause-takes : goal.returns-clause-takes
-returns-clause-takes c =
+pub returns : goal.returns
+returns c =
     let old = c.args.candidates.now in
     let line = c.args.line in
     let sets = c.line_sets-sets.result in
-    takes_map (λ cell v. (k : ℕ) × (k < old.size) × (cell ≡ line_cell old.size line k) × (has_number (slice_index sets k) v ≡ true))
-    (λ cell v. (k : ℕ) × (k < old.size) × (cell ≡ line_cell old.size line k) × IsLeftByRest old line k v) old c.strike_row.new.candidates
-    (λ cell v h.
-    let is = (c.line_sets-sets.ensures.each h.0 h.1 v).0 h.3 in
-    let left : IsLeft old (line_cell old.size line h.0) v = record { pair = is.0; may = is.1 } in
-    (h.0, h.1, h.2, (void_struck line h.0 v old c.requires.void h.1 left, left)))
-    (λ cell v pair h. (h.0, h.1, h.2, (c.line_sets-sets.ensures.each h.0 h.1 v).1 (h.3.1.pair, h.3.1.may))) c.strike_row.ensures.takes
+    record {
+      takes = takes_map (λ cell v. (k : ℕ) × (k < old.size) × (cell ≡ line_cell old.size line k) × (has_number (slice_index sets k) v ≡ true))
+          (λ cell v. (k : ℕ) × (k < old.size) × (cell ≡ line_cell old.size line k) × IsLeftByRest old line k v) old c.strike_row.new.candidates
+          (λ cell v h.
+          let is = (c.line_sets-sets.ensures.each h.0 h.1 v).0 h.3 in
+          let left : IsLeft old (line_cell old.size line h.0) v = record { pair = is.0; may = is.1 } in
+          (h.0, h.1, h.2, (void_struck line h.0 v old c.requires.void h.1 left, left)))
+          (λ cell v pair h. (h.0, h.1, h.2, (c.line_sets-sets.ensures.each h.0 h.1 v).1 (h.3.1.pair, h.3.1.may))) c.strike_row.ensures.takes;
+      changed = c.strike_row.ensures.changed;
+    }

@@ -1,49 +1,36 @@
-use Rattle.std.proofs.Common.{◌≡◌, ℕ, ◌*◌, ◌<◌, length, sym, ap, ◌∙◌, subst}
-use Rattle.number_sets.specs.Sets.{has_number, IsEmpty}
-use Rattle.number_sets.proofs.Members.{has_number-none}
-use Rattle.latin_board.specs.Lines.{line_cell}
+use Rattle.std.proofs.Common.{◌≡◌, ℕ, ◌*◌, ◌<◌, length, sym, ap, subst}
+use Rattle.number_sets.specs.Sets.{IsEmpty}
 use Rattle.trail_solver.specs.Candidates.{CandidatesValue}
-use Rattle.named_steps.specs.Reasons.{IsByLine}
-use Rattle.named_steps.specs.Inner.LineStrikes.{IsLeftByRest, IsRestQuiet}
-use Rattle.named_steps.specs.Inner.Takes.{Takes}
-use Rattle.named_steps.specs.Inner.WaitingLines.{AreChanged}
+use Rattle.clue_rules.specs.LineStrikes.{IsRestQuiet, StrikesRest}
 use Rattle.named_steps.proofs.LinePasses.{rest_pass}
-use Rattle.named_steps.proofs.Takes.{leads_none}
-use Rattle.named_steps.proofs.WaitingLines.{changed_none}
-use Rattle.named_steps.specs.declared.grade.Grade.TheVariants.{Latin}
 use Rattle.named_steps.proofs.line_passes.strike_line.Goals as goal
+use Rattle.named_steps.proofs.line_passes.strike_line.Goals.{After-strike_all}
 
 -- where nothing went, the squares strike nothing more
-quiet_where_same : (line : ℕ) (old new : CandidatesValue) (places : ℕ) → line < 2 * old.size
-    → Takes (λ cell v. (k : ℕ) × (k < old.size) × (cell ≡ line_cell old.size line k) × IsLeftByRest old line k v) old new
-    → AreChanged line places old new → IsEmpty places → IsRestQuiet line new
-quiet_where_same line old new places line_is takes changed none =
-    let same : new ≡ old = changed.same none in
+quiet_where_same : (line places : ℕ) (old new : CandidatesValue) → line < 2 * old.size → StrikesRest line places old new → IsEmpty places
+    → IsRestQuiet line new
+quiet_where_same line places old new line_is h none =
+    let same : new ≡ old = h.changed.same none in
     subst (λ (d : CandidatesValue). IsRestQuiet line d) (sym same)
-    ((rest_pass line old new line_is takes).quiet (ap (λ (d : CandidatesValue). length d.trail) same))
+    ((rest_pass line old new line_is h.takes).quiet (ap (λ (d : CandidatesValue). length d.trail) same))
 
-pub returns-then-is_still-clause-leads : goal.returns-then-is_still-clause-leads
-returns-then-is_still-clause-leads c = leads_none (IsByLine c.args.candidates.now.size) Latin c.args.candidates.now
+-- all of a line is struck that is left as it was
+void_struck : (c : After-strike_all) → StrikesRest c.args.line c.strike_all.result c.args.candidates.now c.strike_all.new.candidates
+void_struck c =
+    subst (λ (d : CandidatesValue). StrikesRest c.args.line c.strike_all.result d c.strike_all.new.candidates) c.in-Err-Void.ensures.same
+    c.strike_all.ensures
 
-pub returns-then-is_still-clause-changed : goal.returns-then-is_still-clause-changed
-returns-then-is_still-clause-changed c =
-    changed_none c.args.line c.empty.result c.args.candidates.now (λ k. ap (λ (n : ℕ). has_number n k) c.empty.ensures ∙ has_number-none k)
+pub returns-in-Ok-clause-leads : goal.returns-in-Ok-clause-leads
+returns-in-Ok-clause-leads c = (rest_pass c.args.line c.args.candidates.now c.strike_line.new.candidates c.requires c.in-Ok.ensures.ok.takes).leads
 
-pub returns-then-is_still-clause-quiet : goal.returns-then-is_still-clause-quiet
-returns-then-is_still-clause-quiet c = λ none. c.if-is_still.ensures c.args.candidates.now c.args.line c.requires c.of_line-tally.ensures
+pub returns-in-Ok-clause-quiet : goal.returns-in-Ok-clause-quiet
+returns-in-Ok-clause-quiet c =
+    quiet_where_same c.args.line c.in-Ok.places c.args.candidates.now c.strike_line.new.candidates c.requires c.in-Ok.ensures.ok
 
-pub returns-clause-leads : goal.returns-clause-leads
-returns-clause-leads c =
-    (rest_pass c.args.line c.args.candidates.now c.strike_tallied.new.candidates c.requires c.strike_tallied.ensures.takes).leads
+pub returns-in-Err-Void-clause-leads : goal.returns-in-Err-Void-clause-leads
+returns-in-Err-Void-clause-leads c =
+    (rest_pass c.args.line c.args.candidates.now c.strike_all.new.candidates c.requires (void_struck c).takes).leads
 
-pub returns-clause-quiet : goal.returns-clause-quiet
-returns-clause-quiet c =
-    quiet_where_same c.args.line c.args.candidates.now c.strike_tallied.new.candidates _ c.requires c.strike_tallied.ensures.takes c.strike_tallied.ensures.changed
-
-pub returns-then-not-is_whole-clause-leads : goal.returns-then-not-is_whole-clause-leads
-returns-then-not-is_whole-clause-leads c =
-    (rest_pass c.args.line c.args.candidates.now c.strike_all.new.candidates c.requires c.strike_all.ensures.takes).leads
-
-pub returns-then-not-is_whole-clause-quiet : goal.returns-then-not-is_whole-clause-quiet
-returns-then-not-is_whole-clause-quiet c =
-    quiet_where_same c.args.line c.args.candidates.now c.strike_all.new.candidates _ c.requires c.strike_all.ensures.takes c.strike_all.ensures.changed
+pub returns-in-Err-Void-clause-quiet : goal.returns-in-Err-Void-clause-quiet
+returns-in-Err-Void-clause-quiet c =
+    quiet_where_same c.args.line c.strike_all.result c.args.candidates.now c.strike_all.new.candidates c.requires (void_struck c)

@@ -3,10 +3,9 @@ use Rattle.std.proofs.lemmas.Grind.{get_or_default_zero}
 use Rattle.number_sets.specs.Sets.{has_number}
 use Rattle.number_sets.proofs.Members.{has_number-none}
 use Rattle.latin_board.specs.Lines.{line_cell}
-use Rattle.named_steps.specs.Inner.Takes.{Strikes}
-use Rattle.named_steps.specs.Inner.WaitingLines.{AreChanged}
-use Rattle.named_steps.proofs.Takes.{takes_none, takes_next, takes_length}
-use Rattle.named_steps.proofs.WaitingLines.{changed_none, changed_next, changed_not}
+use Rattle.clue_rules.specs.Takes.{Strikes, AreChanged}
+use Rattle.clue_rules.proofs.Takes.{takes_none, takes_next, takes_length}
+use Rattle.clue_rules.proofs.TakenLines.{changed_none, changed_next, changed_not}
 use Rattle.named_steps.proofs.line_passes.strike_row.Goals as goal
 use Rattle.named_steps.proofs.line_passes.strike_row.Goals.{then-trail_len-count, else-trail_len-count}
 

@@ -1,8 +1,7 @@
 use Rattle.std.proofs.Common.{◌≡◌, ℕ, ◌<◌, true, slice_index}
 use Rattle.number_sets.specs.Sets.{has_number}
 use Rattle.latin_board.specs.Lines.{line_cell}
-use Rattle.named_steps.specs.Inner.Takes.{Takes}
-use Rattle.named_steps.specs.Inner.WaitingLines.{AreChanged}
+use Rattle.clue_rules.specs.Takes.{Takes, AreChanged}
 use Rattle.named_steps.proofs.line_passes.strike_row.Given as goal
 
 abbrev pub invariant-loop-k : goal.invariant-loop-k

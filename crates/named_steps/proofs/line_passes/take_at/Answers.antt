@@ -1,8 +1,8 @@
 use Rattle.std.proofs.Common.{ℕ, List, ◌++◌, refl, sym, ap, ◌∙◌, subst, append-nil}
 use Rattle.trail_solver.proofs.SetPairs.{pairs_of_none}
-use Rattle.named_steps.specs.Inner.Takes.{Strikes}
-use Rattle.named_steps.proofs.Takes.{strikes_whole, struck_moved}
-use Rattle.named_steps.proofs.WaitingLines.{changed_one}
+use Rattle.clue_rules.specs.Takes.{Strikes}
+use Rattle.clue_rules.proofs.Takes.{strikes_whole, struck_moved}
+use Rattle.clue_rules.proofs.TakenLines.{changed_one}
 use Rattle.named_steps.proofs.line_passes.take_at.Goals as goal
 
 pub returns-then-is_empty-clause-strikes : goal.returns-then-is_empty-clause-strikes

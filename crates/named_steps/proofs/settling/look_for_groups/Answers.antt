@@ -2,16 +2,16 @@ use Rattle.std.proofs.Common.{◌≡◌, ℕ, ◌*◌, ◌<◌, ◌≤◌, ◌||
 use Rattle.std.proofs.lemmas.Bool.{cases_eq}
 use Rattle.latin_board.specs.Lines.{line_cell}
 use Rattle.trail_solver.specs.Candidates.{CandidatesValue}
-use Rattle.named_steps.specs.Left.{IsLeft}
-use Rattle.named_steps.specs.Reasons.{IsByLine}
+use Rattle.clue_rules.specs.Left.{IsLeft}
+use Rattle.clue_rules.specs.Reasons.{IsByLine}
 use Rattle.named_steps.specs.Passes.{LeadsTo}
 use Rattle.named_steps.specs.Inner.LineStrikes.{IsGroupQuiet}
 use Rattle.named_steps.specs.Inner.LineLooks.{AreMore}
-use Rattle.named_steps.specs.Inner.WaitingLines.{is_waiting, is_crossing}
+use Rattle.number_sets.specs.Sets.{has_number}
+use Rattle.clue_rules.specs.Takes.{is_crossing}
 use Rattle.named_steps.proofs.LineLooks.{more_crossing, more_joined, loses_changed, none_changed}
-use Rattle.named_steps.proofs.Takes.{leads_on, leads_length, leads_same, leads_size}
+use Rattle.named_steps.proofs.Leads.{leads_on, leads_length, leads_same, leads_size}
 use Rattle.named_steps.specs.declared.grade.Grade.TheVariants.{Hard}
-use Rattle.named_steps.specs.declared.waiting.Waiting.{Waiting}
 use Rattle.named_steps.proofs.settling.look_for_groups.Goals as goal
 use Rattle.named_steps.proofs.settling.look_for_groups.Goals.{then-not-is_empty, else-not-is_empty}
 
@@ -37,13 +37,13 @@ loop-line-preserved c =
     let on : length first.trail ≤ length now.trail = leads_length Struck Hard first now c.loop-line.invariant.0 in
     let further : length now.trail ≤ length next.trail = leads_length Struck Hard now next step in
     let changed = c.strike_groups_on-changed.ensures.changed in
-    let IsMore : Waiting → Type 0 = λ waiting. AreMore c.loop-line.waiting waiting now next in
+    let IsMore : ℕ → Type 0 = λ waiting. AreMore c.loop-line.waiting waiting now next in
     let more : IsMore c.if-not-is_empty.waiting = elim c.if-not-is_empty.branch [
       | then-not-is_empty w ↦
-          let Crossing : ℕ → Type 0 = λ n. (l : ℕ) → is_waiting w.crossing.result l ≡ ((l == line) || is_crossing n line c.strike_groups_on-changed.result l) in
+          let Across : ℕ → Type 0 = λ n. (l : ℕ) → has_number w.across.result l ≡ ((l == line) || is_crossing n line c.strike_groups_on-changed.result l) in
           subst IsMore (sym w.waiting-is)
-          (more_crossing line c.strike_groups_on-changed.result c.loop-line.waiting w.union.result w.crossing.result now next inside
-          (loses_changed line c.strike_groups_on-changed.result now next changed) (subst Crossing width w.crossing.ensures) w.union.ensures)
+          (more_crossing line c.strike_groups_on-changed.result c.loop-line.waiting w.add.new.self w.across.result now next inside
+          (loses_changed line c.strike_groups_on-changed.result now next changed) (subst Across width w.across.ensures) w.add.ensures)
       | else-not-is_empty w ↦
           subst IsMore (sym w.waiting-is)
           (λ l low free. (free, λ k v k_is left. subst (λ (d : CandidatesValue). IsLeft d (line_cell now.size l k) v) (sym (changed.same w.if-not-is_empty.ensures.members)) left))

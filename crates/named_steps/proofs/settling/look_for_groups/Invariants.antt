@@ -1,5 +1,5 @@
 use Rattle.std.proofs.Common.{◌≡◌, ℕ, ◌<◌, length}
-use Rattle.named_steps.specs.Reasons.{IsByLine}
+use Rattle.clue_rules.specs.Reasons.{IsByLine}
 use Rattle.named_steps.specs.Passes.{LeadsTo}
 use Rattle.named_steps.specs.Inner.LineLooks.{AreMore}
 use Rattle.named_steps.specs.Inner.LineStrikes.{IsGroupQuiet}

@@ -1,5 +1,5 @@
 use Rattle.named_steps.proofs.Rounds.{IsShared, lines_lead}
-use Rattle.named_steps.proofs.Takes.{leads_fewer, leads_size}
+use Rattle.named_steps.proofs.Leads.{leads_fewer, leads_size}
 use Rattle.named_steps.proofs.WaitingLines.{quiet_stays, stays_all}
 use Rattle.named_steps.proofs.settling.strike_along.Goals as goal
 

@@ -2,7 +2,7 @@ use Rattle.std.proofs.Common.{◌≡◌, ℕ, ◌+◌, ◌*◌, ◌<◌, inl, in
 use Rattle.std.proofs.lemmas.Bool.{cases_eq}
 use Rattle.named_steps.specs.Passes.{IsGivenQuiet}
 use Rattle.named_steps.proofs.GivenPasses.{given_stays}
-use Rattle.named_steps.proofs.Takes.{leads_fewer, leads_on, leads_size}
+use Rattle.named_steps.proofs.Leads.{leads_fewer, leads_on, leads_size}
 use Rattle.named_steps.specs.declared.grade.Grade.TheVariants.{Latin}
 use Rattle.named_steps.proofs.settling.strike_givens.Goals as goal
 

@@ -1,7 +1,7 @@
 use Rattle.std.proofs.Common.{◌≡◌, ℕ, ◌∙◌, rules, subst}
-use Rattle.named_steps.specs.Fillings.{IsUnfilled}
+use Rattle.clue_rules.specs.Fillings.{IsUnfilled}
 use Rattle.named_steps.specs.Inner.Rows.{May, IsAlong}
-use Rattle.named_steps.proofs.Takes.{takes_still}
+use Rattle.clue_rules.proofs.Takes.{takes_still}
 use Rattle.named_steps.proofs.ViewPasses.{view_taken, view_leads, view_calm}
 use Rattle.named_steps.proofs.towers.strike_view.Goals as goal
 

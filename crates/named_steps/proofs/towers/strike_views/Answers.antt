@@ -1,12 +1,12 @@
 use Rattle.std.proofs.Common.{◌≡◌, ℕ, ◌+◌, ◌*◌, ◌<◌, sym, ap, ◌∙◌, subst, arith}
 use Rattle.clue_rules.specs.Views.{front_place, view_line}
 use Rattle.clue_rules.proofs.ViewSteps.{front_line}
-use Rattle.named_steps.specs.Reasons.{IsTowersStruckBy}
+use Rattle.clue_rules.specs.Reasons.{IsTowersStruckBy}
 use Rattle.named_steps.specs.Passes.{StaysOn}
 use Rattle.named_steps.specs.Inner.QuietLines.{IsViewQuiet}
 use Rattle.named_steps.specs.Laws.Along.{view_stays}
 use Rattle.named_steps.specs.Inner.Rows.{look_grade}
-use Rattle.named_steps.proofs.Takes.{leads_fewer, leads_length, leads_on, leads_size}
+use Rattle.named_steps.proofs.Leads.{leads_fewer, leads_length, leads_on, leads_size}
 use Rattle.named_steps.proofs.ViewPasses.{back_line, back_low, ends_quiet}
 use Rattle.named_steps.proofs.WaitingLines.{loses_both, stays_all, stays_first, stays_second}
 use Rattle.named_steps.proofs.towers.strike_views.Goals as goal

@@ -3,11 +3,11 @@ use Rattle.number_sets.specs.Sets.{has_number}
 use Rattle.latin_board.specs.Lines.{line_cell}
 use Rattle.trail_solver.specs.Candidates.{IsSetOf}
 use Rattle.trail_solver.proofs.NogoodSteps.{shared_are}
-use Rattle.named_steps.specs.Left.{IsLeft}
-use Rattle.named_steps.specs.Inner.Takes.{Strikes}
+use Rattle.clue_rules.specs.Left.{IsLeft}
+use Rattle.clue_rules.specs.Takes.{Strikes}
 use Rattle.named_steps.proofs.SignPasses.{end_stays, lesser_still, sign_leads, sign_calm}
 use Rattle.named_steps.proofs.SignSets.{bounds_left}
-use Rattle.named_steps.proofs.Takes.{strikes_among, strikes_length}
+use Rattle.clue_rules.proofs.Takes.{strikes_among, strikes_length}
 use Rattle.named_steps.proofs.WaitingLines.{loses_both, loses_changed}
 use Rattle.named_steps.proofs.unequal.strike_sign.Goals as goal
 

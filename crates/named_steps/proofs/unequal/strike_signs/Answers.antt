@@ -1,11 +1,11 @@
 use Rattle.std.proofs.Common.{◌≡◌, ℕ, ◌+◌, ◌<◌, inl, inr, sym, ap, ◌∙◌, subst, arith}
 use Rattle.std.proofs.lemmas.Bool.{cases_eq}
 use Rattle.latin_board.specs.Lines.{line_cell}
-use Rattle.named_steps.specs.Left.{IsLeft}
-use Rattle.named_steps.specs.Reasons.{IsUnequalStruckBy}
+use Rattle.clue_rules.specs.Left.{IsLeft}
+use Rattle.clue_rules.specs.Reasons.{IsUnequalStruckBy}
 use Rattle.named_steps.specs.Inner.QuietLines.{IsSignQuiet}
 use Rattle.named_steps.specs.Laws.Along.{sign_stays}
-use Rattle.named_steps.proofs.Takes.{leads_fewer, leads_length, leads_on, leads_size}
+use Rattle.named_steps.proofs.Leads.{leads_fewer, leads_length, leads_on, leads_size}
 use Rattle.named_steps.proofs.WaitingLines.{loses_both, stays_first, stays_second}
 use Rattle.named_steps.specs.declared.grade.Grade.TheVariants.{Easy}
 use Rattle.named_steps.proofs.unequal.strike_signs.Goals as goal

@@ -1,6 +1,6 @@
 use Rattle.std.proofs.Common.{◌≡◌, ℕ, ◌<◌, ◌+◌}
 use Rattle.latin_board.specs.Lines.{line_cell}
-use Rattle.named_steps.specs.Reasons.{IsUnequalStruckBy}
+use Rattle.clue_rules.specs.Reasons.{IsUnequalStruckBy}
 use Rattle.named_steps.specs.Passes.{LeadsTo, LosesAt, StaysOn}
 use Rattle.named_steps.specs.Inner.QuietLines.{IsSignQuiet}
 use Rattle.named_steps.specs.declared.grade.Grade.TheVariants.{Easy}

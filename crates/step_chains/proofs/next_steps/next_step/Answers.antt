@@ -1,22 +1,26 @@
-use Rattle.std.proofs.Common.{ℕ, ◌*◌, ◌^◌, ◌<◌}
-use Rattle.named_steps.proofs.LineLooks.{placed_of}
-use Rattle.named_steps.specs.Following.{IsSettled}
-use Rattle.step_chains.specs.Inner.Quiet.{IsGroupIdle}
-use Rattle.step_chains.proofs.Settled.{idle_settled, found_last}
+use Rattle.std.proofs.Common.{get_or, arith}
+use Rattle.step_chains.specs.Inner.Quiet.{AreIdleIn}
+use Rattle.step_chains.specs.declared.reasons.TheConstants.{PARTS}
+use Rattle.step_chains.specs.declared.reasons.Part.TheVariants.{Squares}
+use Rattle.step_chains.proofs.Idle.{all_next}
+use Rattle.step_chains.proofs.Settled.{all_parts, idle_settled}
 use Rattle.step_chains.proofs.next_steps.next_step.Goals as goal
+
+pub loop-part-preserved : goal.loop-part-preserved
+loop-part-preserved g c =
+    all_next (λ j. AreIdleIn (g.P.Steps.struck_by c.args.p.now) c.args.grade c.args.candidates.now (get_or PARTS j Squares)) c.loop-part.part
+    c.loop-part.invariant c.in_default.ensures
 
 pub returns : goal.returns
 returns g c =
-    let d = c.args.candidates.now in
     let Struck = g.P.Steps.struck_by c.args.p.now in
-    found_last Struck c.args.grade d
-    ((line squares : ℕ) → line < 2 * d.size → squares < 2 ^ d.size → IsGroupIdle Struck c.args.grade d line squares) (IsSettled Struck c.args.grade d)
-    c.step_by_groups.result
-    (λ groups. idle_settled (g.P.Rules.puzzle c.args.p.now) Struck
+    let d = c.args.candidates.now in
+    let all = c.loop-part.invariant in
+    let end = c.loop-part-test.false in
+    idle_settled (g.P.Rules.puzzle c.args.p.now) Struck
     (record {
       shared = record { given = g.met.P.Steps.given_struck c.args.p.now; line = g.met.P.Steps.line_struck c.args.p.now };
-      placed = λ e reason cell value is struck.
-          placed_of (g.P.Rules.puzzle c.args.p.now).size reason cell (g.met.P.Steps.stands_along c.args.p.now e reason cell value c.size-valid.ensures.valid is struck);
+      stands = λ e reason cell value. g.met.P.Steps.stands_along c.args.p.now e reason cell value c.size-valid.ensures.valid;
     }) c.args.grade d c.size-size.ensures.valid.largest c.requires
-    (record { squares = c.in_default.ensures; places = c.in_default-step_by_places.ensures; clues = c.in_default-step_by_clues.ensures; signs = c.in_default-step_by_signs.ensures; groups = groups }))
-    c.step_by_groups.ensures
+    (all_parts (AreIdleIn Struck c.args.grade d) (all 0 (omega (arith, end))) (all 1 (omega (arith, end))) (all 2 (omega (arith, end)))
+    (all 3 (omega (arith, end))) (all 4 (omega (arith, end))))

@@ -1,6 +1,6 @@
 use Rattle.std.proofs.Common.{◌≡◌, take}
 use Rattle.trail_solver.specs.Candidates.{IsEarlier}
-use Rattle.named_steps.specs.Left.{AreAlike}
+use Rattle.clue_rules.specs.Left.{AreAlike}
 use Rattle.named_steps.specs.Chains.{left_by}
 use Rattle.step_chains.specs.ChainValues.{steps_of, AreLive}
 use Rattle.step_chains.proofs.replays.go_live.Given as goal

@@ -1,16 +1,12 @@
-use Rattle.clue_rules.specs.Inner.LineTallies.{sets_along}
-use Rattle.clue_rules.proofs.LineCandidates.{along_sets}
-use Rattle.clue_rules.proofs.LineSteps.{line_refuted, line_quiet}
+use Rattle.std.proofs.Common.{◌∙◌, ap}
+use Rattle.number_sets.specs.Sets.{has_number}
+use Rattle.number_sets.proofs.Members.{has_number-none}
+use Rattle.clue_rules.proofs.LineSteps.{rest_none}
+use Rattle.clue_rules.proofs.LineTallying.{quiet_tally}
 use Rattle.clue_rules.proofs.lines.latin.strike_line.Goals as goal
 
-pub returns-in_default-clause-narrows : goal.returns-in_default-clause-narrows
-returns-in_default-clause-narrows c =
+pub returns-then-is_quiet-clause-ok : goal.returns-then-is_quiet-clause-ok
+returns-then-is_quiet-clause-ok c =
     let old = c.args.candidates.now in
-    line_refuted old c.args.line (sets_along old c.args.line) c.requires (along_sets old c.args.line c.requires)
-    (rw c.line-squares.ensures.line at c.in_default.ensures)
-
-pub returns-then-is_quiet-clause-narrows : goal.returns-then-is_quiet-clause-narrows
-returns-then-is_quiet-clause-narrows c =
-    let old = c.args.candidates.now in
-    line_quiet old c.args.line (sets_along old c.args.line) c.in-Some.tally c.requires (along_sets old c.args.line c.requires)
-    (rw c.line-squares.ensures.line at c.in-Some.ensures) c.if-is_quiet.ensures
+    rest_none old c.args.line c.empty.result (λ k. ap (λ n. has_number n k) c.empty.ensures ∙ has_number-none k)
+    (quiet_tally old c.args.line c.in-Ok.tally (rw c.line-squares.ensures.line at c.in-Ok.ensures.ok) c.if-is_quiet.ensures)

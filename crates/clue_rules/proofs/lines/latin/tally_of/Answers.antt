@@ -1,45 +1,47 @@
-use Rattle.std.proofs.Common.{◌≡◌, ◌<◌, ◌∙◌, slice_index, arith}
+use Rattle.std.proofs.Common.{◌≡◌, ◌<◌, ◌∙◌, inl, inr, arith}
 use Rattle.latin_board.specs.Lines.{line_cell}
-use Rattle.clue_rules.specs.Inner.LineTallies.{sets_along}
-use Rattle.clue_rules.proofs.LineCandidates.{found_along}
-use Rattle.clue_rules.proofs.LineTallying.{tally_more, clash_refutes, lacking_refutes, whole_tally}
+use Rattle.trail_solver.specs.Candidates.{IsSetOf}
+use Rattle.clue_rules.proofs.LineTallying.{tally_more, empty_square, alone_clash, lost_void, whole_tally}
 use Rattle.clue_rules.proofs.lines.latin.tally_of.Goals as goal
 
-pub returns-in_err-tally : goal.returns-in_err-tally
-returns-in_err-tally c =
-    let old = c.args.candidates.now in
-    let sets = sets_along old c.args.squares.now.line in
-    let low : c.loop-k.k < old.size = omega (arith, c.loop-k-test.true, c.get-width.ensures.value, c.size.ensures.value) in
-    let cell : c.cell.result ≡ line_cell old.size c.args.squares.now.line c.loop-k.k = rw c.requires.size at c.cell.ensures.value in
-    let here : c.values.result ≡ slice_index sets c.loop-k.k =
-    found_along old c.args.squares.now.line c.loop-k.k c.values.result c.requires.line low (rw cell at c.values.ensures) in
-    rw c.from_residual.ensures
-    (clash_refutes sets c.loop-k.k old.size c.loop-k.tally c.loop-k.invariant low
-    (rw here at (rw c.in_err-tally.was at c.with.ensures)))
+pub returns-in_default-clause-err : goal.returns-in_default-clause-err
+returns-in_default-clause-err c =
+    let now = c.args.candidates.now in
+    let line = c.args.squares.now.line in
+    let k = c.loop-place.place in
+    let set = c.values-set.result in
+    let low : k < now.size = omega (arith, c.loop-place-test.true, c.get-width.ensures.value, c.size.ensures.value) in
+    let cell : c.cell.result ≡ line_cell now.size line k = rw c.requires.size at c.cell.ensures.value in
+    let is : IsSetOf now (line_cell now.size line k) set = rw cell at c.values-set.ensures in
+    elim c.in_default.ensures [
+      | inl none ↦ inl (low, empty_square now (line_cell now.size line k) set is none)
+      | inr again ↦ inr (inl (alone_clash now line k set c.loop-place.tally low is c.loop-place.invariant again))
+    ]
 
-pub loop-k-preserved : goal.loop-k-preserved
-loop-k-preserved c =
-    let old = c.args.candidates.now in
-    let sets = sets_along old c.args.squares.now.line in
-    let low : c.loop-k.k < old.size = omega (arith, c.loop-k-test.true, c.get-width.ensures.value, c.size.ensures.value) in
-    let cell : c.cell.result ≡ line_cell old.size c.args.squares.now.line c.loop-k.k = rw c.requires.size at c.cell.ensures.value in
-    let here : c.values.result ≡ slice_index sets c.loop-k.k =
-    found_along old c.args.squares.now.line c.loop-k.k c.values.result c.requires.line low (rw cell at c.values.ensures) in
-    tally_more sets c.loop-k.k c.loop-k.tally c.in_ok-tally.tally c.loop-k.invariant
-    (rw here at (rw c.in_ok-tally.was at c.with.ensures))
+pub loop-place-preserved : goal.loop-place-preserved
+loop-place-preserved c =
+    let now = c.args.candidates.now in
+    let line = c.args.squares.now.line in
+    let k = c.loop-place.place in
+    let cell : c.cell.result ≡ line_cell now.size line k = rw c.requires.size at c.cell.ensures.value in
+    tally_more now line k c.values-set.result c.loop-place.tally c.in-Some.more (rw cell at c.values-set.ensures) c.loop-place.invariant
+    c.in-Some.ensures
 
-pub returns-then-not-is_subset : goal.returns-then-not-is_subset
-returns-then-not-is_subset c =
-    let old = c.args.candidates.now in
-    let width : c.get-width.result ≡ old.size = c.get-width.ensures.value ∙ c.size.ensures.value in
-    let all : c.loop-k.k ≡ old.size = omega (arith, c.loop-k.auto.k-end, c.loop-k-test.false, width) in
-    lacking_refutes (sets_along old c.args.squares.now.line) old.size c.up_to-every.result c.loop-k.tally (rw all at c.loop-k.invariant)
-    (record { is = rw width at c.up_to-every.ensures.members }) c.if-not-is_subset.ensures
+pub returns-then-is_empty-clause-ok : goal.returns-then-is_empty-clause-ok
+returns-then-is_empty-clause-ok c =
+    let now = c.args.candidates.now in
+    let width : c.get-width.result ≡ now.size = c.get-width.ensures.value ∙ c.size.ensures.value in
+    let all : c.loop-place.place ≡ now.size = omega (arith, c.loop-place.auto.place-end, c.loop-place-test.false, width) in
+    whole_tally now c.args.squares.now.line c.up_to.result c.difference.result c.loop-place.tally (rw all at c.loop-place.invariant)
+    (rw width at c.up_to.ensures.members) c.difference.ensures c.if-is_empty.ensures.members
 
-pub returns : goal.returns
-returns c =
-    let old = c.args.candidates.now in
-    let width : c.get-width.result ≡ old.size = c.get-width.ensures.value ∙ c.size.ensures.value in
-    let all : c.loop-k.k ≡ old.size = omega (arith, c.loop-k.auto.k-end, c.loop-k-test.false, width) in
-    whole_tally (sets_along old c.args.squares.now.line) old.size c.up_to-every.result c.loop-k.tally (rw all at c.loop-k.invariant)
-    (record { is = rw width at c.up_to-every.ensures.members }) c.if-not-is_subset.ensures
+pub returns-else-is_empty-clause-err : goal.returns-else-is_empty-clause-err
+returns-else-is_empty-clause-err c =
+    let now = c.args.candidates.now in
+    let width : c.get-width.result ≡ now.size = c.get-width.ensures.value ∙ c.size.ensures.value in
+    let all : c.loop-place.place ≡ now.size = omega (arith, c.loop-place.auto.place-end, c.loop-place-test.false, width) in
+    inr (inr (
+      width,
+      lost_void now c.args.squares.now.line c.up_to.result c.difference.result c.loop-place.tally (rw all at c.loop-place.invariant)
+          (rw width at c.up_to.ensures.members) c.difference.ensures c.if-is_empty.ensures.members,
+    ))

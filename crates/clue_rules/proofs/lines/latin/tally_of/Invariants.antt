@@ -1,5 +1,5 @@
-use Rattle.clue_rules.specs.Inner.LineTallies.{IsTally, sets_along}
+use Rattle.clue_rules.specs.Inner.LineTallies.{AreTallied}
 use Rattle.clue_rules.proofs.lines.latin.tally_of.Given as goal
 
-abbrev pub invariant-loop-k : goal.invariant-loop-k
-invariant-loop-k l = IsTally (sets_along l.candidates l.squares.line) l.k l.tally
+abbrev pub invariant-loop-place : goal.invariant-loop-place
+invariant-loop-place l = AreTallied l.candidates l.squares.line l.place l.tally

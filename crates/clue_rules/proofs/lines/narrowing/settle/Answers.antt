@@ -4,18 +4,18 @@ use Rattle.clue_rules.specs.Inner.QuietLines.{Strikes}
 use Rattle.clue_rules.proofs.WaitingLines.{latin_nearer, look_latin, look_rule, looks_done, looks_then, rule_nearer, trail_most}
 use Rattle.clue_rules.proofs.lines.narrowing.settle.Goals as goal
 
-pub loop-line-smaller-else-not-strike_line : goal.loop-line-smaller-else-not-strike_line
-loop-line-smaller-else-not-strike_line g c =
+pub loop-line-smaller-else-not-strike_noted : goal.loop-line-smaller-else-not-strike_noted
+loop-line-smaller-else-not-strike_noted g c =
     let now = c.loop-line.candidates in
     let most =
     trail_most c.args.candidates.now now c.trail_len-length.result c.loop-line.invariant.looks.narrows.less c.size.ensures.valid.largest
     c.trail_len-length.ensures.value c.trail_len-length.ensures.bound in
-    latin_nearer (2 * c.get-count.result) c.in-Some.line now c.strike_line.new.candidates c.loop-line.changed c.take_latin.new.self
-    c.strike_line.new.changed (omega (arith, c.get-count.ensures.largest)) most c.strike_line.ensures.narrows.less c.in-Some.ensures.line
-    c.in-Some.ensures.rule c.strike_line.ensures.notes
+    latin_nearer (2 * c.get-count.result) c.in-Some.line now c.strike_noted.new.candidates c.loop-line.changed c.take_latin.new.self
+    c.strike_noted.new.changed (omega (arith, c.get-count.ensures.largest)) most c.strike_noted.ensures.narrows.less c.in-Some.ensures.line
+    c.in-Some.ensures.rule c.strike_noted.ensures.notes
 
-pub loop-line-preserved-else-not-strike_line : goal.loop-line-preserved-else-not-strike_line
-loop-line-preserved-else-not-strike_line g c =
+pub loop-line-preserved-else-not-strike_noted : goal.loop-line-preserved-else-not-strike_noted
+loop-line-preserved-else-not-strike_noted g c =
     let p = c.args.p.now in
     let first = c.args.candidates.now in
     let now = c.loop-line.candidates in
@@ -23,11 +23,11 @@ loop-line-preserved-else-not-strike_line g c =
     let size : now.size ≡ first.size = looks.narrows.less.size in
     let inside : c.in-Some.line < 2 * now.size = omega (arith, c.in-Some.ensures.line.one.0, c.get-count.ensures.value, c.size.ensures.value, size) in
     record {
-      looks = looks_then first now c.strike_line.new.candidates c.args.changed.now c.loop-line.changed c.strike_line.new.changed looks
-          (look_latin (g.P.LineRules.sought p) (g.P.LineRules.rules_out p) (g.P.LineRules.width p) c.in-Some.line now c.strike_line.new.candidates
-          c.loop-line.changed c.take_latin.new.self c.strike_line.new.changed (g.met.P.LineRules.squares p) (g.met.P.LineRules.own_line p)
+      looks = looks_then first now c.strike_noted.new.candidates c.args.changed.now c.loop-line.changed c.strike_noted.new.changed looks
+          (look_latin (g.P.LineRules.sought p) (g.P.LineRules.rules_out p) (g.P.LineRules.width p) c.in-Some.line now c.strike_noted.new.candidates
+          c.loop-line.changed c.take_latin.new.self c.strike_noted.new.changed (g.met.P.LineRules.squares p) (g.met.P.LineRules.own_line p)
           (size ∙ c.requires) inside c.in-Some.ensures.line.rest c.in-Some.ensures.rule
-          (rw c.if-not-strike_line.false at c.strike_line.ensures.narrows) c.strike_line.ensures.notes);
+          (rw c.if-not-strike_noted.false at c.strike_noted.ensures.narrows) c.strike_noted.ensures.notes);
       latin = omega (arith, c.in-Some.ensures.line.one.0);
       rule = c.loop-line.invariant.rule;
     }

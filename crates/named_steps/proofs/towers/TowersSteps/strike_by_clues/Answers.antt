@@ -1,5 +1,5 @@
 use Rattle.std.proofs.Common.{sym, subst}
-use Rattle.named_steps.specs.Reasons.{IsTowersStruckBy}
+use Rattle.clue_rules.specs.Reasons.{IsTowersStruckBy}
 use Rattle.named_steps.specs.Along.{IsQuietAlong}
 use Rattle.named_steps.specs.Laws.Along.{easy_along, hard_along, latin_along}
 use Rattle.named_steps.specs.declared.grade.Grade.{Grade}

@@ -1,10 +1,10 @@
 use Rattle.std.proofs.Common.{sym, subst}
-use Rattle.named_steps.specs.Reasons.{IsUnequalStruckBy}
+use Rattle.clue_rules.specs.Reasons.{IsUnequalStruckBy}
 use Rattle.named_steps.specs.Passes.{LeadsTo}
 use Rattle.named_steps.specs.Along.{IsQuietAlong}
 use Rattle.named_steps.specs.Laws.Along.{signs_along, latin_along}
 use Rattle.named_steps.proofs.Followed.{hard_has}
-use Rattle.named_steps.proofs.Takes.{leads_wider}
+use Rattle.named_steps.proofs.Leads.{leads_wider}
 use Rattle.named_steps.proofs.WaitingLines.{stays_all}
 use Rattle.named_steps.specs.declared.grade.Grade.{Grade}
 use Rattle.named_steps.specs.declared.grade.Grade.TheVariants.{Easy, Hard}

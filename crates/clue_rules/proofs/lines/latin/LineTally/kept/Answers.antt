@@ -1,3 +1,4 @@
+use Rattle.std.proofs.Common.{arith}
 use Rattle.clue_rules.proofs.LineTallying.{kept_forced, kept_nothing}
 use Rattle.clue_rules.proofs.lines.latin.LineTally.kept.Goals as goal
 
@@ -8,5 +9,5 @@ returns-then-is_single-2 c =
 
 pub returns : goal.returns
 returns c =
-    kept_nothing c.args.self.now c.args.set c.forced-forced.result c.empty.result c.if-is_single.ensures c.forced-forced.ensures
-    c.if-is_empty.ensures.members c.if-is_single-2.ensures c.empty.ensures
+    kept_nothing c.args.self.now c.args.set c.forced-forced.result c.empty.result (omega (arith, c.bits-bits.ensures, c.bits-bits.type_inv))
+    c.forced-forced.ensures c.if-is_empty.ensures.members c.if-is_single-2.ensures c.empty.ensures

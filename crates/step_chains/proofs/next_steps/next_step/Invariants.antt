@@ -1,0 +1,8 @@
+use Rattle.std.proofs.Common.{ℕ, ◌<◌, get_or}
+use Rattle.step_chains.specs.Inner.Quiet.{AreIdleIn}
+use Rattle.step_chains.specs.declared.reasons.TheConstants.{PARTS}
+use Rattle.step_chains.specs.declared.reasons.Part.TheVariants.{Squares}
+use Rattle.step_chains.proofs.next_steps.next_step.Given as goal
+
+abbrev pub invariant-loop-part : goal.invariant-loop-part
+invariant-loop-part g l = (j : ℕ) → j < l.part → AreIdleIn (g.P.Steps.struck_by l.p) l.grade l.candidates (get_or PARTS j Squares)

@@ -1,6 +1,0 @@
-use Rattle.std.proofs.Common.{ℕ, ◌<◌}
-use Rattle.step_chains.specs.Inner.Quiet.{IsClueIdle}
-use Rattle.step_chains.proofs.next_steps.step_by_clues.Given as goal
-
-abbrev pub invariant-loop-place : goal.invariant-loop-place
-invariant-loop-place g l = (j : ℕ) → j < l.place → IsClueIdle (g.P.Steps.struck_by l.p) l.grade l.candidates j

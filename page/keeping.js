@@ -1,0 +1,159 @@
+// What is kept in the browser: every game that was begun, until its player deletes it, which ones were solved, and the settings.
+// It is `localStorage`, since what is put there is there when the call returns: no page can be closed in between. The other tabs hear of it.
+import {keptIn} from './kept.js';
+import {kindOfName} from './games.js';
+
+/** @typedef {import('./kept.js').Kept} Kept */
+/** @typedef {Pick<Storage, 'length' | 'key' | 'getItem' | 'setItem' | 'removeItem'>} Store */
+/** A game that was solved without the program's help: its class, when, in how many seconds (0 where that wasn't counted), with how many hints, and its number if it has one. */
+/** @typedef {{kind: string, when: number, seconds: number, hints: number, number: string}} Solved */
+/** @typedef {{tidy: boolean, equal: boolean, lanes: boolean, time: boolean, kind: string, daily: string}} Settings */
+
+const GAME = 'puzzles:game:', NOW = 'puzzles:now', SETTINGS = 'puzzles:settings', SOLVED = 'puzzles:solved';
+
+/** @type {Settings} */
+const FIRST = {tidy: false, equal: true, lanes: true, time: true, kind: 'towers-5-easy', daily: 'towers-5-easy'};
+
+// Why something isn't kept.
+/** @typedef {'' | 'refused' | 'full'} Trouble */
+
+export class Keeping {
+  /** @param {Store | null} store  nothing where the browser refuses it @param {Store | null} tab  what this tab alone keeps */
+  constructor(store, tab) {
+    this.store = store;
+    this.tab = tab;
+    // What couldn't be kept: it lasts as long as the page.
+    /** @type {Map<string, string>} */
+    this.unkept = new Map();
+    /** @type {Trouble} */
+    this.trouble = store ? '' : 'refused';
+  }
+
+  // --- games ---
+
+  /** @param {string} key */
+  game(key) {
+    return keptIn(this.get(GAME + key));
+  }
+
+  /** All of them, the last ones first. */
+  games() {
+    const {store} = this, names = new Set(this.unkept.keys());
+    for (let at = 0; store && at < store.length; at++) names.add(store.key(at) ?? '');
+    const games = [...names].filter((name) => name.startsWith(GAME)).map((name) => keptIn(this.get(name)));
+    return /** @type {Kept[]} */ (games.filter(Boolean)).sort((one, other) => other.when - one.when);
+  }
+
+  // Keeps a game, unless another tab has changed it since; whether it did.
+  /** @param {Kept} kept */
+  keep(kept) {
+    const there = this.game(kept.key);
+    if (there && there.turn !== kept.turn - 1) return false;
+    this.put(GAME + kept.key, JSON.stringify(kept));
+    return true;
+  }
+
+  // Keeps for how long a game was played, where it is as it was.
+  /** @param {Kept} kept */
+  keepTime(kept) {
+    if (this.game(kept.key)?.turn === kept.turn) this.put(GAME + kept.key, JSON.stringify(kept));
+  }
+
+  /** @param {string} key */
+  delete(key) {
+    this.unkept.delete(GAME + key);
+    this.store?.removeItem(GAME + key);
+  }
+
+  /** The key of the game that this tab shows, or of the one that any tab showed last. */
+  get now() {
+    return this.tab?.getItem(NOW) ?? this.get(NOW) ?? '';
+  }
+
+  set now(key) {
+    this.put(NOW, key);
+    try {
+      this.tab?.setItem(NOW, key);
+    } catch {
+      // The last game of any tab goes on then.
+    }
+  }
+
+  // The key of the game of which the browser tells that another tab has changed it.
+  /** @param {string | null} name */
+  keyOf(name) {
+    return name?.startsWith(GAME) ? name.slice(GAME.length) : '';
+  }
+
+  // --- what was solved ---
+
+  /** @returns {Solved[]} */
+  solved() {
+    const list = this.parsed(SOLVED);
+    return Array.isArray(list) ? list.filter(isSolvedGame) : [];
+  }
+
+  /** @param {Solved[]} more  those that are there already are passed over */
+  addSolved(more) {
+    const there = this.solved(), known = new Set(there.map(({kind, when}) => `${kind} ${when}`));
+    this.put(SOLVED, JSON.stringify([...there, ...more.filter(({kind, when}) => !known.has(`${kind} ${when}`))]));
+  }
+
+  // --- settings ---
+
+  /** @returns {Settings} */
+  get settings() {
+    const there = this.parsed(SETTINGS) ?? {}, known = Object.entries(FIRST).filter(([name, first]) => typeof there[name] === typeof first);
+    const settings = {...FIRST, ...Object.fromEntries(known.map(([name]) => [name, there[name]]))};
+    for (const name of /** @type {const} */ (['kind', 'daily'])) settings[name] = kindOfName(settings[name]) ? settings[name] : FIRST[name];
+    return settings;
+  }
+
+  /** @param {Partial<Settings>} change */
+  set(change) {
+    this.put(SETTINGS, JSON.stringify({...this.settings, ...change}));
+  }
+
+  // --- the store itself ---
+
+  /** @param {string} name */
+  get(name) {
+    return this.unkept.get(name) ?? this.store?.getItem(name) ?? null;
+  }
+
+  /** @param {string} name @param {string} text */
+  put(name, text) {
+    try {
+      this.store?.setItem(name, text);
+      this.unkept.delete(name);
+      this.trouble = this.store ? '' : 'refused';
+    } catch (fault) {
+      this.trouble = fault instanceof DOMException && /quota/i.test(fault.name) ? 'full' : 'refused';
+    }
+    if (this.trouble) this.unkept.set(name, text);
+  }
+
+  /** @param {string} name @returns {any} */
+  parsed(name) {
+    try {
+      return JSON.parse(this.get(name) ?? 'null');
+    } catch {
+      return null;
+    }
+  }
+}
+
+/** @param {any} one @returns {one is Solved} */
+export const isSolvedGame = (one) => Boolean(one) && [one.when, one.seconds, one.hints].every(Number.isFinite) && [one.kind, one.number].every((text) => typeof text === 'string');
+
+// The browser's store; nothing where it refuses it.
+/** @param {'localStorage' | 'sessionStorage'} name */
+export function storeOf(name) {
+  try {
+    const store = window[name];
+    store.getItem(NOW);
+    return store;
+  } catch {
+    return null;
+  }
+}

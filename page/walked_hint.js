@@ -1,0 +1,85 @@
+// A hint, part by part: where to look, what a step rules out, and what is left after it. All of it stands in the hint's object.
+import {placeAt, placeOf, sentences} from './objects.js';
+
+/** @typedef {import('./objects.js').Hint} Hint */
+/** @typedef {import('./objects.js').Step} Step */
+/** @typedef {import('./objects.js').Place} Place */
+
+/**
+ * What is pointed at on the board: places in a frame or tinted, numbers that go, and what is left in each square, where that is to be seen.
+ * @typedef {{framed: Place[], rests: Place[], struck: Map<number, number[]>, left: number[][] | null}} Shown
+ */
+
+/** @type {Shown} */
+const NOTHING_SHOWN = {framed: [], rests: [], struck: new Map(), left: null};
+
+// The squares of a row or column; the rows come first.
+/** @param {number} line @param {number} size @returns {Place[]} */
+export const line = (line, size) => Array.from({length: size}, (_, at) => (line < size ? placeAt(at, line) : placeAt(line - size, at)));
+
+// The clue and the squares that a step looks at.
+/** @param {Step} step @param {number} size @returns {Place[]} */
+export function restsOn({clue, x, y, greater, less, cells}, size) {
+  const squares = [...(cells ?? []), ...[greater, less].filter((cell) => cell !== null)].map((cell) => placeOf(Number(cell), size));
+  if (clue === null || x === null || y === null) return squares;
+  return [placeAt(x, y), ...squares, ...(y < 0 || y === size ? line(size + x, size) : line(y, size))];
+}
+
+/** The hint of a board's numbers. */
+export class WalkedHint {
+  /** @param {Hint} hint @param {number} size */
+  constructor(hint, size) {
+    this.hint = hint;
+    this.size = size;
+    this.steps = hint.steps;
+    /** All of it: a sentence for each step, and the last. */
+    this.sentences = [...this.steps.map((step) => step.text.map((text) => text.trim()).join(' ')), ...sentences(hint.text).slice(-1)];
+  }
+
+  /** The move that the hint comes down to; nothing where there is none. */
+  get move() {
+    const {cell, number} = this.hint;
+    return cell === null || number === null ? '' : `move R${placeOf(cell, this.size)},${number}`;
+  }
+
+  // The square in which the number follows; of a contradiction the one that has nothing left.
+  /** @returns {Place | null} */
+  get goal() {
+    const last = this.steps[this.steps.length - 1], cell = this.hint.cell ?? last?.strikes[last.strikes.length - 1]?.cell;
+    return cell === undefined || cell === null ? null : placeOf(cell, this.size);
+  }
+
+  // Where to look first.
+  /** @returns {Shown} */
+  look() {
+    const [first] = this.steps;
+    return {...NOTHING_SHOWN, framed: first ? restsOn(first, this.size) : this.goalLine()};
+  }
+
+  // What a sentence says.
+  /** @param {number} at @returns {Shown} */
+  shown(at) {
+    const step = this.steps[at];
+    if (!step) return {...NOTHING_SHOWN, framed: this.goalLine(), left: this.left(this.steps.length)};
+    const struck = new Map(step.strikes.map(({cell, numbers}) => [cell, numbers]));
+    return {framed: [], rests: restsOn(step, this.size), struck, left: this.left(at)};
+  }
+
+  // What is left in each square before a step: what is in view, without what the steps above strike.
+  /** @param {number} before */
+  left(before) {
+    const {view} = this.hint;
+    if (!view) return null;
+    const left = view.map((numbers) => [...numbers]);
+    for (const {cell, numbers} of this.steps.slice(0, before).flatMap(({strikes}) => strikes)) {
+      left[cell] = left[cell].filter((number) => !numbers.includes(number));
+    }
+    return left;
+  }
+
+  /** The row or column in which the number has no other square, or its square alone. */
+  goalLine() {
+    if (this.hint.line !== null) return line(this.hint.line, this.size);
+    return this.goal ? [this.goal] : [];
+  }
+}
