@@ -24,7 +24,7 @@ def question(file: str) -> str:
         what = '' if found.content.startswith(saves.BEGINS) else ', and is no save'
     else:
         what = ", and can't be read"
-    return f'{file} is there{what}. Write over it?'
+    return f'{file} exists{what}. Overwrite it?'
 
 
 def names_after(text: str) -> List[str]:

@@ -128,7 +128,7 @@ class FullScreen:
         elif key in self._actions:
             self._actions[key]()
         else:
-            self.game.message = 'That key does nothing: ? shows those that do.'
+            self.game.message = 'That key does nothing. ? shows all keys.'
 
     def _layout(self) -> Optional[Layout]:
         board = self.game.board
@@ -204,7 +204,7 @@ class FullScreen:
     def _number(self, number: int) -> None:
         x, y = self._cursor
         if self._is_on_clue():
-            self.game.message = 'That is a clue: d marks it as done.'
+            self.game.message = 'That is a clue. d marks it as done.'
         elif self._is_pencil:
             self.game.play(f'move P{x},{y},{number}')
         elif self.game.board.numbers.get(self._cursor) != number or self._cursor in self.game.board.givens:
@@ -213,7 +213,7 @@ class FullScreen:
     def _clear(self) -> None:
         board = self.game.board
         if self._is_on_clue():
-            self.game.message = 'That is a clue: d marks it as done.'
+            self.game.message = 'That is a clue. d marks it as done.'
         elif self._cursor in board.numbers or self._cursor in board.marks:
             self.game.play(f'move R{self._cursor[0]},{self._cursor[1]},0')
         else:
@@ -354,7 +354,7 @@ class FullScreen:
             # A file that is to be named stands before those of the folder.
             own = sum(game.home is not Home.FOLDER for game in saved)
             rows = self.game.told_of(saved)
-            chosen = self._dialogues.choose(self.game.message or 'Go on with', [*rows[:own], 'a file ..', *rows[own:]], min(at, len(saved)))
+            chosen = self._dialogues.choose(self.game.message or 'Open a game', [*rows[:own], 'a file ..', *rows[own:]], min(at, len(saved)))
             self.game.message = ''
             if chosen is None:
                 self.game.message = self.game.state.old_trouble()

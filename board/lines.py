@@ -99,7 +99,7 @@ class LineMode:
         if not self._game.has_game:
             say(self._game.message)
             return 3
-        say(f'Type a square and a number, as r1c2 {self._game.board.size}; hint helps on, help lists the rest.')
+        say(f'Type a square and a number, like r1c2 {self._game.board.size}; hint helps, help lists the rest.')
         while not self._is_over:
             line = self._prompt.read(f'{self._game.kind} {self._position()}> ')
             if line is None:
@@ -197,7 +197,7 @@ class LineMode:
         if is_number(text) and 1 <= int(text) <= size:
             say(sentence(self._game.board, int(text) - 1))
         else:
-            say(f"'{kind} 1' tells what is there: a number from 1 to {size}.")
+            say(f"'{kind} 1' describes a {kind}, by a number from 1 to {size}.")
 
     def _help(self, _: str) -> None:
         say(*manual.LINES)
@@ -211,9 +211,9 @@ class LineMode:
             return
         press = walk.press()
         if press is Press.LOOK and walk.is_refutation:
-            say(f"{of_wrong(walk.moves, BY_LINES)} 'hint' again tells why.")
+            say(f"{of_wrong(walk.moves, BY_LINES)} 'hint' again says why.")
         elif press is Press.LOOK:
-            say(f"{walk.look().text} 'hint' again tells {walk.what_follows}.")
+            say(f"{walk.look().text} 'hint' again gives {walk.what_follows}.")
         elif press is Press.STEPS:
             self._steps(walk)
         else:
@@ -223,7 +223,7 @@ class LineMode:
         """All steps, and the last sentence where that says no number."""
         sentences = walk.whole()
         say(*(sentences if walk.is_refutation else sentences[:-1]))
-        say(f"'hint' again {'takes the moves back' if walk.is_refutation else 'puts the number in'}. 'why 1' tells what is left before step 1.")
+        say(f"'hint' again {'takes the moves back' if walk.is_refutation else 'puts the number in'}. 'why 1' lists the numbers before step 1.")
 
     def _end_hint(self, walk: HintWalk) -> None:
         before = self._game.board
@@ -246,7 +246,7 @@ class LineMode:
         elif is_number(text) and 1 <= int(text) <= walk.length:
             self._one_step(walk, int(text) - 1)
         else:
-            say(f"'why 1' tells a step: a number from 1 to {walk.length}.")
+            say(f"'why 1' gives a step, by a number from 1 to {walk.length}.")
 
     def _one_step(self, walk: HintWalk, at: int) -> None:
         board, part = self._game.board, walk.part(at)
@@ -339,7 +339,7 @@ class LineMode:
         for at, line in enumerate(self._game.told_of(saved)):
             say(f'{at}  {line}')
         trouble = self._game.state.old_trouble()
-        say("'open 0' goes on with number 0, 'delete 0' deletes it." if saved else trouble or 'No game was put away yet.')
+        say("'open 0' opens number 0, 'delete 0' deletes it." if saved else trouble or 'No game was put away yet.')
 
     def _delete(self, text: str) -> None:
         saved = self._game.saved_games('')

@@ -22,17 +22,17 @@ usage: {me} [--lines] [GAME] [ID or FILE]
        {me} --ids [GAME] [SIZE] [GRADE] [number N or today] [COUNT]
        {me} --help | --version
 
-GAME is towers or unequal. Without an ID or a save file the last game goes on,
-and a new one begins where there is none. ? shows the keys. With --lines, or
-where the terminal has no screen, games are played by lines of text, which
-'help' lists; in a pipe, too. For scripts there is puzzles-json GAME.
+GAME is towers or unequal. Without an ID or a save file the last game is
+continued; if there is none, a new one begins. ? shows the keys. With --lines,
+or on a terminal without a screen, you play by lines of text, and 'help' lists
+them. This works in a pipe, too. For scripts there is puzzles-json GAME.
 
-A SIZE from 3 to 9 or a GRADE begins a new game: easy, hard, extreme and
-unreasonable in Towers, trivial, easy, tricky, extreme and recursive in
-Unequal. Games up to hard or tricky are made, without end and without a guess:
-the same number N is always the same game, and today is the one of the date,
-for everybody; the others are stored puzzles. --ids prints the IDs of such
-games, one a line, and plays none.
+A SIZE from 3 to 9 or a GRADE begins a new game. The grades of Towers are easy,
+hard, extreme and unreasonable; those of Unequal are trivial, easy, tricky,
+extreme and recursive. There is no end of games up to hard or tricky, and none
+needs a guess. The same number N is always the same game, and today is the game
+of the date, for everybody. The other grades have stored puzzles. --ids prints
+the IDs of such games, one a line, and plays none.
 """
 
 
@@ -105,7 +105,7 @@ def fault(words: List[str]) -> str:
     if '--lines' in words and '--ids' in words:
         return '--ids plays no game, by lines or otherwise'
     if is_id(plain):
-        return f"'{plain[0]}' fits both games: its game comes before it"
+        return f"'{plain[0]}' fits both games: type its game before it"
     # Where an ID or a file was named the next word is one too many.
     word = plain[1] if len(plain) > 1 and (is_id(plain[:1]) or is_there(plain[0])) else unread(plain)
     if word is None:

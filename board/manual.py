@@ -15,7 +15,7 @@ KEYS: List[str] = [
     'c can these numbers be completed;  b undo until they can;  S solve',
     'n new game   o open: a game that was put away, a file   w save as',
     'i the ID   : a command of the program   Z to the shell, fg comes back',
-    'T lines of text   q quit: the game is kept, and goes on next time',
+    'T lines of text   q quit: the game is kept for the next start',
 ]
 
 RULES: Dict[str, List[str]] = {
@@ -38,13 +38,13 @@ RULES: Dict[str, List[str]] = {
 #: How the board shows what was given, and what contradicts.
 LOOKS: Dict[str, List[str]] = {
     'towers': [
-        'Bold numbers were given with the puzzle. What has a ! and is red is a',
-        'contradiction: two equal numbers in a line, or a clue that can no more',
+        'Bold numbers were given with the puzzle. A red number or clue with a !',
+        'contradicts: two equal numbers stand in a line, or a clue can no longer',
         'be met in its own line. A full board without red is the solution.',
     ],
     'unequal': [
-        'Bold numbers were given with the puzzle. What has a ! and is red is a',
-        'contradiction: two equal numbers in a line, or a sign that can no more',
+        'Bold numbers were given with the puzzle. A red number or sign with a !',
+        'contradicts: two equal numbers stand in a line, or a sign can no longer',
         'hold. A full board without red is the solution.',
     ],
 }
@@ -58,19 +58,19 @@ LINES: List[str] = [
     '  p r1c2 3               the pencil mark 3 there, or take it away; m  all marks',
     '  possible               the marks that stand in neither the row nor the column',
     '  d above 1              a clue\'s done mark, or take it away (Towers)',
-    '  r1c2, above 1          what there is to say of a square, or of a clue',
-    '  row 1, column 2        what is in a row or a column',
+    '  r1c2, above 1          describe a square, or a clue',
+    '  row 1, column 2        describe a row, or a column',
     '  clues                  the clues, or the signs',
     '  hint                   where to look; once more: the steps; then the number',
-    '  why, why 2             all steps of the hint; step 2, and what is left before',
+    '  why, why 2             all steps of the hint; step 2 with the numbers left',
     '  check, back            can these numbers be completed; undo until they can',
     '  tidy                   from now on, marks go when their number is put into',
     '                         their row or column; once more: they stay',
-    '  new [GAME] [SIZE] [GRADE] [number N or today]   a new game: of the same',
-    '                         number the same one; of today that of the date',
+    '  new [GAME] [SIZE] [GRADE] [number N or today]   a new game; the same number',
+    '                         is the same game; today is the number of the date',
     '  new ID                 the puzzle of that ID, your own or a usual program\'s',
-    '  save FILE, load FILE   save the game; go on with a saved one; Tab completes',
-    '  open, open 2, delete 2   games to go on with; go on with number 2; delete it',
+    '  save FILE, load FILE   save the game; load a saved one; Tab completes',
+    '  open, open 2, delete 2   list the kept games; open number 2; delete it',
     '  rules, help            the rules of this game; this list',
     '',
     'and the program\'s own commands:',
@@ -78,8 +78,8 @@ LINES: List[str] = [
     '  undo redo restart      back, forth, to the start (as a move of its own); u, r',
     '  solve                  show the solution, after a question',
     '  show marks done        the board; the pencil marks; the done clues',
-    '  status id              how far you are; the ID of this puzzle',
+    '  status id              your progress; the ID of this puzzle',
     '  list N                 the first N solutions',
-    '  move TEXT              a move as saves have it, which count from 0: R2,0,3',
-    '  quit                   leave; the game is kept, and goes on next time; q',
+    '  move TEXT              a move as in saves, which count from 0: R2,0,3',
+    '  quit                   leave; the game is kept for the next start; q',
 ]

@@ -16,7 +16,7 @@ from playing.typed import is_number
 BY_ID = 'by an ID or a seed'
 
 #: What the number is to be, where none is typed.
-BY_CHANCE, TODAYS, TYPED = 'by chance', "today's", 'typed'
+BY_CHANCE, TODAYS, TYPED = 'random', "today's", 'typed'
 
 #: A window that has fewer lines has none free between those of the menu.
 LOW = 18
@@ -160,8 +160,8 @@ class Menu:
             return "5:.. or 5!7, or the number after the '!'"
         if self._has_number():
             if self._line == 3 and self._number == TYPED:
-                return 'Digits are the number: the same one is always the same game.'
-            return 'the date, for everybody' if self._number == TODAYS else 'a game of its own for each number, without guessing'
+                return 'Type the number: the same one is always the same game.'
+            return 'the date, for everybody' if self._number == TODAYS else 'each number is another game, and none needs a guess'
         letter = Choice(self._game, self._size, self._kind).letter
         new, all_ = games.left(self._state, self._game, self._size, letter)
         return self._state.played_trouble(self._game) or f'{all_} puzzles, {new} of them new to you'

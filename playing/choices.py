@@ -25,7 +25,7 @@ TRIES = 20
 #: After so many numbers in a row whose games are there already no further ones are looked for.
 ALIKE = 1000
 
-WRONG_SIZE = 'Sizes go from 3 to 9: one digit from 3 to 9.'
+WRONG_SIZE = 'A size is one digit from 3 to 9.'
 WRONG_NUMBER = f"A number goes from 0 to {fair.SEEDS - 1}: 'number 20261126'."
 
 
@@ -167,7 +167,7 @@ def ids(path: str, choice: Choice, count: int) -> List[str]:
         return fair_ids(path, choice, count)
     there = games.stored(choice.game, choice.size, choice.letter)
     if count > len(there):
-        raise Unknown(f'So many there are of them: {len(there)}.')
+        raise Unknown(f'There are only {len(there)} of them.')
     return random.sample(there, count)
 
 
@@ -188,7 +188,7 @@ def fair_ids(path: str, choice: Choice, count: int) -> List[str]:
                 break
     finally:
         program.stop()
-    raise Unknown(f'So many there are of them: {len(found)}.')
+    raise Unknown(f'There are only {len(found)} of them.')
 
 
 def numbers(choice: Choice) -> Iterator[int]:

@@ -107,7 +107,7 @@ class Game(PresentGame):
     def delete(self, saved: SavedGame) -> bool:
         """Deletes one of these, after a question. A file of the player's stays."""
         if saved.home is Home.FOLDER:
-            self.message = f'{saved.path} is a file of yours, which is not deleted here.'
+            self.message = f'{saved.path} is a file of yours, and is not deleted here.'
             return False
         if not self.front.confirm(f'Delete {games.summary(self.path, saved, self.waiting())}?'):
             self.message = 'Nothing was deleted.'

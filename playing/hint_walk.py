@@ -122,5 +122,5 @@ class HintWalk:
         if self.hint.line is not None:
             return f'Look at {line_name(self.hint.line, self._size)}: a number has one square left there.'
         if self.place is None:
-            return 'Look for an empty square in whose row and column all numbers stand.'
+            return 'Look for an empty square whose row and column have all numbers.'
         return f'Look at {name(self.place)}: one number is left there, as the others stand in its row or column.'

@@ -181,7 +181,7 @@ class PresentGame:
             return None
         except Gone as gone:
             self._revive()
-            self.message = f'The program had ended ({gone}); the game goes on as it was. Try that again.'
+            self.message = f'The program had ended ({gone}). The game is as it was. Try that again.'
             return None
         if reply.is_lost:
             self.message = texts.LOST
@@ -343,7 +343,7 @@ class PresentGame:
         self._hint_walk = None
         self._joined = {}
         if program.first.board is None:
-            raise Gone(texts.LOST if program.first.is_lost else f"it doesn't tell its board: {program.first.refused}")
+            raise Gone(texts.LOST if program.first.is_lost else f"it doesn't give its board: {program.first.refused}")
         self._board = program.first.board
         kept = beside_in(kept_beside, self.board.session.id)
         self.chosen = self._told_choice(program, kept.number)

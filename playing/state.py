@@ -289,7 +289,7 @@ class State:
     def played_trouble(self, game: str) -> str:
         """A sentence where it can't be told which puzzles were begun."""
         found = self._marks(game)
-        return f'{self._marks_path(game)} {found.why}: puzzles may come again that you have played.' if found.is_closed else ''
+        return f'{self._marks_path(game)} {found.why}: puzzles that you have played may come again.' if found.is_closed else ''
 
     def _marks(self, game: str) -> files.Found:
         return files.read(self._marks_path(game)) if self._folder else files.Found(files.Kind.ABSENT)
@@ -342,7 +342,7 @@ def _slot(path: str) -> Slot:
 def _told(passed: List[str], name: str = '') -> str:
     """The sentence on files that were passed over, and the name of the one that was had instead."""
     then = f', and this game is kept in {name}' if name else ''
-    return f"{'; '.join(passed)}: what can't be read stays as it is{then}." if passed else ''
+    return f"{'; '.join(passed)}: a file that can't be read stays as it is{then}." if passed else ''
 
 
 def _unlink(path: str) -> None:

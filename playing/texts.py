@@ -22,19 +22,19 @@ class Ways(NamedTuple):
     back: str
 
 
-BY_KEYS = Ways('0 clears it', "a digit on a square, or ':move R2,0,3'", "'D0,-1', and a clue must be there", '? shows the keys', 'b')
-BY_LINES = Ways("'r1c2 0' clears it", "type row, column, number: 'r1c2 3', or 'p r1c2 3'", "'d above 1', and a clue must be there", "'help' lists them all", "'back'")
+BY_KEYS = Ways('0 clears it', "a digit on a square, or ':move R2,0,3'", "'D0,-1'", '? shows the keys', 'b')
+BY_LINES = Ways("'r1c2 0' clears it", "'r1c2 3' (row, column, number), or 'p r1c2 3'", "'d above 1'", "'help' lists them all", "'back'")
 
 #: A move, in SIZE squares by SIZE. What the front end says of its ways is put in.
 MOVES: Dict[str, str] = {
-    'BadMove': 'That is no move: {number}.',
-    'Unsupported': 'Hints and spent signs, moves with H and F, are not played here.',
+    'BadMove': 'That is no move. Try {number}.',
+    'Unsupported': 'Moves with H or F (hints and spent signs) are not played here.',
     'OffGrid': 'Columns and rows count from 0 to {last}.',
     'OffRange': 'Numbers go from 1 to {size}, and 0 clears a square.',
     'GivenSquare': 'That number was given with the puzzle, and stays.',
-    'FilledSquare': 'There is a number: {clear}, then set pencil marks.',
+    'FilledSquare': 'The square has a number: {clear} for pencil marks.',
     'BadSolution': 'Those numbers are no solution of this puzzle.',
-    'HistoryFull': 'A game has 100,000 states at most: undo some, then go on.',
+    'HistoryFull': 'A game has at most 100,000 states. Undo some moves first.',
     'NothingToUndo': 'This is the first state: there is nothing to undo.',
     'NothingToRedo': 'This is the last state: there is nothing to redo.',
     'NothingToRestart': 'The game is at its start already.',
@@ -43,13 +43,13 @@ MOVES: Dict[str, str] = {
 }
 
 #: A clue's done mark.
-NO_CLUE = 'A done mark is for a clue at the edge, as {done}.'
+NO_CLUE = 'A done mark is for a clue at the edge, as in {done}.'
 
 IDS: Dict[str, str] = {
-    'BadSize': "An ID begins with the size, one digit from 3 to 9, as 5 in '5!7'.",
+    'BadSize': "An ID begins with the size, one digit from 3 to 9, like the 5 in '5!7'.",
     'BadLetter': "After the size and 'd' comes one of the letters {letters}.",
     'AdjacentMode': "The adjacent mode of Unequal, with 'a' after the size, is not played here.",
-    'BadParams': "Between the size and ':' or '!' there is nothing, or 'd' and a letter.",
+    'BadParams': "Only 'd' and a letter may stand between the size and ':' or '!'.",
     'ForeignSeed': "A seed after '#' is the usual program's: copy its game ID with ':' from there.",
     'NoDescription': "An ID has ':' and a description, or '!' and a seed, after the size: '5!7'.",
     'BadSeed': "A seed is a number from 0 to 18446744073709551615, without leading zeros: '5!7'.",
@@ -59,10 +59,10 @@ IDS: Dict[str, str] = {
 
 #: The line that begins a fair game. What is offered is put in.
 FAIR: Dict[str, str] = {
-    'BadSize': 'Sizes go from 3 to 9: one digit from 3 to 9.',
+    'BadSize': 'A size is one digit from 3 to 9.',
     'BadLetter': 'The grades of such games are {letters}, {last} from size 4 on.',
     'BadSeed': 'The number of a game goes from 0 to 18446744073709551615, without leading zeros.',
-    'NoneFound': 'That number gives no such game: another one does.',
+    'NoneFound': 'That number gives no such game. Try another one.',
     'BadCommand': "'fair 5 e 20261126' begins a game: its size, the letter of its grade, and its number.",
 }
 
@@ -87,13 +87,13 @@ DESCRIPTIONS: Mapping[str, Dict[str, str]] = {
 SAVES: Dict[str, str] = {
     'NotASave': "That is no save file of the collection: one begins with 'SAVEFILE:41:'.",
     'WrongGame': "That save is of another game: 'puzzles-play {other} FILE' opens the saves of {other}.",
-    'Version': 'That save is of another version: version 1 is read.',
+    'Version': 'That save is of another version. Only version 1 can be read.',
     'TooLarge': 'A save has 16,777,216 bytes at most.',
     'BadParams': 'That save is of a size or a mode that is not played here: sizes go from 3 to 9.',
     'BadDesc': "That save's puzzle, its record DESC, can't be read.",
-    'BadCount': 'That save has no right number of states: from 1 to 100000, and the position among them.',
+    'BadCount': 'That save has a wrong number of states, or a wrong position among them.',
     'BadState': "Move {number} of that save can't be made on its board.",
-    'Unsupported': 'Hints and spent signs, moves with H and F, are not played here: undo them there and go on otherwise.',
+    'Unsupported': 'Moves with H or F (hints and spent signs) are not played here. Undo them there and make another move.',
     'Malformed': 'That save is damaged (Malformed).',
     'Repeated': 'That save is damaged (Repeated).',
     'EarlyState': 'That save is damaged (EarlyState).',
@@ -103,13 +103,13 @@ SAVES: Dict[str, str] = {
 #: Any line.
 LINES: Dict[str, str] = {
     'LongLine': 'A line has 1,024 bytes at most.',
-    'BadCommand': 'No such command: {commands}.',
+    'BadCommand': 'There is no such command; {commands}.',
     'OutOfMemory': 'There is no memory left for that; nothing has changed.',
     'NoGame': 'There is no game yet.',
 }
 
 #: What there is to say of a hint that shows nothing, and of the ways to complete the numbers.
-NO_HINT = 'No number follows by steps: try one, or mark what may be there.'
+NO_HINT = 'No number follows by steps. Try one, or mark the possible numbers.'
 WRONG = "These numbers can't be completed: undo some."
 COMPLETABLE = {
     'none': WRONG,
@@ -123,12 +123,12 @@ NEVER = "Not even the board at the start can be completed: there is nothing to g
 
 GREETING = 'A new game. Arrows move, 1-9 put a number in. h: a hint, ?: all keys.'
 
-MARKS_GO = 'From now on the marks of a number go when it is put into their row or column.'
+MARKS_GO = 'From now on, marks go when their number is put into their row or column.'
 MARKS_STAY = 'From now on marks stay when a number is put in.'
 
 STAYS = 'The present game stays.'
 MARKED = 'These marks are there already.'
-NO_VIEW = "The program doesn't say what may be there."
+NO_VIEW = "The program doesn't say which numbers are possible."
 
 STOPPED = 'Stopped; nothing has changed.'
 LOST = 'There is no memory left: the program did that or refused it, and could not say which.'
@@ -173,7 +173,7 @@ def last_moves(moves: int) -> str:
 def gone_back(moves: int, marks: int) -> str:
     """What was done, where so many moves were undone, and so many pencil marks went with them."""
     went = f' with {counted(marks, "pencil mark")}' if marks else ''
-    return f'{counted(moves, "move").capitalize()} back{went}, where the numbers could be completed; redo brings what came after.'
+    return f'{counted(moves, "move").capitalize()} taken back{went}. Now the numbers can be completed; redo makes {"it" if moves == 1 else "them"} again.'
 
 
 def counted(number: int, what: str) -> str:

@@ -29,22 +29,22 @@ MOVE = Template('<p><b>Move $number.</b> $text</p>\n')
 SENTENCE = Template('<p>$text</p>\n')
 
 
-class Told(NamedTuple):
+class Example(NamedTuple):
     """A puzzle, and its first moves."""
 
     puzzle: Puzzle
     moves: List[Move]
 
 
-def example(programs: Programs, game: str) -> Told:
+def example(programs: Programs, game: str) -> Example:
     """Raises `Unfit` where the program doesn't make it."""
     if programs.ask(game, fair.line(SIZE, LETTER, NUMBER)).refused:
         raise Unfit(f'The program makes no example of {GAMES[game]}.')
     puzzle = proved(programs, game)
-    return Told(puzzle, [move for move in steps.told(programs, puzzle) if move.number <= steps.FIRST])
+    return Example(puzzle, [move for move in steps.told(programs, puzzle) if move.number <= steps.FIRST])
 
 
-def body(paper: Paper, told: Told) -> Markup:
+def body(paper: Paper, told: Example) -> Markup:
     """What stands between head and foot."""
     puzzle = told.puzzle
     boards = {'The puzzle': puzzle.board, 'Its answer': puzzle.answer}

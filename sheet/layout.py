@@ -17,7 +17,7 @@ from sheet.puzzles import Puzzle
 #: The rules, in two sentences each, with the numbers that a page's puzzles have.
 RULES = {
     'towers': 'Fill in the numbers 1 to {last}, each once in each row and in each column: they are heights of towers. '
-    'A number outside tells how many towers are seen from there, where each hides all lower ones behind it.',
+    'A number outside says how many towers are seen from there; each tower hides all lower ones behind it.',
     'unequal': 'Fill in the numbers 1 to {last}, each once in each row and in each column. '
     'A wedge between two squares opens towards the greater number, and points at the smaller one.',
 }
@@ -226,8 +226,8 @@ def asked_pages(paper: Paper, puzzles: Sequence[Numbered], per_page: int) -> Lis
             return found
         if found:
             least = measures.LEAST_ASKED // 100
-            raise TooMany(f"--per-page {per_page}: the squares would be smaller than {least} mm; {number} on a page are not")
-    raise TooMany(f'--per-page {per_page}: not even one puzzle comes onto a page')
+            raise TooMany(f"--per-page {per_page}: the squares would be smaller than {least} mm; {number} on a page have room")
+    raise TooMany(f'--per-page {per_page}: not even one puzzle fits on a page')
 
 
 def _pages_of(paper: Paper, puzzles: Sequence[Numbered], number: int) -> List[Page]:

@@ -17,7 +17,7 @@ COLUMN_GAP, GAP = 600, 150
 SQUARES = 'r2c3 is the square in row 2 from the top and column 3 from the left.'
 
 #: Which moves are told.
-LEFT_OUT = 'Of each puzzle the first three moves are told, and the hardest one: the others are left out, since they are found in the same ways.'
+LEFT_OUT = 'Each puzzle has here its first three moves and its hardest one. The others are left out, since they are found in the same ways.'
 
 BLOCK = Template('<div class="steps" style="left:$left;top:$top;width:$width;height:$height">$content</div>\n')
 HEAD = Template('<p class="first"><b>$number</b> $grade</p>')

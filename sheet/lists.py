@@ -120,7 +120,7 @@ def _of_id(programs: Programs, words: List[str], text: str, preferred: Optional[
     if len(fitting) == 1:
         preferred = fitting[0]
     if preferred is None:
-        raise Unfit(f'it fits both games: {" or ".join(fitting)} before it says which')
+        raise Unfit(f'it fits both games: write {" or ".join(fitting)} before it')
     return proved(programs, preferred, caption)
 
 
@@ -142,7 +142,7 @@ def _of_save(programs: Programs, content: bytes, caption: str) -> Puzzle:
             continue
         program.stop()
         if program.first.session is None:
-            raise Gone("it doesn't tell the game of a save")
+            raise Gone("it doesn't give the game of a save")
         programs.ask(game, f'new {program.first.session.id}')
         return proved(programs, game, caption)
     other = next((name for name in refusals if name != 'WrongGame'), 'WrongGame')

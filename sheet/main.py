@@ -28,7 +28,7 @@ def main(words: List[str], here: str) -> int:
     try:
         asked = read(words)
     except Wrong as wrong:
-        return refuse(str(wrong), f"'{me()} --help' tells all words.\n")
+        return refuse(str(wrong), f"'{me()} --help' lists all options.\n")
     try:
         return with_program(here, partial(make, asked=asked))
     except TooMany as many:

@@ -8,7 +8,7 @@ from typing import Iterator, List, NamedTuple, Sequence
 
 from playing.board import GAMES
 from sheet import answers, drawing, examples, layout, listing
-from sheet.examples import Told
+from sheet.examples import Example
 from sheet.layout import Figure, Numbered, Page, Paper
 from sheet.listing import Explained
 from sheet.markup import Markup, fill, joined, plain, safe, shortened
@@ -63,7 +63,7 @@ class Section(NamedTuple):
 class Sheet:
     """Some puzzles, and how they are printed."""
 
-    def __init__(self, puzzles: Sequence[Puzzle], asked: Asked, explained: Sequence[List[Move]] = (), example: Sequence[Told] = ()) -> None:
+    def __init__(self, puzzles: Sequence[Puzzle], asked: Asked, explained: Sequence[List[Move]] = (), example: Sequence[Example] = ()) -> None:
         """With the moves of each puzzle, and solved puzzles to begin with, where such are asked for. Raises `TooMany`."""
         self._form = asked.form
         self._puzzles = [Numbered(number, puzzle) for number, puzzle in enumerate(puzzles, 1)]

@@ -13,7 +13,7 @@ BROWSERS = ['chromium', 'chromium-browser', 'google-chrome', 'google-chrome-stab
 SECONDS = 120
 
 BEGINS = b'%PDF-'
-OTHERWISE = 'write the page by --output, and print it in a browser'
+OTHERWISE = 'write the page with --output, and print it in a browser'
 
 
 class NoPdf(Exception):
@@ -28,7 +28,7 @@ def found(browser: Optional[str]) -> str:
             return path
     if browser:
         raise NoPdf(f"there is no program '{browser}'")
-    raise NoPdf(f'no Chromium is there ({", ".join(BROWSERS[:3])} ..): --browser names one; or {OTHERWISE}')
+    raise NoPdf(f'no Chromium was found ({", ".join(BROWSERS[:3])} ..): --browser names one; or {OTHERWISE}')
 
 
 def printed(browser: str, page: bytes, folder: str) -> bytes:

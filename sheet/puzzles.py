@@ -67,7 +67,7 @@ class Programs:
         """The board of the game that has begun."""
         board = self.ask(game, 'board').board
         if board is None:
-            raise Gone('it tells no board')
+            raise Gone('it gives no board')
         return board
 
     def _program(self, game: str) -> Program:
@@ -87,5 +87,5 @@ def proved(programs: Programs, game: str, caption: str = '') -> Puzzle:
     programs.ask(game, 'solve')
     answer = programs.board(game)
     if not answer.is_solved or answer.session.id != board.session.id:
-        raise Gone('it has shown one solution, and tells none')
+        raise Gone('it has found one solution, and gives none')
     return Puzzle(board, answer, letter, caption)

@@ -13,7 +13,7 @@ from sheet.puzzles import Programs, Puzzle, Unfit, proved
 TRIES = 100
 
 #: What there is to say where the program makes no games of a kind, by the name of its refusal; and refusals of a seed alone.
-REFUSED = {'BadLetter': '{game} of size {size} has no {grade} puzzles: --ids prints puzzles that there are.'}
+REFUSED = {'BadLetter': '{game} of size {size} has no {grade} puzzles: --ids prints the puzzles of a list.'}
 OTHERWISE = 'The program refuses that: {name}.'
 OF_THE_SEED = ('BadSeed', 'NoneFound')
 NONE_FOUND = 'No {grade} puzzle of {game} of size {size} was found with the {tries:,} seeds from {first} to {last}.'

@@ -22,27 +22,27 @@ Makes a page in HTML with puzzles for print, and their answers. A browser shows
 and prints it. GAME is towers or unequal.
 
 Which puzzles:
-  --size W         3 to 9; several as 5-7 or 3,5; otherwise 5
+  --size W         3 to 9; several as 5-7 or 3,5; by default 5
   --grade GRADE    of towers easy or hard; of unequal trivial, easy or tricky;
-                   several as easy,hard; otherwise easy
-  --seed N         other puzzles for each number; otherwise 1
-  --count N        how many, up to 200; otherwise 12, or all of FILE
-  --ids FILE       the puzzles of a file, or of standard input where it is -:
-                   an ID or the name of a save on each line, then a caption
+                   several as easy,hard; by default easy
+  --seed N         each number has other puzzles; by default 1
+  --count N        how many, up to 200; by default 12, or all of FILE
+  --ids FILE       the puzzles of a file, or of standard input if it is -. Each
+                   line has an ID or the name of a save, and then a caption
 
 FORM, how they are printed:
-  --per-page N     so many, up to 12; otherwise up to 6, as squares allow
-  --answers WHERE  end, none or only; otherwise end
-  --steps          tell how each answer goes on
-  --example        a small puzzle comes first, with its answer and three steps
-  --title TEXT     stands above
-  --ids-below      each puzzle has its ID below it
-  --words          the foot has the words that make the sheet again
-  --paper PAPER    a4 or letter; otherwise a4
-  --large          one on a page, for those who see badly
-  --output FILE    where the page goes, if not to standard output
-  --pdf FILE       print it to this file, by a Chromium that is there
-  --browser NAME   the Chromium for that
+  --per-page N     how many on a page, up to 12; by default up to 6
+  --answers WHERE  end, none or only; by default end
+  --steps          print the first steps to each answer, and the hardest
+  --example        begin with a small puzzle, its answer and three steps
+  --title TEXT     print a title above the puzzles
+  --ids-below      print below each puzzle its ID
+  --words          print in the foot the command that makes the sheet again
+  --paper PAPER    a4 or letter; by default a4
+  --large          print one puzzle on a page, in large print
+  --output FILE    write the page to this file, not to standard output
+  --pdf FILE       print the sheet to this file, with an installed Chromium
+  --browser NAME   the Chromium to use for that
 
 Exit status:
   0  the page was written
@@ -115,7 +115,7 @@ def read(words: Sequence[str]) -> Asked:
         raise Wrong(f'GAME is {" or ".join(GAMES)}')
     found.game = found.games[0] if found.games else None
     if found.ids is not None and any(value is not None for value in (found.size, found.grade, found.seed)):
-        raise Wrong('--ids goes without --size, --grade and --seed: the puzzles are there')
+        raise Wrong('--ids takes no --size, --grade or --seed, since the list has the puzzles')
     for name in ('ids', 'output', 'pdf', 'browser'):
         if getattr(found, name) == '':
             raise Wrong(f'argument --{name}: the name of a file')

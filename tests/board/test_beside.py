@@ -78,7 +78,7 @@ def beside(front: BoardFront, room: Room, face: Face, why: str) -> None:
     """It stays as it is; a new game is kept beside it, and goes on at the next start."""
     before = known(room, KEPT)
     with front.window([*face.words, 'towers'], LOW) as window:
-        told = f"FOLDER/{KEPT} {why}: what can't be read stays as it is, and this game is kept in towers-2.sav."
+        told = f"FOLDER/{KEPT} {why}: a file that can't be read stays as it is, and this game is kept in towers-2.sav."
         window.look('', [told])
         window.look(face.back + face.marks, [face.shows])
         window.leave(face.leave)
@@ -151,7 +151,7 @@ def test_lock(front: BoardFront, room: Room) -> None:
         room.put(f'{at}/puzzles/towers.sav', save_text(2))
         env = {**front.env(), 'XDG_STATE_HOME': os.path.join(room.path, str(at))}
         with front.window(['--lines'], LOW, env) as window:
-            told = f"FOLDER/{at}/puzzles/towers.sav can't be locked ({why}): what can't be read stays as it is, and this game is kept in towers-2.sav."
+            told = f"FOLDER/{at}/puzzles/towers.sav can't be locked ({why}): a file that can't be read stays as it is, and this game is kept in towers-2.sav."
             window.look('', [told, 'towers 1/1>'])
             window.leave('q<enter>')
         assert room.read(f'{at}/puzzles/towers.sav') == save_text(2), f'{why}: the kept game'
@@ -163,7 +163,7 @@ def test_other_game(front: BoardFront, room: Room) -> None:
     path = f'{FOLDER}/unequal.sav'
     os.mkfifo(os.path.join(room.path, path))
     before = known(room, path)
-    told = f"FOLDER/{path} is a named pipe: what can't be read stays as it is, and this game is kept in unequal-2.sav."
+    told = f"FOLDER/{path} is a named pipe: a file that can't be read stays as it is, and this game is kept in unequal-2.sav."
     with front.window(['towers', ID], LOW) as window:
         window.look('1', ['1 of 9'])
         window.look('n<up><up><right><enter>', [told])
@@ -184,7 +184,7 @@ def test_no_text(front: BoardFront, room: Room) -> None:
     os.utime(os.path.join(folder, 'puzzles', 'towers.sav'), (2e9, 2e9))
     for face in (SCREEN, LINES):
         with front.window([*face.words, 'towers', ID], LOW, {**front.env(), 'XDG_STATE_HOME': folder}) as window:
-            window.look('', ["towers.sav is a named pipe: what can't be read stays as it is"])
+            window.look('', ["towers.sav is a named pipe: a file that can't be read stays as it is"])
             window.leave(face.leave)
 
 

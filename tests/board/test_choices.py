@@ -74,7 +74,7 @@ def test_few(front: BoardFront, room: Room) -> None:
     ended = run([front.path, '--ids', 'towers', '3', 'easy', '12'], room, env=front.env())
     assert len(set(ended.output.split())) == 12
     ended = run([front.path, '--ids', 'towers', '3', 'easy', '13'], room, env=front.env())
-    assert (ended.status, ended.output, ended.error) == (2, b'', b'puzzles-play: So many there are of them: 12.\n')
+    assert (ended.status, ended.output, ended.error) == (2, b'', b'puzzles-play: There are only 12 of them.\n')
 
 
 def test_words(front: BoardFront, room: Room) -> None:
@@ -89,7 +89,7 @@ def test_words(front: BoardFront, room: Room) -> None:
             window.look('', shows)
             window.leave('q')
     with front.window([]) as window:
-        window.look('n', ['[Towers]', '[7]', '[hard]', '[by chance]'])
+        window.look('n', ['[Towers]', '[7]', '[hard]', '[random]'])
         window.look('<up><up><right>', ['[Unequal]', '[6]', '[extreme]', '200 puzzles, 199 of them new to you'])
         window.look('q', ['Towers 7x7'], ['A new game'])
         window.press('q')
@@ -139,7 +139,7 @@ def test_no_place_for_choices(front: BoardFront, room: Room) -> None:
     os.makedirs(os.path.join(room.path, 'state', 'puzzles', 'choices'))
     with front.window(['towers', '4', 'hard']) as window:
         window.look('', ['Towers 4x4', 'hard'])
-        window.look('M', ['From now on the marks of a number go'])
+        window.look('M', ['From now on, marks go when'])
         window.look('M', ['From now on marks stay'])
         window.look('n', ['[4]', '[hard]'])
         window.leave('qq')

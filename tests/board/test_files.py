@@ -23,11 +23,11 @@ LEFT = ['choices', 'towers.lock', 'towers.sav', 'unequal.lock']
 #: Edits of a save, and the sentence by which it is refused.
 SAVES: List[Tuple[bytes, bytes, str]] = [
     (b'SAVEFILE', b'XAVEFILE', "That is no save file of the collection: one begins with 'SAVEFILE:41:'."),
-    (b'VERSION :1:1', b'VERSION :1:2', 'That save is of another version: version 1 is read.'),
+    (b'VERSION :1:1', b'VERSION :1:2', 'That save is of another version. Only version 1 can be read.'),
     (b'CPARAMS :1:3', b'CPARAMS :2:10', 'That save is of a size or a mode that is not played here'),
     (b'DESC    :13:3//////3/////', b'DESC    :1:3', "That save's puzzle, its record DESC, can't be read."),
-    (b'NSTATES :1:3', b'NSTATES :1:0', 'That save has no right number of states'),
-    (b'MOVE    :6:R0,0,1', b'MOVE    :6:F0,0,2', 'Hints and spent signs, moves with H and F, are not played here: undo them there'),
+    (b'NSTATES :1:3', b'NSTATES :1:0', 'That save has a wrong number of states'),
+    (b'MOVE    :6:R0,0,1', b'MOVE    :6:F0,0,2', 'Moves with H or F (hints and spent signs) are not played here. Undo them there'),
     (b'MOVE    :6:R0,0,1', b'MOVE    :99999999:', 'That save is damaged (Malformed).'),
     (b'GAME    :6:Towers', b'GAME    :6:Towers\nGAME    :6:Towers', 'That save is damaged (Repeated).'),
     (b'NSTATES :1:3\n', b'', 'That save is damaged (EarlyState).'),
@@ -40,8 +40,8 @@ def test_put_away(front: BoardFront, room: Room) -> None:
     """The present game is put away, and comes back from there."""
     with front.window(['towers', ID]) as window:
         window.look('1', ['1 of 9'])
-        window.look('n', ['A new game', '[easy]', '[by chance]'])
-        window.look('<right>', ['[extreme]', '50 puzzles, 50 of them new to you'], ['by chance'])
+        window.look('n', ['A new game', '[easy]', '[random]'])
+        window.look('<right>', ['[extreme]', '50 puzzles, 50 of them new to you'], ['random'])
         window.look('<enter>', ['0 of ', 'Towers 3x3   extreme'])
         window.look('n', ['50 puzzles, 49 of them new to you'])
         window.look('<up><up><right><down>5<down>', ['[Unequal]', '[5]', '[extreme]'])
@@ -56,13 +56,13 @@ def test_put_away(front: BoardFront, room: Room) -> None:
 def test_number(front: BoardFront, room: Room) -> None:
     """A fair game tells its number, by which it is played again: typed in the menu, or after the name of the command."""
     with front.window(['unequal', '3!7']) as window:
-        window.look('n', ['[trivial]', '[by chance]'])
+        window.look('n', ['[trivial]', '[random]'])
         window.look('<right>6<enter>', ['Unequal 6x6   easy', 'Easy 6, number ', 'That number is always this game.'])
         told = re.search(r'number (\d+)\.', ' '.join(window.screen.text()))
         assert told
         window.look('i', ['The ID of this puzzle', f'puzzles-play unequal 6 easy number {told[1]}', 'any key goes back'])
         first = window.screen.text()
-        window.look('xn<down>', ['[6]', '[easy]', '> Number [by chance]'])
+        window.look('xn<down>', ['[6]', '[easy]', '> Number [random]'])
         window.look('<right>', [f"[today's: {time.strftime('%Y%m%d')}]"])
         window.look('5<backspace><backspace>', ['[typed: ..]'])
         window.look(told[1], [f'[typed: {told[1]}]'])
@@ -86,7 +86,7 @@ def test_menu(front: BoardFront) -> None:
     """The game on the board is offered, and not what was chosen last; what is refused stays in the menu, with a sentence."""
     with front.window(['towers', '6', 'hard']) as window:
         window.look(':new 4de:////2///////////2,c2b4i<enter>', ['Towers 4x4'])
-        window.look('n', ['[Towers]', '[4]', '[easy]', '[by chance]'])
+        window.look('n', ['[Towers]', '[4]', '[easy]', '[random]'])
         window.look('<down><right><right><enter>', ['A new game', 'Type the number: digits.'])
         window.look('99999999999999999999', ['[typed: 9999999999999999999]', 'A number goes from 0 to 18446744073709551615'])
         window.look('<up><right><right><right><right><enter>', ['ID, or a number as the seed:'])
@@ -114,7 +114,7 @@ def test_saved(front: BoardFront, room: Room) -> None:
     room.put('notes.txt', b'not a save\n')
     with front.window(['towers', ID]) as window:
         window.look('1<right>2', ['2 of 9'])
-        window.look('wFOLDER/notes.txt<enter>', ['notes.txt is there, and is no save. Write over it? y/N'])
+        window.look('wFOLDER/notes.txt<enter>', ['notes.txt exists, and is no save. Overwrite it? y/N'])
         window.look('<enter>', ['Nothing was saved.'])
         assert room.read('notes.txt') == b'not a save\n', 'the notes'
         window.look('w"FOLDER/a game.sav"<enter>', ['Saved in FOLDER/a game.sav'])
@@ -174,7 +174,7 @@ def test_names(front: BoardFront, room: Room) -> None:
         window.look('', ['towers 1/1>'])
         window.look('load sa<tab><tab>', ['load saves/one'])
         window.look(' m<tab><enter>', ['load saves/one more.sav', 'towers 3/3>'])
-        window.look('x<tab><enter>', ['No such command'])
+        window.look('x<tab><enter>', ['There is no such command'])
         window.leave('q<enter>')
 
 

@@ -164,7 +164,7 @@ def test_place_taken(front: BoardFront, room: Room) -> None:
             kept = KEPT if at == 2 else f'state/puzzles/towers-{at - 1}.sav'
             os.remove(os.path.join(room.path, kept))
             make(os.path.join(room.path, kept))
-            window.look(f'<right>{at}', [f"what can't be read stays as it is, and this game is kept in towers-{at}.sav.", f'{at} of 9'])
+            window.look(f'<right>{at}', [f"a file that can't be read stays as it is, and this game is kept in towers-{at}.sav.", f'{at} of 9'])
             assert room.read(f'state/puzzles/towers-{at}.sav') == save_text(at), 'what is kept'
         window.leave('q')
     with front.window([]) as window:
@@ -266,13 +266,13 @@ def test_words(front: BoardFront, room: Room) -> None:
         (['--ids', ID], 2, b'usage: '),
         (['--ids', 'towers', '6', 'easy', '0'], 2, b"'0' is no number of IDs\nusage: "),
         (['--ids', 'towers', '6', 'tricky'], 2, b"Towers has no grade 'tricky': easy, hard, extreme or unreasonable."),
-        (['--ids', 'towers', '10'], 2, b'Sizes go from 3 to 9'),
+        (['--ids', 'towers', '10'], 2, b'A size is one digit from 3 to 9'),
         (['--ids', 'unequal', '9', 'recursive'], 2, b'Of size 9 there are puzzles of the grades trivial, easy, tricky and extreme.'),
         (['--ids', 'towers', '3', 'hard'], 2, b'Of size 3 there are puzzles of the grades easy, extreme and unreasonable.'),
         (['--ids', 'towers', '7', 'extreme', 'today'], 2, b'Of size 7 the grades easy and hard have numbers.'),
         (['--ids', 'towers', 'number', 'x'], 2, b'A number goes from 0 to 18446744073709551615'),
-        (['--ids', 'towers', 'today', '5', '2'], 2, b'So many there are of them: 1.'),
-        (['--ids', 'towers', '9', 'extreme', '21'], 2, b'So many there are of them: 20.'),
+        (['--ids', 'towers', 'today', '5', '2'], 2, b'There are only 1 of them.'),
+        (['--ids', 'towers', '9', 'extreme', '21'], 2, b'There are only 20 of them.'),
         (['towers', ID], 2, b'the board is for a terminal; in a pipe use --lines, or the program itself, puzzles towers'),
     ]:
         found = run([front.path, *line], room, env=front.env())

@@ -99,7 +99,7 @@ def test_saved(front: BoardFront, room: Room) -> None:
             told = f'FOLDER/{at} {why}: a game is saved to a file.'
             window.look(f'wFOLDER/{at}<enter>', [told])
             lines.look(f'save FOLDER/{at}<enter>', [told])
-        window.look('wFOLDER/link.sav<enter>', ["link.sav is there, and can't be read. Write over it? y/N"])
+        window.look('wFOLDER/link.sav<enter>', ["link.sav exists, and can't be read. Overwrite it? y/N"])
         window.look('y', ['Saved in FOLDER/link.sav'])
         window.press('q')
         lines.press('q<enter>')
@@ -119,7 +119,7 @@ def test_old_games(front: BoardFront, room: Room) -> None:
         window.look('0', [f'FOLDER/{old} is a named pipe.', '0 of 9'])
         window.leave('q')
     with front.window(['--lines', 'towers'], LOW) as window:
-        window.look('open<enter>', ["towers, can't be read", "'open 0' goes on with number 0, 'delete 0' deletes it."])
+        window.look('open<enter>', ["towers, can't be read", "'open 0' opens number 0, 'delete 0' deletes it."])
         window.look('open 0<enter>', [f'FOLDER/{old} is a named pipe.'])
         window.leave('q<enter>')
     assert known(room, old) == before, 'what was there'
@@ -147,7 +147,7 @@ def test_marks(front: BoardFront, room: Room) -> None:
     os.makedirs(os.path.join(room.path, FOLDER))
     os.mkfifo(os.path.join(room.path, path))
     before = known(room, path)
-    told = f'FOLDER/{path} is a named pipe: puzzles may come again that you have played.'
+    told = f'FOLDER/{path} is a named pipe: puzzles that you have played may come again.'
     with front.window(['towers', ID], LOW) as window:
         window.look('n<right>', ['A new game', '[extreme]', told])
         window.look('<enter>', [told, '0 of '])
@@ -226,7 +226,7 @@ def test_closed_files(front: BoardFront, room: Room) -> None:
     why = "can't be read (Permission denied; it is user 60003's)."
     with front.window(['towers', ID], LOW) as window:
         window.look('o0FOLDER/game.sav<enter>', [f'FOLDER/game.sav {why}', '0 of 9'])
-        window.look('wFOLDER/game.sav<enter>', ["game.sav is there, and can't be read. Write over it? y/N"])
+        window.look('wFOLDER/game.sav<enter>', ["game.sav exists, and can't be read. Overwrite it? y/N"])
         window.look('x', ['Nothing was saved.'])
         window.look('oq', [f"FOLDER/{FOLDER}/old can't be read (Permission denied)."])
         window.leave('q')

@@ -75,7 +75,7 @@ def test_program_killed(front: BoardFront, room: Room) -> None:
         window.look('1', ['1 of 9'])
         for pid in window.programs():
             os.kill(pid, signal.SIGKILL)
-        window.look('<right>2', ['The program had ended (signal 9); the game goes on as it was. Try that again.', '1 of 9'])
+        window.look('<right>2', ['The program had ended (signal 9). The game is as it was. Try that again.', '1 of 9'])
         window.look('2', ['2 of 9', 'move 2/2'])
         window.leave('q')
     assert room.read(KEPT) == save_text(2), 'what is kept'
@@ -105,12 +105,12 @@ def test_no_game(front: BoardFront, room: Room) -> None:
     env = {**front.env(), 'PUZZLES_JSON': os.path.join(room.path, 'without')}
     with front.window([], env=env) as window:
         window.look('m', ['Towers 5x5', 'easy', 'move 1/1'])
-        window.look('n<down>7<enter>', ['A new game', 'That number gives no such game: another one does.', '[typed: 7]'])
+        window.look('n<down>7<enter>', ['A new game', 'That number gives no such game. Try another one.', '[typed: 7]'])
         window.look('q', ['move 1/1'])
         window.look('n<enter>', ['move 0/0', 'That number is always this game.'])
         window.leave('q')
     with front.window(['--lines', 'towers', '5', 'number', '7'], env=env) as window:
-        window.look('', ['That number gives no such game: another one does.'])
+        window.look('', ['That number gives no such game. Try another one.'])
         assert window.status() == 3, 'the status'
 
 
@@ -189,5 +189,5 @@ def test_full_history(front: BoardFront, room: Room) -> None:
     room.put('long.sav', save_text(0).replace(b'NSTATES :1:1\nSTATEPOS:1:1\n', b'NSTATES :6:100000\nSTATEPOS:6:100000\n') + moves)
     with front.window(['towers', os.path.join(room.path, 'long.sav')]) as window:
         window.look('', ['move 99999/99999'])
-        window.look('1', ['A game has 100,000 states at most: undo some, then go on.'])
+        window.look('1', ['A game has at most 100,000 states. Undo some moves first.'])
         window.look('u', ['move 99998/99999'])

@@ -1,5 +1,4 @@
-"""docs/JSON.md, docs/SCRIPTING.md and README: the clients stand there as they are in docs/clients, and play; the examples are what the
-programs write."""
+"""docs/JSON.md, docs/SCRIPTING.md and README: the clients in docs/clients play, and the examples are what the programs write."""
 
 import json
 import os
@@ -31,9 +30,6 @@ HINTS = [Client('hints.py', sys.executable, sys.executable), Client('hints.bash'
 #: The one document that lies above the others.
 README = '../README.md'
 
-#: Where each file stands.
-QUOTED = {'hints.py': 'JSON.md', 'hints.bash': 'JSON.md', 'framing.py': 'SCRIPTING.md', 'fair.bash': 'SCRIPTING.md'}
-
 #: The game, the ID, and what is written of it at its end.
 PLAYED = [
     ('towers', ID, '+ 3 - - +\n3 1 2 3 -\n- 2 3 1 -\n- 3 1 2 -\n+ - - - +\nsolved\n'),
@@ -55,13 +51,8 @@ def unfolded(block: str) -> str:
     return re.sub(r'\n +', '', block)
 
 
-BLOCKS = {name: blocks_of(name) for name in (*set(QUOTED.values()), README)}
+BLOCKS = {name: blocks_of(name) for name in ('JSON.md', 'SCRIPTING.md', README)}
 WORKED = [worked for block in BLOCKS['JSON.md'] if block.startswith('$ puzzles-json ') for worked in read_table(unfolded(block))]
-
-
-@pytest.mark.parametrize(('file', 'name'), QUOTED.items())
-def test_quoted(file: str, name: str) -> None:
-    assert (CLIENTS / file).read_text(encoding='utf-8') in BLOCKS[name]
 
 
 @pytest.fixture(params=HINTS, ids=[client.file for client in HINTS])
@@ -119,8 +110,7 @@ def rows_of(text: str) -> List[List[str]]:
 def test_refusals() -> None:
     """The table of refusals has the names of FORMATS.md that a line can be answered by, each once."""
     formats = (TOP / 'docs' / 'FORMATS.md').read_text(encoding='utf-8').partition('## 10. Faults')[2]
-    faults = re.findall(r'^\*\*(\w+)\*\* \(.*?(?=^\*\*\w+\*\* \(|\Z)', formats, re.MULTILINE | re.DOTALL)
-    parts = dict(zip(faults, re.split(r'^\*\*\w+\*\* \(', formats, flags=re.MULTILINE)[1:]))
+    parts = dict(part.split('\n', 1) for part in formats.split('\n### ')[1:])
     told = {
         row[1] for name in ('IdFault', 'GenFault', 'FairFault', 'PlayFault', 'LineFault') for row in rows_of(parts[name]) if row[0].isdigit()
     }

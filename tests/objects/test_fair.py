@@ -37,18 +37,18 @@ OTHER = [
 PLAYED = ['board', 'grade', 'hint', 'completable', 'status', 'id', 'move M', 'move R1,1,1', 'undo', 'undo', 'undo', 'redo', 'solve', 'undo', 'restart', 'save', 'list 2']
 
 
-class Told(NamedTuple):
+class Answered(NamedTuple):
     """An object that answers a line."""
 
     line: str
     found: Dict[str, Any]
 
 
-def told(program: str, room: Room, words: Sequence[str], lines: Sequence[str]) -> List[Told]:
+def told(program: str, room: Room, words: Sequence[str], lines: Sequence[str]) -> List[Answered]:
     script = '\n'.join(lines).encode('latin-1')
     ended = run([program, *words], room, input=script)
     assert (ended.status, ended.error) == (0, b'')
-    return [Told(line, answer.found) for line, answer in zip(lines, read_answers(script, ended.output))]
+    return [Answered(line, answer.found) for line, answer in zip(lines, read_answers(script, ended.output))]
 
 
 @pytest.mark.parametrize(('game', 'words', 'name'), REFUSED)

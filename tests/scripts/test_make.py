@@ -35,7 +35,7 @@ UNEQUAL_SAVE = save_text(0).replace(b':6:Towers', b':7:Unequal').replace(b':13:3
 PROGRAMS = ['build/puzzles', 'build/puzzles-json']
 
 ROUNDS = [
-    Make('make help', ['make', 'help'], says=['make play', 'make build', 'make programs', 'make test', 'make gate', 'make test-tools']),
+    Make('make help', ['make', 'help'], says=['make play', 'make build', 'make programs', 'make test', 'make gate', 'make test-faults']),
     Make('a crate is checked', ['make', 'check', 'CRATE=clue_rules'], says=['asked for check in clue_rules']),
     Make('a crate is tried', ['make', 'try', 'CRATE=clue_rules'], says=['asked for try --test in clue_rules']),
     Make('its wrong bodies', ['make', 'must-fail', 'CRATE=clue_rules'], says=['asked for must-fail clue_rules in checkout']),

@@ -22,7 +22,7 @@ UNEQUAL = '3:0,0L,0L,0U,0,0,0U,0,0,'
 SEVERAL, NONE, SHORT = '3:///////////', '3:1,1,0,0,0,0,0,0,0,', '3:1/2'
 
 FEW = "A description has four clues for each of the size, with '/' between, and all squares after a ','."
-SIZE = "An ID begins with the size, one digit from 3 to 9, as 5 in '5!7'."
+SIZE = "An ID begins with the size, one digit from 3 to 9, like the 5 in '5!7'."
 
 
 def seeded(game: str) -> str:
@@ -73,7 +73,7 @@ class Wrong(NamedTuple):
 WRONG = [
     Wrong('several solutions', content([TOWERS] * 6 + [SEVERAL]), 'line 7: several solutions\n'),
     Wrong('each line is told', content([SEVERAL, TOWERS, NONE, SHORT, 'x']), f'line 1: several solutions\nline 3: no solution\nline 4: {FEW}\nline 5: {SIZE}\n'),
-    Wrong('a seed that fits both', b'3!7', 'line 1: it fits both games: towers or unequal before it says which\n'),
+    Wrong('a seed that fits both', b'3!7', 'line 1: it fits both games: write towers or unequal before it\n'),
     Wrong('of the game that is named', f'towers {UNEQUAL}'.encode(), f'line 1: {FEW}\n'),
     Wrong('a long line', b'3:' + b'/' * 5000, 'line 1: A line has 1,024 bytes at most.\n'),
     Wrong('a line of zeros', b'3:\x00', "line 1: A description has one part for each square, with ',' between.\n"),

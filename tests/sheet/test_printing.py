@@ -112,7 +112,7 @@ def test_too_many(maker: Maker, room: Room, words: List[str], number: int) -> No
     """More than have room are refused, with the number that has; so many are printed."""
     asked = words[words.index('--per-page') + 1]
     ended = maker.run([*words, '--output', 'page.html'])
-    told = f'puzzles-sheet: --per-page {asked}: the squares would be smaller than 7 mm; {number} on a page are not\n'
+    told = f'puzzles-sheet: --per-page {asked}: the squares would be smaller than 7 mm; {number} on a page have room\n'
     assert (ended.status, ended.output, ended.error.decode()) == (2, b'', told)
     assert room.names() == []
     page = maker.page([word if word != asked else str(number) for word in words])
@@ -138,8 +138,8 @@ def test_pdf(maker: Maker, room: Room) -> None:
 #: Words, what is told where no PDF comes of them.
 NO_PDF = [
     (['--browser', 'no-browser'], "there is no program 'no-browser'"),
-    (['--browser', '/bin/false'], '/bin/false has made no PDF: write the page by --output, and print it in a browser'),
-    ([], 'no Chromium is there (chromium, chromium-browser, google-chrome ..): --browser names one; or write the page by --output, and print it in a browser'),
+    (['--browser', '/bin/false'], '/bin/false has made no PDF: write the page with --output, and print it in a browser'),
+    ([], 'no Chromium was found (chromium, chromium-browser, google-chrome ..): --browser names one; or write the page with --output, and print it in a browser'),
 ]
 
 

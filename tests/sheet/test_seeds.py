@@ -129,8 +129,8 @@ class Refused(NamedTuple):
 
 
 REFUSED = [
-    Refused(['towers', '--size', '3', '--grade', 'hard'], 'Towers of size 3 has no hard puzzles: --ids prints puzzles that there are.\n'),
-    Refused(['unequal', '--size', '3-9', '--grade', 'easy,tricky'], 'Unequal of size 3 has no tricky puzzles: --ids prints puzzles that there are.\n'),
+    Refused(['towers', '--size', '3', '--grade', 'hard'], 'Towers of size 3 has no hard puzzles: --ids prints the puzzles of a list.\n'),
+    Refused(['unequal', '--size', '3-9', '--grade', 'easy,tricky'], 'Unequal of size 3 has no tricky puzzles: --ids prints the puzzles of a list.\n'),
 ]
 
 
@@ -226,7 +226,7 @@ def test_steps(maker: Maker, objects: str) -> None:
 def test_all_told(maker: Maker) -> None:
     """It is said which moves are told, and that others are left out; the columns are full but for the last one."""
     page = maker.page(['towers', '--size', '6', '--grade', 'hard', '--steps'])
-    assert page.count('the others are left out, since they are found in the same ways.') == 1
+    assert page.count('The others are left out, since they are found in the same ways.') == 1
     columns = [len(paragraphs(column)) for column in re.findall(r'<div class="steps" [^>]*>(.*?)</div>', page, re.DOTALL)]
     assert len(columns) > 1 and min(columns[:-1]) > 20, columns
 

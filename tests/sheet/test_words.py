@@ -15,7 +15,7 @@ from tests.harness.mounts import fill, small_disk
 from tests.harness.terminal import Terminal
 from tests.sheet.making import PATH, Maker, content
 
-TIP = "'puzzles-sheet --help' tells all words.\n"
+TIP = "'puzzles-sheet --help' lists all options.\n"
 
 
 class Wrong(NamedTuple):
@@ -49,7 +49,7 @@ WRONG = [
     Wrong(['towers', '--per-page', '13'], 'argument --per-page: a number from 1 to 12'),
     Wrong(['towers', '--paper', 'a5'], "argument --paper: invalid choice: 'a5' (choose from 'a4', 'letter')"),
     Wrong(['towers', '--steps', '--answers', 'none'], '--steps goes with answers'),
-    Wrong(['--ids', 'list', '--seed', '1'], '--ids goes without --size, --grade and --seed: the puzzles are there'),
+    Wrong(['--ids', 'list', '--seed', '1'], '--ids takes no --size, --grade or --seed, since the list has the puzzles'),
     Wrong(['towers', '--tit', 'x'], 'unrecognized arguments: --tit x'),
     Wrong(['towers', '--\x1b[31m'], 'unrecognized arguments: --?[31m'),
 ]

@@ -5,6 +5,7 @@ from typing import Dict, Iterator, List, NamedTuple, Sequence
 
 import pytest
 
+from mdoc.page import page
 from tests.harness import Room, by_name, need, run
 from tests.objects import schema
 from tests.objects.reading import FAIR, OWN_LINES
@@ -58,6 +59,15 @@ def too_wide(shown: str) -> Iterator[str]:
     return (line for line in re.sub(STRUCK_TWICE, '', shown).splitlines() if len(line) > COLUMNS)
 
 
+def test_formats(room: Room) -> None:
+    """puzzles(5) is docs/FORMATS.md: tools/manual --write makes it, and leaves out no word."""
+    assert read('man/puzzles.5') == page()
+    need('mandoc')
+    shown = re.sub(STRUCK_TWICE, '', run(['mandoc', '-T', 'ascii', str(ROOT / 'man/puzzles.5')], room).output.decode())
+    document = re.sub(r'<!--.*?-->|\]\(#.*?\)|^\|(?: [a-z]+ \|)+$', ' ', read('docs/FORMATS.md'), flags=re.MULTILINE)
+    assert sorted(set(re.findall(r'\w+', document.casefold())).difference(re.findall(r'\w+', shown.casefold()))) == []
+
+
 def test_commands() -> None:
     listed = words(part(read('man/puzzles.5'), '.Sh COMMANDS AND REPLIES', r'^\.Sh'), '[a-z]+')
     assert not set(wanted()[0]) - set(listed)
@@ -65,14 +75,14 @@ def test_commands() -> None:
 
 def test_moves() -> None:
     """Those of docs/FORMATS.md."""
-    told = found(r'^\.It Li ([A-Z])\b', part(read('man/puzzles.5'), '.Sh MOVES', r'^\.Sh'))
+    told = words(part(read('man/puzzles.5'), '.Sh MOVE TEXTS', r'^\.Sh'), '^[A-Z]')
     assert set(told) == set(wanted()[3]) != set()
 
 
 def test_records() -> None:
     table = part(read('docs/FORMATS.md'), '### What is written', '^#')
-    records = found(r'[A-Z]{2,}', '\n'.join(found(r'^\| ([A-Z, ]+) \|', table)))
-    assert set(words(part(read('man/puzzles.5'), '.Ss Records', r'^\.Ss'), '[A-Z]{2,}')) == set(records) != set()
+    records = found(r'`([A-Z]{2,})`', '\n'.join(found(r'^\| (.*?) \|', table)))
+    assert set(words(part(read('man/puzzles.5'), '.Ss What is written', r'^\.Ss'), '[A-Z]{2,}')) == set(records) != set()
 
 
 def test_objects() -> None:

@@ -26,7 +26,7 @@ WHERE = {
         ('### Commands', '^#', r'^\| `([a-z]+)'),
         ('## 9. The program', '^## ', r'--([a-z]+)'),
         ('## 9. The program', '^## ', r'^\| (\d) \|'),
-        ('## 5. Move texts', '^Refused', r'^\| `([A-Z])`'),
+        ('## 5. Move texts', '^Refused', r'^\| `([A-Z])'),
     ],
     'manual': [
         ('.Ss Commands', '^The moves:', r'^\.It Cm (\w+)'),
@@ -68,7 +68,7 @@ def test_names(program: str, room: Room, name: str) -> None:
 def test_faults(kind: str) -> None:
     """Each type of fault has the numbers and names of the definitions."""
     section = part(read('docs/FORMATS.md'), '## 10. Faults', '^## ')
-    told = re.findall(r'(\d+) \| ([A-Z]\w+)', part(section, f'**{kind}**', r'^\*\*|^\| call'))
+    told = re.findall(r'(\d+) \| ([A-Z]\w+)', part(section, f'### {kind}', '^#'))
     assert set(told) == set(sources.faults()[kind].items()) != set()
 
 
