@@ -103,7 +103,7 @@ class Player(Seen):
         self.there()
 
     def there(self) -> None:
-        self.driver.wait_for('document.querySelector("[data-place]")')
+        self.driver.wait_for('document.readyState === "complete" && document.querySelector("[data-place]")')
 
     def forget(self) -> None:
         """The browser keeps nothing any more."""
