@@ -14,14 +14,14 @@ use Rattle.trail_solver.specs.Completions.{Completes}
 use Rattle.trail_solver.specs.Puzzles.{Puzzle, Solves, HoldsGivens}
 use Rattle.board_checks.specs.declared.spot.Spot.{Spot}
 use Rattle.board_checks.specs.declared.spot.Spot.TheVariants.{Edge, RightOf, Below}
-use Rattle.board_checks.specs.Demands.{Demand, IsOnLine, IsFillingIn, IsRepeated, numbers_of}
+use Rattle.board_checks.specs.Demands.{Demand, IsOfPeers, IsFillingIn, IsRepeated, numbers_of}
 use Rattle.board_checks.specs.Spots.{IsBrokenAt, MeetsAll}
 use Rattle.board_checks.specs.Errors.{ErrorsValue, has_repeated, has_broken, HasError}
 use Rattle.board_checks.proofs.LineNumbers.{each_once}
 
 -- what the laws of `Demands` say of one puzzle
 pub record AreDemandsOf (p : Puzzle) (demand : Spot → Option Demand) : Type 0 where
-  pub lines : (spot : Spot) (d : Demand) → demand spot ≡ Some d → IsOnLine p.size d
+  pub lines : (spot : Spot) (d : Demand) → demand spot ≡ Some d → IsOfPeers p.size d
   pub all : (g : GridValue) → IsGrid g → IsFull g → g.size ≡ p.size → IsTrue (p.meets g) ↔ MeetsAll demand g
 
 -- the number of a demand's square
@@ -39,7 +39,7 @@ never_repeated p g h cell size c r =
     peers_differ h s.is_grid s.latin cell r.other peers (kept ∙ sym r.same ∙ sym other)
 
 -- a completion fills in each demand's line, and meets it
-completion_fills : (p : Puzzle) (g h : GridValue) (d : Demand) → g.size ≡ p.size → Completes p g h → IsOnLine p.size d
+completion_fills : (p : Puzzle) (g h : GridValue) (d : Demand) → g.size ≡ p.size → Completes p g h → IsOfPeers p.size d
     → IsFillingIn g.size (numbers_of g d) (numbers_of h d)
 completion_fills p g h d size c on =
     let s = c.0 in
@@ -99,7 +99,7 @@ full_line g line valid full none below =
     })))
 
 -- a full line is its own filling
-own_filling : (g : GridValue) (d : Demand) (filled : List ℕ) → IsFull g → IsOnLine g.size d → IsFillingIn g.size (numbers_of g d) filled
+own_filling : (g : GridValue) (d : Demand) (filled : List ℕ) → IsFull g → IsOfPeers g.size d → IsFillingIn g.size (numbers_of g d) filled
     → filled ≡ numbers_of g d
 own_filling g d filled full on h =
     same_number_lists filled (numbers_of g d) h.same_length (λ k low.
@@ -110,7 +110,7 @@ own_filling g d filled full on h =
 full_met : (p : Puzzle) (demand : Spot → Option Demand) (g : GridValue) → AreDemandsOf p demand → g.size ≡ p.size → IsFull g
     → ((spot : Spot) → IsBrokenAt demand g spot → ⊥) → MeetsAll demand g
 full_met p demand g laws size full none spot d e =
-    let on : IsOnLine g.size d = rw size (laws.lines spot d e) in
+    let on : IsOfPeers g.size d = rw size (laws.lines spot d e) in
     true_from_ne_false (d.says (numbers_of g d)) (λ unmet.
     none spot (
       d,

@@ -9,7 +9,7 @@ pub record Demand : Type 0 where
   pub says : List ℕ → Bool
 
 -- the squares are squares of a grid of this width, each two of them in one row or column
-pub record IsOnLine (w : ℕ) (d : Demand) : Type 0 where
+pub record IsOfPeers (w : ℕ) (d : Demand) : Type 0 where
   pub inside : All (λ cell. cell < w * w) d.cells
   pub peers : AllPairs (ArePeers w) d.cells
 

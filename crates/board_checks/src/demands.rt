@@ -3,7 +3,7 @@
 ghost use Rattle.std.specs.Prelude.{◌≡◌, ◌↔◌, IsTrue, Option, Some};
 ghost use Rattle.latin_board.specs.Squares.{GridValue, IsGrid, IsFull};
 ghost use Rattle.board_checks.specs.declared.spot.Spot.{Spot};
-ghost use Rattle.board_checks.specs.Demands.{Demand, IsOnLine};
+ghost use Rattle.board_checks.specs.Demands.{Demand, IsOfPeers};
 ghost use Rattle.board_checks.specs.Spots.{IsSpot, IsBrokenAt, MeetsAll};
 
 use crate::spot::Spot;
@@ -32,7 +32,7 @@ pub trait Demands: Rules {
         → IsSpot (Self.puzzle p).size spot };
 
     ghost demand_line: { (p : Self) (spot : Spot) (d : Demand) → Self.valid p → demand p spot ≡ Some d
-        → IsOnLine (Self.puzzle p).size d };
+        → IsOfPeers (Self.puzzle p).size d };
 
     // A full grid meets the clues or signs where it meets all demands, and only there.
     ghost demand_all: { (p : Self) (g : GridValue) → Self.valid p → IsGrid g → IsFull g → g.size ≡ (Self.puzzle p).size

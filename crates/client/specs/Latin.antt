@@ -23,17 +23,17 @@ abbrev pub cut_givens : GridValue → (ℕ → Bool) → GridValue
 cut_givens p keep = record { size = p.size; numbers = kept_items zero keep 0 p.numbers }
 
 -- the description: the digit of each square in reading order, 0 where there is no given
-abbrev pub latin_text : GridValue → List ℕ
-latin_text p = map digit p.numbers
+abbrev pub latin_desc : GridValue → List ℕ
+latin_desc p = map digit p.numbers
 
 -- the number that a byte says, at most the width
-abbrev pub number_in : ℕ → ℕ → Option ℕ
-number_in w b = if nat_le digit_zero b && nat_le b (digit w) then Some (b - digit_zero) else None
+abbrev pub number_of_byte : ℕ → ℕ → Option ℕ
+number_of_byte w b = if nat_le digit_zero b && nat_le b (digit w) then Some (b - digit_zero) else None
 
 -- the numbers that bytes say, one each
 abbrev pub numbers_in : ℕ → List ℕ → Option (List ℕ)
 numbers_in w [] = Some []
-numbers_in w (b ∷ bs) = option_and_then (λ n. option_map (λ ns. n ∷ ns) (numbers_in w bs)) (number_in w b)
+numbers_in w (b ∷ bs) = option_and_then (λ n. option_map (λ ns. n ∷ ns) (numbers_in w bs)) (number_of_byte w b)
 
 -- the puzzle of a width that so many bytes describe
 abbrev pub givens_in : ℕ → List ℕ → Result GridValue IdFault

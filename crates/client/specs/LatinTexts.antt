@@ -17,7 +17,7 @@ use Rattle.clue_rules.specs.IdFaults.{NotForMemory, exactly}
 use Rattle.clue_rules.specs.Laws.Exactly.{exactly_taken, exactly_again}
 use Rattle.clue_rules.specs.Laws.KeptItems.{small_widths}
 use Rattle.clue_rules.specs.Laws.NotForMemory.{not_for_memory-then, not_for_memory-if}
-use Rattle.client.specs.Latin.{items_of, latin_text, number_in, numbers_in, givens_in, latin_at}
+use Rattle.client.specs.Latin.{items_of, latin_desc, number_of_byte, numbers_in, givens_in, latin_at}
 
 -- the widths that are generated have few squares
 pub few_items : (w : ℕ) → 3 ≤ w → w ≤ 6 → items_of w ≤ MOST_ITEMS
@@ -33,7 +33,7 @@ abbrev pub read_onto : List ℕ → Option (List ℕ) → Option (List ℕ)
 read_onto front more = option_map (λ ns. front ++ ns) more
 
 -- a byte that is read is the digit of its number
-number_taken : (w b n : ℕ) → number_in w b ≡ Some n → (n ≤ w) × (b ≡ digit n)
+number_taken : (w b n : ℕ) → number_of_byte w b ≡ Some n → (n ≤ w) × (b ≡ digit n)
 number_taken w b n =
     elim (nat_le 48 b) as
     (λ t. nat_le 48 b ≡ t → cond (t && nat_le b (48 + w)) (Some (b - 48)) None ≡ Some n → (n ≤ w) × (b ≡ 48 + n)) [
@@ -50,7 +50,7 @@ number_taken w b n =
     ] refl
 
 -- the digit of a number is read as the number
-number_again : (w n : ℕ) → n ≤ w → number_in w (digit n) ≡ Some n
+number_again : (w n : ℕ) → n ≤ w → number_of_byte w (digit n) ≡ Some n
 number_again w n h =
     let low : 48 ≤ 48 + n = omega arith in
     let high : 48 + n ≤ 48 + w = omega arith in
@@ -63,8 +63,8 @@ numbers_taken : (w : ℕ) (text ns : List ℕ) → numbers_in w text ≡ Some ns
 numbers_taken w [] ns = λ read.
     let e : [] ≡ ns = cc in subst (λ (xs : List ℕ). AllByRecursion (λ n. n ≤ w) xs × ([] ≡ map digit xs)) e (tt, refl)
 numbers_taken w (b ∷ bs) ns =
-    elim (number_in w b) as
-    (λ o. number_in w b ≡ o → option_and_then (λ n. option_map (λ xs. n ∷ xs) (numbers_in w bs)) o ≡ Some ns
+    elim (number_of_byte w b) as
+    (λ o. number_of_byte w b ≡ o → option_and_then (λ n. option_map (λ xs. n ∷ xs) (numbers_in w bs)) o ≡ Some ns
     → AllByRecursion (λ n. n ≤ w) ns × (b ∷ bs ≡ map digit ns)) [
       | None ↦ λ is read. cc
       | Some n ↦ λ is. elim (numbers_in w bs) as
@@ -87,7 +87,7 @@ numbers_again w (n ∷ ns) h = rw (number_again w n h.0, numbers_again w ns h.1)
 
 -- so many squares of a width that is one
 abbrev Described : ℕ → List ℕ → GridValue → Type 0
-Described w text p = (text ≡ latin_text p) × IsGrid p × (p.size ≡ w)
+Described w text p = (text ≡ latin_desc p) × IsGrid p × (p.size ≡ w)
 
 -- the digits of numbers of the width describe the puzzle of these numbers
 described : (w : ℕ) (text ns : List ℕ) (p : GridValue) → 3 ≤ w → w ≤ 9 → length text ≡ w * w
@@ -119,7 +119,7 @@ givens_taken w text p low high count =
 
 -- what is read is described by the text, and a puzzle of the width
 pub latin_taken : (w : ℕ) (text : List ℕ) (p : GridValue) → 3 ≤ w → w ≤ 9 → latin_at w text ≡ Ok p
-    → (text ≡ latin_text p) × IsGrid p × (p.size ≡ w)
+    → (text ≡ latin_desc p) × IsGrid p × (p.size ≡ w)
 unfolding latin_at
 latin_taken w text p low high =
     elim (exactly (w * w) text) as
@@ -131,12 +131,12 @@ latin_taken w text p low high =
     ] refl
 
 -- what describes a puzzle is read as that puzzle
-pub latin_again : (text : List ℕ) (p : GridValue) → IsGrid p → text ≡ latin_text p → latin_at p.size text ≡ Ok p
+pub latin_again : (text : List ℕ) (p : GridValue) → IsGrid p → text ≡ latin_desc p → latin_at p.size text ≡ Ok p
 unfolding latin_at
 latin_again text p h is =
-    let count : length (latin_text p) ≡ p.size * p.size = length-map p.numbers digit ∙ h.count in
+    let count : length (latin_desc p) ≡ p.size * p.size = length-map p.numbers digit ∙ h.count in
     let within = recursion_from_All (λ n. n ≤ p.size) p.numbers h.within in
-    rw (is, exactly_again (p.size * p.size) (latin_text p) count, numbers_again p.size p.numbers within) refl
+    rw (is, exactly_again (p.size * p.size) (latin_desc p) count, numbers_again p.size p.numbers within) refl
 
 -- squares are never refused for memory
 givens_not_for_memory : (w : ℕ) (text : List ℕ) → NotForMemory (givens_in w text)
@@ -158,5 +158,5 @@ latin_not_for_memory w text =
     (givens_not_for_memory w)
 
 -- the written form describes its puzzle
-pub latin_canonical : (p : GridValue) → IsGrid p → latin_text p ≡ latin_text p
+pub latin_canonical : (p : GridValue) → IsGrid p → latin_desc p ≡ latin_desc p
 latin_canonical p h = refl

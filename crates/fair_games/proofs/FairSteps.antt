@@ -1,6 +1,6 @@
 -- Draws, one after the other, until one gives a game of the grade; and that there is just one such game.
-use Rattle.std.proofs.Common.{◌≡◌, ℕ, zero, suc, ◌+◌, ◌<◌, Bool, true, false, if◌then◌else◌, List, [], Option, Some, None, Result, Ok, Err, inl, inr, refl, sym, ◌∙◌, ap, subst, arith, ◌-◌, ◌*◌, ◌≤◌, ◌&&◌}
-use Rattle.std.proofs.lemmas.Bool.{both_ways, cases_eq, cases_order}
+use Rattle.std.proofs.Common.{◌≡◌, ℕ, zero, suc, ◌+◌, ◌<◌, Bool, true, false, if◌then◌else◌, List, [], Option, Some, None, IfSome, MatchOption, Result, Ok, Err, inl, inr, refl, sym, ◌∙◌, ap, subst, arith, ◌-◌, ◌*◌, ◌≤◌, ◌&&◌, not, IsTrue, ◌↔◌}
+use Rattle.std.proofs.lemmas.Bool.{both_ways, cases_eq, cases_order, false≢true}
 use Rattle.latin_board.specs.Squares.{GridValue, latin_test}
 use Rattle.trail_solver.specs.Puzzles.{Puzzle}
 use Rattle.trail_solver.specs.Solutions.{IsOnlySolution}
@@ -8,18 +8,20 @@ use Rattle.trail_solver.specs.declared.rules.Rules.{Ghosts}
 use Rattle.rand_core.specs.Stream.{Stream}
 use Rattle.puzzle_gen.proofs.ItemLaws.{ItemLaws, cuts_of_full}
 use Rattle.named_steps.specs.Following.{Follows}
+use Rattle.named_steps.specs.Grades.{rank}
 use Rattle.named_steps.specs.Graded.{FollowsBy, IsGradeOf}
 use Rattle.named_steps.proofs.Followed.{follows_only}
+use Rattle.named_steps.proofs.Solutions.{graded_next}
 use Rattle.named_steps.specs.declared.grade.Grade.{Grade}
 use Rattle.named_steps.specs.declared.grade.Grade.TheVariants.{Latin, Easy, Hard}
 use Rattle.puzzle_gen.specs.SeededSquares.{drawn_order, square_of}
-use Rattle.fair_games.specs.Squares.{drawn_rows, first_row, with_first}
+use Rattle.fair_games.specs.Squares.{drawn_rows, first_row, with_first_row}
 use Rattle.fair_games.proofs.RowSteps.{with_row_size}
 use Rattle.fair_games.specs.Draws.{drawn_game, stream_after, draw_at}
-use Rattle.fair_games.specs.Fair.{FailsBy, IsPrunedGame, IsOfGrade, IsPassedOver, IsFair, IsFairResult, NeedsItems}
+use Rattle.fair_games.specs.FairGames.{IsFairGame, IsOfGrade, IsTriedIn, NeedsItems}
+use Rattle.fair_games.specs.Fair.{FailsBy, IsPrunedGame, IsPassedOver, IsFair, IsFairResult}
 use Rattle.fair_games.specs.Pruned.{IsTried, IsPrunedBy}
 use Rattle.fair_games.specs.declared.trial.Trial.{Trial}
-use Rattle.fair_games.specs.declared.trial.Trial.TheVariants.{GivensAlone}
 use Rattle.fair_games.specs.declared.fair_fault.FairFault.{FairFault}
 use Rattle.fair_games.specs.declared.fair_fault.FairFault.TheVariants.{NotOffered, NoneFound}
 use Rattle.fair_games.proofs.PrunedOnce.{needed_by, pruned_once}
@@ -107,12 +109,22 @@ fair_once f Struck grade offered draws (Err NoneFound) (Ok q) laws first second 
 fair_once f Struck grade offered draws (Err NoneFound) (Err NotOffered) laws first second = absurd (both_ways offered second first.0)
 fair_once f Struck grade offered draws (Err NoneFound) (Err NoneFound) laws first second = refl
 
--- ---- what a fair game is
+-- ---- the test of a grade
 
-graded_follows : (p : Puzzle) (Struck : Striking) (grade : Grade) → IsGradeOf p Struck (Some grade) → FollowsBy p Struck grade
-graded_follows p Struck Latin graded = graded
-graded_follows p Struck Easy graded = graded.0
-graded_follows p Struck Hard graded = graded.0
+-- what follows by a grade is of it where it doesn't follow by the one before
+pub graded_tested : (p : Puzzle) (Struck : Striking) (before grade : Grade) (b : Bool) → rank grade ≡ rank before + 1 → FollowsBy p Struck grade
+    → (IsTrue b ↔ FollowsBy p Struck before) → IsTrue (not b) ↔ IsGradeOf p Struck (Some grade)
+graded_tested p Struck before grade true next follows is = (λ e. absurd (false≢true e), λ h. absurd (h.1 before (omega (arith, next)) (is.0 refl)))
+graded_tested p Struck before grade false next follows is =
+    (λ e. graded_next p Struck before grade next follows (λ less. false≢true (is.1 less)), λ h. refl)
+
+-- so of a grade that is this one
+pub is_graded : {B : Type 0} (p : Puzzle) (Struck : Striking) (one grade : Grade) → grade ≡ one → FollowsBy p Struck grade
+    → (FollowsBy p Struck one → B ↔ IsGradeOf p Struck (Some one)) → B ↔ IsGradeOf p Struck (Some grade)
+is_graded {B} p Struck one grade same follows test =
+    subst (λ (g : Grade). B ↔ IsGradeOf p Struck (Some g)) (sym same) (test (subst (λ (g : Grade). FollowsBy p Struck g) same follows))
+
+-- ---- what a fair game is
 
 -- a fair game is a cut of its draw's square
 pub fair_puzzle : {P : Type 0} (f : Ghosts P) (Struck : P → Striking) (grade : Grade) (draws : ℕ → GridValue × List ℕ) (p : P)
@@ -125,13 +137,13 @@ pub fair_solved : {P : Type 0} (f : Ghosts P) (Struck : P → Striking) → HasS
     (draws : ℕ → GridValue × List ℕ) (p : P) → IsFair f Struck grade draws p
     → (g : GridValue) × (IsOnlySolution (f.puzzle p) g × Follows (Struck p) grade g)
 fair_solved f Struck steps grade draws p fair =
-    let (g, solution) = graded_follows (f.puzzle p) (Struck p) grade fair.graded in
+    let (g, solution) = fair.graded.0 in
     let cut = fair_puzzle f Struck grade draws p steps.items fair in
     (g, (follows_only (f.puzzle p) (Struck p) (steps.sound p cut.valid) grade g solution.follows solution.solves, solution.follows))
 
 -- ---- sizes
 
-row_size : (g : GridValue) (row : ℕ) (columns : List ℕ) (found : Option (List ℕ)) → (with_first g row columns found).size ≡ g.size
+row_size : (g : GridValue) (row : ℕ) (columns : List ℕ) (found : Option (List ℕ)) → (with_first_row g row columns found).size ≡ g.size
 row_size g row columns None = refl
 row_size g row columns (Some chosen) = with_row_size g row columns chosen g.size
 
@@ -166,7 +178,7 @@ no_grade Is latin easy hard Hard is = hard is
 
 pub game_needs : {P : Type 0} (f : Ghosts P) (Struck : P → Striking) → HasSteps f Struck → (grade : Grade)
     (trial : Trial) (w : ℕ) (g : GridValue) (order : List ℕ) (p : P) → g.size ≡ w → IsPrunedBy f (FailsBy Struck grade g) g order p
-    → ((i : ℕ) → i < f.items_of w → (trial ≡ GivensAlone → f.items_of w - w * w ≤ i) → IsTried i order)
+    → ((i : ℕ) → i < f.items_of w → IsTriedIn trial (f.items_of w - w * w) i → IsTried i order)
     → NeedsItems f Struck grade trial w p
 game_needs {P} f Struck steps grade trial w g order p size pruned tried = λ keep i below there low lost follows.
     let cuts = cuts_of_full f g steps.items pruned.is_grid pruned.is_latin in
@@ -184,3 +196,22 @@ all_items count items cells squares i same also some below = omega (arith, same,
 
 pub first_given : (count items cells squares i : ℕ) → count ≡ items → cells ≡ squares → items - squares ≤ i → count - cells ≤ i
 first_given count items cells squares i same also from = omega (arith, same, also, from)
+
+-- ---- what a fair game promises
+
+-- the puzzle of the first draw that gives one of the grade keeps it
+pub all_promised : {P : Type 0} (f : Ghosts P) (Struck : P → Striking) → HasSteps f Struck → (grade : Grade) (trial : Trial) (w : ℕ)
+    (s : Stream) (r : Option P) (None_is : Type 0) → IfSome r (NeedsItems f Struck grade trial w)
+    → MatchOption r None_is (IsFair f Struck grade (draw_at trial w (f.items_of w) s)) → IfSome r (IsFairGame f Struck grade trial w)
+all_promised f Struck steps grade trial w s None None_is needed fair = tt
+all_promised f Struck steps grade trial w s (Some p) None_is needed fair =
+    let draws = draw_at trial w (f.items_of w) s in
+    let (solution, solved) = fair_solved f Struck steps grade draws p fair in
+    record {
+      size = (fair_puzzle f Struck grade draws p steps.items fair).size ∙ draw_size trial w (f.items_of w) s fair.draw;
+      solution = solution;
+      only = solved.0;
+      follows = solved.1;
+      graded = fair.graded;
+      needed = needed;
+    }

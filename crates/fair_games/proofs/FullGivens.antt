@@ -13,6 +13,8 @@ use Rattle.clue_rules.specs.Left.{IsLeft, all_of, without}
 use Rattle.named_steps.specs.Following.{Follows}
 use Rattle.clue_rules.specs.Takes.{Takes}
 use Rattle.named_steps.proofs.Antitone.{IsAntitone}
+use Rattle.named_steps.proofs.Followed.{higher_has}
+use Rattle.named_steps.specs.declared.grade.Grade.TheVariants.{Latin}
 use Rattle.named_steps.proofs.Leads.{leads_taken}
 use Rattle.clue_rules.specs.declared.reason.Reason.TheVariants.{Given}
 use Rattle.named_steps.specs.declared.grade.Grade.{Grade}
@@ -148,7 +150,7 @@ full_follows f Struck laws grade g less given grid latin =
       given = omega (arith, is, (latin_full g latin).each cell pair.inside);
       apart = λ e. apart (e ∙ is);
     } in
-    (Given cell, refl, given all cell cell v here)) in
+    (Given cell, higher_has Latin grade (omega arith) (Given cell) refl, given all cell cell v here)) in
     record {
       steps = leads.steps;
       chain = leads.chain;

@@ -7,7 +7,9 @@ use Rattle.trail_solver.specs.Puzzles.{Solves}
 use Rattle.trail_solver.specs.declared.rules.Rules.{Ghosts}
 use Rattle.puzzle_gen.specs.Orders.{place_in}
 use Rattle.puzzle_gen.proofs.ItemLaws.{AreCuts, ItemLaws, cuts_of_full}
-use Rattle.named_steps.specs.Following.{IsClosure, Follows}
+use Rattle.named_steps.specs.Following.{IsClosure, IsEmptied, Follows}
+use Rattle.named_steps.specs.Passes.{LeadsTo}
+use Rattle.named_steps.proofs.Emptied.{solved_holds}
 use Rattle.named_steps.proofs.Antitone.{IsAntitone}
 use Rattle.named_steps.proofs.Kept.{IsSoundFor}
 use Rattle.named_steps.proofs.Followed.{follows_more}
@@ -92,6 +94,20 @@ left_without {P} f Struck steps grade g order first last p q base left grid lati
       fails = λ other follows. other (follows_base (f.puzzle r) (Struck r) (steps.sound r cut.valid) (steps.less r) grade g base left
           cut.solves is closure follows);
     }
+
+-- no step from a base strikes the square's numbers
+pub without_holds : {P : Type 0} (f : Ghosts P) (Struck : P → Striking) → HasSteps f Struck
+    → (grade : Grade) (g : GridValue) (order : List ℕ) (first last : ℕ) (p q : P)
+    (base left : CandidatesValue) → IsGrid g → IsLatin g → IsPrunedTo f (FailsBy Struck grade g) g order first p
+    → q ≡ f.cut p (outside order first last) → IsBase (Struck (f.cut p (outside order first last))) grade g base
+    → LeadsTo (Struck q) grade base left → IsEmptied left → ⊥
+without_holds {P} f Struck steps grade g order first last p q base left grid latin so_far gone is leads emptied =
+    let r = f.cut p (outside order first last) in
+    let cuts = cuts_of_full f g steps.items grid latin in
+    let cut : IsCutOf f g r = cut_of f g r (λ j. f.has p j && outside order first last j) steps.items grid latin
+    (cut_again f (FailsBy Struck grade g) g order first p (outside order first last) cuts so_far) in
+    solved_holds (f.puzzle r) (Struck r) (steps.sound r cut.valid) grade g base left (is.size ∙ cut.solves.same_size) cut.solves is.within
+    (subst (λ (s : P). LeadsTo (Struck s) grade base left) gone leads) emptied
 
 -- the puzzle without all those items is a cut of that without the first half
 pub first_half : {P : Type 0} (f : Ghosts P) (Fails : P → Type 0) (g : GridValue) (order : List ℕ) (first middle last : ℕ) (p : P) → AreCuts f g

@@ -2,35 +2,47 @@
 use Rattle.std.proofs.Common.{◌≡◌, ℕ, zero, suc, ◌+◌, ◌-◌, ◌<◌, ◌≤◌, true, false, if◌then◌else◌, Option, Some, None, List, [], ◌∷◌, ◌++◌, length, length-append, take, drop, get_or, refl, sym, ◌∙◌, ap, arith}
 use Rattle.std.proofs.Math.Seq.{drop-cons, take-append_seam, take-length}
 use Rattle.std.proofs.Math.ListN.{drop_of_length-le}
+use Rattle.std.specs.List.{flat_map, slice_get}
 use Rattle.latin_board.specs.Squares.{GridValue}
-use Rattle.fair_games.specs.Squares.{first_of, first_row, is_free, or_else, with_row}
+use Rattle.fair_games.specs.Squares.{first_row, is_free, ways, with_row}
 
--- what a number leads to in the first of the columns
-abbrev pub tries : GridValue → List ℕ → ℕ → List ℕ → List ℕ → ℕ → Option (List ℕ)
-tries g numbers column columns chosen n =
-    if is_free g column chosen n then first_row g numbers columns (chosen ++ n ∷ []) else None
+-- the ways by a number in the first of the columns
+abbrev pub tries : GridValue → List ℕ → ℕ → List ℕ → List ℕ → ℕ → List (List ℕ)
+tries g numbers column columns chosen n = if is_free g column chosen n then ways g numbers columns (chosen ++ n ∷ []) else []
+
+-- the ways from a number on are those by it, and then those from the next one on
+next_ways : (try : ℕ → List (List ℕ)) (numbers : List ℕ) (k : ℕ) → k < length numbers
+    → flat_map try (drop k numbers) ≡ try (get_or numbers k 0) ++ flat_map try (drop (k + 1) numbers)
+next_ways try numbers k below =
+    let next : suc k ≡ k + 1 = omega arith in
+    ap (flat_map try) (drop-cons numbers k 0 below ∙ ap (λ (j : ℕ). get_or numbers k 0 ∷ drop j numbers) next)
+
+-- a list without a first element is empty
+none_first : (xs : List (List ℕ)) → slice_get xs 0 ≡ None → xs ≡ []
+none_first [] none = refl
+none_first (x ∷ xs) none = absurd cc
+
+-- the first of a list stays the first with more after it
+first_front : (xs ys : List (List ℕ)) (row : List ℕ) → slice_get xs 0 ≡ Some row → slice_get (xs ++ ys) 0 ≡ Some row
+first_front [] ys row first = absurd cc
+first_front (x ∷ xs) ys row first = first
 
 -- a number that leads to nothing is passed over
-pub passes_over : (try : ℕ → Option (List ℕ)) (numbers : List ℕ) (k : ℕ) → k < length numbers → try (get_or numbers k 0) ≡ None
-    → first_of try (drop k numbers) ≡ first_of try (drop (k + 1) numbers)
+passes_over : (try : ℕ → List (List ℕ)) (numbers : List ℕ) (k : ℕ) → k < length numbers → try (get_or numbers k 0) ≡ []
+    → flat_map try (drop k numbers) ≡ flat_map try (drop (k + 1) numbers)
 passes_over try numbers k below nothing =
-    let next : suc k ≡ k + 1 = omega arith in
-    let split : drop k numbers ≡ get_or numbers k 0 ∷ drop (k + 1) numbers =
-    drop-cons numbers k 0 below ∙ ap (λ (j : ℕ). get_or numbers k 0 ∷ drop j numbers) next in
-    ap (first_of try) split ∙ ap (λ o. or_else o (first_of try (drop (k + 1) numbers))) nothing
+    next_ways try numbers k below ∙ ap (λ ws. ws ++ flat_map try (drop (k + 1) numbers)) nothing
 
 -- one that leads to something is taken
-pub takes_first : (try : ℕ → Option (List ℕ)) (numbers row : List ℕ) (k : ℕ) → k < length numbers → try (get_or numbers k 0) ≡ Some row
-    → first_of try (drop k numbers) ≡ Some row
+takes_first : (try : ℕ → List (List ℕ)) (numbers row : List ℕ) (k : ℕ) → k < length numbers → slice_get (try (get_or numbers k 0)) 0 ≡ Some row
+    → slice_get (flat_map try (drop k numbers)) 0 ≡ Some row
 takes_first try numbers row k below found =
-    let next : suc k ≡ k + 1 = omega arith in
-    let split : drop k numbers ≡ get_or numbers k 0 ∷ drop (k + 1) numbers =
-    drop-cons numbers k 0 below ∙ ap (λ (j : ℕ). get_or numbers k 0 ∷ drop j numbers) next in
-    ap (first_of try) split ∙ ap (λ o. or_else o (first_of try (drop (k + 1) numbers))) found
+    ap (λ ws. slice_get ws 0) (next_ways try numbers k below)
+    ∙ first_front (try (get_or numbers k 0)) (flat_map try (drop (k + 1) numbers)) row found
 
 -- nothing is left to be tried
-pub tries_none : (try : ℕ → Option (List ℕ)) (numbers : List ℕ) (k : ℕ) → length numbers ≤ k → first_of try (drop k numbers) ≡ None
-tries_none try numbers k past = ap (first_of try) (drop_of_length-le numbers past)
+pub tries_none : (try : ℕ → List (List ℕ)) (numbers : List ℕ) (k : ℕ) → length numbers ≤ k → flat_map try (drop k numbers) ≡ []
+tries_none try numbers k past = ap (flat_map try) (drop_of_length-le numbers past)
 
 -- the columns but the first
 abbrev pub rest_of : List ℕ → List ℕ
@@ -41,39 +53,40 @@ take_all xs n e = ap (λ (k : ℕ). take k xs) e ∙ take-length xs
 
 -- the first of the columns takes a number
 pub row_begins : (g : GridValue) (numbers columns chosen : List ℕ) → 1 ≤ length columns
-    → first_row g numbers columns chosen ≡ first_of (tries g numbers (get_or columns 0 0) (rest_of columns) chosen) numbers
+    → ways g numbers columns chosen ≡ flat_map (tries g numbers (get_or columns 0 0) (rest_of columns) chosen) numbers
 row_begins g numbers [] chosen some = absurd (omega arith)
 row_begins g numbers (column ∷ columns) chosen some =
     let count : length (column ∷ columns) - 1 ≡ length columns = omega arith in
-    ap (λ (cs : List ℕ). first_of (tries g numbers column cs chosen) numbers) (sym (take_all columns (length (column ∷ columns) - 1) count))
+    ap (λ (cs : List ℕ). flat_map (tries g numbers column cs chosen) numbers) (sym (take_all columns (length (column ∷ columns) - 1) count))
 
 -- a free number leads to what the columns after it have
 tries_free : (g : GridValue) (numbers : List ℕ) (column : ℕ) (columns chosen : List ℕ) (n : ℕ) → is_free g column chosen n ≡ true
-    → tries g numbers column columns chosen n ≡ first_row g numbers columns (chosen ++ n ∷ [])
+    → tries g numbers column columns chosen n ≡ ways g numbers columns (chosen ++ n ∷ [])
 tries_free g numbers column columns chosen n free = rw free refl
 
 tries_taken : (g : GridValue) (numbers : List ℕ) (column : ℕ) (columns chosen : List ℕ) (n : ℕ) → is_free g column chosen n ≡ false
-    → tries g numbers column columns chosen n ≡ None
+    → tries g numbers column columns chosen n ≡ []
 tries_taken g numbers column columns chosen n taken = rw taken refl
 
 -- what was chosen, with a number more, and what leads from there
 pub row_found : (g : GridValue) (numbers columns chosen more row : List ℕ) (k : ℕ) → 1 ≤ length columns → k < length numbers
-    → first_of (tries g numbers (get_or columns 0 0) (rest_of columns) chosen) numbers
-    ≡ first_of (tries g numbers (get_or columns 0 0) (rest_of columns) chosen) (drop k numbers)
+    → flat_map (tries g numbers (get_or columns 0 0) (rest_of columns) chosen) numbers
+    ≡ flat_map (tries g numbers (get_or columns 0 0) (rest_of columns) chosen) (drop k numbers)
     → is_free g (get_or columns 0 0) chosen (get_or numbers k 0) ≡ true → more ≡ chosen ++ get_or numbers k 0 ∷ []
     → first_row g numbers (rest_of columns) more ≡ Some row → first_row g numbers columns chosen ≡ Some row
 row_found g numbers columns chosen more row k some below so_far free made found =
     let n = get_or numbers k 0 in
-    row_begins g numbers columns chosen some ∙ so_far
+    let first : List (List ℕ) → Option (List ℕ) = λ ws. slice_get ws 0 in
+    ap first (row_begins g numbers columns chosen some ∙ so_far)
     ∙ takes_first (tries g numbers (get_or columns 0 0) (rest_of columns) chosen) numbers row k below
-    (tries_free g numbers (get_or columns 0 0) (rest_of columns) chosen n free
+    (ap first (tries_free g numbers (get_or columns 0 0) (rest_of columns) chosen n free)
     ∙ ap (first_row g numbers (rest_of columns)) (sym made) ∙ found)
 
 -- a number is passed over that isn't free
 pub passes_taken : (g : GridValue) (numbers columns chosen : List ℕ) (k : ℕ) → k < length numbers
     → is_free g (get_or columns 0 0) chosen (get_or numbers k 0) ≡ false
-    → first_of (tries g numbers (get_or columns 0 0) (rest_of columns) chosen) (drop k numbers)
-    ≡ first_of (tries g numbers (get_or columns 0 0) (rest_of columns) chosen) (drop (k + 1) numbers)
+    → flat_map (tries g numbers (get_or columns 0 0) (rest_of columns) chosen) (drop k numbers)
+    ≡ flat_map (tries g numbers (get_or columns 0 0) (rest_of columns) chosen) (drop (k + 1) numbers)
 passes_taken g numbers columns chosen k below taken =
     passes_over (tries g numbers (get_or columns 0 0) (rest_of columns) chosen) numbers k below
     (tries_taken g numbers (get_or columns 0 0) (rest_of columns) chosen (get_or numbers k 0) taken)
@@ -82,12 +95,12 @@ passes_taken g numbers columns chosen k below taken =
 pub passes_free : (g : GridValue) (numbers columns chosen more : List ℕ) (k : ℕ) → k < length numbers
     → is_free g (get_or columns 0 0) chosen (get_or numbers k 0) ≡ true → more ≡ chosen ++ get_or numbers k 0 ∷ []
     → first_row g numbers (rest_of columns) more ≡ None
-    → first_of (tries g numbers (get_or columns 0 0) (rest_of columns) chosen) (drop k numbers)
-    ≡ first_of (tries g numbers (get_or columns 0 0) (rest_of columns) chosen) (drop (k + 1) numbers)
+    → flat_map (tries g numbers (get_or columns 0 0) (rest_of columns) chosen) (drop k numbers)
+    ≡ flat_map (tries g numbers (get_or columns 0 0) (rest_of columns) chosen) (drop (k + 1) numbers)
 passes_free g numbers columns chosen more k below free made none =
     passes_over (tries g numbers (get_or columns 0 0) (rest_of columns) chosen) numbers k below
     (tries_free g numbers (get_or columns 0 0) (rest_of columns) chosen (get_or numbers k 0) free
-    ∙ ap (first_row g numbers (rest_of columns)) (sym made) ∙ none)
+    ∙ ap (ways g numbers (rest_of columns)) (sym made) ∙ none_first (ways g numbers (rest_of columns) more) none)
 
 -- a list without the number that was put after it
 pub without_last : (xs ys : List ℕ) (x : ℕ) → ys ≡ xs ++ x ∷ [] → take (length ys - 1) ys ≡ xs

@@ -1,4 +1,4 @@
--- Draws: a square, and an order of items to be tried.
+-- The format, its draws: a square, and an order of items to be tried.
 use Rattle.std.specs.Prelude.{ℕ, zero, suc, ◌+◌, ◌-◌, ◌*◌, ◌/◌, List, ◌++◌, map, take, drop}
 use Rattle.latin_board.specs.Squares.{GridValue}
 use Rattle.rand_core.specs.Stream.{Stream}

@@ -1,13 +1,12 @@
--- Fair games: the first draw whose pruned puzzle is of the grade.
-use Rattle.std.specs.Prelude.{◌≡◌, ℕ, ◌-◌, ◌*◌, ◌<◌, ◌≤◌, Bool, true, false, List, Result, Ok, Err, Some, IsTrue}
+-- The format: which of the fair games a size, a grade and a seed give. It is the pruned puzzle of the first draw that
+-- gives one of the grade. What each of them promises stands in `FairGames`.
+use Rattle.std.specs.Prelude.{◌≡◌, ℕ, ◌<◌, Bool, true, false, List, Result, Ok, Err}
 use Rattle.latin_board.specs.Squares.{GridValue}
 use Rattle.trail_solver.specs.declared.rules.Rules.{Ghosts}
 use Rattle.named_steps.specs.Following.{Follows}
-use Rattle.named_steps.specs.Graded.{FollowsBy, IsGradeOf}
 use Rattle.named_steps.specs.declared.grade.Grade.{Grade}
+use Rattle.fair_games.specs.FairGames.{IsOfGrade}
 use Rattle.fair_games.specs.Pruned.{IsPrunedBy}
-use Rattle.fair_games.specs.declared.trial.Trial.{Trial}
-use Rattle.fair_games.specs.declared.trial.Trial.TheVariants.{GivensAlone}
 use Rattle.fair_games.specs.declared.fair_fault.FairFault.{FairFault}
 use Rattle.fair_games.specs.declared.fair_fault.FairFault.TheVariants.{NotOffered, NoneFound}
 use Rattle.clue_rules.specs.Reasons.{Striking}
@@ -19,18 +18,6 @@ FailsBy Struck grade g p = Follows (Struck p) grade g → ⊥
 -- the pruned puzzle of a draw, by the grade
 abbrev pub IsPrunedGame : {P : Type 0} → Ghosts P → (P → Striking) → Grade → GridValue × List ℕ → P → Type 0
 IsPrunedGame f Struck grade draw p = IsPrunedBy f (FailsBy Struck grade draw.0) draw.0 draw.1 p
-
--- the puzzle follows by the grade, and not by the one below
-abbrev pub IsOfGrade : {P : Type 0} → Ghosts P → (P → Striking) → Grade → P → Type 0
-IsOfGrade f Struck grade p = IsGradeOf (f.puzzle p) (Struck p) (Some grade)
-
--- without any set of its items that has one that was tried, the puzzle doesn't follow by the grade; all were tried, but
--- for the clues where the givens alone are, which are the last items
-abbrev pub NeedsItems : {P : Type 0} → Ghosts P → (P → Striking) → Grade → Trial → ℕ → P → Type 0
-NeedsItems f Struck grade trial w p =
-    (keep : ℕ → Bool) (i : ℕ) → i < f.items_of w → IsTrue (f.has p i) → (trial ≡ GivensAlone → f.items_of w - w * w ≤ i)
-    → keep i ≡ false
-    → FollowsBy (f.puzzle (f.cut p keep)) (Struck (f.cut p keep)) grade → ⊥
 
 -- the pruned puzzle of a draw is of another grade
 pub record IsPassedOver {P : Type 0} (f : Ghosts P) (Struck : P → Striking) (grade : Grade)

@@ -1,16 +1,17 @@
--- Puzzles that are pruned by a test, squares row by row, draws, fair games, and their laws. Each file is one subject,
--- and has definitions alone.
+-- What a fair game promises, and then the format: which of these games a size, a grade and a seed give. Each file is one
+-- subject, and has definitions alone.
 
--- the pruned puzzle of a square, an order and a test
-pub mod Pruned
--- the stream of a game, and the squares and orders that are drawn from it
-pub mod Squares
-pub mod Draws
+-- what each fair game promises
+pub mod FairGames
 -- the letters of the grades, which sizes and grades are offered, and the faults
 pub mod Letters
 pub mod Offers
 pub mod FairFaults
--- fair games
+-- the format: the pruned puzzle of a square, an order and a test; the stream of a game, and the squares and orders that
+-- are drawn from it; the first draw that gives a game; and a law of the pruned puzzle
+pub mod Pruned
+pub mod Squares
+pub mod Draws
 pub mod Fair
 pub mod FairLaws
 -- words that the contracts of private functions alone use

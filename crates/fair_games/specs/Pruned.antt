@@ -1,5 +1,5 @@
--- The pruned puzzle of a Latin square, an order of some of its items, and a test that a puzzle with fewer items fails
--- too.
+-- The format, its puzzles: the pruned puzzle of a Latin square, an order of some of its items, and a test that a puzzle
+-- with fewer items fails too.
 use Rattle.std.specs.Prelude.{◌≡◌, ◌↔◌, ℕ, ◌<◌, ◌≤◌, true, List, length, slice_index, IsTrue}
 use Rattle.latin_board.specs.Squares.{GridValue, IsGrid, IsLatin}
 use Rattle.trail_solver.specs.declared.rules.Rules.{Ghosts}

@@ -1,7 +1,7 @@
--- The stream of random words of a game, and the Latin square that is drawn from it, row by row.
+-- The format, its squares: the stream of random words of a game, and the Latin square that is drawn from it, row by row.
 use Rattle.std.specs.Prelude.{ℕ, zero, suc, ◌+◌, ◌*◌, ◌==◌, Bool, false, not, ◌||◌, ◌&&◌, if◌then◌else◌, Option, Some}
 use Rattle.std.specs.Prelude.{None, List, [], ◌∷◌, ◌++◌, replicate, slice_index, slice_set}
-use Rattle.std.specs.List.{list_any}
+use Rattle.std.specs.List.{flat_map, list_any, slice_get}
 use Rattle.std.specs.Int.{w64, to_be_bytes}
 use Rattle.latin_board.specs.Squares.{GridValue, blank_grid, number_at, latin_test}
 use Rattle.rand_core.specs.Stream.{Stream}
@@ -23,26 +23,19 @@ abbrev pub stands_in : GridValue → ℕ → ℕ → ℕ → Bool
 stands_in g column number zero = false
 stands_in g column number (suc n) = stands_in g column number n || (number_at g (n * g.size + column) == number)
 
--- the first where there is one, and else the second
-abbrev pub or_else : Option (List ℕ) → Option (List ℕ) → Option (List ℕ)
-or_else (Some row) other = Some row
-or_else None other = other
-
--- what the first of the numbers gives that gives something
-abbrev pub first_of : (ℕ → Option (List ℕ)) → List ℕ → Option (List ℕ)
-first_of try [] = None
-first_of try (number ∷ numbers) = or_else (try number) (first_of try numbers)
-
 -- the number, counted from 0, wasn't chosen yet and doesn't stand in the column
 abbrev pub is_free : GridValue → ℕ → List ℕ → ℕ → Bool
 is_free g column chosen n = not (list_any (λ c. c == n) chosen) && not (stands_in g column (n + 1) g.size)
 
--- the first way to go on: a number for each of the columns, in turn; each is the first free one in the order of the
--- numbers with which the columns after it have theirs
+-- the ways to go on in a row, in the order of the numbers: each of the columns has a free one
+abbrev pub ways : GridValue → List ℕ → List ℕ → List ℕ → List (List ℕ)
+ways g numbers [] chosen = chosen ∷ []
+ways g numbers (column ∷ columns) chosen =
+    flat_map (λ n. if is_free g column chosen n then ways g numbers columns (chosen ++ n ∷ []) else []) numbers
+
+-- the first of the ways, if there is one
 abbrev pub first_row : GridValue → List ℕ → List ℕ → List ℕ → Option (List ℕ)
-first_row g numbers [] chosen = Some chosen
-first_row g numbers (column ∷ columns) chosen =
-    first_of (λ n. if is_free g column chosen n then first_row g numbers columns (chosen ++ n ∷ []) else None) numbers
+first_row g numbers columns chosen = slice_get (ways g numbers columns chosen) 0
 
 -- the grid with the first k of the chosen numbers in their columns of a row
 abbrev pub with_row : GridValue → ℕ → List ℕ → List ℕ → ℕ → GridValue
@@ -54,17 +47,17 @@ with_row g row columns chosen (suc k) =
       numbers = slice_set before.numbers (row * g.size + slice_index columns k) (slice_index chosen k + 1);
     }
 
--- the grid with the first row that fits, or as it was where none does
-abbrev pub with_first : GridValue → ℕ → List ℕ → Option (List ℕ) → GridValue
-with_first g row columns None = g
-with_first g row columns (Some chosen) = with_row g row columns chosen g.size
+-- the grid with the first of the ways in a row, or as it was where there is none
+abbrev pub with_first_row : GridValue → ℕ → List ℕ → Option (List ℕ) → GridValue
+with_first_row g row columns None = g
+with_first_row g row columns (Some chosen) = with_row g row columns chosen g.size
 
 -- a row more: an order of the columns, an order of the numbers, and the first row by these; and the stream that is left
 abbrev pub next_row : ℕ → GridValue × Stream → GridValue × Stream
 next_row row before =
     let columns = drawn_order before.0.size before.1 in
     let numbers = drawn_order before.0.size columns.1 in
-    (with_first before.0 row columns.0 (first_row before.0 numbers.0 columns.0 []), numbers.1)
+    (with_first_row before.0 row columns.0 (first_row before.0 numbers.0 columns.0 []), numbers.1)
 
 -- the first rows
 abbrev pub drawn_rows : ℕ → ℕ → Stream → GridValue × Stream

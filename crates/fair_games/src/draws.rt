@@ -5,9 +5,9 @@ ghost use Rattle.std.specs.List.{range_with_len};
 ghost use Rattle.rand_chacha.specs.ChaCha.{of_seed};
 ghost use Rattle.puzzle_gen.specs.Orders.{IsOrder};
 ghost use Rattle.puzzle_gen.specs.SeededSquares.{drawn_order};
+ghost use Rattle.fair_games.specs.FairGames.{IsTriedIn};
 ghost use Rattle.fair_games.specs.Pruned.{IsTrial, IsTried};
 ghost use Rattle.fair_games.specs.Squares.{fair_key};
-ghost use Rattle.fair_games.specs.declared.trial.Trial.TheVariants.{GivensAlone};
 ghost use Rattle.fair_games.specs.declared.draws.TheConstants.{MOST};
 ghost use Rattle.fair_games.specs.Draws.{drawn_trial, in_turn};
 
@@ -76,7 +76,7 @@ pub(crate) fn draw_trial<R: Rng>(
     requires marks { marks ≤ 144 }
     requires cells { cells ≤ 81 }
     ensures trial { IsTrial (marks + cells) result.items }
-    ensures tried { (i : ℕ) → i < marks + cells → (trial ≡ GivensAlone → marks ≤ i) → IsTried i result.items }
+    ensures tried { (i : ℕ) → i < marks + cells → IsTriedIn trial marks i → IsTried i result.items }
     ensures drawn { (result.items, R.stream rng.new) ≡ drawn_trial trial marks cells (R.stream rng.old) }
 {
     let givens = draw_numbers(rng, cells);

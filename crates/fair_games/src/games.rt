@@ -1,17 +1,14 @@
 //! Fair games: drawn until one is of the grade.
 
 ghost use Rattle.std.specs.Prelude.{◌≡◌, ◌≢◌, ℕ, ◌<◌, ◌↔◌, Result, IfOk, IfSome, IsTrue, MatchOption, Some};
-ghost use Rattle.latin_board.specs.Squares.{GridValue};
-ghost use Rattle.trail_solver.specs.Solutions.{IsOnlySolution};
-ghost use Rattle.named_steps.specs.Following.{Follows};
 ghost use Rattle.named_steps.specs.Graded.{FollowsBy};
 ghost use Rattle.named_steps.specs.declared.grade.Grade.{Grade};
 ghost use Rattle.fair_games.specs.declared.fair_fault.FairFault.{FairFault};
+ghost use Rattle.fair_games.specs.FairGames.{IsFairGame, IsOfGrade, NeedsItems};
 ghost use Rattle.fair_games.specs.Squares.{fair_stream};
 ghost use Rattle.fair_games.specs.Draws.{drawn_game, draw_at};
 ghost use Rattle.fair_games.specs.Offers.{is_offered, letter_code};
-ghost use Rattle.fair_games.specs.Fair.{IsPrunedGame, IsOfGrade, IsPassedOver, IsFair, IsFairResult, NeedsItems};
-ghost use Rattle.fair_games.specs.Fair.{most_draws};
+ghost use Rattle.fair_games.specs.Fair.{IsPrunedGame, IsPassedOver, IsFair, IsFairResult, most_draws};
 
 use crate::draws::{draw_trial, rng_of};
 use crate::fair_fault::FairFault;
@@ -19,7 +16,7 @@ use crate::fair_game::FairGame;
 use crate::pruning::pruned;
 use crate::square::draw_square;
 use latin_board::Size;
-use named_steps::{Grade, KnownRows, Steps, follows_knowing};
+use named_steps::{Grade, Steps, follows_knowing};
 use rand_core::Rng;
 use trail_solver::Rules;
 
@@ -70,9 +67,14 @@ fn has_letter<P: FairGame>(grade: Grade, letter: u8) -> bool
 
 /// The fair game of a size, a grade and a seed.
 ///
-/// It follows by the steps of the grade, from nothing to the whole square, and not by those of the grade below. It has one
-/// solution. Refused as `NotOffered`, or else as `NoneFound` where no draw gives a game of the grade. It takes no memory.
+/// It has one solution, which follows by the steps of the grade, from nothing to the whole square, and not by those of the grade
+/// below; and no item that is tried can be spared. Refused as `NotOffered`, or else as `NoneFound` where no draw gives a game of the
+/// grade. It takes no memory.
 pub fn fair<P: FairGame>(size: Size, grade: Grade, seed: u64) -> Result<P, FairFault>
+    ensures promised { IfOk result (IsFairGame ⟦<P as Rules>⟧ P.struck_by grade (P.trial_of grade) size) }
+    ensures valid { IfOk result (λ p. P.valid p) }
+
+    // Which of such games the seed gives.
     ensures fair { IsFairResult ⟦<P as Rules>⟧ P.struck_by grade (is_offered size (P.letter_of grade) grade)
         (draw_at (P.trial_of grade) size (P.items_of size)
         (fair_stream size (letter_code (P.letter_of grade)) P.initial_code seed)) result }
@@ -83,14 +85,6 @@ pub fn fair<P: FairGame>(size: Size, grade: Grade, seed: u64) -> Result<P, FairF
         (draw_at (P.trial_of grade) size (P.items_of size)
         (fair_stream size (letter_code (P.letter_of grade)) P.initial_code seed)) other
         → other ≡ result }
-    ensures valid { IfOk result (λ p. P.valid p) }
-    ensures size { IfOk result (λ p. (P.puzzle p).size ≡ size) }
-
-    // A chain of the grade's steps leads from all pairs to its only solution.
-    ensures solved { IfOk result
-        (λ p. (g : GridValue) × (IsOnlySolution (P.puzzle p) g × Follows (P.struck_by p) grade g)) }
-    ensures graded { IfOk result (λ p. IsOfGrade ⟦<P as Rules>⟧ P.struck_by grade p) }
-    ensures needed { IfOk result (NeedsItems ⟦<P as Rules>⟧ P.struck_by grade (P.trial_of grade) size) }
 {
     if !is_offered::<P>(size, grade) {
         return Err(FairFault::NotOffered);
@@ -103,7 +97,7 @@ pub fn fair<P: FairGame>(size: Size, grade: Grade, seed: u64) -> Result<P, FairF
 
 /// The puzzle of the first draw of a seed that gives one of the grade: the fair game, where its size and grade are offered.
 pub fn seeded<P: FairGame>(size: Size, grade: Grade, seed: u64) -> Option<P>
-    ensures needed { IfSome result (NeedsItems ⟦<P as Rules>⟧ P.struck_by grade (P.trial_of grade) size) }
+    ensures promised { IfSome result (IsFairGame ⟦<P as Rules>⟧ P.struck_by grade (P.trial_of grade) size) }
     ensures fair { MatchOption result
         ((n : ℕ) → n < most_draws → IsPassedOver ⟦<P as Rules>⟧ P.struck_by grade
         (draw_at (P.trial_of grade) size (P.items_of size)
@@ -136,7 +130,7 @@ fn find_game<P: FairGame, R: Rng>(rng: &mut R, size: Size, grade: Grade) -> Opti
         (IsFair ⟦<P as Rules>⟧ P.struck_by grade
         (draw_at (P.trial_of grade) size (P.items_of size) (R.stream rng.old))) }
 {
-    let mut known = KnownRows::none();
+    let mut known = P::Known::default();
     for _draw in 0..MOST_DRAWS {
         let puzzle = draw_game(rng, size, grade, &mut known);
         if is_of_grade(&puzzle, grade, &mut known) {
@@ -147,7 +141,7 @@ fn find_game<P: FairGame, R: Rng>(rng: &mut R, size: Size, grade: Grade) -> Opti
 }
 
 // Draws a square and an order, and prunes by the grade.
-fn draw_game<P: FairGame, R: Rng>(rng: &mut R, size: Size, grade: Grade, known: &mut KnownRows) -> P
+fn draw_game<P: FairGame, R: Rng>(rng: &mut R, size: Size, grade: Grade, known: &mut P::Known) -> P
     ensures pruned { IsPrunedGame ⟦<P as Rules>⟧ P.struck_by grade
         (drawn_game (P.trial_of grade) size (P.items_of size) (R.stream rng.old)).0 result }
     ensures follows { FollowsBy (P.puzzle result) (P.struck_by result) grade }
@@ -162,7 +156,7 @@ fn draw_game<P: FairGame, R: Rng>(rng: &mut R, size: Size, grade: Grade, known: 
 }
 
 // Whether a puzzle that follows by a grade doesn't follow by the one below.
-fn is_of_grade<P: Steps>(puzzle: &P, grade: Grade, known: &mut KnownRows) -> bool
+fn is_of_grade<P: Steps>(puzzle: &P, grade: Grade, known: &mut P::Known) -> bool
     requires { FollowsBy (P.puzzle puzzle.now) (P.struck_by puzzle.now) grade }
     ensures { IsTrue result ↔ IsOfGrade ⟦<P as Rules>⟧ P.struck_by grade puzzle.now }
 {

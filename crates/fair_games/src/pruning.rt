@@ -12,7 +12,7 @@ ghost use Rattle.fair_games.specs.Inner.PrunedTo.{outside, IsPrunedTo};
 ghost use Rattle.fair_games.specs.Inner.Bases.{IsBase};
 
 use latin_board::Grid;
-use named_steps::{Grade, KnownRows, Steps, settle_on};
+use named_steps::{Grade, Steps, settle};
 use trail_solver::{Candidates, Rules};
 
 // What is tried: the items of a square's full puzzle in an order, and the grade by which the rest has to follow.
@@ -24,7 +24,7 @@ struct Trying<'a> {
 }
 
 /// The pruned puzzle of a Latin square, where the items are tried in this order. It follows by the grade.
-pub(crate) fn pruned<P: Steps>(grid: &Grid, order: &[u8], grade: Grade, known: &mut KnownRows) -> P
+pub(crate) fn pruned<P: Steps>(grid: &Grid, order: &[u8], grade: Grade, known: &mut P::Known) -> P
     requires latin { IsLatin grid.now }
     requires trial { IsTrial (P.items_of grid.now.size) order.now }
     ensures pruned { IsPrunedBy ⟦<P as Rules>⟧ (FailsBy P.struck_by grade grid.now) grid.now order.now result }
@@ -49,7 +49,7 @@ fn without_all<P: Steps>(
     first: usize,
     last: usize,
     left: &mut Candidates,
-    known: &mut KnownRows,
+    known: &mut P::Known,
 ) -> Option<P>
     requires latin { IsLatin trying.now.grid.now }
     requires trial { IsTrial (P.items_of trying.now.grid.now.size) trying.now.order.now }
@@ -74,7 +74,10 @@ fn without_all<P: Steps>(
 {
     let _size = trying.grid.size();
     let fewer = without(puzzle, trying.order, first, last);
-    settle_on(&fewer, trying.grade, left, known);
+    if !settle(&fewer, trying.grade, left, known) {
+        // It never comes to this, since no step strikes the square's numbers.
+        return None;
+    }
     if are_numbers(left, trying.grid) {
         Some(fewer)
     } else {
@@ -91,7 +94,7 @@ fn split<P: Steps>(
     first: usize,
     last: usize,
     left: &mut Candidates,
-    known: &mut KnownRows,
+    known: &mut P::Known,
 ) -> P
     requires latin { IsLatin trying.now.grid.now }
     requires trial { IsTrial (P.items_of trying.now.grid.now.size) trying.now.order.now }

@@ -18,7 +18,8 @@ use Rattle.named_steps.proofs.Followed.{boards_lead, boards_refuted}
 use Rattle.step_chains.specs.Explanations.{NothingIsShown, IsRefutedGrid}
 use Rattle.step_chains.specs.declared.hints.NextHint.{NextHint}
 use Rattle.step_chains.specs.declared.hints.NextHint.TheVariants.{Follows as Found, Refuted, Nothing}
-use Rattle.step_chains.specs.NextHints.{NoneBelowShows, height}
+use Rattle.named_steps.specs.Grades.{IsLower, rank}
+use Rattle.step_chains.specs.NextHints.{NoneBelowShows}
 use Rattle.puzzle_cli.specs.GameFacts.{GameFacts}
 use Rattle.json_replies.specs.FairLaws.{IsContradiction, IsExplainedBy, IsWrongAt, HintsLeadOn}
 use Rattle.json_replies.specs.FurtherLines.{BoardFacts}
@@ -26,13 +27,13 @@ use Rattle.json_replies.specs.ToldHints.{IsHint}
 use Rattle.clue_rules.specs.Reasons.{Striking}
 
 module _ (p : Puzzle) (Struck : Striking) (less : IsAntitone Struck)
-    (nested : (h : GridValue) → (Follows Struck Latin h → Follows Struck Easy h) × (Follows Struck Easy h → Follows Struck Hard h))
+    (nested : (lower higher : Grade) (h : GridValue) → IsLower lower higher → Follows Struck lower h → Follows Struck higher h)
     (s g : GridValue) (view : CandidatesValue) (cell : ℕ) (solves : Solves p s) (size : g.size ≡ s.size) (in_view : IsView g view)
     (inside : cell < g.size * g.size) (empty : number_at g cell ≡ 0) where
   -- by all steps, too
   by_all : (grade : Grade) → Follows Struck grade s → Follows Struck Hard s
-  by_all Latin follows = (nested s).1 ((nested s).0 follows)
-  by_all Easy follows = (nested s).1 follows
+  by_all Latin follows = nested Latin Hard s (omega arith) follows
+  by_all Easy follows = nested Easy Hard s (omega arith) follows
   by_all Hard follows = follows
 
   -- some number is shown
@@ -51,8 +52,8 @@ module _ (p : Puzzle) (Struck : Striking) (less : IsAntitone Struck)
       elim (cases_eq (number_at s at) (number_at g at)) [ inl same ↦ same | inr other ↦ absurd (right at (within, apart, λ e. other (sym e))) ]
 
   -- a grade below which nothing is shown is no greater than that of the puzzle
-  least : (grade own : Grade) → Follows Struck grade s → NoneBelowShows Struck own g → height own ≤ height grade
-  least grade own follows none = elim (cases_lt (height grade) (height own)) [
+  least : (grade own : Grade) → Follows Struck grade s → NoneBelowShows Struck own g → rank own ≤ rank grade
+  least grade own follows none = elim (cases_lt (rank grade) (rank own)) [
     | inl below ↦ absurd (leads grade follows (none grade below))
     | inr within ↦ within
   ]

@@ -11,7 +11,7 @@ use Rattle.puzzle_cli.specs.Inner.CommandReading.{rest_behind}
 use Rattle.puzzle_cli.proofs.CommandLaws.{then_taken, behind_taken}
 use Rattle.json_replies.specs.declared.fair_words.FairWords.{FairWords}
 use Rattle.json_replies.specs.FairLines.{IsWord, IsFairLine}
-use Rattle.json_replies.specs.Inner.FairReading.{is_word, words_of, two_at, three_at, fair_at}
+use Rattle.json_replies.specs.Inner.FairReading.{is_word, words_of, two_words_at, three_words_at, fair_at}
 
 -- ---- words
 
@@ -58,16 +58,16 @@ words_taken size grade seed words read =
     subst (λ (w : FairWords (List ℕ)). AreWords w (size ++ space ∷ (grade ++ space ∷ seed))) is
     (refl, word_taken size two.0, word_taken grade two.1, word_taken seed all.1)
 
-three_taken : (text : List ℕ) (words : FairWords (List ℕ)) → three_at text ≡ Some words → AreWords words text
+three_taken : (text : List ℕ) (words : FairWords (List ℕ)) → three_words_at text ≡ Some words → AreWords words text
 three_taken text words read =
-    let (rest, cut, two) = then_taken (λ rest. two_at (before space text) rest) (behind space text) words read in
+    let (rest, cut, two) = then_taken (λ rest. two_words_at (before space text) rest) (behind space text) words read in
     let (seed, more, of) = then_taken (λ seed. words_of (before space text) (before space rest) seed) (behind space rest) words two in
     let whole : text ≡ before space text ++ space ∷ (before space rest ++ space ∷ seed) =
     cut_parts space text rest cut ∙ ap (λ l. before space text ++ space ∷ l) (cut_parts space rest seed more) in
     let (is, size, grade, last) = words_taken (before space text) (before space rest) seed words of in
     (whole ∙ is, size, grade, last)
 
-three_again : (text : List ℕ) (words : FairWords (List ℕ)) → AreWords words text → three_at text ≡ Some words
+three_again : (text : List ℕ) (words : FairWords (List ℕ)) → AreWords words text → three_words_at text ≡ Some words
 three_again text words (is, size, grade, seed) =
     let rest = words.grade ++ space ∷ words.seed in
     rw (
@@ -86,7 +86,7 @@ three_again text words (is, size, grade, seed) =
 line_taken : (line : Line) (words : FairWords (List ℕ)) → fair_at line ≡ Some words → IsFairLine words line
 line_taken None words read = cc
 line_taken (Some text) words read =
-    let (rest, behind, three) = then_taken three_at (rest_behind (codes "fair ") text) words read in
+    let (rest, behind, three) = then_taken three_words_at (rest_behind (codes "fair ") text) words read in
     let (is, size, grade, seed) = three_taken rest words three in
     record {
       spelled = ap Some (behind_taken (codes "fair ") text rest behind ∙ ap (λ l. codes "fair " ++ l) is);

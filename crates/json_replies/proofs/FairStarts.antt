@@ -19,11 +19,11 @@ use Rattle.puzzle_cli.proofs.DescribedReplies.{AreCanonical, described_lines_beg
 use Rattle.json_replies.specs.declared.fair_words.FairWords.{FairWords}
 use Rattle.json_replies.specs.declared.fair_request.FairRequest.{FairRequest}
 use Rattle.json_replies.specs.FairLines.{IsFairLine, IsAsked, AreFairLetters}
-use Rattle.json_replies.specs.FairReplies.{fair_params, IsFairGame, FairGives}
+use Rattle.json_replies.specs.FairReplies.{fair_params, IsGameOfRequest, FairGives}
 use Rattle.json_replies.specs.FairLaws.{IsFairStart, FairLinesBegin}
 use Rattle.json_replies.specs.FurtherLines.{BoardFacts, further_at}
 use Rattle.json_replies.specs.JsonReplies.{AnswerGives, TellsLine}
-use Rattle.json_replies.specs.Replies.{Answer, left_by}
+use Rattle.json_replies.specs.Replies.{Answer, session_left}
 use Rattle.json_replies.proofs.FairReading.{line_again}
 
 -- the letter of a grade is one of the game's
@@ -42,14 +42,14 @@ asked_params letters letter own words r (size, (code, is, offered, word), seed) 
 module _ {P : Type 0} (f : GameFacts P) (b : BoardFacts P) (steps : HasSteps f.rules b.struck_by) (ids : IdsAreReadOnce f) (canonical : AreCanonical f)
     (letters : AreFairLetters f.letters b.fair_letter) where
   -- the session of a fair game
-  fair_start : (r : FairRequest) (p : P) → IsFairGame f b r p → IsFairStart f b r (new_game (fair_params b r) p)
+  fair_start : (r : FairRequest) (p : P) → IsGameOfRequest f b r p → IsFairStart f b r (new_game (fair_params b r) p)
   fair_start r p game =
       let (solution, solved) = fair_solved f.rules b.struck_by steps r.grade _ p game in
       record { fair = game; start = refl; solution = solution; only = solved.0; follows = solved.1; graded = game.graded }
 
   -- what `new` with its ID gives
   new_gives : (old : Option (History P)) (words : FairWords (List ℕ)) (r : FairRequest) (p : P) (outcome : Outcome P)
-      → IsAsked b.fair_letter words (Ok r) → IsFairGame f b r p → LineGives f old (described_line f (fair_params b r) p) outcome
+      → IsAsked b.fair_letter words (Ok r) → IsGameOfRequest f b r p → LineGives f old (described_line f (fair_params b r) p) outcome
       → (outcome ≡ Ok (ok_line, Some (new_game (fair_params b r) p))) ⊎ (outcome ≡ Err Memory)
   new_gives old words r p outcome asked game gives =
       let cut = fair_puzzle f.rules b.struck_by r.grade _ p steps.items game in
@@ -62,7 +62,7 @@ module _ {P : Type 0} (f : GameFacts P) (b : BoardFacts P) (steps : HasSteps f.r
   Begins old words new = (new ≡ old) ⊎ ((r : FairRequest) × IsAsked b.fair_letter words (Ok r) × IsSomeAnd new (IsFairStart f b r))
 
   outcome_begins : (old new : Option (History P)) (words : FairWords (List ℕ)) (r : FairRequest) (p : P) (outcome : Outcome P)
-      → IsAsked b.fair_letter words (Ok r) → IsFairGame f b r p
+      → IsAsked b.fair_letter words (Ok r) → IsGameOfRequest f b r p
       → (outcome ≡ Ok (ok_line, Some (new_game (fair_params b r) p))) ⊎ (outcome ≡ Err Memory) → new ≡ left old outcome → Begins old words new
   outcome_begins old new words r p outcome asked game (inl is) leaves =
       let begun : new ≡ Some (new_game (fair_params b r) p) = leaves ∙ ap (left old) is in
@@ -70,7 +70,7 @@ module _ {P : Type 0} (f : GameFacts P) (b : BoardFacts P) (steps : HasSteps f.r
   outcome_begins old new words r p outcome asked game (inr is) leaves = inl (leaves ∙ ap (left old) is)
 
   answer_begins : (old new : Option (History P)) (words : FairWords (List ℕ)) (answer : Answer P) → FairGives f b old words answer
-      → new ≡ left_by old answer → Begins old words new
+      → new ≡ session_left old answer → Begins old words new
   answer_begins old new words (Ok outcome) (params, p, (r, asked, is, game), gives) leaves =
       let same : LineGives f old (described_line f (fair_params b r) p) outcome =
       subst (λ (q : Params). LineGives f old (described_line f q p) outcome) is gives in
@@ -78,7 +78,7 @@ module _ {P : Type 0} (f : GameFacts P) (b : BoardFacts P) (steps : HasSteps f.r
   answer_begins old new words (Err refusal) gives leaves = inl leaves
 
   line_begins : (old new : Option (History P)) (line : Line) (words : FairWords (List ℕ)) (answer : Answer P) → IsFairLine words line
-      → AnswerGives f b old line answer → new ≡ left_by old answer → Begins old words new
+      → AnswerGives f b old line answer → new ≡ session_left old answer → Begins old words new
   line_begins old new line words answer is (inl (own, so, gives)) leaves =
       let both : Some own ≡ Some words = sym (line_again line own so) ∙ line_again line words is in
       let same : own ≡ words = cc both in

@@ -25,7 +25,7 @@ use Rattle.json_replies.specs.declared.reason_parts.Ends.{Ends}
 use Rattle.json_replies.specs.Counts.{count_data}
 use Rattle.json_replies.specs.Texts.{text_data, list_data}
 use Rattle.json_replies.specs.Boards.{when, mark_set_data, squares}
-use Rattle.json_replies.specs.ObjectLines.{Fits}
+use Rattle.json_replies.specs.ObjectLines.{IsShallow}
 use Rattle.json_replies.specs.Reasons.{ReasonParts, one_data, squares_data, parts_of}
 use Rattle.json_replies.specs.Steps.{x_data, y_data, clue_data, greater_data, less_data, shows_data, strike_data, look_data, step_data, steps_data}
 use Rattle.json_replies.specs.HintObjects.{SaidData, by_word, goal_line_data, grade_data, said_of, left_data, view_data, hint_data, IsHintValue}
@@ -33,39 +33,39 @@ use Rattle.json_replies.specs.Laws.Spellings.{no_float_or, list_fits, listed_fit
 use Rattle.clue_rules.specs.Reasons.{Striking}
 
 -- what fits fits deeper down
-pub deeper : (m n : ℕ) (d : Data) → Fits m d → m ≤ n → Fits n d
+pub deeper : (m n : ℕ) (d : Data) → IsShallow m d → m ≤ n → IsShallow n d
 deeper m n d fits less = let flat = fits.flat in record { whole = fits.whole; flat = omega arith }
 
-count_fits : (n : ℕ) → Fits 0 (count_data n)
+count_fits : (n : ℕ) → IsShallow 0 (count_data n)
 count_fits n = record { whole = refl; flat = omega arith }
 
-null_fits : (n : ℕ) → Fits n null
+null_fits : (n : ℕ) → IsShallow n null
 null_fits n = record { whole = refl; flat = omega arith }
 
-either_fits : (n : ℕ) (t : Bool) (d e : Data) → Fits n d → Fits n e → Fits n (if t then d else e)
+either_fits : (n : ℕ) (t : Bool) (d e : Data) → IsShallow n d → IsShallow n e → IsShallow n (if t then d else e)
 either_fits n true d e fit other = fit
 either_fits n false d e fit other = other
 
-integer_fits : (z : ℤ) → Fits 0 (number (of_integer z))
+integer_fits : (z : ℤ) → IsShallow 0 (number (of_integer z))
 integer_fits (pos n) = record { whole = refl; flat = omega arith }
 integer_fits (negsuc n) = record { whole = refl; flat = omega arith }
 
-set_fits : (marks : ℕ) → Fits 1 (mark_set_data marks)
+set_fits : (marks : ℕ) → IsShallow 1 (mark_set_data marks)
 set_fits marks =
     listed_fits 0 (λ n. when (has_number marks n) (count_data n)) (λ n. when_fits 0 (has_number marks n) (count_data n) (count_fits n)) (range_with_len 1 9)
 
-one_fits : (n : ℕ) → Fits 1 (one_data n)
+one_fits : (n : ℕ) → IsShallow 1 (one_data n)
 one_fits n = record { whole = refl; flat = omega arith }
 
 -- ---- the parts of a reason
 
 -- its line fits where a value does, its squares and its numbers where a list does
 record PartsFit (parts : ReasonParts) : Type 0 where
-  line : Fits 0 parts.line
-  cells : Fits 1 parts.cells
-  numbers : Fits 1 parts.numbers
+  line : IsShallow 0 parts.line
+  cells : IsShallow 1 parts.cells
+  numbers : IsShallow 1 parts.numbers
 
-squares_fit : (w line places : ℕ) → Fits 1 (squares_data w line places)
+squares_fit : (w line places : ℕ) → IsShallow 1 (squares_data w line places)
 squares_fit w line places =
     either_fits 1 (nat_lt line (2 * w)) _ null
     (listed_fits 0 (λ k. when (has_number places k) (count_data (line_cell w line k)))
@@ -85,35 +85,35 @@ parts_fit w is_over (Clue place) = record { line = null_fits 0; cells = null_fit
 parts_fit w is_over (Sign from to) = record { line = null_fits 0; cells = null_fits 1; numbers = null_fits 1 }
 parts_fit w is_over (Set line squares values) = record { line = count_fits line; cells = squares_fit w line squares; numbers = set_fits values }
 
-x_fits : (w : ℕ) (edge : Option ℕ) → Fits 0 (x_data w edge)
+x_fits : (w : ℕ) (edge : Option ℕ) → IsShallow 0 (x_data w edge)
 x_fits w None = null_fits 0
 x_fits w (Some place) = integer_fits (edge_xy w place).0
 
-y_fits : (w : ℕ) (edge : Option ℕ) → Fits 0 (y_data w edge)
+y_fits : (w : ℕ) (edge : Option ℕ) → IsShallow 0 (y_data w edge)
 y_fits w None = null_fits 0
 y_fits w (Some place) = integer_fits (edge_xy w place).1
 
-clue_fits : (clue : ℕ → ℕ) (edge : Option ℕ) → Fits 0 (clue_data clue edge)
+clue_fits : (clue : ℕ → ℕ) (edge : Option ℕ) → IsShallow 0 (clue_data clue edge)
 clue_fits clue None = null_fits 0
 clue_fits clue (Some place) = count_fits (clue place)
 
-greater_fits : (ends : Option Ends) → Fits 0 (greater_data ends)
+greater_fits : (ends : Option Ends) → IsShallow 0 (greater_data ends)
 greater_fits None = null_fits 0
 greater_fits (Some ends) = count_fits ends.greater
 
-less_fits : (ends : Option Ends) → Fits 0 (less_data ends)
+less_fits : (ends : Option Ends) → IsShallow 0 (less_data ends)
 less_fits None = null_fits 0
 less_fits (Some ends) = count_fits ends.less
 
 -- ---- a step
 
-shows_fit : (values : ℕ) (shows : Option (List ℕ)) → Fits 2 (shows_data values shows)
+shows_fit : (values : ℕ) (shows : Option (List ℕ)) → IsShallow 2 (shows_data values shows)
 shows_fit values None = null_fits 2
 shows_fit values (Some shows) =
     listed_fits 1 (λ n. when (has_number values n) (mark_set_data (slice_index shows n)))
     (λ n. when_fits 1 (has_number values n) (mark_set_data (slice_index shows n)) (set_fits (slice_index shows n))) (range_with_len 1 9)
 
-strike_fits : (strike : Strike) → Fits 3 (strike_data strike)
+strike_fits : (strike : Strike) → IsShallow 3 (strike_data strike)
 strike_fits strike =
     let set = set_fits strike.values in
     let shows = shows_fit strike.values strike.shows in
@@ -125,11 +125,11 @@ strike_fits strike =
       flat = omega arith;
     }
 
-texts_fit : (text : List (List ℕ)) → Fits 1 (list_data text_data text)
+texts_fit : (text : List (List ℕ)) → IsShallow 1 (list_data text_data text)
 texts_fit text = list_fits 0 text_data text_fits text
 
-look_fits : (w : ℕ) (clue : ℕ → ℕ) (parts : ReasonParts) (strikes text : Data) → PartsFit parts → Fits 4 strikes → Fits 1 text
-    → Fits 5 (look_data w clue parts strikes text)
+look_fits : (w : ℕ) (clue : ℕ → ℕ) (parts : ReasonParts) (strikes text : Data) → PartsFit parts → IsShallow 4 strikes → IsShallow 1 text
+    → IsShallow 5 (look_data w clue parts strikes text)
 look_fits w clue parts strikes text fit h i =
     let a = fit.cells in
     let b = clue_fits clue parts.edge in
@@ -159,39 +159,39 @@ look_fits w clue parts strikes text fit h i =
       flat = omega arith;
     }
 
-step_fits : (w : ℕ) (clue : ℕ → ℕ) (is_over : ℕ → ℕ → Bool) (told : ToldStep) → Fits 5 (step_data w clue is_over told)
+step_fits : (w : ℕ) (clue : ℕ → ℕ) (is_over : ℕ → ℕ → Bool) (told : ToldStep) → IsShallow 5 (step_data w clue is_over told)
 step_fits w clue is_over told =
     look_fits w clue (parts_of w is_over told.reason) (list_data strike_data told.strikes.items) (list_data text_data (line_texts told.text.items))
     (parts_fit w is_over told.reason) (list_fits 3 strike_data strike_fits told.strikes.items) (texts_fit (line_texts told.text.items))
 
-steps_fit : (w : ℕ) (clue : ℕ → ℕ) (is_over : ℕ → ℕ → Bool) (steps : List ToldStep) → Fits 6 (steps_data w clue is_over steps)
+steps_fit : (w : ℕ) (clue : ℕ → ℕ) (is_over : ℕ → ℕ → Bool) (steps : List ToldStep) → IsShallow 6 (steps_data w clue is_over steps)
 steps_fit w clue is_over steps = list_fits 5 (step_data w clue is_over) (step_fits w clue is_over) steps
 
 -- ---- a hint
 
-left_fits : (c : CandidatesValue) (cell : ℕ) → Fits 1 (left_data c cell)
+left_fits : (c : CandidatesValue) (cell : ℕ) → IsShallow 1 (left_data c cell)
 left_fits c cell =
     listed_fits 0 (λ n. when (may_be c cell n) (count_data n)) (λ n. when_fits 0 (may_be c cell n) (count_data n) (count_fits n)) (range_with_len 1 c.size)
 
-view_fits : (c : CandidatesValue) → Fits 2 (view_data c)
+view_fits : (c : CandidatesValue) → IsShallow 2 (view_data c)
 view_fits c = listed_fits 1 (λ cell. left_data c cell ∷ []) (λ cell. (left_fits c cell, tt)) (squares c.size)
 
 -- each member of what a hint says is a single value
 record SaidFits (said : SaidData) : Type 0 where
-  by : Fits 0 said.by
-  cell : Fits 0 said.cell
-  grade : Fits 0 said.grade
-  line : Fits 0 said.line
-  number : Fits 0 said.number
+  by : IsShallow 0 said.by
+  cell : IsShallow 0 said.cell
+  grade : IsShallow 0 said.grade
+  line : IsShallow 0 said.line
+  number : IsShallow 0 said.number
 
-word_fits : (word : List ℕ) → Fits 0 (string word)
+word_fits : (word : List ℕ) → IsShallow 0 (string word)
 word_fits word = record { whole = refl; flat = omega arith }
 
-goal_line_fits : (goal : Goal) → Fits 0 (goal_line_data goal)
+goal_line_fits : (goal : Goal) → IsShallow 0 (goal_line_data goal)
 goal_line_fits (OnlyValue cell value) = null_fits 0
 goal_line_fits (OnlyPlace line index value) = count_fits line
 
-pub grade_fits : (letter : Grade → List ℕ) (grade : Option Grade) → Fits 0 (grade_data letter grade)
+pub grade_fits : (letter : Grade → List ℕ) (grade : Option Grade) → IsShallow 0 (grade_data letter grade)
 grade_fits letter None = null_fits 0
 grade_fits letter (Some grade) = word_fits (letter grade)
 
@@ -207,8 +207,8 @@ said_fits w letter (Refuted grade refutation) =
     record { by = null_fits 0; cell = null_fits 0; grade = word_fits (letter grade); line = null_fits 0; number = null_fits 0 }
 said_fits w letter Nothing = record { by = null_fits 0; cell = null_fits 0; grade = null_fits 0; line = null_fits 0; number = null_fits 0 }
 
-object_fits : (said : SaidData) (steps text seen : Data) → SaidFits said → Fits 6 steps → Fits 1 text → Fits 2 seen
-    → Fits 7 (hint_data said steps text seen)
+object_fits : (said : SaidData) (steps text seen : Data) → SaidFits said → IsShallow 6 steps → IsShallow 1 text → IsShallow 2 seen
+    → IsShallow 7 (hint_data said steps text seen)
 object_fits said steps text seen fit f h i =
     let a = fit.by in
     let b = fit.cell in
@@ -231,8 +231,8 @@ object_fits said steps text seen fit f h i =
     }
 
 pub hint_value_fits : (w : ℕ) (letter : Grade → List ℕ) (clue : ℕ → ℕ) (is_over : ℕ → ℕ → Bool) (Struck : Striking)
-    (g : GridValue) (hint : NextHint) (value : Data) → IsHintValue w letter clue is_over Struck g hint value → Fits 7 value
+    (g : GridValue) (hint : NextHint) (value : Data) → IsHintValue w letter clue is_over Struck g hint value → IsShallow 7 value
 hint_value_fits w letter clue is_over Struck g hint value told =
-    subst (Fits 7) (sym told.is)
+    subst (IsShallow 7) (sym told.is)
     (object_fits (said_of w letter hint) (steps_data w clue is_over told.steps) (list_data text_data told.text) (view_data told.view)
     (said_fits w letter hint) (steps_fit w clue is_over told.steps) (texts_fit told.text) (view_fits told.view))

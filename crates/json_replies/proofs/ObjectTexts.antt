@@ -21,7 +21,7 @@ use Rattle.json_replies.specs.declared.further_line.FurtherLine.TheVariants.{Boa
 use Rattle.json_replies.specs.Texts.{text_data, lines_of, lines_data}
 use Rattle.json_replies.specs.FurtherLines.{further_key}
 use Rattle.json_replies.specs.Replies.{name_data, reply_members, reply_data}
-use Rattle.json_replies.specs.ObjectLines.{Fits, IsSpelled, IsLineOf}
+use Rattle.json_replies.specs.ObjectLines.{IsShallow, IsSpelled, IsLineOfData}
 use Rattle.json_replies.specs.Inner.ObjectTexts.{key_text, AddsMember, IsPlain}
 use Rattle.json_replies.specs.Laws.Spellings.{spelled_reply}
 use Rattle.json_replies.proofs.ReplyLines.{lines_of-front, lines_of-none}
@@ -202,27 +202,27 @@ plain_answer which answer session told plain = record {
 -- ---- whole lines
 
 -- a text with its end is a line
-line_is : (d : Data) (line new : List ℕ) → IsPlain d → depth d ≤ max_depth → line ≡ compact_text d → new ≡ line ++ 10 ∷ [] → IsLineOf d new
+line_is : (d : Data) (line new : List ℕ) → IsPlain d → depth d ≤ max_depth → line ≡ compact_text d → new ≡ line ++ 10 ∷ [] → IsLineOfData d new
 line_is d line new plain flat text feed = record { text = feed ∙ ap (λ l. l ++ 10 ∷ []) text; reads = plain_reads d plain flat }
 
-pub reply_is_line : (refused : Option (List ℕ)) (reply : List ℕ) (session : Data) (start line new : List ℕ) → Fits 1 session → start ≡ []
+pub reply_is_line : (refused : Option (List ℕ)) (reply : List ℕ) (session : Data) (start line new : List ℕ) → IsShallow 1 session → start ≡ []
     → line ≡ start ++ 123 ∷ [] → new ≡ (line ++ members_text false (reply_members refused reply session)) ++ 10 ∷ [] → IsPlain session
-    → IsLineOf (reply_data refused reply session) new
+    → IsLineOfData (reply_data refused reply session) new
 reply_is_line refused reply session start line new fits empty opened whole plain =
     line_is (reply_data refused reply session) (line ++ members_text false (reply_members refused reply session)) new (plain_reply refused reply session plain)
     (spelled_reply refused reply session fits).flat
     (ap (λ l. l ++ members_text false (reply_members refused reply session)) (opened ∙ ap (λ (l : List ℕ). l ++ 123 ∷ []) empty)) whole
 
-answer_flat : (which : FurtherLine) (answer session : Data) → Fits 7 answer → Fits 1 session → depth (answer_data which answer session) ≤ max_depth
+answer_flat : (which : FurtherLine) (answer session : Data) → IsShallow 7 answer → IsShallow 1 session → depth (answer_data which answer session) ≤ max_depth
 answer_flat which answer session told fits =
     let a = told.flat in
     let b = fits.flat in
     omega arith
 
 pub answer_is_line : (which : FurtherLine) (key : List ℕ) (answer session : Data) (start line one new : List ℕ) → key ≡ further_key which
-    → Fits 7 answer → Fits 1 session → start ≡ [] → line ≡ start ++ 123 ∷ [] → AddsMember false key answer line one → IsPlain answer
+    → IsShallow 7 answer → IsShallow 1 session → start ≡ [] → line ≡ start ++ 123 ∷ [] → AddsMember false key answer line one → IsPlain answer
     → new ≡ (one ++ members_text true (reply_members None [] session)) ++ 10 ∷ [] → IsPlain session
-    → IsLineOf (object (member (further_key which) answer (reply_members None [] session))) new
+    → IsLineOfData (object (member (further_key which) answer (reply_members None [] session))) new
 answer_is_line which key answer session start line one new keyed told fits empty opened add told_plain whole plain =
     let rest = reply_members None [] session in
     line_is (answer_data which answer session) (one ++ members_text true rest) new (plain_answer which answer session told_plain plain)

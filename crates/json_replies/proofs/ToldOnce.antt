@@ -18,7 +18,7 @@ use Rattle.puzzle_cli.proofs.WholeReplies.{answers_are_whole}
 use Rattle.json_replies.specs.declared.further_line.FurtherLine.{FurtherLine}
 use Rattle.json_replies.specs.declared.further_line.FurtherLine.TheVariants.{Board, Completable, Hint, Grade}
 use Rattle.json_replies.specs.Texts.{latin_text, text_data, lines_of, lines_text}
-use Rattle.json_replies.specs.ObjectLines.{IsLineOf, lost_line}
+use Rattle.json_replies.specs.ObjectLines.{IsLineOfData, lost_line}
 use Rattle.json_replies.specs.Sessions.{game_data, session_data}
 use Rattle.json_replies.specs.Replies.{Answer, answer_name, answer_text, name_data, reply_members, reply_data}
 use Rattle.json_replies.specs.FairRefusals.{fair_refusal_name}
@@ -28,7 +28,7 @@ use Rattle.json_replies.specs.ReplyLaws.{ObjectsTellOneReply, ObjectsAreNotLost}
 use Rattle.json_replies.proofs.WholeReplies.{lines_are_the_reply}
 
 -- one line has one object
-one_object : (d e : Data) (bytes : List ℕ) → IsLineOf d bytes → IsLineOf e bytes → d ≡ e
+one_object : (d e : Data) (bytes : List ℕ) → IsLineOfData d bytes → IsLineOfData e bytes → d ≡ e
 one_object d e bytes one other =
     let same : compact_text d ≡ compact_text e =
     append_cancel_right (compact_text d) (compact_text e) (line_feed ∷ []) (sym one.text ∙ other.text) in
@@ -122,7 +122,7 @@ first_key (object (member k d ms)) = k
 first_key _ = []
 
 -- the first letter of an object's first key tells its line from that one
-key_apart : (d : Data) (b : ℕ) (bytes : List ℕ) → IsLineOf d bytes → get_or (first_key d) 0 0 ≡ b → bytes ≡ lost_line → b ≡ 108
+key_apart : (d : Data) (b : ℕ) (bytes : List ℕ) → IsLineOfData d bytes → get_or (first_key d) 0 0 ≡ b → bytes ≡ lost_line → b ≡ 108
 key_apart d b bytes told begins lost =
     let same : compact_text d ≡ lost_text = append_cancel_right (compact_text d) lost_text (line_feed ∷ []) (sym told.text ∙ lost) in
     let both : Some d ≡ Some lost_data = sym told.reads ∙ ap read same ∙ lost_reads in
@@ -152,7 +152,7 @@ other_letter Grade is = omega arith
 r_is_no_l : (b : ℕ) → b ≡ 114 → b ≡ 108 → ⊥
 r_is_no_l b is other = omega arith
 
-reply_not_lost : (refused : Option (List ℕ)) (reply : List ℕ) (session : Data) (bytes : List ℕ) → IsLineOf (reply_data refused reply session) bytes
+reply_not_lost : (refused : Option (List ℕ)) (reply : List ℕ) (session : Data) (bytes : List ℕ) → IsLineOfData (reply_data refused reply session) bytes
     → bytes ≡ lost_line → ⊥
 reply_not_lost refused reply session bytes told lost =
     r_is_no_l 114 refl (key_apart (reply_data refused reply session) 114 bytes told refl lost)

@@ -11,7 +11,7 @@ use Rattle.puzzle_cli.specs.Commands.{Reading, IsRead, IsEntry, is_quit}
 use Rattle.puzzle_cli.specs.Inner.CommandReading.{command_at, read_at}
 use Rattle.puzzle_cli.proofs.CommandLaws.{entry_taken, line_is_read, goes_on}
 use Rattle.json_replies.specs.Replies.{reply_data}
-use Rattle.json_replies.specs.ObjectLines.{Fits, OrLost, IsLineOf}
+use Rattle.json_replies.specs.ObjectLines.{IsShallow, OrLost, IsLineOfData}
 use Rattle.json_replies.specs.Sessions.{session_data}
 use Rattle.json_replies.specs.JsonReplies.{TellsOutcome, TellsLine, JsonReply}
 use Rattle.json_replies.specs.declared.further_line.FurtherLine.{FurtherLine}
@@ -32,13 +32,13 @@ tells_nothing f (x ∷ said) last new bytes none is =
     absurd (true≢false (sym none ∙ some))
 
 pub tells_said : {P : Type 0} (f : GameFacts P) (said : List ℕ) (last new : Option (History P)) (bytes : List ℕ)
-    → (length said == 0) ≡ false → OrLost (IsLineOf (reply_data None said (session_data f new))) bytes → TellsOutcome f (Ok (said, last)) new bytes
+    → (length said == 0) ≡ false → OrLost (IsLineOfData (reply_data None said (session_data f new))) bytes → TellsOutcome f (Ok (said, last)) new bytes
 tells_said f [] last new bytes some told = absurd (true≢false some)
 tells_said f (x ∷ said) last new bytes some told = told
 
 -- what is told of a session can be written
-pub session_spelled : {P : Type 0} (f : GameFacts P) (session : Option (History P)) (told : Data) → told ≡ session_data f session → Fits 1 told
-session_spelled f session told is = subst (Fits 1) (sym is) (session_fits f session)
+pub session_spelled : {P : Type 0} (f : GameFacts P) (session : Option (History P)) (told : Data) → told ≡ session_data f session → IsShallow 1 told
+session_spelled f session told is = subst (IsShallow 1) (sym is) (session_fits f session)
 
 -- ---- what is said to a line
 

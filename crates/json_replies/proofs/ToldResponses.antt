@@ -19,12 +19,12 @@ use Rattle.puzzle_cli.specs.Texts.{text_bytes}
 use Rattle.json_replies.specs.declared.fair_words.FairWords.{FairWords}
 use Rattle.json_replies.specs.declared.fair_request.FairRefusal.{FairRefusal}
 use Rattle.json_replies.specs.FairLines.{IsFairLine}
-use Rattle.json_replies.specs.FairReplies.{AskFor, AreRefused, FairGives}
+use Rattle.json_replies.specs.FairReplies.{AskFor, AskInVain, FairGives}
 use Rattle.json_replies.specs.FurtherLines.{BoardFacts, further_at}
 use Rattle.json_replies.specs.JsonReplies.{TellsOutcome, TellsLine, JsonReply}
-use Rattle.json_replies.specs.Replies.{Answer, left_by, reply_data}
+use Rattle.json_replies.specs.Replies.{Answer, session_left, reply_data}
 use Rattle.json_replies.specs.FairRefusals.{fair_refusal_name}
-use Rattle.json_replies.specs.ObjectLines.{IsLineOf, OrLost}
+use Rattle.json_replies.specs.ObjectLines.{IsLineOfData, OrLost}
 use Rattle.json_replies.specs.Sessions.{session_data}
 use Rattle.json_replies.specs.Inner.ToldResponses.{TellsResponse, TellsFair}
 
@@ -85,18 +85,18 @@ module _ {P : Type 0} (f : GameFacts P) (b : BoardFacts P) where
 
   -- and so is a refusal of them
   pub refused_told : (old : Option (History P)) (words : FairWords (List ℕ)) (refusal : FairRefusal) (name bytes : List ℕ)
-      → AreRefused f b words refusal → name ≡ fair_refusal_name refusal
-      → OrLost (IsLineOf (reply_data (Some name) (refusal_line name) (session_data f old))) bytes → TellsFair f b old words bytes old
+      → AskInVain f b words refusal → name ≡ fair_refusal_name refusal
+      → OrLost (IsLineOfData (reply_data (Some name) (refusal_line name) (session_data f old))) bytes → TellsFair f b old words bytes old
   refused_told old words refusal name bytes refused is told = (
     Err refusal,
     refused,
     refl,
-    subst (λ (n : List ℕ). OrLost (IsLineOf (reply_data (Some n) (refusal_line n) (session_data f old))) bytes) is told,
+    subst (λ (n : List ℕ). OrLost (IsLineOfData (reply_data (Some n) (refusal_line n) (session_data f old))) bytes) is told,
   )
 
   -- what comes of `fair` leaves what an answer to some line does
   some_leaves : (old new : Option (History P)) (words : FairWords (List ℕ)) (answer : Answer P) → FairGives f b old words answer
-      → new ≡ left_by old answer → (asked : Line) × Leaves f old asked new
+      → new ≡ session_left old answer → (asked : Line) × Leaves f old asked new
   some_leaves old new words (Ok outcome) (params, p, asked, gives) leaves = (described_line f params p, (outcome, gives, leaves))
   some_leaves old new words (Err refusal) gives leaves = (None, (Err (OfLine LongLine), (Err LongLine, refl, inl refl), leaves))
 

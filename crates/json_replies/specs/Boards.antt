@@ -11,8 +11,8 @@ use Rattle.board_checks.specs.Errors.{ErrorsValue, has_repeated}
 use Rattle.json_replies.specs.Counts.{count_data}
 
 -- the list of what f gives for each of the numbers, in turn
-abbrev pub listed : (ℕ → List Data) → List ℕ → Data
-listed f ns = array (items_of (flat_map f ns))
+abbrev pub listed_data : (ℕ → List Data) → List ℕ → Data
+listed_data f ns = array (items_of (flat_map f ns))
 
 -- the data where a test holds, or nothing
 abbrev pub when : Bool → Data → List Data
@@ -24,23 +24,23 @@ squares w = range_with_len 0 (w * w)
 
 -- the number of each square, 0 where it is blank
 abbrev pub numbers_data : BoardValue → Data
-numbers_data b = listed (λ cell. count_data (number_at (grid_of b) cell) ∷ []) (squares b.size)
+numbers_data b = listed_data (λ cell. count_data (number_at (grid_of b) cell) ∷ []) (squares b.size)
 
 -- the given number of each square, 0 where there is none
 abbrev pub givens_data : Puzzle → Data
-givens_data p = listed (λ cell. count_data (p.given cell) ∷ []) (squares p.size)
+givens_data p = listed_data (λ cell. count_data (p.given cell) ∷ []) (squares p.size)
 
 -- a set of pencil marks, rising
 abbrev pub mark_set_data : ℕ → Data
-mark_set_data marks = listed (λ n. when (has_number marks n) (count_data n)) (range_with_len 1 9)
+mark_set_data marks = listed_data (λ n. when (has_number marks n) (count_data n)) (range_with_len 1 9)
 
 -- the pencil marks of each square
 abbrev pub marks_data : BoardValue → Data
-marks_data b = listed (λ cell. mark_set_data (marks_at b cell) ∷ []) (squares b.size)
+marks_data b = listed_data (λ cell. mark_set_data (marks_at b cell) ∷ []) (squares b.size)
 
 -- the squares whose number stands again in its row or column
 abbrev pub repeats_data : ℕ → ErrorsValue → Data
-repeats_data w e = listed (λ cell. when (has_repeated e cell) (count_data cell)) (squares w)
+repeats_data w e = listed_data (λ cell. when (has_repeated e cell) (count_data cell)) (squares w)
 
 -- the board, its puzzle's givens, its errors, and what its game has beside them: clues and signs
 abbrev pub board_data : Puzzle → BoardValue → ErrorsValue → Data → Data → Data

@@ -10,7 +10,7 @@ use Rattle.clue_rules.specs.Unequal.{UnequalValue, is_greater}
 use Rattle.board_checks.specs.Errors.{ErrorsValue, has_broken}
 use Rattle.board_checks.specs.declared.spot.Spot.TheVariants.{Edge, RightOf, Below}
 use Rattle.json_replies.specs.Counts.{count_data}
-use Rattle.json_replies.specs.Boards.{listed, when, squares}
+use Rattle.json_replies.specs.Boards.{listed_data, when, squares}
 
 -- an edge clue: its number, whether it is marked as done, whether it is an error, where it stands
 abbrev pub clue_data : TowersValue → BoardValue → ErrorsValue → ℕ → Data
@@ -25,7 +25,7 @@ clue_data p b e place = object
 -- the clues that the puzzle has, in the order of descriptions
 abbrev pub clues_data : TowersValue → BoardValue → ErrorsValue → Data
 clues_data p b e =
-    listed (λ place. when (nat_lt 0 (clue_of p place)) (clue_data p b e place)) (range_with_len 0 (4 * p.size))
+    listed_data (λ place. when (nat_lt 0 (clue_of p place)) (clue_data p b e place)) (range_with_len 0 (4 * p.size))
 
 -- a sign: whether it is an error, and of its squares the one that holds the greater number, and the other
 abbrev pub sign_data : Bool → ℕ → ℕ → Data
@@ -36,8 +36,8 @@ sign_data error greater less = object
     no_members)))
 
 -- the sign between a square and a later number, if that is a square and there is one
-abbrev pub sign_at : UnequalValue → Bool → ℕ → ℕ → List Data
-sign_at v error a b =
+abbrev pub later_sign : UnequalValue → Bool → ℕ → ℕ → List Data
+later_sign v error a b =
     if nat_lt b (v.size * v.size)
     then (if is_greater v a b then sign_data error a b ∷ [] else when (is_greater v b a) (sign_data error b a))
     else []
@@ -45,9 +45,9 @@ sign_at v error a b =
 -- the signs of a square to its right and below it
 abbrev pub signs_at : UnequalValue → ErrorsValue → ℕ → List Data
 signs_at v e cell =
-    sign_at v (has_broken e (RightOf cell)) cell (cell + 1)
-    ++ sign_at v (has_broken e (Below cell)) cell (cell + v.size)
+    later_sign v (has_broken e (RightOf cell)) cell (cell + 1)
+    ++ later_sign v (has_broken e (Below cell)) cell (cell + v.size)
 
 -- the signs that the puzzle has, square by square
 abbrev pub signs_data : UnequalValue → ErrorsValue → Data
-signs_data v e = listed (signs_at v e) (squares v.size)
+signs_data v e = listed_data (signs_at v e) (squares v.size)

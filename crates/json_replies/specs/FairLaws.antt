@@ -11,15 +11,15 @@ use Rattle.named_steps.specs.Following.{Follows}
 use Rattle.named_steps.specs.declared.grade.Grade.{Grade}
 use Rattle.step_chains.specs.declared.hints.NextHint.{NextHint}
 use Rattle.step_chains.specs.declared.hints.NextHint.TheVariants.{Follows as Found, Refuted, Nothing}
-use Rattle.step_chains.specs.NextHints.{height}
-use Rattle.fair_games.specs.Fair.{IsOfGrade}
+use Rattle.named_steps.specs.Grades.{rank}
+use Rattle.fair_games.specs.FairGames.{IsOfGrade}
 use Rattle.puzzle_cli.specs.Lines.{Line}
 use Rattle.puzzle_cli.specs.GameFacts.{GameFacts}
 use Rattle.puzzle_cli.specs.NewSessions.{new_game}
 use Rattle.json_replies.specs.declared.fair_words.FairWords.{FairWords}
 use Rattle.json_replies.specs.declared.fair_request.FairRequest.{FairRequest}
 use Rattle.json_replies.specs.FairLines.{IsFairLine, IsAsked}
-use Rattle.json_replies.specs.FairReplies.{fair_params, IsFairGame}
+use Rattle.json_replies.specs.FairReplies.{fair_params, IsGameOfRequest}
 use Rattle.json_replies.specs.FurtherLines.{BoardFacts}
 use Rattle.json_replies.specs.JsonReplies.{JsonReply}
 use Rattle.json_replies.specs.ToldHints.{IsHint}
@@ -28,7 +28,7 @@ use Rattle.json_replies.specs.ToldHints.{IsHint}
 -- one below
 pub record IsFairStart {P : Type 0} (f : GameFacts P) (b : BoardFacts P) (r : FairRequest)
     (h : History P) : Type 0 where
-  pub fair : IsFairGame f b r h.puzzle
+  pub fair : IsGameOfRequest f b r h.puzzle
   pub start : h ≡ new_game (fair_params b r) h.puzzle
   pub solution : GridValue
   pub only : IsOnlySolution (f.rules.puzzle h.puzzle) solution
@@ -46,7 +46,7 @@ FairLinesBegin {P} f b =
 
 -- the hint is a number that steps explain, of this grade at most
 abbrev pub IsExplainedBy : Grade → NextHint → Type 0
-IsExplainedBy most (Found grade chain) = height grade ≤ height most
+IsExplainedBy most (Found grade chain) = rank grade ≤ rank most
 IsExplainedBy most (Refuted grade refutation) = ⊥
 IsExplainedBy most Nothing = ⊥
 

@@ -29,8 +29,8 @@ fair_draws f b r =
     (fair_stream r.size (letter_code (b.fair_letter r.grade)) b.initial r.seed)
 
 -- the fair game of a request: of the first of its draws that gives one of the grade
-abbrev pub IsFairGame : {P : Type 0} → GameFacts P → BoardFacts P → FairRequest → P → Type 0
-IsFairGame f b r p = IsFair f.rules b.struck_by r.grade (fair_draws f b r) p
+abbrev pub IsGameOfRequest : {P : Type 0} → GameFacts P → BoardFacts P → FairRequest → P → Type 0
+IsGameOfRequest f b r p = IsFair f.rules b.struck_by r.grade (fair_draws f b r) p
 
 -- none of its draws gives one
 abbrev pub HasNoFairGame : {P : Type 0} → GameFacts P → BoardFacts P → FairRequest → Type 0
@@ -39,12 +39,12 @@ HasNoFairGame f b r = (n : ℕ) → n < most_draws → IsPassedOver f.rules b.st
 -- the words ask for a game with these parameters, and this is its puzzle
 abbrev pub AskFor : {P : Type 0} → GameFacts P → BoardFacts P → FairWords (List ℕ) → Params → P → Type 0
 AskFor f b words params p =
-    (r : FairRequest) × IsAsked b.fair_letter words (Ok r) × (params ≡ fair_params b r) × IsFairGame f b r p
+    (r : FairRequest) × IsAsked b.fair_letter words (Ok r) × (params ≡ fair_params b r) × IsGameOfRequest f b r p
 
 -- the words are refused, or they ask for a game and there is none
-abbrev pub AreRefused : {P : Type 0} → GameFacts P → BoardFacts P → FairWords (List ℕ) → FairRefusal → Type 0
-AreRefused f b words NoneFound = (r : FairRequest) × IsAsked b.fair_letter words (Ok r) × HasNoFairGame f b r
-AreRefused f b words refusal = IsAsked b.fair_letter words (Err refusal)
+abbrev pub AskInVain : {P : Type 0} → GameFacts P → BoardFacts P → FairWords (List ℕ) → FairRefusal → Type 0
+AskInVain f b words NoneFound = (r : FairRequest) × IsAsked b.fair_letter words (Ok r) × HasNoFairGame f b r
+AskInVain f b words refusal = IsAsked b.fair_letter words (Err refusal)
 
 -- What `fair` with these words makes of a session or none: a refusal, or what the line `new` with the written form of
 -- the fair game makes of it
@@ -52,4 +52,4 @@ abbrev pub FairGives : {P : Type 0} → GameFacts P → BoardFacts P → Option 
     → Type 0
 FairGives {P} f b old words (Ok outcome) =
     (params : Params) × (p : P) × AskFor f b words params p × LineGives f old (described_line f params p) outcome
-FairGives f b old words (Err refusal) = AreRefused f b words refusal
+FairGives f b old words (Err refusal) = AskInVain f b words refusal

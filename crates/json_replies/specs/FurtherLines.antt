@@ -31,7 +31,7 @@ use Rattle.json_replies.specs.Boards.{board_data}
 use Rattle.step_chains.specs.declared.hints.NextHint.{NextHint}
 use Rattle.json_replies.specs.HintObjects.{IsHintValue, grade_data}
 use Rattle.json_replies.specs.ToldHints.{IsHint}
-use Rattle.json_replies.specs.ObjectLines.{IsLineOf}
+use Rattle.json_replies.specs.ObjectLines.{IsLineOfData}
 use Rattle.json_replies.specs.Replies.{reply_members, IsReplyLine}
 use Rattle.json_replies.specs.Sessions.{game_data}
 use Rattle.clue_rules.specs.Reasons.{Striking}
@@ -109,4 +109,4 @@ abbrev pub IsFurtherLine : {P : Type 0} → GameFacts P → BoardFacts P → Fur
 IsFurtherLine f b which None bytes = IsReplyLine f (Err (OfLine NoGame)) None bytes
 IsFurtherLine f b which (Some h) bytes =
     (answer : Data) × IsAnswer f b h which answer
-    × IsLineOf (object (member (further_key which) answer (reply_members None [] (game_data f h)))) bytes
+    × IsLineOfData (object (member (further_key which) answer (reply_members None [] (game_data f h)))) bytes

@@ -16,7 +16,7 @@ use Rattle.step_texts.specs.declared.told.ToldStep.{ToldStep}
 use Rattle.step_texts.specs.Lines.{AreShort}
 use Rattle.step_texts.specs.Told.{AreTold}
 use Rattle.json_replies.specs.declared.hint_value.Said.{Said}
-use Rattle.json_replies.specs.Boards.{listed, when, squares}
+use Rattle.json_replies.specs.Boards.{listed_data, when, squares}
 use Rattle.json_replies.specs.Counts.{count_data}
 use Rattle.json_replies.specs.Texts.{text_data, list_data}
 use Rattle.json_replies.specs.Steps.{steps_data}
@@ -87,11 +87,11 @@ steps_in Nothing = []
 
 -- the numbers that are left of a square, rising
 abbrev pub left_data : CandidatesValue → ℕ → Data
-left_data c cell = listed (λ n. when (may_be c cell n) (count_data n)) (range_with_len 1 c.size)
+left_data c cell = listed_data (λ n. when (may_be c cell n) (count_data n)) (range_with_len 1 c.size)
 
 -- those of each square
 abbrev pub view_data : CandidatesValue → Data
-view_data c = listed (λ cell. left_data c cell ∷ []) (squares c.size)
+view_data c = listed_data (λ cell. left_data c cell ∷ []) (squares c.size)
 
 -- what a hint says, its steps, all sentences, and what is in view, as one object
 abbrev pub hint_data : SaidData → Data → Data → Data → Data

@@ -9,7 +9,7 @@ use Rattle.puzzle_cli.specs.Formats.{Leaves}
 use Rattle.json_replies.specs.declared.further_line.FurtherLine.{FurtherLine}
 use Rattle.json_replies.specs.ObjectLines.{OrLost}
 use Rattle.json_replies.specs.declared.fair_words.FairWords.{FairWords}
-use Rattle.json_replies.specs.Replies.{Answer, left_by, IsReplyLine, IsAnswerLine}
+use Rattle.json_replies.specs.Replies.{Answer, session_left, IsReplyLine, IsAnswerLine}
 use Rattle.json_replies.specs.FairLines.{IsFairLine}
 use Rattle.json_replies.specs.FairReplies.{FairGives}
 use Rattle.json_replies.specs.FurtherLines.{BoardFacts, further_at, IsFurtherLine}
@@ -41,7 +41,8 @@ abbrev pub TellsLine : {P : Type 0} → GameFacts P → BoardFacts P → Option 
     → List ℕ → Option (History P) → Type 0
 TellsLine f b old line (Some which) bytes new = (new ≡ old) × OrLost (IsFurtherLine f b which old) bytes
 TellsLine {P} f b old line None bytes new =
-    (answer : Answer P) × AnswerGives f b old line answer × (new ≡ left_by old answer) × TellsAnswer f answer new bytes
+    (answer : Answer P) × AnswerGives f b old line answer × (new ≡ session_left old answer)
+    × TellsAnswer f answer new bytes
 
 -- so it is told, and the session is one that an answer to some line leaves: to the line itself, which the plain program
 -- refuses where it is one of those beside the commands; or to the line `new` that `fair` stands for

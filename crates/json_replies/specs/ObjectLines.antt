@@ -6,7 +6,7 @@ use Rattle.serde_json.specs.Written.{has_float, compact_text}
 use Rattle.byte_text.specs.Bytes.{line_feed}
 
 -- no float, and at most so deep
-pub record Fits (n : ℕ) (d : Data) : Type 0 where
+pub record IsShallow (n : ℕ) (d : Data) : Type 0 where
   pub whole : has_float d ≡ false
   pub flat : depth d ≤ n
 
@@ -16,7 +16,7 @@ pub record IsSpelled (d : Data) : Type 0 where
   pub flat : depth d ≤ max_depth
 
 -- the bytes are the data's compact text and LF, and the text reads as the data
-pub record IsLineOf (d : Data) (bytes : List ℕ) : Type 0 where
+pub record IsLineOfData (d : Data) (bytes : List ℕ) : Type 0 where
   pub text : bytes ≡ compact_text d ++ line_feed ∷ []
   pub reads : read (compact_text d) ≡ Some d
 

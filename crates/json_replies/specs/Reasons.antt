@@ -9,7 +9,7 @@ use Rattle.clue_rules.specs.declared.reason.Reason.{Reason}
 use Rattle.clue_rules.specs.declared.reason.Reason.TheVariants.{Given, Peer, Place, Bound, Stand, Clue, Sign, Set}
 use Rattle.json_replies.specs.declared.reason_parts.Ends.{Ends}
 use Rattle.json_replies.specs.declared.reason_parts.Parts.{Parts}
-use Rattle.json_replies.specs.Boards.{listed, when, mark_set_data}
+use Rattle.json_replies.specs.Boards.{listed_data, when, mark_set_data}
 use Rattle.json_replies.specs.Counts.{count_data}
 
 -- the word for its kind, the place of its clue, the squares of its sign, its row or column, its squares and its numbers
@@ -78,7 +78,7 @@ place_data w line index = if nat_lt line (2 * w) && nat_lt index w then one_data
 -- the squares at some places of a line
 abbrev pub line_cells_data : ℕ → ℕ → ℕ → Data
 line_cells_data w line places =
-    listed (λ k. when (has_number places k) (count_data (line_cell w line k))) (range_with_len 0 w)
+    listed_data (λ k. when (has_number places k) (count_data (line_cell w line k))) (range_with_len 0 w)
 
 -- the same where the grid has the line
 abbrev pub squares_data : ℕ → ℕ → ℕ → Data

@@ -8,7 +8,7 @@ use Rattle.puzzle_cli.specs.SessionReplies.{Outcome}
 use Rattle.puzzle_cli.specs.Replies.{plain_text, left, refusal_line}
 use Rattle.json_replies.specs.declared.fair_request.FairRefusal.{FairRefusal}
 use Rattle.json_replies.specs.FairRefusals.{fair_refusal_name}
-use Rattle.json_replies.specs.ObjectLines.{IsLineOf}
+use Rattle.json_replies.specs.ObjectLines.{IsLineOfData}
 use Rattle.json_replies.specs.Sessions.{session_data}
 use Rattle.json_replies.specs.Texts.{text_data, lines_data}
 
@@ -48,14 +48,14 @@ answer_text (Ok outcome) = plain_text outcome
 answer_text (Err refusal) = refusal_line (fair_refusal_name refusal)
 
 -- the session that is left: a refusal leaves the one before
-abbrev pub left_by : {P : Type 0} → Option (History P) → Answer P → Option (History P)
-left_by old (Ok outcome) = left old outcome
-left_by old (Err refusal) = old
+abbrev pub session_left : {P : Type 0} → Option (History P) → Answer P → Option (History P)
+session_left old (Ok outcome) = left old outcome
+session_left old (Err refusal) = old
 
 -- the line of the object of an answer, and of the session that is left
 abbrev pub IsAnswerLine : {P : Type 0} → GameFacts P → Answer P → Option (History P) → List ℕ → Type 0
 IsAnswerLine f answer new bytes =
-    IsLineOf (reply_data (answer_name answer) (answer_text answer) (session_data f new)) bytes
+    IsLineOfData (reply_data (answer_name answer) (answer_text answer) (session_data f new)) bytes
 
 -- the same of an outcome
 abbrev pub IsReplyLine : {P : Type 0} → GameFacts P → Outcome P → Option (History P) → List ℕ → Type 0

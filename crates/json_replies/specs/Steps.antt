@@ -9,7 +9,7 @@ use Rattle.step_texts.specs.declared.told.Strike.{Strike}
 use Rattle.step_texts.specs.declared.told.ToldStep.{ToldStep}
 use Rattle.step_texts.specs.Lines.{line_texts}
 use Rattle.json_replies.specs.declared.reason_parts.Ends.{Ends}
-use Rattle.json_replies.specs.Boards.{listed, when, mark_set_data}
+use Rattle.json_replies.specs.Boards.{listed_data, when, mark_set_data}
 use Rattle.json_replies.specs.Counts.{count_data}
 use Rattle.json_replies.specs.Texts.{text_data, list_data}
 use Rattle.json_replies.specs.Reasons.{ReasonParts, parts_of}
@@ -46,7 +46,7 @@ less_data (Some ends) = count_data ends.less
 -- for each of the numbers, the counts of towers that are shown with it
 abbrev pub counts_data : ℕ → List ℕ → Data
 counts_data values shows =
-    listed (λ n. when (has_number values n) (mark_set_data (slice_index shows n))) (range_with_len 1 9)
+    listed_data (λ n. when (has_number values n) (mark_set_data (slice_index shows n))) (range_with_len 1 9)
 
 -- the same, where a clue strikes
 abbrev pub shows_data : ℕ → Option (List ℕ) → Data

@@ -4,7 +4,7 @@ ghost use Rattle.std.specs.Prelude.{◌≡◌, ◌*◌, ◌<◌, ◌++◌, nat_l
 ghost use Rattle.serde_json.specs.View.{view};
 ghost use Rattle.clue_rules.specs.Towers.{clue_of};
 ghost use Rattle.json_replies.specs.Boards.{when};
-ghost use Rattle.json_replies.specs.ClueLists.{clue_data, clues_data, sign_data, sign_at, signs_at, signs_data};
+ghost use Rattle.json_replies.specs.ClueLists.{clue_data, clues_data, sign_data, later_sign, signs_at, signs_data};
 
 use crate::lists::{push_value, square_count};
 use board_checks::{BoardErrors, Spot};
@@ -123,7 +123,7 @@ fn push_sign(
 ) -> Result<(), AllocError>
     requires { first < puzzle.now.size * puzzle.now.size }
     ensures { OnOk result (map view list.new.items
-        ≡ map view list.old.items ++ sign_at puzzle.now is_broken first second) }
+        ≡ map view list.old.items ++ later_sign puzzle.now is_broken first second) }
 {
     if second >= square_count(puzzle.size()) {
         return Ok(());

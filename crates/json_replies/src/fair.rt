@@ -7,7 +7,7 @@ ghost use Rattle.puzzle_cli.specs.Machines.{IsResponse};
 ghost use Rattle.puzzle_cli.specs.Replies.{LineGives};
 ghost use Rattle.puzzle_cli.specs.RunLaws.{described_line};
 ghost use Rattle.json_replies.specs.FairLines.{words_copied};
-ghost use Rattle.json_replies.specs.FairReplies.{AskFor, AreRefused};
+ghost use Rattle.json_replies.specs.FairReplies.{AskFor, AskInVain};
 
 use crate::fair_request::{FairRefusal, read_request};
 use crate::fair_words::FairWords;
@@ -27,7 +27,7 @@ use trail_solver::Rules;
 pub(crate) fn fair_game<P: Shows>(words: FairWords<&[u8]>) -> Result<(Params, P), FairRefusal>
     ensures asked { IfOk result (λ game. AskFor ⟦<P as Facts>⟧.facts ⟦<P as ShownFacts>⟧.board_facts
         (words_copied words.entry) game.0 game.1) }
-    ensures refused { IfErr result (AreRefused ⟦<P as Facts>⟧.facts ⟦<P as ShownFacts>⟧.board_facts
+    ensures refused { IfErr result (AskInVain ⟦<P as Facts>⟧.facts ⟦<P as ShownFacts>⟧.board_facts
         (words_copied words.entry)) }
     ensures params { IfOk result (λ game. IsParams P.letter_codes game.0) }
     ensures valid { IfOk result (λ game. P.valid game.1) }

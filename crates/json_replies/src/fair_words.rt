@@ -3,7 +3,7 @@
 ghost use Rattle.std.specs.Prelude.{◌≡◌, List, ℕ, IfSome, Some, option_map};
 ghost use Rattle.std.specs.Option.{option_copied};
 ghost use Rattle.json_replies.specs.FairLines.{IsFairLine, words_copied};
-ghost use Rattle.json_replies.specs.Inner.FairReading.{is_word, three_at, fair_at};
+ghost use Rattle.json_replies.specs.Inner.FairReading.{is_word, three_words_at, fair_at};
 
 use byte_text::cut;
 
@@ -37,7 +37,7 @@ fn parse_fair(line: Option<&[u8]>) -> Option<FairWords<&[u8]>>
 
 // The words of a text that is three, with one space between each.
 fn three_words(text: &[u8]) -> Option<FairWords<&[u8]>>
-    ensures { option_map words_copied result ≡ three_at text.now }
+    ensures { option_map words_copied result ≡ three_words_at text.now }
 {
     let (size, rest) = cut(text, b' ');
     let (grade, seed) = cut(rest?, b' ');

@@ -9,7 +9,7 @@ ghost use Rattle.json_replies.specs.FairLines.{words_copied};
 ghost use Rattle.json_replies.specs.FurtherLines.{IsFurtherLine};
 ghost use Rattle.json_replies.specs.Inner.ToldResponses.{TellsFair, TellsResponse};
 ghost use Rattle.json_replies.specs.JsonReplies.{JsonReply, TellsOutcome};
-ghost use Rattle.json_replies.specs.ObjectLines.{IsLineOf, OrLost, lost_line};
+ghost use Rattle.json_replies.specs.ObjectLines.{IsLineOfData, OrLost, lost_line};
 ghost use Rattle.json_replies.specs.Replies.{reply_data};
 ghost use Rattle.json_replies.specs.Sessions.{session_data};
 
@@ -117,7 +117,7 @@ fn said_object<P: Draw>(alloc: Global, session: &Option<Session<P>>, said: &[u8]
 // The object of a refusal of this name.
 fn refused_object<P: Draw>(alloc: Global, session: &Option<Session<P>>, name: &'static str) -> Text
     requires { length name.now ≤ 16 }
-    ensures { OrLost (IsLineOf (reply_data (Some name.now) (refusal_line name.now)
+    ensures { OrLost (IsLineOfData (reply_data (Some name.now) (refusal_line name.now)
         (session_data ⟦<P as Facts>⟧.facts session.now))) (text_bytes result) }
 {
     let line = Text::refused(name);
@@ -131,7 +131,7 @@ fn object<P: Draw>(
     refused: Option<&[u8]>,
     reply: &[u8],
 ) -> Text
-    ensures { OrLost (IsLineOf (reply_data (option_copied refused.entry) reply.now
+    ensures { OrLost (IsLineOfData (reply_data (option_copied refused.entry) reply.now
         (session_data ⟦<P as Facts>⟧.facts session.now))) (text_bytes result) }
 {
     match object_line(alloc, session, refused, reply) {
@@ -147,7 +147,7 @@ fn object_line<P: Draw>(
     refused: Option<&[u8]>,
     reply: &[u8],
 ) -> Result<Vec<u8>, OutOfMemory>
-    ensures { IfOk result (λ line. IsLineOf (reply_data (option_copied refused.entry) reply.now
+    ensures { IfOk result (λ line. IsLineOfData (reply_data (option_copied refused.entry) reply.now
         (session_data ⟦<P as Facts>⟧.facts session.now)) line.items) }
 {
     let session = session_value(alloc, session)?;

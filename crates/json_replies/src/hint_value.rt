@@ -65,10 +65,7 @@ fn said_of<P: StepNames>(alloc: Global, size: Size, hint: &NextHint) -> Result<S
             line: goal_line_value(chain.goal),
             number: Value::from(chain.goal.value()),
         }),
-        NextHint::Refuted {
-            grade,
-            refutation: _,
-        } => Ok(without_number(
+        NextHint::Refuted { grade, .. } => Ok(without_number(
             "contradiction",
             Value::try_from_str(alloc, P::letter(*grade))?,
         )),
@@ -95,12 +92,8 @@ fn by_word(goal: Goal) -> &'static str
     ensures { result.now ≡ by_word goal }
 {
     match goal {
-        Goal::OnlyValue { cell: _, value: _ } => "value",
-        Goal::OnlyPlace {
-            line: _,
-            index: _,
-            value: _,
-        } => "line",
+        Goal::OnlyValue { .. } => "value",
+        Goal::OnlyPlace { .. } => "line",
     }
 }
 
@@ -109,12 +102,8 @@ fn goal_line_value(goal: Goal) -> Value
     ensures { view result ≡ goal_line_data goal }
 {
     match goal {
-        Goal::OnlyValue { cell: _, value: _ } => Value::from(()),
-        Goal::OnlyPlace {
-            line,
-            index: _,
-            value: _,
-        } => Value::from(line),
+        Goal::OnlyValue { .. } => Value::from(()),
+        Goal::OnlyPlace { line, .. } => Value::from(line),
     }
 }
 
@@ -123,11 +112,8 @@ fn steps_in(hint: &NextHint) -> &[Step]
     ensures { result.now ≡ steps_in hint.now }
 {
     match hint {
-        NextHint::Follows { grade: _, chain } => chain.steps.as_slice(),
-        NextHint::Refuted {
-            grade: _,
-            refutation,
-        } => refutation.steps.as_slice(),
+        NextHint::Follows { chain, .. } => chain.steps.as_slice(),
+        NextHint::Refuted { refutation, .. } => refutation.steps.as_slice(),
         NextHint::Nothing => &[],
     }
 }
@@ -142,11 +128,13 @@ fn text_of(
     ensures { IfOk result (λ lines. IsTextOf hint.now (line_texts lines.items)) }
 {
     match hint {
-        NextHint::Follows { grade: _, chain } => chain_lines(alloc, grid, told, chain.goal),
-        NextHint::Refuted {
-            grade: _,
-            refutation,
-        } => refutation_lines(alloc, grid, told, refutation.cell),
+        NextHint::Follows { chain, .. } => chain_lines(alloc, grid, told, chain.goal),
+        NextHint::Refuted { refutation, .. } => refutation_lines(
+            alloc,
+            grid,
+            told,
+            refutation.cell,
+        ),
         NextHint::Nothing => Ok(Vec::new(alloc)),
     }
 }

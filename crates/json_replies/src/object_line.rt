@@ -11,7 +11,7 @@ ghost use Rattle.serde_json.specs.Written.{comma_if, compact_text, members_text}
 ghost use Rattle.json_replies.specs.Texts.{text_data, lines_data};
 ghost use Rattle.json_replies.specs.FurtherLines.{further_key};
 ghost use Rattle.json_replies.specs.Replies.{name_data, reply_members, reply_data};
-ghost use Rattle.json_replies.specs.ObjectLines.{Fits, IsSpelled, IsLineOf};
+ghost use Rattle.json_replies.specs.ObjectLines.{IsShallow, IsSpelled, IsLineOfData};
 ghost use Rattle.json_replies.specs.Inner.ObjectTexts.{key_text, AddsMember, IsPlain};
 
 use crate::further_line::FurtherLine;
@@ -29,8 +29,8 @@ pub(crate) fn reply_object(
     reply: &[u8],
     session: &Value,
 ) -> Result<Vec<u8>, AllocError>
-    requires { Fits 1 (view session.now) }
-    ensures { IfOk result (λ line. IsLineOf
+    requires { IsShallow 1 (view session.now) }
+    ensures { IfOk result (λ line. IsLineOfData
         (reply_data (option_copied refused.entry) reply.now (view session.now)) line.items) }
 {
     let mut line = Vec::with_capacity(alloc, reply.len())?;
@@ -45,9 +45,9 @@ pub(crate) fn answer_object(
     answer: &Value,
     session: &Value,
 ) -> Result<Vec<u8>, AllocError>
-    requires answer { Fits 7 (view answer.now) }
-    requires session { Fits 1 (view session.now) }
-    ensures { IfOk result (λ line. IsLineOf (object (member (further_key which) (view answer.now)
+    requires answer { IsShallow 7 (view answer.now) }
+    requires session { IsShallow 1 (view session.now) }
+    ensures { IfOk result (λ line. IsLineOfData (object (member (further_key which) (view answer.now)
         (reply_members None [] (view session.now)))) line.items) }
 {
     let mut line = Vec::new(alloc);
@@ -65,7 +65,7 @@ fn reply_members_after(
     reply: &[u8],
     session: &Value,
 ) -> Result<Vec<u8>, AllocError>
-    requires { Fits 1 (view session.now) }
+    requires { IsShallow 1 (view session.now) }
     ensures text { IfOk result (λ new. new.items ≡ (line.items ++ members_text later
         (reply_members (option_copied refused.entry) reply.now (view session.now)))
         ++ line_feed ∷ []) }

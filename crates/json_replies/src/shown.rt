@@ -5,7 +5,7 @@ ghost use Rattle.latin_board.specs.Boards.{BoardValue};
 ghost use Rattle.serde_json.specs.Data.{Data, array, no_items};
 ghost use Rattle.serde_json.specs.View.{view};
 ghost use Rattle.board_checks.specs.Errors.{ErrorsValue};
-ghost use Rattle.json_replies.specs.ObjectLines.{Fits};
+ghost use Rattle.json_replies.specs.ObjectLines.{IsShallow};
 ghost use Rattle.json_replies.specs.FairLines.{AreFairLetters};
 ghost use Rattle.json_replies.specs.FurtherLines.{BoardFacts};
 
@@ -48,9 +48,9 @@ pub trait Shows: Draw + Demands + StepNames + FairGame {
         ensures { IfOk result (λ list. view list ≡ signs self.now board.now errors.now) };
 
     // Both are lists of flat objects without a float, at most.
-    ghost clues_fit: { (p : Self) (b : BoardValue) (e : ErrorsValue) → Fits 2 (clues p b e) };
+    ghost clues_fit: { (p : Self) (b : BoardValue) (e : ErrorsValue) → IsShallow 2 (clues p b e) };
 
-    ghost signs_fit: { (p : Self) (b : BoardValue) (e : ErrorsValue) → Fits 2 (signs p b e) };
+    ghost signs_fit: { (p : Self) (b : BoardValue) (e : ErrorsValue) → IsShallow 2 (signs p b e) };
 
     // The letters of fair games are letters of the game, each of one grade.
     ghost fair_letters: { AreFairLetters Self.letter_codes Self.letter_of };

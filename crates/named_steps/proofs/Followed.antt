@@ -1,5 +1,5 @@
 -- What follows by a grade: it is the only solution, it follows by the next grade and with more items, and each board of it leads on.
-use Rattle.std.proofs.Common.{◌≡◌, ◌≢◌, ℕ, ◌*◌, ◌<◌, true, List, [], ◌∷◌, refl, sym, ◌∙◌, subst}
+use Rattle.std.proofs.Common.{◌≡◌, ◌≢◌, ℕ, ◌*◌, ◌<◌, ◌≤◌, true, arith, List, [], ◌∷◌, refl, sym, ◌∙◌, subst}
 use Rattle.latin_board.specs.Squares.{GridValue, number_at}
 use Rattle.latin_board.proofs.Numbers.{same_numbers}
 use Rattle.trail_solver.specs.Candidates.{CandidatesValue, IsWithin}
@@ -8,15 +8,14 @@ use Rattle.trail_solver.specs.Puzzles.{Puzzle, Solves}
 use Rattle.trail_solver.specs.Solutions.{IsOnlySolution}
 use Rattle.trail_solver.specs.Completions.{Completes}
 use Rattle.clue_rules.specs.Left.{IsLeft, IsFewer, all_of, without}
-use Rattle.named_steps.specs.Grades.{has_reason}
+use Rattle.std.proofs.lemmas.Bool.{le-leb, leb-true}
+use Rattle.named_steps.specs.Grades.{IsLower, has_reason, least_grade, rank}
 use Rattle.named_steps.specs.Chains.{StepValue, IsChain, left_by, AreOfGrade, Shows, IsView}
 use Rattle.named_steps.specs.Following.{Follows, IsRefuted}
 use Rattle.named_steps.proofs.Antitone.{IsAntitone, chain_less, left_fewer, left_size}
 use Rattle.named_steps.proofs.Kept.{IsSoundFor, number_left, chain_keeps, completion_in_view}
 use Rattle.clue_rules.specs.declared.reason.Reason.{Reason}
 use Rattle.named_steps.specs.declared.grade.Grade.{Grade}
-use Rattle.named_steps.specs.declared.grade.Grade.TheVariants.{Latin, Easy, Hard}
-use Rattle.clue_rules.specs.declared.reason.Reason.TheVariants.{Given, Peer, Place, Bound, Stand, Clue, Sign, Set}
 use Rattle.named_steps.specs.declared.goal.Goal.TheVariants.{OnlyValue}
 use Rattle.clue_rules.specs.Reasons.{Striking}
 
@@ -42,46 +41,32 @@ follows_only p Struck sound grade g f s = record {
 
 -- ---- the next grade
 
-next_has : (lower higher : Grade) → ((reason : Reason) → has_reason lower reason ≡ true → has_reason higher reason ≡ true)
+-- what is of a grade is of one that has all its kinds
+pub next_has : (lower higher : Grade) → ((reason : Reason) → has_reason lower reason ≡ true → has_reason higher reason ≡ true)
     → (steps : List StepValue) → AreOfGrade lower steps → AreOfGrade higher steps
 next_has lower higher has [] h = tt
 next_has lower higher has (step ∷ steps) h = (has step.reason h.0, next_has lower higher has steps h.1)
 
-pub easy_has : (reason : Reason) → has_reason Latin reason ≡ true → has_reason Easy reason ≡ true
-easy_has (Given cell) h = refl
-easy_has (Peer cell) h = refl
-easy_has (Place line index value) h = refl
-easy_has (Bound place) h = refl
-easy_has (Stand place) h = refl
-easy_has (Clue place) h = h
-easy_has (Sign from to) h = refl
-easy_has (Set line squares values) h = h
+-- a grade has the kinds of those below it
+pub higher_has : (lower higher : Grade) → rank lower ≤ rank higher → (reason : Reason) → has_reason lower reason ≡ true
+    → has_reason higher reason ≡ true
+higher_has lower higher up reason has =
+    let least : rank (least_grade reason) ≤ rank lower = leb-true (rank (least_grade reason)) (rank lower) has in
+    le-leb (rank (least_grade reason)) (rank higher) (omega (arith, least, up))
 
--- each reason of the middle grade is one of the highest
-pub hard_has : (reason : Reason) → has_reason Easy reason ≡ true → has_reason Hard reason ≡ true
-hard_has (Given cell) h = refl
-hard_has (Peer cell) h = refl
-hard_has (Place line index value) h = refl
-hard_has (Bound place) h = refl
-hard_has (Stand place) h = refl
-hard_has (Clue place) h = refl
-hard_has (Sign from to) h = refl
-hard_has (Set line squares values) h = refl
-
-follows_higher : (Struck : Striking) (lower higher : Grade)
-    → ((reason : Reason) → has_reason lower reason ≡ true → has_reason higher reason ≡ true) → (g : GridValue)
-    → Follows Struck lower g → Follows Struck higher g
-follows_higher Struck lower higher has g f = record {
+-- what follows by a grade follows by those above it
+pub follows_up : (Struck : Striking) (lower higher : Grade) (g : GridValue) → rank lower ≤ rank higher → Follows Struck lower g
+    → Follows Struck higher g
+follows_up Struck lower higher g up f = record {
   steps = f.steps;
   chain = f.chain;
-  allowed = next_has lower higher has f.steps f.allowed;
+  allowed = next_has lower higher (higher_has lower higher up) f.steps f.allowed;
   alone = f.alone;
 }
 
--- what follows by a grade follows by the next
-pub grades_nested : (Struck : Striking) (g : GridValue)
-    → (Follows Struck Latin g → Follows Struck Easy g) × (Follows Struck Easy g → Follows Struck Hard g)
-grades_nested Struck g = (follows_higher Struck Latin Easy easy_has g, follows_higher Struck Easy Hard hard_has g)
+pub grades_nested : (Struck : Striking) (lower higher : Grade) (g : GridValue) → IsLower lower higher → Follows Struck lower g
+    → Follows Struck higher g
+grades_nested Struck lower higher g up f = follows_up Struck lower higher g (omega (arith, up)) f
 
 -- ---- more items
 

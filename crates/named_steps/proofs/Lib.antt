@@ -24,5 +24,7 @@ pub mod LineLooks
 pub mod GroupPasses
 pub mod ViewPasses
 pub mod SignPasses
+pub mod ReasonsAlong
+pub mod Emptied
 pub mod Rounds
 pub mod Solutions

@@ -1,19 +1,20 @@
 -- What is taken away along a row or column is struck by reasons, and where nothing is taken these are quiet.
-use Rattle.std.proofs.Common.{◌≡◌, ℕ, ◌*◌, ◌<◌, true, false, inl, inr, refl, sym, ◌∙◌, subst, arith}
+use Rattle.std.proofs.Common.{◌≡◌, ℕ, ◌*◌, ◌<◌, true, inl, inr, refl, sym, ◌∙◌, subst, arith}
 use Rattle.std.proofs.lemmas.Bool.{both_ways, false_from_ne_true}
 use Rattle.latin_board.specs.Lines.{line_cell}
 use Rattle.latin_board.proofs.PeerLines.{line_peers}
-use Rattle.number_sets.specs.Sets.{has_number, IsEmpty}
+use Rattle.number_sets.specs.Sets.{has_number}
 use Rattle.trail_solver.specs.Candidates.{CandidatesValue, IsSetOf, may_be}
 use Rattle.clue_rules.specs.Reasons.{IsByLine}
 use Rattle.named_steps.specs.Grades.{has_reason, is_of_lines}
 use Rattle.named_steps.specs.Laws.Less.{peer_less, place_less, set_less}
-use Rattle.clue_rules.specs.Takes.{Strikes, Takes, AreChanged}
+use Rattle.clue_rules.specs.Takes.{Strikes, Takes}
 use Rattle.clue_rules.proofs.Takes.{takes_struck}
 use Rattle.named_steps.specs.Passes.{LeadsTo}
 use Rattle.clue_rules.specs.LineStrikes.{IsClash, IsByRest, IsLeftByRest, IsRestQuiet, IsVoid}
 use Rattle.clue_rules.specs.Left.{IsLeft}
 use Rattle.named_steps.proofs.Antitone.{IsAntitone}
+use Rattle.named_steps.proofs.Followed.{higher_has}
 use Rattle.named_steps.proofs.Leads.{Passes, HasStruck, leads_taken, passes_taken}
 use Rattle.clue_rules.specs.declared.reason.Reason.{Reason}
 use Rattle.named_steps.specs.declared.grade.Grade.{Grade}
@@ -102,14 +103,7 @@ void_struck line k v c void low left = elim void [
 
 -- a reason of the lowest grade is one of each grade
 pub latin_has : (grade : Grade) (reason : Reason) → has_reason Latin reason ≡ true → has_reason grade reason ≡ true
-latin_has grade (Given at) h = refl
-latin_has grade (Peer by) h = refl
-latin_has grade (Place line index other) h = refl
-latin_has grade (Bound place) h = absurd (cc)
-latin_has grade (Stand place) h = absurd (cc)
-latin_has grade (Clue place) h = absurd (cc)
-latin_has grade (Sign from to) h = absurd (cc)
-latin_has grade (Set line squares values) h = absurd (cc)
+latin_has grade reason has = higher_has Latin grade (omega arith) reason has
 
 -- ---- lines that can't hold their numbers
 
@@ -126,10 +120,7 @@ clash_leads line place cell values a b line_is (low, (j, before, (v, one, two)))
     inl (j, omega (arith, before, low), (λ e. omega (arith, e, before)), λ other there. one.alone other there ∙ sym same) in
     subst (λ (i : ℕ). HasStruck (IsByLine a.size) Latin a i u) (sym (h.0 ∙ here)) (rest_reason a line place u line_is low by))
 
--- so something goes
-pub clash_some : (line place cell values places : ℕ) (a b : CandidatesValue) → IsClash line place a → cell ≡ line_cell a.size line place
-    → IsSetOf a cell values → Strikes a b cell values → AreChanged line places a b → IsEmpty places → ⊥
-clash_some line place cell values places a b (low, (j, before, (v, one, two))) here is s changed none =
-    let left : IsLeft a cell v = subst (λ (i : ℕ). IsLeft a i v) (sym here) two.left in
-    let gone : may_be b cell v ≡ false = (takes_struck a b cell values s).gone cell v left.pair (refl, (is v).1 (left.pair, left.may)) in
-    both_ways (may_be a cell v) (subst (λ (d : CandidatesValue). may_be d cell v ≡ false) (changed.same none) gone) left.may
+-- a line that can't hold its numbers has squares
+pub void_some : (line : ℕ) (c : CandidatesValue) → IsVoid line c → 0 < c.size
+void_some line c (inl (k, low, nothing)) = omega (arith, low)
+void_some line c (inr (u, one, most, nowhere)) = omega (arith, one, most)

@@ -1,5 +1,5 @@
 -- Where no single step of a chain can be left out, no several steps can.
-use Rattle.std.proofs.Common.{◌≡◌, ℕ, List, [], ◌∷◌, ◌++◌, inl, inr, ◌⊎◌, refl, sym, ap, ◌∙◌, subst}
+use Rattle.std.proofs.Common.{◌≡◌, List, [], ◌∷◌, ◌++◌, inl, inr, ◌⊎◌, refl, sym, ap, ◌∙◌, subst}
 use Rattle.trail_solver.specs.Candidates.{CandidatesValue}
 use Rattle.clue_rules.specs.Left.{IsFewer, without}
 use Rattle.named_steps.specs.Chains.{StepValue, IsChain, left_by, AreOfGrade, Shows, IsTight}

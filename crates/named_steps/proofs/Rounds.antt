@@ -1,10 +1,11 @@
 -- From passes to what a grade leaves.
+use Rattle.std.proofs.lemmas.Bool.{leb-true}
 use Rattle.std.proofs.Common.{◌≡◌, ◌↔◌, ℕ, ◌*◌, ◌<◌, ◌≤◌, true, refl, sym, ◌∙◌, subst, arith}
 use Rattle.trail_solver.specs.Candidates.{CandidatesValue}
 use Rattle.trail_solver.specs.Puzzles.{Puzzle}
 use Rattle.clue_rules.specs.Left.{IsLeft}
 use Rattle.clue_rules.specs.Reasons.{IsByGiven, IsByPeer, IsByPlace, IsBySet, IsByLine, Striking}
-use Rattle.named_steps.specs.Grades.{has_reason, is_of_clues, is_of_lines, is_past_latin, is_past_easy}
+use Rattle.named_steps.specs.Grades.{has_reason, is_of_clues, is_of_lines, IsLower, rank}
 use Rattle.named_steps.specs.Following.{IsSettled, IsClosure}
 use Rattle.named_steps.specs.Passes.{LeadsTo, AreCluesSettled, AreGivensSettled}
 use Rattle.clue_rules.specs.LineStrikes.{IsRestQuiet}
@@ -29,15 +30,15 @@ pub record IsShared (p : Puzzle) (Struck : Striking) : Type 0 where
       → IsByLine p.size c reason cell value ↔ Struck c reason cell value
 
 -- a grade past the second is the third
-pub past_easy_is : (grade : Grade) → is_past_easy grade ≡ true → grade ≡ Hard
-past_easy_is Latin h = absurd (cc)
-past_easy_is Easy h = absurd (cc)
+pub past_easy_is : (grade : Grade) → IsLower Easy grade → grade ≡ Hard
+past_easy_is Latin h = absurd (omega (arith, h))
+past_easy_is Easy h = absurd (omega (arith, h))
 past_easy_is Hard h = refl
 
 -- what is quiet kind by kind is settled
 pub settled_all : (p : Puzzle) (Struck : Striking) → IsShared p Struck → (grade : Grade) (c : CandidatesValue) → c.size ≤ 9
     → c.size ≡ p.size → AreGivensSettled p c → ((line : ℕ) → line < 2 * c.size → IsRestQuiet line c) → AreCluesSettled Struck grade c
-    → (is_past_easy grade ≡ true → (line : ℕ) → line < 2 * c.size → IsGroupQuiet line c) → IsSettled Struck grade c
+    → (IsLower Easy grade → (line : ℕ) → line < 2 * c.size → IsGroupQuiet line c) → IsSettled Struck grade c
 settled_all p Struck s grade c small size givens rest clues groups (Given at) cell value has pair h =
     givens at cell value pair ((s.given c at cell value).1 h)
 settled_all p Struck s grade c small size givens rest clues groups (Peer by) cell value has pair h =
@@ -50,7 +51,7 @@ settled_all p Struck s grade c small size givens rest clues groups (Stand place)
 settled_all p Struck s grade c small size givens rest clues groups (Clue place) cell value has pair h = clues (Clue place) cell value refl has pair h
 settled_all p Struck s grade c small size givens rest clues groups (Sign from to) cell value has pair h = clues (Sign from to) cell value refl has pair h
 settled_all p Struck s grade c small size givens rest clues groups (Set line squares values) cell value has pair h =
-    set_quiet c line squares values cell value small rest (groups has) pair
+    set_quiet c line squares values cell value small rest (groups (omega (arith, leb-true 2 (rank grade) has))) pair
     (subst (λ (w : ℕ). IsBySet w c line squares values cell value) (sym size) ((s.line c (Set line squares values) cell value refl).1 h))
 
 -- ---- the passes of one round
@@ -73,17 +74,17 @@ givens_lead Struck grade a b h = leads_wider Struck Struck Latin grade (λ d rea
 
 -- a chain of groups is one of the game's, where the grade looks at them
 pub groups_lead : (p : Puzzle) (Struck : Striking) → IsShared p Struck → (grade : Grade) (a b : CandidatesValue) → a.size ≡ p.size
-    → is_past_easy grade ≡ true → LeadsTo (IsByLine a.size) Hard a b → LeadsTo Struck grade a b
+    → IsLower Easy grade → LeadsTo (IsByLine a.size) Hard a b → LeadsTo Struck grade a b
 groups_lead p Struck s grade a b size past h =
     leads_wider (IsByLine a.size) Struck Hard grade (lines_lift p Struck s a.size size)
     (λ reason has. subst (λ (g : Grade). has_reason g reason ≡ true) (sym (past_easy_is grade past)) has) a b h
 
 -- the lowest grade has no clues and no signs
 pub clues_settled : (Struck : Striking) (grade : Grade) (c : CandidatesValue)
-    → (is_past_latin grade ≡ true → AreCluesSettled Struck grade c) → AreCluesSettled Struck grade c
+    → (IsLower Latin grade → AreCluesSettled Struck grade c) → AreCluesSettled Struck grade c
 clues_settled Struck Latin c h = latin_clues Struck c
-clues_settled Struck Easy c h = h refl
-clues_settled Struck Hard c h = h refl
+clues_settled Struck Easy c h = h (omega arith)
+clues_settled Struck Hard c h = h (omega arith)
 
 -- ---- looks until no line waits
 
@@ -92,7 +93,7 @@ pub look_settled : (p : Puzzle) (Struck : Striking) → IsShared p Struck
     → ((c : CandidatesValue) (reason : Reason) (cell value : ℕ) → is_of_clues reason ≡ true → Struck c reason cell value → StandsAlong p.size reason cell)
     → (grade : Grade) (a b : CandidatesValue) → a.size ≤ 9 → a.size ≡ p.size → AreGivensSettled p a → LeadsTo Struck grade a b
     → ((line : ℕ) → line < 2 * a.size → IsQuietOn Struck grade line b)
-    → (is_past_easy grade ≡ true → (line : ℕ) → line < 2 * b.size → IsGroupQuiet line b) → IsSettled Struck grade b
+    → (IsLower Easy grade → (line : ℕ) → line < 2 * b.size → IsGroupQuiet line b) → IsSettled Struck grade b
 look_settled p Struck shared stands grade a b small size givens leads quiet groups =
     let same = leads_size Struck grade a b leads in
     let each : (line : ℕ) → line < 2 * b.size → IsQuietOn Struck grade line b = λ line low. quiet line (omega (arith, low, same)) in

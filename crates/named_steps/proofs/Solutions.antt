@@ -1,5 +1,5 @@
 -- The solution that a grade leaves.
-use Rattle.std.proofs.Common.{◌≡◌, ℕ, ◌*◌, ◌<◌, [], refl, sym, ◌∙◌, subst}
+use Rattle.std.proofs.Common.{◌≡◌, ℕ, ◌+◌, ◌*◌, ◌<◌, Some, [], refl, sym, ◌∙◌, subst, arith}
 use Rattle.latin_board.specs.Squares.{GridValue, number_at}
 use Rattle.latin_board.proofs.Numbers.{same_numbers}
 use Rattle.trail_solver.specs.Candidates.{CandidatesValue, IsOnly, IsWithin}
@@ -7,10 +7,14 @@ use Rattle.trail_solver.specs.Puzzles.{Puzzle, Solves}
 use Rattle.trail_solver.specs.Inner.Squares.{IsFilled}
 use Rattle.clue_rules.specs.Left.{IsLeft, all_of}
 use Rattle.named_steps.specs.Chains.{left_by}
-use Rattle.named_steps.specs.Following.{IsClosure, Follows}
-use Rattle.named_steps.specs.Graded.{IsSolutionBy, FollowsBy}
+use Rattle.named_steps.specs.Following.{IsClosure, IsEmptied, Follows}
+use Rattle.named_steps.specs.Passes.{LeadsTo}
+use Rattle.named_steps.proofs.Emptied.{solved_holds}
+use Rattle.named_steps.specs.Grades.{rank}
+use Rattle.named_steps.specs.Graded.{IsSolutionBy, IsGradeOf, FollowsBy}
 use Rattle.named_steps.specs.Inner.Fills.{HasOpen}
 use Rattle.named_steps.proofs.Antitone.{IsAntitone, chain_settled, closure_fewer, left_size}
+use Rattle.named_steps.proofs.Followed.{follows_up}
 use Rattle.named_steps.proofs.Kept.{IsSoundFor, number_left, chain_keeps}
 use Rattle.named_steps.specs.declared.grade.Grade.{Grade}
 use Rattle.named_steps.specs.declared.grade.Grade.TheVariants.{Latin, Easy, Hard}
@@ -71,6 +75,15 @@ open_none p Struck sound less grade c d size none h open_ f =
     let k = from_all Struck grade g.size c d (size ∙ sym s.same_size) none h in
     open_.2 (number_at g open_.0) (follows_left p Struck sound less grade g d s k f.1.follows open_.0 open_.1)
 
+-- where a square is left nothing, no solution follows
+pub emptied_none : (p : Puzzle) (Struck : Striking) → IsSoundFor p Struck → (grade : Grade) (c d : CandidatesValue) → c.size ≡ p.size
+    → c.trail ≡ [] → LeadsTo Struck grade c d → IsEmptied d → FollowsBy p Struck grade → ⊥
+emptied_none p Struck sound grade c d size none h emptied f =
+    let s = f.1.solves in
+    let within : IsWithin c f.0 =
+    subst (λ (a : CandidatesValue). IsWithin a f.0) (sym (all_pairs c f.0.size (size ∙ sym s.same_size) none)) (within_all f.0.size f.0) in
+    solved_holds p Struck sound grade f.0 c d size s within h emptied
+
 only_same : (c : CandidatesValue) (cell a b : ℕ) → IsOnly c cell a → IsOnly c cell b → a ≡ b
 only_same c cell a b one other = other.alone a one.low one.high one.left
 
@@ -93,3 +106,23 @@ pub none_follows : (p : Puzzle) (Struck : Striking) → (FollowsBy p Struck Lati
 none_follows p Struck latin easy hard Latin f = latin f
 none_follows p Struck latin easy hard Easy f = easy f
 none_follows p Struck latin easy hard Hard f = hard f
+
+-- ---- the least grade
+
+-- nothing is below the lowest one
+pub graded_lowest : (p : Puzzle) (Struck : Striking) → FollowsBy p Struck Latin → IsGradeOf p Struck (Some Latin)
+graded_lowest p Struck follows = (follows, λ lower less f. absurd (omega (arith, less)))
+
+-- what doesn't follow by a grade follows by none below it
+pub graded_next : (p : Puzzle) (Struck : Striking) (before grade : Grade) → rank grade ≡ rank before + 1 → FollowsBy p Struck grade
+    → (FollowsBy p Struck before → ⊥) → IsGradeOf p Struck (Some grade)
+graded_next p Struck before grade next follows none = (
+  follows,
+  λ lower less f. none (
+    f.0,
+    record {
+      solves = f.1.solves;
+      follows = follows_up Struck lower before f.0 (omega (arith, less, next)) f.1.follows;
+    },
+  ),
+)

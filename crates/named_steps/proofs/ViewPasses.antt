@@ -108,7 +108,7 @@ view_calm v look line place clue a b size place_in on is t stays cell value pair
     t.gone cell value (subst (λ (w : ℕ). IsPair w cell value) t.size pair) struck
 
 -- a place that looks along a line is one of its two ends
-ends : (w place line : ℕ) → place < 4 * w → view_line w place ≡ line → (place ≡ front_place w line) ⊎ (place ≡ front_place w line + w)
+pub ends : (w place line : ℕ) → place < 4 * w → view_line w place ≡ line → (place ≡ front_place w line) ⊎ (place ≡ front_place w line + w)
 ends w place line inside =
     edge_cases (λ at. at ≡ line → (place ≡ front_place w line) ⊎ (place ≡ front_place w line + w)) w place _ _ _ _
     (λ upper is. inl (rw (le-ltb line w (omega arith)) (omega arith)))

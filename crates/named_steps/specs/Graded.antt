@@ -1,10 +1,10 @@
 -- Which puzzles follow by a grade.
-use Rattle.std.specs.Prelude.{ℕ, Option, Some, None}
+use Rattle.std.specs.Prelude.{Option, Some, None}
 use Rattle.latin_board.specs.Squares.{GridValue}
 use Rattle.trail_solver.specs.Puzzles.{Puzzle, Solves}
 use Rattle.named_steps.specs.Following.{Follows}
+use Rattle.named_steps.specs.Grades.{IsLower}
 use Rattle.named_steps.specs.declared.grade.Grade.{Grade}
-use Rattle.named_steps.specs.declared.grade.Grade.TheVariants.{Latin, Easy, Hard}
 use Rattle.clue_rules.specs.Reasons.{Striking}
 
 -- the grid is a solution that follows by the grade
@@ -16,9 +16,8 @@ pub record IsSolutionBy (p : Puzzle) (Struck : Striking) (grade : Grade) (g : Gr
 abbrev pub FollowsBy : Puzzle → Striking → Grade → Type 0
 FollowsBy p Struck grade = (g : GridValue) × IsSolutionBy p Struck grade g
 
--- the puzzle follows by the grade and by none before it; or, where there is none, by no grade
+-- the puzzle follows by the grade and by none below it; or, where there is none, by no grade
 abbrev pub IsGradeOf : Puzzle → Striking → Option Grade → Type 0
 IsGradeOf p Struck None = (grade : Grade) → FollowsBy p Struck grade → ⊥
-IsGradeOf p Struck (Some Latin) = FollowsBy p Struck Latin
-IsGradeOf p Struck (Some Easy) = FollowsBy p Struck Easy × (FollowsBy p Struck Latin → ⊥)
-IsGradeOf p Struck (Some Hard) = FollowsBy p Struck Hard × (FollowsBy p Struck Easy → ⊥)
+IsGradeOf p Struck (Some grade) =
+    FollowsBy p Struck grade × ((lower : Grade) → IsLower lower grade → FollowsBy p Struck lower → ⊥)

@@ -1,33 +1,35 @@
 -- Which reasons a grade has, and where they look.
-use Rattle.std.specs.Prelude.{Bool, true, false}
+use Rattle.std.specs.Prelude.{ℕ, ◌<◌, nat_le, Bool, true, false}
 use Rattle.clue_rules.specs.declared.reason.Reason.{Reason}
 use Rattle.clue_rules.specs.declared.reason.Reason.TheVariants.{Given, Peer, Place, Bound, Stand, Clue, Sign, Set}
 use Rattle.named_steps.specs.declared.grade.Grade.{Grade}
 use Rattle.named_steps.specs.declared.grade.Grade.TheVariants.{Latin, Easy, Hard}
 
--- the grade is above Latin
-abbrev pub is_past_latin : Grade → Bool
-is_past_latin Latin = false
-is_past_latin Easy = true
-is_past_latin Hard = true
+-- the order of the grades
+abbrev pub rank : Grade → ℕ
+rank Latin = 0
+rank Easy = 1
+rank Hard = 2
 
--- the grade is above Easy
-abbrev pub is_past_easy : Grade → Bool
-is_past_easy Latin = false
-is_past_easy Easy = false
-is_past_easy Hard = true
+-- the first grade is below the second
+abbrev pub IsLower : Grade → Grade → Type 0
+IsLower lower higher = rank lower < rank higher
 
--- the grade has the reason's kind: rows and columns in each; a clue without pencil marks or a sign from Easy on; a clue
--- with pencil marks or a group of squares from Hard on
+-- the least grade that has the reason's kind: rows and columns; a clue without pencil marks or a sign; a clue with
+-- pencil marks or a group of squares
+abbrev pub least_grade : Reason → Grade
+least_grade (Given cell) = Latin
+least_grade (Peer cell) = Latin
+least_grade (Place line index value) = Latin
+least_grade (Bound place) = Easy
+least_grade (Stand place) = Easy
+least_grade (Sign from to) = Easy
+least_grade (Clue place) = Hard
+least_grade (Set line squares values) = Hard
+
+-- the grade has the reason's kind
 abbrev pub has_reason : Grade → Reason → Bool
-has_reason grade (Given cell) = true
-has_reason grade (Peer cell) = true
-has_reason grade (Place line index value) = true
-has_reason grade (Bound place) = is_past_latin grade
-has_reason grade (Stand place) = is_past_latin grade
-has_reason grade (Sign from to) = is_past_latin grade
-has_reason grade (Clue place) = is_past_easy grade
-has_reason grade (Set line squares values) = is_past_easy grade
+has_reason grade reason = nat_le (rank (least_grade reason)) (rank grade)
 
 -- the reason is of rows and columns
 abbrev pub is_of_lines : Reason → Bool

@@ -7,3 +7,4 @@ pub mod LineLooks
 pub mod Fills
 pub mod SignEnds
 pub mod QuietLines
+pub mod ReasonsAlong

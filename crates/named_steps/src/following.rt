@@ -6,8 +6,7 @@ ghost use Rattle.trail_solver.specs.Inner.Squares.{IsFilled};
 ghost use Rattle.named_steps.specs.Inner.Fills.{HasOpen};
 
 use crate::grade::Grade;
-use crate::known_rows::KnownRows;
-use crate::settling::settle_knowing;
+use crate::settling::settle;
 use crate::steps::Steps;
 use latin_board::Grid;
 use trail_solver::{Candidates, Rules, solves};
@@ -17,16 +16,18 @@ pub fn solution_by<P: Steps>(p: &P, grade: Grade) -> Option<Grid>
     ensures { MatchOption result (FollowsBy (P.puzzle p.now) (P.struck_by p.now) grade → ⊥)
         (IsSolutionBy (P.puzzle p.now) (P.struck_by p.now) grade) }
 {
-    solution_knowing(p, grade, &mut KnownRows::none())
+    solution_knowing(p, grade, &mut P::Known::default())
 }
 
-// The same, for who keeps what is known of rows of sets.
-fn solution_knowing<P: Steps>(p: &P, grade: Grade, known: &mut KnownRows) -> Option<Grid>
+// The same, for who keeps what is known.
+fn solution_knowing<P: Steps>(p: &P, grade: Grade, known: &mut P::Known) -> Option<Grid>
     ensures { MatchOption result (FollowsBy (P.puzzle p.now) (P.struck_by p.now) grade → ⊥)
         (IsSolutionBy (P.puzzle p.now) (P.struck_by p.now) grade) }
 {
     let mut candidates = Candidates::all(p.size());
-    settle_knowing(p, grade, &mut candidates, known);
+    if !settle(p, grade, &mut candidates, known) {
+        return None;
+    }
     let Some(grid) = filled(&candidates) else {
         return None;
     };
@@ -37,11 +38,11 @@ fn solution_knowing<P: Steps>(p: &P, grade: Grade, known: &mut KnownRows) -> Opt
 pub fn follows<P: Steps>(p: &P, grade: Grade) -> bool
     ensures { IsTrue result ↔ FollowsBy (P.puzzle p.now) (P.struck_by p.now) grade }
 {
-    follows_knowing(p, grade, &mut KnownRows::none())
+    follows_knowing(p, grade, &mut P::Known::default())
 }
 
-/// As `follows`, for who keeps what is known of rows of sets: it is used and added to.
-pub fn follows_knowing<P: Steps>(p: &P, grade: Grade, known: &mut KnownRows) -> bool
+/// As `follows`, for who keeps what is known: it is used and added to.
+pub fn follows_knowing<P: Steps>(p: &P, grade: Grade, known: &mut P::Known) -> bool
     ensures { IsTrue result ↔ FollowsBy (P.puzzle p.now) (P.struck_by p.now) grade }
 {
     solution_knowing(p, grade, known).is_some()
@@ -51,7 +52,7 @@ pub fn follows_knowing<P: Steps>(p: &P, grade: Grade, known: &mut KnownRows) -> 
 pub fn grade_of<P: Steps>(p: &P) -> Option<Grade>
     ensures { IsGradeOf (P.puzzle p.now) (P.struck_by p.now) result }
 {
-    let mut known = KnownRows::none();
+    let mut known = P::Known::default();
     if follows_knowing(p, Grade::Latin, &mut known) {
         return Some(Grade::Latin);
     }

@@ -42,9 +42,9 @@ impl Model for KnownRows {
     ghost invariant = { λ k. AreKnown k.widths k.clues k.sets k.kept };
 }
 
-impl KnownRows {
+impl Default for KnownRows {
     /// Nothing yet: rows of no squares.
-    pub fn none() -> KnownRows {
+    fn default() -> KnownRows {
         let nothing = [NumberSet::empty(); 9];
         KnownRows {
             widths: [0; SLOTS],
@@ -54,7 +54,9 @@ impl KnownRows {
             turns: [0; BUCKETS],
         }
     }
+}
 
+impl KnownRows {
     /// As `tower_lines::supported` of the first sets of a row, so many as the width, where the others are empty. The row is known from
     /// then on.
     pub(crate) fn supported(&mut self, sets: &[NumberSet; 9], width: u8, clue: u8) -> [NumberSet; 9]

@@ -2,9 +2,8 @@
 //!
 //! A `Reason` is a kind of step and the place where it looks. What each strikes from candidates is a definition of one line, and
 //! `strikes` tells it exactly. A `Grade` has some kinds of reasons. `settle` takes away all that the reasons of a grade strike,
-//! one after another, until they strike nothing that is left: in whatever order that is done, the same is left (`laws`).
-//! `settle_knowing` and `settle_on` do so for who settles many candidates, one after another, and `settle_on` for who knows a solution
-//! among them. A puzzle follows by a grade where its solution alone is left of all pairs (`follows`, `follows_knowing`, `solution_by`), and `grade_of` is
+//! one after another, until they strike nothing that is left: in whatever order that is done, the same is left (`laws`). It stops before
+//! where a square is left nothing. A puzzle follows by a grade where its solution alone is left of all pairs (`follows`, `follows_knowing`, `solution_by`), and `grade_of` is
 //! the least such grade. Nothing here takes memory from the heap.
 //!
 //! ```
@@ -16,6 +15,7 @@
 //! ```
 #![tactic(auto)]
 
+mod clue_passes;
 mod clue_strikes;
 mod following;
 mod goal;
@@ -41,7 +41,7 @@ pub use following::{follows, follows_knowing, grade_of, solution_by};
 pub use goal::Goal;
 pub use grade::Grade;
 pub use known_rows::KnownRows;
-pub use settling::{settle, settle_knowing, settle_on};
+pub use settling::settle;
 pub use step_laws::laws;
 pub use steps::Steps;
 pub use strikes::{given_strikes, line_strikes};

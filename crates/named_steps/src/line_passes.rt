@@ -1,12 +1,14 @@
 //! What rows and columns strike, square by square: lone values, and the last places of values.
-ghost use Rattle.std.specs.Prelude.{◌≡◌, ◌≢◌, ◌↔◌, ℕ, ◌*◌, ◌<◌, ◌≤◌, true, false, length, slice_index};
+ghost use Rattle.std.specs.Prelude.{◌≡◌, ◌≢◌, ◌↔◌, ℕ, ◌*◌, ◌<◌, ◌≤◌, true, false, length, slice_index, IfNone, IfSome};
 ghost use Rattle.number_sets.specs.Sets.{has_number, IsEmpty};
 ghost use Rattle.latin_board.specs.Lines.{line_cell};
 ghost use Rattle.clue_rules.specs.Left.{IsLeft, HasNoOther};
 ghost use Rattle.clue_rules.specs.Reasons.{IsByLine};
+ghost use Rattle.named_steps.specs.Following.{IsEmptied};
 ghost use Rattle.named_steps.specs.Passes.{LeadsTo};
 ghost use Rattle.clue_rules.specs.Takes.{Strikes, Takes, AreChanged};
-ghost use Rattle.clue_rules.specs.LineStrikes.{IsRestQuiet, IsClash, IsVoid, StrikesRest};
+ghost use Rattle.clue_rules.specs.Views.{front_place};
+ghost use Rattle.clue_rules.specs.LineStrikes.{IsRestQuiet, IsClash, IsVoid};
 ghost use Rattle.named_steps.specs.Inner.LineStrikes.{AreLineSets};
 ghost use Rattle.trail_solver.specs.Candidates.{AreCandidates};
 ghost use Rattle.named_steps.specs.declared.grade.Grade.TheVariants.{Latin};
@@ -17,41 +19,49 @@ use latin_board::line_cell;
 use number_sets::NumberSet;
 use trail_solver::Candidates;
 
-/// Takes away what the squares of a line strike in one another, and gives the places of those of which something went.
-pub(crate) fn strike_line(candidates: &mut Candidates, line: u8) -> NumberSet
+/// Takes away what the squares of a line strike in one another, and gives the places of those of which something went; none, where they
+/// leave a square nothing.
+pub(crate) fn strike_line(candidates: &mut Candidates, line: u8) -> Option<NumberSet>
     requires { line < 2 * candidates.old.size }
     ensures leads { LeadsTo (IsByLine candidates.old.size) Latin candidates.old candidates.new }
-    ensures changed { AreChanged line result candidates.old candidates.new }
-    ensures quiet { IsEmpty result → IsRestQuiet line candidates.new }
+    ensures changed { IfSome result (λ places. AreChanged line places candidates.old candidates.new) }
+    ensures quiet { IfSome result (λ places. IsEmpty places → IsRestQuiet line candidates.new) }
+    ensures emptied { IfNone result (IsEmptied candidates.new) }
 {
     match strike_squares(candidates, line) {
-        Ok(places) => places,
-        Err(DeadLine::Void) => strike_all(candidates, line),
-        Err(DeadLine::Clash { place }) => strike_clash(candidates, line, place),
+        Ok(places) => Some(places),
+        Err(DeadLine::Void) => {
+            strike_all(candidates, line);
+            None
+        }
+        Err(DeadLine::Clash { place }) => {
+            strike_clash(candidates, line, place);
+            None
+        }
     }
 }
 
 // Takes away all that is left along a line with an empty square or a number without a place: the squares strike that in one another.
-fn strike_all(candidates: &mut Candidates, line: u8) -> NumberSet
+fn strike_all(candidates: &mut Candidates, line: u8)
     requires line { line < 2 * candidates.old.size }
     requires void { IsVoid line candidates.old }
-    ensures { StrikesRest line result candidates.old candidates.new }
+    ensures leads { LeadsTo (IsByLine candidates.old.size) Latin candidates.old candidates.new }
+    ensures emptied { IsEmptied candidates.new }
 {
     let sets = line_sets(candidates, line);
-    strike_row(candidates, line, &sets)
+    strike_row(candidates, line, &sets);
 }
 
 // Takes away the one value that is left of a square: it is alone in an earlier square of the line, which strikes it there.
-fn strike_clash(candidates: &mut Candidates, line: u8, place: u8) -> NumberSet
+fn strike_clash(candidates: &mut Candidates, line: u8, place: u8)
     requires line { line < 2 * candidates.old.size }
     requires clash { IsClash line place candidates.old }
     ensures leads { LeadsTo (IsByLine candidates.old.size) Latin candidates.old candidates.new }
-    ensures changed { AreChanged line result candidates.old candidates.new }
-    ensures some { IsEmpty result → ⊥ }
+    ensures emptied { IsEmptied candidates.new }
 {
     let cell = line_cell(candidates.size(), line, place);
     let values = candidates.values(cell);
-    take_at(candidates, place, cell, values)
+    take_at(candidates, place, cell, values);
 }
 
 /// Takes away from each square of a line the values of its set, and gives the places of those of which something went.
@@ -92,6 +102,19 @@ pub(crate) fn take_at(
     }
     candidates.remove_all(cell, values);
     NumberSet::one(place)
+}
+
+/// The edge place before the first square of a line; that after its last one is as many further on as the width.
+pub(crate) fn front_place(line: u8, width: u8) -> u8
+    requires width { width ≤ 9 }
+    requires line { line < 2 * width }
+    ensures { result ≡ front_place width line }
+{
+    if line < width {
+        2 * width + line
+    } else {
+        line - width
+    }
 }
 
 /// What is left of each square of a line, as sets.

@@ -1,5 +1,5 @@
 //! What the steps of a game owe.
-ghost use Rattle.std.specs.Prelude.{◌≡◌, ◌≢◌, ◌↔◌, ℕ, ◌+◌, ◌*◌, ◌<◌, Bool, true, IfSome};
+ghost use Rattle.std.specs.Prelude.{◌≡◌, ◌≢◌, ◌↔◌, ℕ, ◌+◌, ◌*◌, ◌<◌, Bool, true, IfNone, IfSome};
 ghost use Rattle.number_sets.specs.Sets.{has_number, IsEmpty};
 ghost use Rattle.latin_board.specs.Squares.{GridValue, number_at};
 ghost use Rattle.trail_solver.specs.Pairs.{IsPair};
@@ -15,24 +15,27 @@ ghost use Rattle.clue_rules.specs.declared.reason.Reason.{Reason};
 ghost use Rattle.clue_rules.specs.declared.reason.Reason.TheVariants.{Given};
 
 use crate::grade::Grade;
-use crate::known_rows::KnownRows;
 use clue_rules::Reason;
 use number_sets::NumberSet;
 use trail_solver::{Candidates, Rules};
 
-/// A puzzle whose steps have names.
+/// A puzzle whose steps have names. A game says what its reasons strike, and which laws that obeys. The functions with a body are for
+/// speed: a game may have quicker ones.
 pub trait Steps: Rules {
+    /// What is kept while steps are looked for, so that nothing is looked through twice; it is right for any puzzle.
+    type Known: Default + Drop;
+
     // What a reason strikes from candidates: pairs of a square and a value.
     ghost struck_by: { Self → Striking };
 
-    /// The values that a reason strikes in a square; the sizes are equal, and the square is one of the grid's. What is known of rows of
-    /// sets may be used and added to.
+    /// The values that a reason strikes in a square; the sizes are equal, and the square is one of the grid's. What is known may be used
+    /// and added to, here and in what follows.
     fn strikes(
         &self,
         candidates: &Candidates,
         reason: Reason,
         cell: usize,
-        known: &mut KnownRows,
+        known: &mut Self::Known,
     ) -> NumberSet
         requires size { candidates.now.size ≡ (Self.Rules.puzzle self.now).size }
         requires inside { cell < candidates.now.size * candidates.now.size }
@@ -40,34 +43,47 @@ pub trait Steps: Rules {
             ↔ (IsPair candidates.now.size cell v × struck_by self.now candidates.now reason cell v) };
 
     /// The values that a reason strikes in each of the squares from a place at the edge, where the game finds them all at once; the
-    /// sizes are equal, and the place is one of the grid's. What is known of rows of sets may be used and added to.
+    /// sizes are equal, and the place is one of the grid's.
     fn strikes_from(
         &self,
         candidates: &Candidates,
         reason: Reason,
         place: usize,
-        known: &mut KnownRows,
+        known: &mut Self::Known,
     ) -> Option<[NumberSet; 9]>
         requires size { candidates.now.size ≡ (Self.Rules.puzzle self.now).size }
         requires place { place < 4 * candidates.now.size }
         ensures { IfSome result (AreStruckFrom candidates.now.size (struck_by self.now candidates.now reason) place
-            candidates.now.size) };
+            candidates.now.size) }
+    {
+        let _game = self;
+        let _size = candidates.size();
+        let (_reason, _place, _known) = (reason, place, known);
+        None
+    }
 
     /// Takes away what the clues or signs along a row or column strike by a grade's reasons, and gives the places of those of its squares
-    /// of which something went; the sizes are equal, and the line is one of the grid's. What is known of rows of sets may be used and
-    /// added to.
+    /// of which something went, where the game goes over the line at once; the sizes are equal, and the line is one of the grid's.
     fn strike_by_clues(
         &self,
         grade: Grade,
         candidates: &mut Candidates,
         line: u8,
-        known: &mut KnownRows,
-    ) -> NumberSet
+        known: &mut Self::Known,
+    ) -> Option<NumberSet>
         requires size { candidates.old.size ≡ (Self.Rules.puzzle self.now).size }
         requires line { line < 2 * candidates.old.size }
-        ensures leads { LeadsTo (struck_by self.now) grade candidates.old candidates.new }
-        ensures loses { LosesAt line result candidates.old candidates.new }
-        ensures quiet { IsEmpty result → IsQuietAlong (struck_by self.now) grade line candidates.new };
+        ensures none { IfNone result (candidates.new ≡ candidates.old) }
+        ensures leads { IfSome result (λ places. LeadsTo (struck_by self.now) grade candidates.old candidates.new) }
+        ensures loses { IfSome result (λ places. LosesAt line places candidates.old candidates.new) }
+        ensures quiet { IfSome result (λ places. IsEmpty places
+            → IsQuietAlong (struck_by self.now) grade line candidates.new) }
+    {
+        let _game = self;
+        let _size = candidates.size();
+        let (_grade, _line, _known) = (grade, line, known);
+        None
+    }
 
     // What a given strikes, and what rows and columns do, is the same in each game.
     ghost given_struck: { (p : Self) (c : CandidatesValue) (at cell value : ℕ)

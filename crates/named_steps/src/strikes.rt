@@ -38,13 +38,13 @@ pub fn line_strikes(candidates: &Candidates, reason: Reason, cell: usize) -> Num
         ↔ (IsPair candidates.now.size cell v × IsByLine candidates.now.size candidates.now reason cell v) }
 {
     match reason {
-        Reason::Given { cell: _ } => NumberSet::empty(),
+        Reason::Given { .. } => NumberSet::empty(),
         Reason::Peer { cell: by } => by_any_peer(candidates, by, cell),
         Reason::Place { line, index, value } => by_any_place(candidates, line, index, value, cell),
-        Reason::Bound { place: _ } => NumberSet::empty(),
-        Reason::Stand { place: _ } => NumberSet::empty(),
-        Reason::Clue { place: _ } => NumberSet::empty(),
-        Reason::Sign { from: _, to: _ } => NumberSet::empty(),
+        Reason::Bound { .. } => NumberSet::empty(),
+        Reason::Stand { .. } => NumberSet::empty(),
+        Reason::Clue { .. } => NumberSet::empty(),
+        Reason::Sign { .. } => NumberSet::empty(),
         Reason::Set {
             line,
             squares,

@@ -1,5 +1,5 @@
 //! The steps of Towers.
-ghost use Rattle.std.specs.Prelude.{◌≡◌, ◌↔◌, ℕ, ◌*◌, ◌<◌, ◌≤◌, true, IfSome};
+ghost use Rattle.std.specs.Prelude.{◌≡◌, ◌↔◌, ℕ, ◌*◌, ◌<◌, true, IfSome};
 ghost use Rattle.number_sets.specs.Sets.{has_number, IsEmpty};
 ghost use Rattle.trail_solver.specs.Pairs.{IsPair};
 ghost use Rattle.clue_rules.specs.Towers.{clue_of};
@@ -12,7 +12,7 @@ ghost use Rattle.named_steps.specs.Inner.Rows.{May, look_grade};
 use crate::clue_strikes::{Look, along_line, by_clue, striking_row, unfilled_row};
 use crate::grade::Grade;
 use crate::known_rows::KnownRows;
-use crate::line_passes::strike_row;
+use crate::line_passes::{front_place, strike_row};
 use crate::steps::Steps;
 use crate::strikes::{by_any_peer, by_any_place, by_any_set, given_strikes};
 use clue_rules::{Reason, Towers};
@@ -26,6 +26,8 @@ impl Steps for Towers {
     ghost use Rattle.named_steps.specs.Laws.Sound as sound;
     ghost use Rattle.named_steps.specs.Laws.Cuts as cuts;
     ghost use Rattle.named_steps.specs.Laws.Along as along;
+
+    type Known = KnownRows;
 
     ghost struck_by = { IsTowersStruckBy };
 
@@ -51,7 +53,7 @@ impl Steps for Towers {
             Reason::Clue { place } => {
                 by_any_clue(self, candidates, Look::Marks, place, cell, known)
             }
-            Reason::Sign { from: _, to: _ } => NumberSet::empty(),
+            Reason::Sign { .. } => NumberSet::empty(),
             Reason::Set {
                 line,
                 squares,
@@ -87,11 +89,11 @@ impl Steps for Towers {
         candidates: &mut Candidates,
         line: u8,
         known: &mut KnownRows,
-    ) -> NumberSet {
+    ) -> Option<NumberSet> {
         match grade {
-            Grade::Latin => NumberSet::empty(),
-            Grade::Easy => strike_views(self, Look::Stands, candidates, line, known),
-            Grade::Hard => strike_views(self, Look::Marks, candidates, line, known),
+            Grade::Latin => Some(NumberSet::empty()),
+            Grade::Easy => Some(strike_views(self, Look::Stands, candidates, line, known)),
+            Grade::Hard => Some(strike_views(self, Look::Marks, candidates, line, known)),
         }
     }
 
@@ -130,19 +132,6 @@ fn strike_views(
     let from_front = strike_view(p, look, candidates, line, front, known);
     let from_back = strike_view(p, look, candidates, line, front + width, known);
     from_front.union(from_back)
-}
-
-// The edge place before the first square of a line; that after its last one is as many further on as the width.
-fn front_place(line: u8, width: u8) -> u8
-    requires width { width ≤ 9 }
-    requires line { line < 2 * width }
-    ensures { result ≡ front_place width line }
-{
-    if line < width {
-        2 * width + line
-    } else {
-        line - width
-    }
 }
 
 // Takes away what the clue at a place strikes in the squares of its line, if there is one.

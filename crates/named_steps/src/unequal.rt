@@ -11,7 +11,6 @@ ghost use Rattle.named_steps.specs.Inner.SignEnds.{IsEnd};
 ghost use Rattle.named_steps.specs.declared.grade.Grade.TheVariants.{Easy};
 
 use crate::grade::Grade;
-use crate::known_rows::KnownRows;
 use crate::line_passes::take_at;
 use crate::sign_strikes::{by_greater, by_lesser, from_greatest, up_to_least};
 use crate::steps::Steps;
@@ -30,6 +29,8 @@ impl Steps for Unequal {
     ghost use Rattle.named_steps.specs.Laws.Cuts as cuts;
     ghost use Rattle.named_steps.specs.Laws.Along as along;
 
+    type Known = ();
+
     ghost struck_by = { IsUnequalStruckBy };
 
     fn strikes(
@@ -37,7 +38,7 @@ impl Steps for Unequal {
         candidates: &Candidates,
         reason: Reason,
         cell: usize,
-        _known: &mut KnownRows,
+        _known: &mut (),
     ) -> NumberSet {
         match reason {
             Reason::Given { cell: at } => given_strikes(self, candidates, at, cell),
@@ -45,9 +46,9 @@ impl Steps for Unequal {
             Reason::Place { line, index, value } => {
                 by_any_place(candidates, line, index, value, cell)
             }
-            Reason::Bound { place: _ } => NumberSet::empty(),
-            Reason::Stand { place: _ } => NumberSet::empty(),
-            Reason::Clue { place: _ } => NumberSet::empty(),
+            Reason::Bound { .. } => NumberSet::empty(),
+            Reason::Stand { .. } => NumberSet::empty(),
+            Reason::Clue { .. } => NumberSet::empty(),
             Reason::Sign { from, to } => by_any_sign(self, candidates, from, to, cell),
             Reason::Set {
                 line,
@@ -57,31 +58,18 @@ impl Steps for Unequal {
         }
     }
 
-    fn strikes_from(
-        &self,
-        candidates: &Candidates,
-        reason: Reason,
-        place: usize,
-        _known: &mut KnownRows,
-    ) -> Option<[NumberSet; 9]> {
-        let _size = candidates.size();
-        let _reason = reason;
-        let _place = place;
-        None
-    }
-
     fn strike_by_clues(
         &self,
         grade: Grade,
         candidates: &mut Candidates,
         line: u8,
-        _known: &mut KnownRows,
-    ) -> NumberSet {
+        _known: &mut (),
+    ) -> Option<NumberSet> {
         let _valid = self.size();
         match grade {
-            Grade::Latin => NumberSet::empty(),
-            Grade::Easy => strike_signs(self, candidates, line),
-            Grade::Hard => strike_signs(self, candidates, line),
+            Grade::Latin => Some(NumberSet::empty()),
+            Grade::Easy => Some(strike_signs(self, candidates, line)),
+            Grade::Hard => Some(strike_signs(self, candidates, line)),
         }
     }
 

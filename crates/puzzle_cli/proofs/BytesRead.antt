@@ -6,13 +6,13 @@ use Rattle.std.specs.Io.KnownBytes.{Consumes, IsAtEnd, Keeps}
 use Rattle.puzzle_cli.specs.Lines.{Line, ReplyRule, as_line, all_lines, ended_lines}
 use Rattle.puzzle_cli.specs.Inner.LineBuffer.{ended_from, last_from}
 use Rattle.puzzle_cli.specs.Runs.{Point, Progress, before_quit, Served, WereRead, AreAll, Ends}
-use Rattle.puzzle_cli.specs.Inner.Steps.{Goes}
+use Rattle.puzzle_cli.specs.Inner.Steps.{ComeTo}
 use Rattle.puzzle_cli.specs.declared.line.line_loop.Flow.{Flow}
 use Rattle.puzzle_cli.specs.declared.line.line_loop.Flow.TheVariants.{More, Quit, Unsent}
 use Rattle.puzzle_cli.specs.declared.line.line_loop.TheConstants.{INPUT_BYTES}
 use Rattle.puzzle_cli.specs.declared.run_end.End.TheVariants.{Finished, ReadFault, WriteFault}
 use Rattle.puzzle_cli.proofs.LinesCut.{ended_from-append, last_from-append, all_lines-by-parts, ended_lines-by-parts}
-use Rattle.puzzle_cli.proofs.LinesInTurn.{before_quit-all, Goes-after, Quit-more, Unsent-more}
+use Rattle.puzzle_cli.proofs.LinesInTurn.{before_quit-all, ComeTo-after, Quit-more, Unsent-more}
 
 last_from-bytes : (part now : Line) (xs ys : List ℕ) → now ≡ last_from part xs → last_from now ys ≡ last_from part (xs ++ ys)
 last_from-bytes part now xs ys here = ap (λ l. last_from l ys) here ∙ sym (last_from-append part xs ys)
@@ -32,59 +32,59 @@ module _ {S : Type 0} (reply : ReplyRule S) (quit : Line → Bool) where
   -- ---- more bytes
 
   -- more bytes after those whose lines were answered
-  pub Goes-bytes : (flow : Flow) (part now : Line) (xs ys : List ℕ) (old mid new : Progress S)
-      → Goes reply quit More (ended_from part xs) old mid → now ≡ last_from part xs → Goes reply quit flow (ended_from now ys) mid new
-      → Goes reply quit flow (ended_from part (xs ++ ys)) old new
-  Goes-bytes flow part now xs ys old mid new p here q =
-      let next : Goes reply quit flow (ended_from (last_from part xs) ys) mid new =
-      subst (λ l. Goes reply quit flow (ended_from l ys) mid new) here q in
-      subst (λ l. Goes reply quit flow l old new) (sym (ended_from-append part xs ys))
-      (Goes-after reply quit flow (ended_from part xs) (ended_from (last_from part xs) ys) old mid new p next)
+  pub ComeTo-bytes : (flow : Flow) (part now : Line) (xs ys : List ℕ) (old mid new : Progress S)
+      → ComeTo reply quit More (ended_from part xs) old mid → now ≡ last_from part xs → ComeTo reply quit flow (ended_from now ys) mid new
+      → ComeTo reply quit flow (ended_from part (xs ++ ys)) old new
+  ComeTo-bytes flow part now xs ys old mid new p here q =
+      let next : ComeTo reply quit flow (ended_from (last_from part xs) ys) mid new =
+      subst (λ l. ComeTo reply quit flow (ended_from l ys) mid new) here q in
+      subst (λ l. ComeTo reply quit flow l old new) (sym (ended_from-append part xs ys))
+      (ComeTo-after reply quit flow (ended_from part xs) (ended_from (last_from part xs) ys) old mid new p next)
 
   -- one more byte of a piece
-  pub Goes-byte : (flow : Flow) (part now : Line) (piece : List ℕ) (i : ℕ) (old mid new : Progress S) → i < length piece
-      → Goes reply quit More (ended_from part (take i piece)) old mid → now ≡ last_from part (take i piece)
-      → Goes reply quit flow (ended_from now (get_or piece i 0 ∷ [])) mid new
-      → Goes reply quit flow (ended_from part (take (i + 1) piece)) old new
-  Goes-byte flow part now piece i old mid new inside p here q =
-      subst (λ l. Goes reply quit flow (ended_from part l) old new) (sym (take_more piece i 0 inside))
-      (Goes-bytes flow part now (take i piece) (get_or piece i 0 ∷ []) old mid new p here q)
+  pub ComeTo-byte : (flow : Flow) (part now : Line) (piece : List ℕ) (i : ℕ) (old mid new : Progress S) → i < length piece
+      → ComeTo reply quit More (ended_from part (take i piece)) old mid → now ≡ last_from part (take i piece)
+      → ComeTo reply quit flow (ended_from now (get_or piece i 0 ∷ [])) mid new
+      → ComeTo reply quit flow (ended_from part (take (i + 1) piece)) old new
+  ComeTo-byte flow part now piece i old mid new inside p here q =
+      subst (λ l. ComeTo reply quit flow (ended_from part l) old new) (sym (take_more piece i 0 inside))
+      (ComeTo-bytes flow part now (take i piece) (get_or piece i 0 ∷ []) old mid new p here q)
 
   -- a step that stopped didn't see the bytes after
   more_behind : (flow : Flow) (xs ys : List Line) (old new : Progress S) → (flow ≡ More → ⊥)
-      → Goes reply quit flow xs old new → Goes reply quit flow (xs ++ ys) old new
+      → ComeTo reply quit flow xs old new → ComeTo reply quit flow (xs ++ ys) old new
   more_behind More xs ys old new stops q = absurd (stops refl)
   more_behind Quit xs ys old new stops q = Quit-more reply quit xs ys old new q
   more_behind Unsent xs ys old new stops q = Unsent-more reply quit xs ys old new q
 
-  pub Goes-stopped : (flow : Flow) (part : Line) (piece : List ℕ) (n : ℕ) (old new : Progress S) → (flow ≡ More → ⊥)
-      → Goes reply quit flow (ended_from part (take n piece)) old new → Goes reply quit flow (ended_from part piece) old new
-  Goes-stopped flow part piece n old new stops q =
+  pub ComeTo-stopped : (flow : Flow) (part : Line) (piece : List ℕ) (n : ℕ) (old new : Progress S) → (flow ≡ More → ⊥)
+      → ComeTo reply quit flow (ended_from part (take n piece)) old new → ComeTo reply quit flow (ended_from part piece) old new
+  ComeTo-stopped flow part piece n old new stops q =
       let behind =
       more_behind flow (ended_from part (take n piece)) (ended_from (last_from part (take n piece)) (drop n piece)) old new stops q in
       let whole : ended_from part (take n piece) ++ ended_from (last_from part (take n piece)) (drop n piece) ≡ ended_from part piece =
       sym (ended_from-append part (take n piece) (drop n piece)) ∙ ap (ended_from part) (take-append-drop n piece) in
-      subst (λ l. Goes reply quit flow l old new) whole behind
+      subst (λ l. ComeTo reply quit flow l old new) whole behind
 
   -- ---- the ends of a run
 
   -- the steps of all that was read, the last line with them
   all_read : (flow : Flow) (read : List ℕ) (now : Line) (old mid new : Progress S)
-      → Goes reply quit More (ended_from (Some []) read) old mid → now ≡ last_from (Some []) read
-      → Goes reply quit flow (as_line now ∷ []) mid new
-      → Goes reply quit flow (all_lines read) old new
+      → ComeTo reply quit More (ended_from (Some []) read) old mid → now ≡ last_from (Some []) read
+      → ComeTo reply quit flow (as_line now ∷ []) mid new
+      → ComeTo reply quit flow (all_lines read) old new
   all_read flow read now old mid new p here q =
-      let last : Goes reply quit flow (as_line (last_from (Some []) read) ∷ []) mid new =
-      subst (λ l. Goes reply quit flow (as_line l ∷ []) mid new) here q in
-      subst (λ l. Goes reply quit flow l old new) (sym (all_lines-by-parts read))
-      (Goes-after reply quit flow (ended_from (Some []) read) (as_line (last_from (Some []) read) ∷ []) old mid new p last)
+      let last : ComeTo reply quit flow (as_line (last_from (Some []) read) ∷ []) mid new =
+      subst (λ l. ComeTo reply quit flow (as_line l ∷ []) mid new) here q in
+      subst (λ l. ComeTo reply quit flow l old new) (sym (all_lines-by-parts read))
+      (ComeTo-after reply quit flow (ended_from (Some []) read) (as_line (last_from (Some []) read) ∷ []) old mid new p last)
 
   ended_read : (flow : Flow) (read : List ℕ) (old new : Progress S)
-      → Goes reply quit flow (ended_from (Some []) read) old new → Goes reply quit flow (ended_lines read) old new
-  ended_read flow read old new p = subst (λ l. Goes reply quit flow l old new) (sym (ended_lines-by-parts read)) p
+      → ComeTo reply quit flow (ended_from (Some []) read) old new → ComeTo reply quit flow (ended_lines read) old new
+  ended_read flow read old new p = subst (λ l. ComeTo reply quit flow l old new) (sym (ended_lines-by-parts read)) p
 
   -- a step that went out served the lines before quit
-  served : (flow : Flow) (lines : List Line) (old new : Progress S) → (flow ≡ Unsent → ⊥) → Goes reply quit flow lines old new
+  served : (flow : Flow) (lines : List Line) (old new : Progress S) → (flow ≡ Unsent → ⊥) → ComeTo reply quit flow lines old new
       → (new.failed ≡ false) × Served reply (before_quit quit lines) old new
   served More lines old new went (no_quit, works, done) =
       (works, subst (λ l. Served reply l old new) (sym (before_quit-all quit lines no_quit)) done)
@@ -98,7 +98,7 @@ module _ {S : Type 0} (reply : ReplyRule S) (quit : Line → Bool) where
     pub read : List ℕ
     pub consumed : Consumes old.to_come now.to_come read
     pub counted : length read ≡ count
-    pub answered : Goes reply quit More (ended_from (Some []) read) old.answers now.answers
+    pub answered : ComeTo reply quit More (ended_from (Some []) read) old.answers now.answers
     pub rest : part ≡ last_from (Some []) read
 
 module _ {S : Type 0} {reply : ReplyRule S} {quit : Line → Bool} {old now : Point S} {count : ℕ} {part : Line}
@@ -119,7 +119,7 @@ module _ {S : Type 0} {reply : ReplyRule S} {quit : Line → Bool} {old now : Po
       consumed = Consumes-kept old.to_come now.to_come new.to_come so_far.read so_far.consumed keeps;
       counted = so_far.counted;
       answered =
-          subst (λ (p : Progress S). Goes reply quit More (ended_from (Some []) so_far.read) old.answers p) same so_far.answered;
+          subst (λ (p : Progress S). ComeTo reply quit More (ended_from (Some []) so_far.read) old.answers p) same so_far.answered;
       rest = so_far.rest;
     }
 
@@ -132,21 +132,21 @@ module _ {S : Type 0} {reply : ReplyRule S} {quit : Line → Bool} {old now : Po
           let same = Consumes-none old.to_come now.to_come new.to_come so_far.read piece n none so_far.consumed consumed in
           ((same, omega (arith, so_far.counted)), (at_end, omega (arith, so_far.counted)))
 
-      all_gone : (flow : Flow) → Goes reply quit flow (as_line part ∷ []) now.answers new.answers
-          → Goes reply quit flow (all_lines so_far.read) old.answers new.answers
+      all_gone : (flow : Flow) → ComeTo reply quit flow (as_line part ∷ []) now.answers new.answers
+          → ComeTo reply quit flow (all_lines so_far.read) old.answers new.answers
       all_gone flow goes =
           all_read reply quit flow so_far.read part old.answers now.answers new.answers so_far.answered so_far.rest goes
 
       -- it was answered or is quit
       pub Finished-at-end : (flow : Flow) → (flow ≡ Unsent → ⊥)
-          → Goes reply quit flow (as_line part ∷ []) now.answers new.answers
+          → ComeTo reply quit flow (as_line part ∷ []) now.answers new.answers
           → Ends reply quit Finished old new
       Finished-at-end flow went goes =
           let done = served reply quit flow (all_lines so_far.read) old.answers new.answers went (all_gone flow goes) in
           (works, done.0, (so_far.read, were_all.0, inl (were_all.1, done.1)))
 
       -- its reply didn't go out
-      pub WriteFault-at-end : Goes reply quit Unsent (as_line part ∷ []) now.answers new.answers
+      pub WriteFault-at-end : ComeTo reply quit Unsent (as_line part ∷ []) now.answers new.answers
           → Ends reply quit WriteFault old new
       WriteFault-at-end goes =
           let done = all_gone Unsent goes in
@@ -165,13 +165,13 @@ module _ {S : Type 0} {reply : ReplyRule S} {quit : Line → Bool} {old now : Po
       length-more : length more ≡ count + n
       length-more = omega (arith, length-append so_far.read (take n piece), length-take-le n piece fits, so_far.counted)
 
-      more_answered : (flow : Flow) → Goes reply quit flow (ended_from part (take n piece)) now.answers new.answers
-          → Goes reply quit flow (ended_from (Some []) more) old.answers new.answers
+      more_answered : (flow : Flow) → ComeTo reply quit flow (ended_from part (take n piece)) now.answers new.answers
+          → ComeTo reply quit flow (ended_from (Some []) more) old.answers new.answers
       more_answered flow goes =
-          Goes-bytes reply quit flow (Some []) part so_far.read (take n piece) old.answers now.answers new.answers
+          ComeTo-bytes reply quit flow (Some []) part so_far.read (take n piece) old.answers now.answers new.answers
           so_far.answered so_far.rest goes
 
-      pub reads_on : (line : Line) → Goes reply quit More (ended_from part (take n piece)) now.answers new.answers
+      pub reads_on : (line : Line) → ComeTo reply quit More (ended_from part (take n piece)) now.answers new.answers
           → line ≡ last_from part (take n piece) → HasRead reply quit old new (count + n) line
       reads_on line goes cut = record {
         read = more;
@@ -183,14 +183,14 @@ module _ {S : Type 0} {reply : ReplyRule S} {quit : Line → Bool} {old now : Po
 
       module _ (within : count + n ≤ INPUT_BYTES) (works : new.read_failed ≡ false) where
         -- a line that ends in it is quit
-        pub Finished-at-quit : Goes reply quit Quit (ended_from part (take n piece)) now.answers new.answers
+        pub Finished-at-quit : ComeTo reply quit Quit (ended_from part (take n piece)) now.answers new.answers
             → Ends reply quit Finished old new
         Finished-at-quit goes =
             let (quits, still_works, done) = ended_read reply quit Quit more old.answers new.answers (more_answered Quit goes) in
             (works, still_works, (more, (more_consumed, omega (arith, length-more)), inr (quits, done)))
 
         -- the reply to a line that ends in it didn't go out
-        pub WriteFault-in-piece : Goes reply quit Unsent (ended_from part (take n piece)) now.answers new.answers
+        pub WriteFault-in-piece : ComeTo reply quit Unsent (ended_from part (take n piece)) now.answers new.answers
             → Ends reply quit WriteFault old new
         WriteFault-in-piece goes =
             let done = ended_read reply quit Unsent more old.answers new.answers (more_answered Unsent goes) in

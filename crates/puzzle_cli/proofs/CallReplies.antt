@@ -15,7 +15,7 @@ use Rattle.puzzle_cli.specs.Commands.{Reading, IsRead}
 use Rattle.puzzle_cli.specs.GameFacts.{GameFacts}
 use Rattle.puzzle_cli.specs.SessionReplies.{Outcome, IsSaidOf, CallSays, RequestGives, RequestTakesMemory}
 use Rattle.puzzle_cli.specs.Replies.{ReadGives, ReadTakesMemory, ReadMayGive, LineGives, left}
-use Rattle.puzzle_cli.specs.RunLaws.{AnswersCall, IsCallOf, IsMade, IsToldOf, LinesAreCalls, OtherRequestsLeave}
+use Rattle.puzzle_cli.specs.RunLaws.{AnswersCall, IsCallOf, IsMade, IsToldOfCall, LinesAreCalls, OtherRequestsLeave}
 use Rattle.puzzle_cli.proofs.CommandLaws.{read_once}
 use Rattle.puzzle_cli.proofs.RepliesOnce.{call_read_once}
 
@@ -58,7 +58,7 @@ module _ {P : Type 0} (f : GameFacts P) (h : History P) where
       (subst (λ (e : PlayFault). CallGives (f.rules.puzzle h.puzzle) h call (Err e)) e gives) in
       (Err fault, h, (refl, (Err fault, gives, refused_so call fault not_for_memory)), is)
 
-  no_memory_told : (call : Call) → IsToldOf call (Err OutOfMemory) h (Err Memory)
+  no_memory_told : (call : Call) → IsToldOfCall call (Err OutOfMemory) h (Err Memory)
   no_memory_told ToSolution = refl
   no_memory_told call = refl
 

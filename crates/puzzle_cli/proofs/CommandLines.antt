@@ -13,7 +13,7 @@ use Rattle.puzzle_cli.specs.declared.start.command_fault.CommandFault.TheVariant
 use Rattle.puzzle_cli.specs.declared.start.command_fault.CommandFault.TheVariants.{OutOfMemory as NoMemory}
 use Rattle.puzzle_cli.specs.declared.start.command_line.Args.{Args}
 use Rattle.puzzle_cli.specs.CommandLine.{AreRead, AreRefused, AreTaken, AreUnfit, AskForHelp, IsCommandLine, NotBoth, command_line, named, option_rule, program_line}
-use Rattle.puzzle_cli.specs.Inner.WordReading.{AreParsed, IsFound, IsGameRule, IsParseFault, IsRefusal, IsToldOfKind}
+use Rattle.puzzle_cli.specs.Inner.WordReading.{AreParsed, AreValuesFound, IsGameRule, IsParseFault, AreWordsRefused, IsToldOfKind}
 
 line_is_free : (name : Text) (games : Bor (List (Bor Text))) → is_simple_and_free (command_line name games) ≡ true
 line_is_free name games = refl
@@ -65,7 +65,7 @@ value_named : (words : List Text) (found : Found) (p : AreParsed words found) (i
 value_named words found p id = ap (first_of id) (sym p.rows) ∙ sym (first_value-rows found id)
 
 -- parsed words are read as the values that were found
-pub found_is_read : (words : List Text) (found : Found) (args : Args) → AreParsed words found → IsFound found args → AreTaken words args
+pub found_is_read : (words : List Text) (found : Found) (args : Args) → AreParsed words found → AreValuesFound found args → AreTaken words args
 found_is_read words found args p is = record {
   app = p.app;
   line = p.line;
@@ -122,7 +122,7 @@ request_is_answered words kind (inr has) not_memory not_other = record {
 
 -- what is told of such an error is what is read of the words
 pub told_is_read : (words : List Text) (kind : ErrorKind) (fault : CommandFault) → IsParseFault words kind → kind ≢ OutOfMemory
-    → IsToldOfKind kind fault → IsRefusal words fault
+    → IsToldOfKind kind fault → AreWordsRefused words fault
 told_is_read words kind (BadWords text) is not_memory told = fault_is_refused words kind is not_memory told
 told_is_read words kind (HelpAsked text) is not_memory told = request_is_answered words kind is not_memory told
 told_is_read words kind NoMemory is not_memory told = absurd told

@@ -27,4 +27,3 @@ pub mod PlainReplies
 pub mod WholePictures
 pub mod WholeReplies
 pub mod CommandLines
-pub mod UnplayedGames

@@ -3,8 +3,8 @@ use Rattle.std.proofs.Common.{◌≡◌, ℕ, Bool, true, false, if◌then◌els
 use Rattle.std.proofs.KnownBytes.{Appends-nil, Appends-trans}
 use Rattle.std.specs.Io.KnownBytes.{Appends}
 use Rattle.puzzle_cli.specs.Lines.{Line, ReplyRule}
-use Rattle.puzzle_cli.specs.Runs.{Progress, RepliesInTurn, has_quit, before_quit, Served, Breaks}
-use Rattle.puzzle_cli.specs.Inner.Steps.{Goes}
+use Rattle.puzzle_cli.specs.Runs.{Progress, RepliesInTurn, has_quit, before_quit, Served, BreaksOff}
+use Rattle.puzzle_cli.specs.Inner.Steps.{ComeTo}
 use Rattle.puzzle_cli.specs.declared.line.line_loop.Flow.{Flow}
 use Rattle.puzzle_cli.specs.declared.line.line_loop.Flow.TheVariants.{More, Quit, Unsent}
 
@@ -65,9 +65,9 @@ module _ {S : Type 0} (reply : ReplyRule S) where
 
 module _ {S : Type 0} (reply : ReplyRule S) (quit : Line → Bool) where
   -- lines that were answered, and then a reply that didn't go out
-  Breaks-after : (xs ys : List Line) (old mid new : Progress S) → has_quit quit xs ≡ false → Served reply xs old mid
-      → Breaks reply quit ys mid new → Breaks reply quit (xs ++ ys) old new
-  Breaks-after xs ys old mid new no_quit served k = record {
+  BreaksOff-after : (xs ys : List Line) (old mid new : Progress S) → has_quit quit xs ≡ false → Served reply xs old mid
+      → BreaksOff reply quit ys mid new → BreaksOff reply quit (xs ++ ys) old new
+  BreaksOff-after xs ys old mid new no_quit served k = record {
     earlier = xs ++ k.earlier;
     line = k.line;
     later = k.later;
@@ -82,8 +82,8 @@ module _ {S : Type 0} (reply : ReplyRule S) (quit : Line → Bool) where
   }
 
   -- what stands after the line whose reply didn't go out makes no difference
-  Breaks-more : (xs ys : List Line) (old new : Progress S) → Breaks reply quit xs old new → Breaks reply quit (xs ++ ys) old new
-  Breaks-more xs ys old new k = record {
+  BreaksOff-more : (xs ys : List Line) (old new : Progress S) → BreaksOff reply quit xs old new → BreaksOff reply quit (xs ++ ys) old new
+  BreaksOff-more xs ys old new k = record {
     earlier = k.earlier;
     line = k.line;
     later = k.later ++ ys;
@@ -99,28 +99,28 @@ module _ {S : Type 0} (reply : ReplyRule S) (quit : Line → Bool) where
 
   -- ---- steps
 
-  pub Goes-after : (flow : Flow) (xs ys : List Line) (old mid new : Progress S)
-      → Goes reply quit More xs old mid → Goes reply quit flow ys mid new → Goes reply quit flow (xs ++ ys) old new
-  Goes-after More xs ys old mid new (no_quit, works, served) (none, still_works, serves) =
+  pub ComeTo-after : (flow : Flow) (xs ys : List Line) (old mid new : Progress S)
+      → ComeTo reply quit More xs old mid → ComeTo reply quit flow ys mid new → ComeTo reply quit flow (xs ++ ys) old new
+  ComeTo-after More xs ys old mid new (no_quit, works, served) (none, still_works, serves) =
       (has_quit-append quit xs ys no_quit ∙ none, still_works, Served-append reply xs ys old mid new served serves)
-  Goes-after Quit xs ys old mid new (no_quit, works, served) (quits, still_works, serves) =
+  ComeTo-after Quit xs ys old mid new (no_quit, works, served) (quits, still_works, serves) =
       let both : Served reply (xs ++ before_quit quit ys) old new = Served-append reply xs (before_quit quit ys) old mid new served serves in
       (has_quit-append quit xs ys no_quit ∙ quits, still_works, subst (λ l. Served reply l old new) (sym (before_quit-append quit xs ys no_quit)) both)
-  Goes-after Unsent xs ys old mid new (no_quit, works, served) (fails, breaks) = (fails, Breaks-after xs ys old mid new no_quit served breaks)
+  ComeTo-after Unsent xs ys old mid new (no_quit, works, served) (fails, breaks) = (fails, BreaksOff-after xs ys old mid new no_quit served breaks)
 
-  pub Quit-more : (xs ys : List Line) (old new : Progress S) → Goes reply quit Quit xs old new → Goes reply quit Quit (xs ++ ys) old new
+  pub Quit-more : (xs ys : List Line) (old new : Progress S) → ComeTo reply quit Quit xs old new → ComeTo reply quit Quit (xs ++ ys) old new
   Quit-more xs ys old new (quits, works, served) =
       (has_quit-more quit xs ys quits, works, subst (λ l. Served reply l old new) (sym (before_quit-more quit xs ys quits)) served)
 
-  pub Unsent-more : (xs ys : List Line) (old new : Progress S) → Goes reply quit Unsent xs old new
-      → Goes reply quit Unsent (xs ++ ys) old new
-  Unsent-more xs ys old new q = (q.0, Breaks-more xs ys old new q.1)
+  pub Unsent-more : (xs ys : List Line) (old new : Progress S) → ComeTo reply quit Unsent xs old new
+      → ComeTo reply quit Unsent (xs ++ ys) old new
+  Unsent-more xs ys old new q = (q.0, BreaksOff-more xs ys old new q.1)
 
   -- one line, whose reply didn't go out
-  pub Goes-unsent : (line : Line) (old new : Progress S) (bytes : List ℕ) (count : ℕ) → new.failed ≡ true
+  pub ComeTo-unsent : (line : Line) (old new : Progress S) (bytes : List ℕ) (count : ℕ) → new.failed ≡ true
       → reply old.session line bytes new.session → Appends old.taken new.taken (take count bytes)
-      → Goes reply quit Unsent (line ∷ []) old new
-  Goes-unsent line old new bytes count fails said went = (
+      → ComeTo reply quit Unsent (line ∷ []) old new
+  ComeTo-unsent line old new bytes count fails said went = (
     fails,
     record {
       earlier = [];

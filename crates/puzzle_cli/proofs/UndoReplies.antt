@@ -14,7 +14,7 @@ use Rattle.puzzle_cli.specs.declared.command.Action.TheVariants.{Undo, Redo}
 use Rattle.puzzle_cli.specs.GameFacts.{GameFacts}
 use Rattle.puzzle_cli.specs.SessionReplies.{Outcome, text_outcome, ok_line}
 use Rattle.puzzle_cli.specs.Replies.{LineGives, left, plain_text}
-use Rattle.puzzle_cli.specs.RunLaws.{AnswersCall, Asks, IsMade, IsToldOf, UndoLineTakesBack, RedoLineTakesUndoBack}
+use Rattle.puzzle_cli.specs.RunLaws.{AnswersCall, Asks, IsMade, IsToldOfCall, UndoLineTakesBack, RedoLineTakesUndoBack}
 use Rattle.puzzle_cli.proofs.CommandLaws.{word_read}
 use Rattle.puzzle_cli.proofs.CallReplies.{lines_are_calls}
 
@@ -37,7 +37,7 @@ undo_said {P} f p h k outcome back (Err fault, last, (stays, (exact, gives, is))
 
 -- what was made was not refused: a solution's move is no sentence
 not_refused : {P : Type 0} (call : Call) (fault : PlayFault) (text : List ℕ) (k : History P) (new : Option (History P)) → IsMade call text
-    → IsToldOf call (Err fault) k (Ok (text, new)) → ⊥
+    → IsToldOfCall call (Err fault) k (Ok (text, new)) → ⊥
 not_refused ToSolution NoSolution text k new (g, made) told =
     let e : 83 ≡ 78 = ap (λ l. get_or l 0 0) (sym made ∙ ap plain_text told) in omega (arith, e)
 not_refused ToSolution SeveralSolutions text k new (g, made) told =

@@ -11,6 +11,7 @@ use Rattle.puzzle_cli.specs.declared.fault.Fault.{Fault}
 use Rattle.puzzle_cli.specs.declared.fault.Fault.TheVariants.{LoadFile, SaveFile, OutOfMemory}
 use Rattle.puzzle_cli.specs.declared.program.game_files.Unwritten.{Unwritten}
 use Rattle.puzzle_cli.specs.declared.program.game_files.Unwritten.TheVariants.{Failed, LeftAt}
+use Rattle.puzzle_cli.specs.Stages.{Stage}
 
 -- the text that a word of the command line gives
 abbrev pub Word : Type 0
@@ -36,32 +37,22 @@ IsToldAs other error fault =
     ((error_kind error ≡ NoMemory) × (fault ≡ OutOfMemory)) ⊎ ((error_kind error ≢ NoMemory) × (fault ≡ other))
 
 -- what is told of bytes that weren't written: the path where they stand all the same, if they do, or the error
-abbrev pub IsToldOf : Unwritten → Fault → Type 0
-IsToldOf (LeftAt path) fault = fault ≡ SaveFile (Some path)
-IsToldOf (Failed error) fault = IsToldAs (SaveFile None) error fault
+abbrev pub IsToldOfUnwritten : Unwritten → Fault → Type 0
+IsToldOfUnwritten (LeftAt path) fault = fault ≡ SaveFile (Some path)
+IsToldOfUnwritten (Failed error) fault = IsToldAs (SaveFile None) error fault
 
--- ---- the file to load
-
--- the bytes of the file, which was read once; or none, and no file was touched, where the words name no file
-abbrev pub IsLoaded : {F : Type 0} → Reads F → F → Option Word → Option (List ℕ) → F → Type 0
-IsLoaded reads old (Some path) bytes new =
+-- the file to load, read once: its bytes, or what is told of the error; none, and nothing is read, where none is named
+abbrev pub Loads : {F : Type 0} → Reads F → Option Word → Stage F (Option (List ℕ))
+Loads reads (Some path) old (Ok bytes) new =
     IsSomeAnd bytes (λ read. reads old (string_bytes path) most_read (Ok read) new)
-IsLoaded reads old None bytes new = (bytes ≡ None) × (new ≡ old)
+Loads reads (Some path) old (Err fault) new =
+    (error : Error) × reads old (string_bytes path) most_read (Err error) new × IsToldAs LoadFile error fault
+Loads reads None old result new = (result ≡ Ok None) × (new ≡ old)
 
--- the file was read once, which failed, and this says so
-abbrev pub IsUnread : {F : Type 0} → Reads F → F → Option Word → Fault → F → Type 0
-IsUnread reads old path fault new = IsSomeAnd path (λ name. (error : Error)
-    × reads old (string_bytes name) most_read (Err error) new × IsToldAs LoadFile error fault)
-
--- ---- the file to save to
-
--- the text was written once, where there is one and a file to save to; else no file was touched
-abbrev pub IsSaved : {F : Type 0} → Writes F → F → Option Word → Option (List ℕ) → F → Type 0
-IsSaved writes old (Some path) (Some text) new = writes old (string_bytes path) text None new
-IsSaved writes old (Some path) None new = new ≡ old
-IsSaved writes old None text new = new ≡ old
-
--- the text was to be written once, which failed, and this says so
-abbrev pub IsUnsaved : {F : Type 0} → Writes F → F → Option Word → Option (List ℕ) → Fault → F → Type 0
-IsUnsaved writes old path text fault new = IsSomeAnd path (λ name. IsSomeAnd text (λ bytes. (why : Unwritten)
-    × writes old (string_bytes name) bytes (Some why) new × IsToldOf why fault))
+-- the file to save to, written once, or what is told of the failure; nothing is written where none is named, or no text
+abbrev pub Saves : {F : Type 0} → Writes F → Option Word → Option (List ℕ) → Stage F (Unit {0})
+Saves writes (Some path) (Some text) old (Ok done) new = writes old (string_bytes path) text None new
+Saves writes (Some path) (Some text) old (Err fault) new =
+    (why : Unwritten) × writes old (string_bytes path) text (Some why) new × IsToldOfUnwritten why fault
+Saves writes (Some path) None old result new = (result ≡ Ok tt) × (new ≡ old)
+Saves writes None text old result new = (result ≡ Ok tt) × (new ≡ old)

@@ -1,6 +1,6 @@
 -- What the contracts of this crate cite. A line and its command: Lines, Commands; what is said and left: GameFacts,
 -- NewSessions, SessionReplies, Replies; in other words: Formats; the run: Texts, Machines, Runs; its laws: RunLaws; the
--- program: Starts, GameFiles, Programs. The others are texts and faults, and Inner the words of private steps.
+-- program: Starts, Stages, GameFiles, Programs. The others are texts and faults, and Inner the words of private steps.
 pub mod WholeLines
 pub mod Symbols
 pub mod TowersPicture
@@ -25,6 +25,7 @@ pub mod Faults
 pub mod Texts
 pub mod Machines
 pub mod Formats
+pub mod Stages
 pub mod GameFiles
 pub mod Programs
 pub mod RunLaws

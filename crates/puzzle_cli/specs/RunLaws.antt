@@ -128,15 +128,15 @@ IsMade ToSolution text = (g : GridValue) × (text ≡ move_line (Filling g))
 IsMade _ text = text ≡ ok_line
 
 -- what comes of a call's answer: the text; the refusal, or why there is no solution to fill in
-abbrev pub IsToldOf : {P : Type 0} → Call → Result (Unit {0}) PlayFault → History P → Outcome P → Type 0
-IsToldOf call (Ok u) new outcome = (text : List ℕ) × IsMade call text × (outcome ≡ text_outcome new text)
-IsToldOf call (Err fault) new outcome = outcome ≡ sentence_outcome new (call_sentence call fault) fault
+abbrev pub IsToldOfCall : {P : Type 0} → Call → Result (Unit {0}) PlayFault → History P → Outcome P → Type 0
+IsToldOfCall call (Ok u) new outcome = (text : List ℕ) × IsMade call text × (outcome ≡ text_outcome new text)
+IsToldOfCall call (Err fault) new outcome = outcome ≡ sentence_outcome new (call_sentence call fault) fault
 
 -- the session answered the call, and the outcome tells the answer and the session that the call left
 abbrev pub AnswersCall : {P : Type 0} → GameFacts P → History P → Call → Outcome P → Type 0
 AnswersCall {P} f h call outcome =
     (answer : Result (Unit {0}) PlayFault) × (new : History P)
-    × Answered (f.rules.puzzle h.puzzle) h call answer new × IsToldOf call answer new outcome
+    × Answered (f.rules.puzzle h.puzzle) h call answer new × IsToldOfCall call answer new outcome
 
 -- a line that asks for a call: the session answers the call, and this is what comes of it
 abbrev pub LinesAreCalls : {P : Type 0} → GameFacts P → Type 0

@@ -60,7 +60,7 @@ Served reply lines old new =
     (written : List ℕ) × RepliesInTurn reply lines old.session written new.session × Appends old.taken new.taken written
 
 -- the replies to earlier lines went out in full, and of the reply to the next one a front; none of the earlier is quit
-pub record Breaks {S : Type 0} (reply : ReplyRule S) (quit : Line → Bool) (lines : List Line)
+pub record BreaksOff {S : Type 0} (reply : ReplyRule S) (quit : Line → Bool) (lines : List Line)
     (old new : Progress S) : Type 0 where
   pub earlier : List Line
   pub line : Line
@@ -99,5 +99,5 @@ Ends reply quit ReadFault old new =
     × Served reply (ended_lines read) old.answers new.answers)
 Ends reply quit WriteFault old new =
     (new.read_failed ≡ false) × (new.answers.failed ≡ true) × ((read : List ℕ) × WereRead old new read
-    × ((AreAll new read × Breaks reply quit (all_lines read) old.answers new.answers)
-    ⊎ Breaks reply quit (ended_lines read) old.answers new.answers))
+    × ((AreAll new read × BreaksOff reply quit (all_lines read) old.answers new.answers)
+    ⊎ BreaksOff reply quit (ended_lines read) old.answers new.answers))

@@ -1,10 +1,8 @@
 //! The program: a game from the words of its command line to the file that it is saved to.
 
 ghost use Rattle.std.specs.Prelude.{◌≡◌, ◌≢◌, false, IfErr, OnOk};
-ghost use Rattle.std.specs.Result.{result_err};
 ghost use Rattle.puzzle_cli.specs.Faults.{fault_status};
 ghost use Rattle.puzzle_cli.specs.Programs.{IsGame, OfGame};
-ghost use Rattle.puzzle_cli.specs.Runs.{point_at};
 
 pub(crate) mod game_files;
 pub(crate) mod game_text;
@@ -40,14 +38,9 @@ pub fn play<T: Format<Towers> + Format<Unequal>, F: GameFiles, R: Source, W: Sin
     requires source { R.has_failed source.old ≡ false }
     requires sink { W.has_failed sink.old ≡ false }
     ensures game { OfGame args.now.game
-        (IsGame ⟦<Towers as Facts>⟧.facts ⟦<T as Format<Towers>>⟧.reply F.reads F.writes args.now
-        files.old files.new
-        (λ session. point_at R.Source W.Sink session source.old sink.old)
-        (λ session. point_at R.Source W.Sink session source.new sink.new) (result_err result))
-        (IsGame ⟦<Unequal as Facts>⟧.facts ⟦<T as Format<Unequal>>⟧.reply F.reads F.writes args.now
-        files.old files.new
-        (λ session. point_at R.Source W.Sink session source.old sink.old)
-        (λ session. point_at R.Source W.Sink session source.new sink.new) (result_err result)) }
+        (IsGame ⟦<Towers as Facts>⟧.facts ⟦<T as Format<Towers>>⟧.reply F.reads F.writes R.Source W.Sink args.now)
+        (IsGame ⟦<Unequal as Facts>⟧.facts ⟦<T as Format<Unequal>>⟧.reply F.reads F.writes R.Source W.Sink args.now)
+        (files.old, (source.old, sink.old)) result (files.new, (source.new, sink.new)) }
     ensures status { IfErr result (λ fault. fault_status fault ≢ 0) }
     ensures flushed { OnOk result (W.flushed sink.old ≡ W.taken sink.old
         → W.flushed sink.new ≡ W.taken sink.new) }
@@ -59,7 +52,6 @@ pub fn play<T: Format<Towers> + Format<Unequal>, F: GameFiles, R: Source, W: Sin
 }
 
 // Plays this game so, whichever the words name.
-#[tactic(auto, using(crate::proofs::UnplayedGames::unread_game))]
 fn play_as<T: Format<P>, P: Draw, F: GameFiles, R: Source, W: Sink>(
     alloc: Global,
     args: &Args,
@@ -69,9 +61,8 @@ fn play_as<T: Format<P>, P: Draw, F: GameFiles, R: Source, W: Sink>(
 ) -> Result<(), Fault>
     requires source { R.has_failed source.old ≡ false }
     requires sink { W.has_failed sink.old ≡ false }
-    ensures game { IsGame ⟦<P as Facts>⟧.facts T.reply F.reads F.writes args.now files.old files.new
-        (λ session. point_at R.Source W.Sink session source.old sink.old)
-        (λ session. point_at R.Source W.Sink session source.new sink.new) (result_err result) }
+    ensures game { IsGame ⟦<P as Facts>⟧.facts T.reply F.reads F.writes R.Source W.Sink args.now
+        (files.old, (source.old, sink.old)) result (files.new, (source.new, sink.new)) }
     ensures status { IfErr result (λ fault. fault_status fault ≢ 0) }
     ensures flushed { OnOk result (W.flushed sink.old ≡ W.taken sink.old
         → W.flushed sink.new ≡ W.taken sink.new) }

@@ -1,11 +1,8 @@
 //! The program as one expression: from the words of a process to a status, over files and streams.
 
-ghost use Rattle.std.specs.Prelude.{◌≡◌, false, List, Result, map, string_bytes};
-ghost use Rattle.std.specs.Result.{result_err};
-ghost use Rattle.puzzle_cli.specs.GameFiles.{Word};
-ghost use Rattle.puzzle_cli.specs.Programs.{OfGame};
-ghost use Rattle.puzzle_cli.specs.declared.start.command_fault.CommandFault.{CommandFault};
-ghost use Rattle.puzzles.specs.WholePrograms.{IsGameIn, IsOfWords, IsProgram, world};
+ghost use Rattle.std.specs.Prelude.{◌≡◌, false};
+ghost use Rattle.puzzle_cli.specs.Programs.{IsGame, OfGame};
+ghost use Rattle.puzzles.specs.WholePrograms.{IsOfWords, IsProgram};
 
 use crate::json_texts::PUZZLES_JSON;
 use crate::process_words::{Words, args};
@@ -35,21 +32,14 @@ pub(crate) fn program<T: Eprint, A: Words, F: GameFiles, R: Source, W: Sink>(
 ) -> Result<(), Fault>
     requires source { R.has_failed source.old ≡ false }
     requires sink { W.has_failed sink.old ≡ false }
-    ensures { let old = world files.old source.old sink.old in let new = world files.new source.new sink.new in
-        (given : Result (List Word) CommandFault) × A.gives words.now given × IsProgram old new given
-        (λ list. IsOfWords old new list (λ args fault. OfGame args.game
-        (IsGameIn ⟦<Towers as Facts>⟧.facts ⟦<Plain as Format<Towers>>⟧.reply F.reads F.writes R.Source W.Sink old new
-        args fault)
-        (IsGameIn ⟦<Unequal as Facts>⟧.facts ⟦<Plain as Format<Unequal>>⟧.reply F.reads F.writes R.Source W.Sink old new
-        args fault))
-        (result_err result))
-        (λ list. IsOfWords old new list (λ args fault. OfGame args.game
-        (IsGameIn ⟦<Towers as Facts>⟧.facts ⟦<Json as Format<Towers>>⟧.reply F.reads F.writes R.Source W.Sink old new
-        args fault)
-        (IsGameIn ⟦<Unequal as Facts>⟧.facts ⟦<Json as Format<Unequal>>⟧.reply F.reads F.writes R.Source W.Sink old new
-        args fault))
-        (result_err result))
-        (result_err result) }
+    ensures { IsProgram (A.gives words.now)
+        (λ args. OfGame args.game
+        (IsGame ⟦<Towers as Facts>⟧.facts ⟦<Plain as Format<Towers>>⟧.reply F.reads F.writes R.Source W.Sink args)
+        (IsGame ⟦<Unequal as Facts>⟧.facts ⟦<Plain as Format<Unequal>>⟧.reply F.reads F.writes R.Source W.Sink args))
+        (λ args. OfGame args.game
+        (IsGame ⟦<Towers as Facts>⟧.facts ⟦<Json as Format<Towers>>⟧.reply F.reads F.writes R.Source W.Sink args)
+        (IsGame ⟦<Unequal as Facts>⟧.facts ⟦<Json as Format<Unequal>>⟧.reply F.reads F.writes R.Source W.Sink args))
+        (files.old, (source.old, sink.old)) result (files.new, (source.new, sink.new)) }
 {
     let words = match words.words() {
         Ok(words) => words,
@@ -77,7 +67,6 @@ pub(crate) fn program<T: Eprint, A: Words, F: GameFiles, R: Source, W: Sink>(
 }
 
 // Reads the words and plays the game.
-#[tactic(auto, using(crate::proofs::WholeGames::of_args))]
 fn play_words<N: Format<Towers> + Format<Unequal>, T: Eprint, F: GameFiles, R: Source, W: Sink>(
     rt: &T,
     alloc: Global,
@@ -90,13 +79,11 @@ fn play_words<N: Format<Towers> + Format<Unequal>, T: Eprint, F: GameFiles, R: S
 ) -> Result<(), Fault>
     requires source { R.has_failed source.old ≡ false }
     requires sink { W.has_failed sink.old ≡ false }
-    ensures { let old = world files.old source.old sink.old in let new = world files.new source.new sink.new in
-        IsOfWords old new words.now (λ args fault. OfGame args.game
-        (IsGameIn ⟦<Towers as Facts>⟧.facts ⟦<N as Format<Towers>>⟧.reply F.reads F.writes R.Source W.Sink old new args
-        fault)
-        (IsGameIn ⟦<Unequal as Facts>⟧.facts ⟦<N as Format<Unequal>>⟧.reply F.reads F.writes R.Source W.Sink old new
-        args fault))
-        (result_err result) }
+    ensures { IsOfWords
+        (λ args. OfGame args.game
+        (IsGame ⟦<Towers as Facts>⟧.facts ⟦<N as Format<Towers>>⟧.reply F.reads F.writes R.Source W.Sink args)
+        (IsGame ⟦<Unequal as Facts>⟧.facts ⟦<N as Format<Unequal>>⟧.reply F.reads F.writes R.Source W.Sink args))
+        words.now (files.old, (source.old, sink.old)) result (files.new, (source.new, sink.new)) }
 {
     match args(alloc, texts, words) {
         Ok(args) => {

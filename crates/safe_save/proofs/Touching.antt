@@ -1,7 +1,7 @@
 -- Calls that touch one name, one after the other.
 use Rattle.std.proofs.Common.{inl, inr, ⊎_elim, ℕ, List, refl, ◌∙◌, arith}
 use Rattle.std.specs.Prelude.{Result, Ok, Err, OnOk}
-use Rattle.safe_save.specs.Folder.{Image, FolderState, Touched, Follows, Elapses, KeepsFaults}
+use Rattle.safe_save.specs.Folder.{Image, FolderState, Touched, LeavesChanged, Elapses, KeepsFaults}
 use Rattle.safe_save.specs.Save.{IsTouchedFrom, TouchesOnly}
 
 -- at this moment a crash leaves nothing that it couldn't leave
@@ -9,7 +9,7 @@ abbrev pub IsNow : FolderState → Type 0
 IsNow state = (f : Image) → state.left_since state.moment f → state.may_leave f
 
 -- one call
-pub by_call : (name : List ℕ) (old new : FolderState) → IsNow old → Touched name old.stands new.stands → Follows (Touched name) old new → Elapses (Touched name) old new → KeepsFaults old new → TouchesOnly name old new
+pub by_call : (name : List ℕ) (old new : FolderState) → IsNow old → Touched name old.stands new.stands → LeavesChanged (Touched name) old new → Elapses (Touched name) old new → KeepsFaults old new → TouchesOnly name old new
 by_call name old new now others crash time faults = record {
   others = others;
   crash = crash;

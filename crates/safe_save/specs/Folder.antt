@@ -72,8 +72,8 @@ abbrev pub WidensNoOther : List ℕ → FolderState → FolderState → Type 0
 WidensNoOther name old new = (n : List ℕ) → n ≢ name → NoWider n n old new
 
 -- each image that a crash may leave now is one that it could leave before, changed so
-abbrev pub Follows : (Image → Image → Type 0) → FolderState → FolderState → Type 0
-Follows change old new = (f : Image) → new.may_leave f → (g : Image) × old.may_leave g × change g f
+abbrev pub LeavesChanged : (Image → Image → Type 0) → FolderState → FolderState → Type 0
+LeavesChanged change old new = (f : Image) → new.may_leave f → (g : Image) × old.may_leave g × change g f
 
 -- a crash leaves at the name what stands there
 abbrev pub IsDurable : List ℕ → FolderState → Type 0

@@ -1,6 +1,7 @@
 -- What a save promises.
 use Rattle.std.specs.Prelude.{◌≡◌, ◌⊎◌, ℕ, List, Some, IsSome, Result, Err}
-use Rattle.safe_save.specs.Folder.{Image, FolderState, Touched, Follows, LeavesOnly, KeepsFaults, FailedWith, HasFailed}
+use Rattle.safe_save.specs.Folder.{Image, FolderState, Touched, LeavesChanged, LeavesOnly, KeepsFaults, FailedWith}
+use Rattle.safe_save.specs.Folder.{HasFailed}
 use Rattle.safe_save.specs.declared.folder.FolderCall.{FolderCall}
 use Rattle.safe_save.specs.declared.folder.FolderCall.TheVariants.{OpenNew, Write, TakeAfter, Flush, Rename, Overwrite}
 use Rattle.safe_save.specs.declared.folder.FolderCall.TheVariants.{Remove}
@@ -34,28 +35,28 @@ abbrev pub RenameRefused : FolderState → FolderState → Type 0
 RenameRefused old new = FailedWith Rename Refused old new
 
 -- at the name stands what stood there
-abbrev pub Keeps : List ℕ → FolderState → FolderState → Type 0
-Keeps name old new = new.stands name ≡ old.stands name
+abbrev pub KeepsName : List ℕ → FolderState → FolderState → Type 0
+KeepsName name old new = new.stands name ≡ old.stands name
 
 -- at the path stands what stood there, unless a rename was refused and an overwrite failed
 abbrev pub KeepsPath : List ℕ → FolderState → FolderState → Type 0
-KeepsPath path old new = Keeps path old new ⊎ (RenameRefused old new × HasFailed Overwrite old new)
+KeepsPath path old new = KeepsName path old new ⊎ (RenameRefused old new × HasFailed Overwrite old new)
 
 -- beside stands what stood there, unless a removal failed
 abbrev pub KeepsBeside : List ℕ → FolderState → FolderState → Type 0
-KeepsBeside beside old new = Keeps beside old new ⊎ HasFailed Remove old new
+KeepsBeside beside old new = KeepsName beside old new ⊎ HasFailed Remove old new
 
 -- a call is one of those that make and fill the new file
-abbrev pub IsFilling : FolderCall → Type 0
-IsFilling OpenNew = Unit {0}
-IsFilling TakeAfter = Unit {0}
-IsFilling Write = Unit {0}
-IsFilling Flush = Unit {0}
-IsFilling call = ⊥
+abbrev pub MakesNewFile : FolderCall → Type 0
+MakesNewFile OpenNew = Unit {0}
+MakesNewFile TakeAfter = Unit {0}
+MakesNewFile Write = Unit {0}
+MakesNewFile Flush = Unit {0}
+MakesNewFile call = ⊥
 
 -- a call that makes or fills the new file has failed
 abbrev pub FillFailed : FolderState → FolderState → Type 0
-FillFailed old new = (call : FolderCall) × IsFilling call × HasFailed call old new
+FillFailed old new = (call : FolderCall) × MakesNewFile call × HasFailed call old new
 
 -- a crash could have left at the path, before, what this image has there
 abbrev pub CouldStand : List ℕ → FolderState → Image → Type 0
@@ -83,6 +84,6 @@ IsTouchedFrom name old f = (g : Image) × old.may_leave g × Touched name g f
 -- this name alone has changed, now and in a crash at any moment since, and no fault is forgotten
 pub record TouchesOnly (name : List ℕ) (old new : FolderState) : Type 0 where
   pub others : Touched name old.stands new.stands
-  pub crash : Follows (Touched name) old new
+  pub crash : LeavesChanged (Touched name) old new
   pub any_moment : LeavesOnly old new (IsTouchedFrom name old)
   pub faults : KeepsFaults old new

@@ -3,20 +3,20 @@ use Rattle.std.specs.Prelude.{◌≡◌, ◌⊎◌, ℕ, List, All, Some, IsSome
 use Rattle.std.specs.IoError.{error_kind}
 use Rattle.std.specs.declared.io.ErrorKind.TheVariants.{AlreadyExists, Other}
 use Rattle.safe_save.specs.Folder.{FolderState, HasFailed}
-use Rattle.safe_save.specs.Save.{FillFailed, IsLeftBeside, Keeps}
+use Rattle.safe_save.specs.Save.{FillFailed, IsLeftBeside, KeepsName}
 use Rattle.safe_save.specs.declared.folder.FolderCall.TheVariants.{FlushFolder, Rename}
 use Rattle.safe_save.specs.declared.target.Unsaved.{Unsaved}
 use Rattle.safe_save.specs.declared.target.Unsaved.TheVariants.{Failed, LeftBeside}
 
 -- where it is told as left beside, the bytes stand at the path that is told, also in a crash; otherwise at the path is
 -- what stood there, or it has the bytes
-abbrev pub IsToldOf : List ℕ → List ℕ → FolderState → FolderState → Unsaved → Type 0
-IsToldOf path bytes old new (LeftBeside beside) = IsLeftBeside path (string_bytes beside) bytes new
-IsToldOf path bytes old new (Failed error) = Keeps path old new ⊎ (new.stands path ≡ Some bytes)
+abbrev pub IsToldOfUnsaved : List ℕ → List ℕ → FolderState → FolderState → Unsaved → Type 0
+IsToldOfUnsaved path bytes old new (LeftBeside beside) = IsLeftBeside path (string_bytes beside) bytes new
+IsToldOfUnsaved path bytes old new (Failed error) = KeepsName path old new ⊎ (new.stands path ≡ Some bytes)
 
 -- no new file can be made at the name: it is the path, or something stands there
-abbrev pub IsTaken : List ℕ → FolderState → List ℕ → Type 0
-IsTaken path state name = (name ≡ path) ⊎ IsSome (state.stands name)
+abbrev pub IsInUse : List ℕ → FolderState → List ℕ → Type 0
+IsInUse path state name = (name ≡ path) ⊎ IsSome (state.stands name)
 
 -- a call that makes or fills the new file has failed, or the flush of the folder
 abbrev pub CallFailed : FolderState → FolderState → Type 0
@@ -28,4 +28,4 @@ abbrev pub HasItsCause : List ℕ → List (List ℕ) → FolderState → Folder
 HasItsCause path names old new (LeftBeside beside) = HasFailed Rename old new
 HasItsCause path names old new (Failed error) =
     ((error_kind error ≡ Other) × CallFailed old new)
-    ⊎ ((error_kind error ≡ AlreadyExists) × All (IsTaken path old) names)
+    ⊎ ((error_kind error ≡ AlreadyExists) × All (IsInUse path old) names)

@@ -1,7 +1,7 @@
 //! The changes of a folder over memory.
 
 ghost use Rattle.std.specs.Prelude.{◌≡◌, ◌≢◌, Some, None, option_map, IfOk, OnOk, OnErr};
-ghost use Rattle.safe_save.specs.Folder.{Touched, TouchedBoth, Appended, Moved, MayMove, Follows, Elapses};
+ghost use Rattle.safe_save.specs.Folder.{Touched, TouchedBoth, Appended, Moved, MayMove, LeavesChanged, Elapses};
 ghost use Rattle.safe_save.specs.Changes.{image_of, IsChanged, StandsSame, ChangesGoOn, content_told};
 
 use std::alloc::{AllocError, Global};
@@ -81,7 +81,7 @@ pub(crate) fn set_content(
         ≡ option_map (λ bytes. bytes.items) content) }
     ensures kept { OnErr result (StandsSame changes.old.items changes.new.items) }
     ensures others { Touched name.now (image_of changes.old.items) (image_of changes.new.items) }
-    ensures crash { Follows (Touched name.now)
+    ensures crash { LeavesChanged (Touched name.now)
         (content_told changes.old.items) (content_told changes.new.items) }
     ensures time { Elapses (Touched name.now)
         (content_told changes.old.items) (content_told changes.new.items) }
@@ -99,7 +99,7 @@ pub(crate) fn put(
     ensures set { OnOk result (image_of changes.new.items name.now ≡ Some bytes.now) }
     ensures kept { OnErr result (StandsSame changes.old.items changes.new.items) }
     ensures others { Touched name.now (image_of changes.old.items) (image_of changes.new.items) }
-    ensures crash { Follows (Touched name.now)
+    ensures crash { LeavesChanged (Touched name.now)
         (content_told changes.old.items) (content_told changes.new.items) }
     ensures time { Elapses (Touched name.now)
         (content_told changes.old.items) (content_told changes.new.items) }
@@ -134,7 +134,7 @@ pub(crate) fn append(
         (image_of changes.old.items) (image_of changes.new.items)) }
     ensures kept { OnErr result (StandsSame changes.old.items changes.new.items) }
     ensures others { Touched name.now (image_of changes.old.items) (image_of changes.new.items) }
-    ensures crash { Follows (Touched name.now)
+    ensures crash { LeavesChanged (Touched name.now)
         (content_told changes.old.items) (content_told changes.new.items) }
     ensures time { Elapses (Touched name.now)
         (content_told changes.old.items) (content_told changes.new.items) }
@@ -161,7 +161,7 @@ pub(crate) fn move_content(
     ensures kept { OnErr result (StandsSame changes.old.items changes.new.items) }
     ensures others { TouchedBoth from.now to.now
         (image_of changes.old.items) (image_of changes.new.items) }
-    ensures crash { Follows (MayMove from.now to.now)
+    ensures crash { LeavesChanged (MayMove from.now to.now)
         (content_told changes.old.items) (content_told changes.new.items) }
     ensures time { Elapses (MayMove from.now to.now)
         (content_told changes.old.items) (content_told changes.new.items) }

@@ -2,7 +2,8 @@
 
 ghost use Rattle.std.specs.Prelude.{◌≡◌, ◌≢◌, ◌≤◌, ℕ, Some, None, [], IsSome, OnOk, OnErr, IsErrOf};
 ghost use Rattle.safe_save.specs.Folder.{Image, FolderState, Same, Touched, TouchedBoth, Appended, Moved, MayMove};
-ghost use Rattle.safe_save.specs.Folder.{Follows, IsDurable, Elapses, HasCause, NoWider, WidensNone, WidensNoOther};
+ghost use Rattle.safe_save.specs.Folder.{LeavesChanged, IsDurable, Elapses, HasCause, NoWider, WidensNone};
+ghost use Rattle.safe_save.specs.Folder.{WidensNoOther};
 
 /// Why a call of a folder failed.
 #[derive(Clone, Copy, Debug, PartialEq, Eq)]
@@ -57,7 +58,7 @@ pub trait Folder {
         ensures taken { tells → IsErrOf result FolderFault.Taken
             → IsSome ((state self.old).stands name.now) }
         ensures others { tells → Touched name.now (state self.old).stands (state self.new).stands }
-        ensures crash { tells → Follows (Touched name.now) (state self.old) (state self.new) }
+        ensures crash { tells → LeavesChanged (Touched name.now) (state self.old) (state self.new) }
         ensures time { tells → Elapses (Touched name.now) (state self.old) (state self.new) }
         ensures readers { tells → WidensNone (state self.old) (state self.new) }
         ensures cause { tells → HasCause FolderCall.OpenNew (state self.old) (state self.new) result };
@@ -69,7 +70,7 @@ pub trait Folder {
         ensures written { tells → OnOk result (Appended name.now bytes.now
             (state self.old).stands (state self.new).stands) }
         ensures others { tells → Touched name.now (state self.old).stands (state self.new).stands }
-        ensures crash { tells → Follows (Touched name.now) (state self.old) (state self.new) }
+        ensures crash { tells → LeavesChanged (Touched name.now) (state self.old) (state self.new) }
         ensures time { tells → Elapses (Touched name.now) (state self.old) (state self.new) }
         ensures readers { tells → WidensNone (state self.old) (state self.new) }
         ensures cause { tells → HasCause FolderCall.Write (state self.old) (state self.new) result };
@@ -80,7 +81,7 @@ pub trait Folder {
     /// No content changes, after a fault neither.
     fn take_after(&mut self, name: &str, path: &str) -> Result<(), FolderFault>
         ensures kept { tells → Same (state self.old).stands (state self.new).stands }
-        ensures crash { tells → Follows (Touched name.now) (state self.old) (state self.new) }
+        ensures crash { tells → LeavesChanged (Touched name.now) (state self.old) (state self.new) }
         ensures time { tells → Elapses (Touched name.now) (state self.old) (state self.new) }
         ensures rights { tells → OnOk result (NoWider name.now path.now (state self.old) (state self.new)) }
         ensures readers { tells → WidensNoOther name.now (state self.old) (state self.new) }
@@ -93,7 +94,7 @@ pub trait Folder {
         ensures kept { tells → OnOk result (Same (state self.old).stands (state self.new).stands) }
         ensures durable { tells → OnOk result (IsDurable name.now (state self.new)) }
         ensures others { tells → Touched name.now (state self.old).stands (state self.new).stands }
-        ensures crash { tells → Follows (Touched name.now) (state self.old) (state self.new) }
+        ensures crash { tells → LeavesChanged (Touched name.now) (state self.old) (state self.new) }
         ensures time { tells → Elapses (Touched name.now) (state self.old) (state self.new) }
         ensures readers { tells → WidensNone (state self.old) (state self.new) }
         ensures cause { tells → HasCause FolderCall.Flush (state self.old) (state self.new) result };
@@ -108,10 +109,10 @@ pub trait Folder {
             (state self.new).stands) }
         ensures kept { tells → OnErr result (Same (state self.old).stands (state self.new).stands) }
         ensures refused { tells → IsErrOf result FolderFault.Refused
-            → Follows Same (state self.old) (state self.new) }
+            → LeavesChanged Same (state self.old) (state self.new) }
         ensures others { tells → TouchedBoth from.now to.now (state self.old).stands
             (state self.new).stands }
-        ensures crash { tells → Follows (MayMove from.now to.now) (state self.old)
+        ensures crash { tells → LeavesChanged (MayMove from.now to.now) (state self.old)
             (state self.new) }
         ensures time { tells → Elapses (MayMove from.now to.now) (state self.old) (state self.new) }
         ensures rights { tells → OnOk result (NoWider to.now from.now (state self.old) (state self.new)) }
@@ -126,7 +127,7 @@ pub trait Folder {
         ensures written { tells → OnOk result ((state self.new).stands name.now ≡ Some bytes.now) }
         ensures durable { tells → OnOk result (IsDurable name.now (state self.new)) }
         ensures others { tells → Touched name.now (state self.old).stands (state self.new).stands }
-        ensures crash { tells → Follows (Touched name.now) (state self.old) (state self.new) }
+        ensures crash { tells → LeavesChanged (Touched name.now) (state self.old) (state self.new) }
         ensures time { tells → Elapses (Touched name.now) (state self.old) (state self.new) }
         ensures readers { tells → WidensNone (state self.old) (state self.new) }
         ensures cause { tells → HasCause FolderCall.Overwrite (state self.old) (state self.new) result };
@@ -136,7 +137,7 @@ pub trait Folder {
         ensures gone { tells → OnOk result ((state self.new).stands name.now ≡ None) }
         ensures kept { tells → OnErr result (Same (state self.old).stands (state self.new).stands) }
         ensures others { tells → Touched name.now (state self.old).stands (state self.new).stands }
-        ensures crash { tells → Follows (Touched name.now) (state self.old) (state self.new) }
+        ensures crash { tells → LeavesChanged (Touched name.now) (state self.old) (state self.new) }
         ensures time { tells → Elapses (Touched name.now) (state self.old) (state self.new) }
         ensures readers { tells → WidensNone (state self.old) (state self.new) }
         ensures cause { tells → HasCause FolderCall.Remove (state self.old) (state self.new) result };
@@ -145,7 +146,7 @@ pub trait Folder {
     fn flush_folder(&mut self, path: &str) -> Result<(), FolderFault>
         ensures kept { tells → Same (state self.old).stands (state self.new).stands }
         ensures durable { tells → OnOk result (IsDurable path.now (state self.new)) }
-        ensures crash { tells → Follows Same (state self.old) (state self.new) }
+        ensures crash { tells → LeavesChanged Same (state self.old) (state self.new) }
         ensures time { tells → Elapses Same (state self.old) (state self.new) }
         ensures readers { tells → WidensNone (state self.old) (state self.new) }
         ensures cause { tells → HasCause FolderCall.FlushFolder (state self.old)

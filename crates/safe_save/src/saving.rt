@@ -2,7 +2,7 @@
 
 ghost use Rattle.std.specs.Prelude.{◌≡◌, ◌≢◌, ◌⊎◌, Some, None, [], IsSome, OnOk, OnErr, IsErrOf};
 ghost use Rattle.safe_save.specs.Folder.{Same, TouchedBoth, LeavesOnly, KeepsFaults, HasFailed, NoWider, WidensNoOther};
-ghost use Rattle.safe_save.specs.Save.{IsStored, IsLeftBeside, IsGivenUp, IsCleared, Keeps, KeepsPath, KeepsBeside};
+ghost use Rattle.safe_save.specs.Save.{IsStored, IsLeftBeside, IsGivenUp, IsCleared, KeepsName, KeepsPath, KeepsBeside};
 ghost use Rattle.safe_save.specs.Save.{FillFailed, IsOldOrNew, IsAtEither, ReadAsEither, TouchesOnly};
 
 use crate::folder::{Folder, FolderCall, FolderFault};
@@ -41,7 +41,7 @@ pub fn save<F: Folder>(
     // Where the name is taken, each name has what it had; where the save is given up, the path has.
     ensures unchanged { F.tells → IsErrOf result SaveFault.Taken
         → Same (F.state folder.old).stands (F.state folder.new).stands }
-    ensures kept { F.tells → IsGivenUp result → Keeps path.now (F.state folder.old) (F.state folder.new) }
+    ensures kept { F.tells → IsGivenUp result → KeepsName path.now (F.state folder.old) (F.state folder.new) }
 
     // The bytes stand beside, and the path is as it was, unless a rename was refused and an overwrite failed.
     ensures left { F.tells → IsErrOf result SaveFault.LeftBeside

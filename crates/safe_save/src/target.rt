@@ -5,7 +5,7 @@
 ghost use Rattle.std.specs.Prelude.{◌≡◌, length, map, string_bytes, IfErr, IfOk, OnOk};
 ghost use Rattle.safe_save.specs.Folder.{NoWider};
 ghost use Rattle.safe_save.specs.Save.{IsStored};
-ghost use Rattle.safe_save.specs.Targets.{HasItsCause, IsToldOf};
+ghost use Rattle.safe_save.specs.Targets.{HasItsCause, IsToldOfUnsaved};
 
 use crate::files::{FilesFolder, Standing, folder_of};
 use crate::folder::Folder;
@@ -154,7 +154,7 @@ fn save_beside<F: Folder>(
 ) -> Result<(), Unsaved>
     ensures saved { F.tells → OnOk result (IsStored path.now bytes.now (F.state folder.new)) }
     ensures unsaved { F.tells → IfErr result (λ fault.
-        IsToldOf path.now bytes.now (F.state folder.old) (F.state folder.new) fault) }
+        IsToldOfUnsaved path.now bytes.now (F.state folder.old) (F.state folder.new) fault) }
     ensures cause { F.tells → IfErr result (λ fault.
         HasItsCause path.now (map string_bytes names.items) (F.state folder.old) (F.state folder.new) fault) }
     ensures private { F.tells → NoWider path.now path.now (F.state folder.old) (F.state folder.new) }

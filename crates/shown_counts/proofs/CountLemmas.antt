@@ -7,7 +7,7 @@ use Rattle.number_sets.proofs.Members.{has_number-none}
 use Rattle.tower_lines.specs.LineFillings.{IsFilling, IsSupported}
 use Rattle.tower_lines.specs.TowersSeen.{seen}
 use Rattle.tower_lines.proofs.SeenLemmas.{seen_most, seen_some}
-use Rattle.shown_counts.specs.Inner.Counted.{IsAlone, AreCounts, AreCountsBelow, AreCountsOf, AreKeptBelow}
+use Rattle.shown_counts.specs.Inner.Counted.{HasAlone, AreCounts, AreCountsBelow, AreCountsOf, AreKeptBelow}
 
 -- a line of some squares shows one tower at least, and no more than it has squares
 pub supported_range : (sets : List ℕ) (clue place value : ℕ) → IsSupported sets clue place value → (1 ≤ clue) × (clue ≤ length sets)
@@ -32,7 +32,7 @@ filling_by sets others clue line same candidates f = record {
 
 -- with the value alone at the place a row has a filling exactly where the value is supported there
 pub alone_supported : (row alone : List ℕ) (w place value clue : ℕ) → w ≤ 9 → place < w → has_number (slice_index row place) value ≡ true
-    → IsAlone row place value alone → ((line : List ℕ) × IsFilling (take w alone) clue line) ↔ IsSupported (take w row) clue place value
+    → HasAlone row place value alone → ((line : List ℕ) × IsFilling (take w alone) clue line) ↔ IsSupported (take w row) clue place value
 alone_supported row alone w place value clue small low has a =
     let long : length (take w row) ≡ w = length-take-le w row (omega (arith, a.before)) in
     let long_alone : length (take w alone) ≡ w = length-take-le w alone (omega (arith, a.count)) in

@@ -9,12 +9,12 @@ use Rattle.clue_rules.specs.Fillings.{Anything, Standing}
 use Rattle.named_steps.proofs.Supports.{filled_supported}
 use Rattle.clue_rules.specs.declared.reason.Reason.{Reason}
 use Rattle.clue_rules.specs.declared.reason.Reason.TheVariants.{Given, Peer, Place, Bound, Stand, Clue, Sign, Set}
-use Rattle.shown_counts.specs.Shown.{IsShown, AreShown, ClueRow, IsRowFrom, IsRowOf}
+use Rattle.shown_counts.specs.Shown.{CanShow, AreShown, ClueRow, IsRowFrom, IsRowOf}
 use Rattle.shown_counts.specs.Inner.Counted.{AreCountsOf}
 
 row_shown : (w : ℕ) (May : ℕ → ℕ → Type 0) (place : ℕ) (row : ClueRow) (cell k values : ℕ) (shows : List ℕ) → row.size ≤ 9 → IsRowFrom w May place row
     → k < row.size → view_cell row.size row.place k ≡ cell → AreCountsOf (take row.size row.row) k values shows
-    → (v count : ℕ) → has_number values v ≡ true → (has_number (slice_index shows v) count ≡ true) ↔ IsShown w May place cell v count
+    → (v count : ℕ) → has_number values v ≡ true → (has_number (slice_index shows v) count ≡ true) ↔ CanShow w May place cell v count
 row_shown w May place row cell k values shows small r inside at counts v count one =
     let low : k < w = subst (λ n. k < n) r.size inside in
     let here : view_cell w place k ≡ cell =

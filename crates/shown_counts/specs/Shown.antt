@@ -10,7 +10,7 @@ use Rattle.clue_rules.specs.declared.reason.Reason.{Reason}
 use Rattle.clue_rules.specs.declared.reason.Reason.TheVariants.{Given, Peer, Place, Bound, Stand, Clue, Sign, Set}
 
 -- some line from the place, by what may stand in its squares, has the value in the square and shows so many towers
-pub record IsShown (w : ℕ) (May : ℕ → ℕ → Type 0) (place cell value count : ℕ) : Type 0 where
+pub record CanShow (w : ℕ) (May : ℕ → ℕ → Type 0) (place cell value count : ℕ) : Type 0 where
   pub edge : place < 4 * w
   pub index : ℕ
   pub inside : index < w
@@ -24,9 +24,9 @@ abbrev pub IsShownBy : CandidatesValue → Reason → ℕ → ℕ → ℕ → Ty
 IsShownBy c (Given at) cell value count = ⊥
 IsShownBy c (Peer by) cell value count = ⊥
 IsShownBy c (Place line index other) cell value count = ⊥
-IsShownBy c (Bound place) cell value count = IsShown c.size Anything place cell value count
-IsShownBy c (Stand place) cell value count = IsShown c.size (Standing c) place cell value count
-IsShownBy c (Clue place) cell value count = IsShown c.size (IsLeft c) place cell value count
+IsShownBy c (Bound place) cell value count = CanShow c.size Anything place cell value count
+IsShownBy c (Stand place) cell value count = CanShow c.size (Standing c) place cell value count
+IsShownBy c (Clue place) cell value count = CanShow c.size (IsLeft c) place cell value count
 IsShownBy c (Sign from to) cell value count = ⊥
 IsShownBy c (Set line squares values) cell value count = ⊥
 

@@ -8,7 +8,7 @@ ghost use Rattle.trail_solver.specs.Candidates.{CandidatesValue};
 ghost use Rattle.clue_rules.specs.declared.reason.Reason.{Reason};
 ghost use Rattle.named_steps.specs.Inner.Rows.{May};
 ghost use Rattle.shown_counts.specs.Shown.{AreShown, IsRowFrom, IsRowOf, IsLineOf};
-ghost use Rattle.shown_counts.specs.Inner.Counted.{IsAlone, AreCountsOf, AreKeptBelow};
+ghost use Rattle.shown_counts.specs.Inner.Counted.{HasAlone, AreCountsOf, AreKeptBelow};
 
 use clue_rules::view_cell;
 use latin_board::Size;
@@ -33,13 +33,13 @@ pub struct ClueCounts {
 
 impl Model for ClueCounts {
     ghost use Rattle.shown_counts.specs.Shown.{ClueRow};
-    ghost use Rattle.shown_counts.specs.Inner.Counted.{IsFound};
+    ghost use Rattle.shown_counts.specs.Inner.Counted.{IsRowFound};
 
     ghost Value = { ClueRow };
 
     ghost view = { λ k. record { size = k.size; place = k.place; row = k.row } };
 
-    ghost invariant = { λ k. IsFound k.size k.place k.row k.kept };
+    ghost invariant = { λ k. IsRowFound k.size k.place k.row k.kept };
 }
 
 impl ClueCounts {
@@ -194,7 +194,7 @@ fn has_alone(row: &[NumberSet; 9], width: u8, index: u8, value: u8, count: u8) -
 fn with_alone(row: &[NumberSet; 9], index: u8, value: u8) -> [NumberSet; 9]
     requires index { index < 9 }
     requires value { value < 16 }
-    ensures { IsAlone row.now index value result }
+    ensures { HasAlone row.now index value result }
 {
     let mut alone = *row;
     alone[index as usize] = NumberSet::one(value);

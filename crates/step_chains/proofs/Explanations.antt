@@ -10,6 +10,8 @@ use Rattle.trail_solver.specs.Candidates.{CandidatesValue}
 use Rattle.clue_rules.specs.Left.{IsLeft, IsFewer}
 use Rattle.named_steps.specs.Chains.{StepValue, Shows, IsShown, IsTight, IsView, IsExplained, left_by}
 use Rattle.named_steps.specs.Following.{IsSettled, IsClosure}
+use Rattle.named_steps.specs.Passes.{LeadsTo}
+use Rattle.named_steps.proofs.Leads.{leads_size}
 use Rattle.named_steps.proofs.Antitone.{IsAntitone, chain_less, chain_settled, closure_fewer}
 use Rattle.named_steps.proofs.Shown.{closure_shows, shown_less}
 use Rattle.named_steps.specs.declared.grade.Grade.{Grade}
@@ -154,15 +156,16 @@ none_refuted Struck less grade g view d is closed some r =
     let left = some refuted.cell inside in
     refuted.nothing left.0 (here.1 refuted.cell left.0 (fewer refuted.cell left.0 left.1))
 
--- what it shows all that the grade leaves shows
+-- what its steps show all that it leaves shows
 pub shown_by_all : (Struck : Striking) → IsAntitone Struck → (grade : Grade) (g : GridValue) (view d : CandidatesValue)
-    (goal : Goal) → IsView g view → IsClosure Struck grade view d → IsShown d goal → IsShownByAll Struck grade g goal
-shown_by_all Struck less grade g view d goal is closed shown = λ other e other_is other_closed.
+    (goal : Goal) → IsView g view → LeadsTo Struck grade view d → IsShown d goal → IsShownByAll Struck grade g goal
+shown_by_all Struck less grade g view d goal is leads shown = λ other e other_is other_closed.
     let size : view.size ≡ other.size = is.size ∙ sym other_is.size in
-    let there = chain_less Struck less view other closed.steps size (views_fewer g view other is other_is) closed.chain in
-    let fewer = chain_settled Struck less grade other e closed.steps closed.allowed there.0 (closure_fewer Struck grade other e other_closed) other_closed.settled in
-    let all : IsFewer d e = λ cell v left. closed.left.1 cell v (there.1 cell v (fewer cell v left)) in
-    shown_less d e goal (closed.size ∙ size ∙ sym other_closed.size) all shown
+    let there = chain_less Struck less view other leads.steps size (views_fewer g view other is other_is) leads.chain in
+    let fewer = chain_settled Struck less grade other e leads.steps leads.allowed there.0 (closure_fewer Struck grade other e other_closed) other_closed.settled in
+    let all : IsFewer d e = λ cell v left.
+    subst (λ (x : CandidatesValue). IsLeft x cell v) (sym leads.is) (there.1 cell v (fewer cell v left)) in
+    shown_less d e goal (leads_size Struck grade view d leads ∙ size ∙ sym other_closed.size) all shown
 
 -- all steps show what all that the grade leaves shows
 pub all_show : (Struck : Striking) (grade : Grade) (g : GridValue) (view d : CandidatesValue) (steps : List StepValue)

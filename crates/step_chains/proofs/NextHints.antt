@@ -1,13 +1,17 @@
 -- The least grade whose steps lead to an aim, and what no steps lead to.
-use Rattle.std.proofs.Common.{◌≡◌, ℕ, ◌*◌, ◌<◌, List, [], ◌∷◌, ◌++◌, refl, sym, ◌∙◌, subst, arith, inl, inr, true}
+use Rattle.std.proofs.Common.{◌≡◌, ℕ, ◌*◌, ◌<◌, ◌≤◌, Bool, false, List, refl, sym, ◌∙◌, subst, arith, inl, inr, true}
 use Rattle.std.proofs.lemmas.Bool.{cases_eq, both_ways}
 use Rattle.latin_board.specs.Squares.{GridValue}
 use Rattle.trail_solver.specs.Pairs.{IsPair}
 use Rattle.trail_solver.specs.Candidates.{CandidatesValue, may_be}
 use Rattle.clue_rules.specs.Left.{IsLeft}
 use Rattle.named_steps.specs.Grades.{has_reason}
-use Rattle.named_steps.specs.Chains.{StepValue, AreOfGrade, IsView}
-use Rattle.named_steps.specs.Following.{IsClosure, IsRefuted}
+use Rattle.named_steps.specs.Chains.{StepValue, IsView}
+use Rattle.named_steps.specs.Following.{IsClosure, IsEmptied, IsRefuted, IsSettled}
+use Rattle.named_steps.specs.Passes.{LeadsTo}
+use Rattle.named_steps.proofs.Leads.{leads_on, leads_size, leads_wider}
+use Rattle.named_steps.proofs.Rounds.{closure_reached}
+use Rattle.std.specs.Bool.{OnTrue, OnFalse}
 use Rattle.named_steps.proofs.Antitone.{IsAntitone, closure_fewer}
 use Rattle.clue_rules.specs.declared.reason.Reason.{Reason}
 use Rattle.clue_rules.specs.declared.reason.Reason.TheVariants.{Given, Peer, Place, Bound, Stand, Clue, Sign, Set}
@@ -20,47 +24,57 @@ use Rattle.step_chains.specs.declared.aims.Aim.TheVariants.{Number, Nothing}
 use Rattle.step_chains.specs.declared.kinds.Sought.{Sought}
 use Rattle.step_chains.specs.declared.kinds.Sought.TheVariants.{NumberShown, SquareEmptied}
 use Rattle.step_chains.specs.Explanations.{IsRefutation, IsRefutedGrid, NothingIsShown}
-use Rattle.step_chains.specs.NextHints.{IsBelow, IsForcedSquare}
+use Rattle.named_steps.specs.Grades.{IsLower, rank}
+use Rattle.named_steps.proofs.Followed.{higher_has, next_has}
+use Rattle.step_chains.specs.NextHints.{IsForcedSquare}
 use Rattle.step_chains.specs.Inner.Aims.{HasSome, IsFirstAim, IsFound, IsLeastBy, IsNotFound, sought_by}
 use Rattle.step_chains.specs.Inner.Goals.{IsOpenShown}
-use Rattle.step_chains.specs.Inner.Replays.{Leads}
 use Rattle.step_chains.proofs.Explanations.{empty_shown, none_refuted, nothing_shown, shown_by_all}
-use Rattle.step_chains.proofs.Followed.{leads_joined}
 use Rattle.clue_rules.specs.Reasons.{Striking}
 
 -- ---- one grade after another
 
-easy_has : (reason : Reason) → has_reason Latin reason ≡ true → has_reason Easy reason ≡ true
-easy_has (Given cell) h = refl
-easy_has (Peer cell) h = refl
-easy_has (Place line index value) h = refl
-easy_has (Bound place) h = refl
-easy_has (Stand place) h = refl
-easy_has (Clue place) h = h
-easy_has (Sign from to) h = refl
-easy_has (Set line squares values) h = h
+-- steps of a grade, and then those of the one above
+pub leads_up : (Struck : Striking) (c d e : CandidatesValue) → LeadsTo Struck Latin c d → LeadsTo Struck Easy d e → LeadsTo Struck Easy c e
+leads_up Struck c d e first second =
+    leads_on Struck Easy c d e (leads_wider Struck Struck Latin Easy (λ _ reason cell v h. h) (higher_has Latin Easy (omega arith)) c d first) second
 
-easy_allowed : (steps : List StepValue) → AreOfGrade Latin steps → AreOfGrade Easy steps
-easy_allowed [] h = tt
-easy_allowed (step ∷ steps) h = (easy_has step.reason h.0, easy_allowed steps h.1)
+-- what steps lead to is all that the grade leaves, where it strikes nothing more, or else a square is left nothing
+pub closed_by : (Struck : Striking) (grade : Grade) (c d : CandidatesValue) (b : Bool) → LeadsTo Struck grade c d → OnTrue b (IsSettled Struck grade d)
+    → OnFalse b (IsEmptied d) → (IsEmptied d → ⊥) → IsClosure Struck grade c d
+closed_by Struck grade c d true leads settled emptied holds = closure_reached Struck grade c d leads settled
+closed_by Struck grade c d false leads settled emptied holds = absurd (holds emptied)
 
--- what a grade leaves of what the one below left is what it leaves of all
-pub closure_on : (Struck : Striking) → IsAntitone Struck → (c d e : CandidatesValue)
-    → IsClosure Struck Latin c d → IsClosure Struck Easy d e → IsClosure Struck Easy c e
-closure_on Struck less c d e first second =
-    let front : Leads Struck Easy c first.steps d =
-    record { chain = first.chain; allowed = easy_allowed first.steps first.allowed; size = first.size; alike = first.left } in
-    let back : Leads Struck Easy d second.steps e =
-    record { chain = second.chain; allowed = second.allowed; size = second.size; alike = second.left } in
-    let all = leads_joined Struck less Easy c d e first.steps second.steps front back in
-    record {
-      steps = first.steps ++ second.steps;
-      chain = all.chain;
-      allowed = all.allowed;
-      size = all.size;
-      left = all.alike;
-      settled = second.settled;
-    }
+rank_most : (grade : Grade) → rank grade ≤ rank Hard
+rank_most Latin = omega arith
+rank_most Easy = omega arith
+rank_most Hard = omega arith
+
+-- where steps leave a square nothing, the hardest grade refutes the grid
+refuted_by : (Struck : Striking) (grade : Grade) (g : GridValue) (view d : CandidatesValue) → IsView g view → LeadsTo Struck grade view d
+    → IsEmptied d → IsRefutedGrid Struck Hard g
+refuted_by Struck grade g view d is leads (cell, inside, nothing) = (
+  view,
+  is,
+  record {
+    steps = leads.steps;
+    chain = leads.chain;
+    allowed = next_has grade Hard (higher_has grade Hard (rank_most grade)) leads.steps leads.allowed;
+    cell = cell;
+    inside = subst (λ (w : ℕ). cell < w * w) (leads_size Struck grade view d leads) inside;
+    nothing = λ value left. nothing value (subst (λ (x : CandidatesValue). IsLeft x cell value) (sym leads.is) left);
+  },
+)
+
+-- where something is left of each square, none is left nothing
+pub some_left : (d : CandidatesValue) → HasSome d → IsEmptied d → ⊥
+some_left d some (at, inside, nothing) = let (value, left) = some at inside in nothing value left
+
+-- where what is sought isn't found, they leave each square something
+pub found_none : (Struck : Striking) (g : GridValue) (view d : CandidatesValue) (grade : Grade) (first : Aim) → IsView g view
+    → LeadsTo Struck grade view d → IsFirstAim Struck g first → IsNotFound (sought_by first) g d → IsEmptied d → ⊥
+found_none Struck g view d grade (Number goal) is leads first none emptied = first.2 (refuted_by Struck grade g view d is leads emptied)
+found_none Struck g view d grade (Nothing cell) is leads first some emptied = some_left d some emptied
 
 -- the steps of a grade lead to no aim of what is sought
 abbrev pub IsNowhere : Striking → GridValue → Sought → Grade → Type 0
@@ -74,17 +88,17 @@ nowhere_where Struck less g view d grade SquareEmptied is closed some = none_ref
 
 -- ---- the grades below one
 
-pub below_latin : (P : Grade → Type 0) (lower : Grade) → IsBelow lower Latin → P lower
+pub below_latin : (P : Grade → Type 0) (lower : Grade) → IsLower lower Latin → P lower
 below_latin P Latin h = absurd (omega (arith, h))
 below_latin P Easy h = absurd (omega (arith, h))
 below_latin P Hard h = absurd (omega (arith, h))
 
-pub below_easy : (P : Grade → Type 0) → P Latin → (lower : Grade) → IsBelow lower Easy → P lower
+pub below_easy : (P : Grade → Type 0) → P Latin → (lower : Grade) → IsLower lower Easy → P lower
 below_easy P first Latin h = first
 below_easy P first Easy h = absurd (omega (arith, h))
 below_easy P first Hard h = absurd (omega (arith, h))
 
-pub below_hard : (P : Grade → Type 0) → P Latin → P Easy → (lower : Grade) → IsBelow lower Hard → P lower
+pub below_hard : (P : Grade → Type 0) → P Latin → P Easy → (lower : Grade) → IsLower lower Hard → P lower
 below_hard P first second Latin h = first
 below_hard P first second Easy h = second
 below_hard P first second Hard h = absurd (omega (arith, h))
@@ -93,24 +107,24 @@ below_hard P first second Hard h = absurd (omega (arith, h))
 
 -- what a grade leaves shows an aim of the kind of the first, and no grade below leads to one
 pub found_least : (Struck : Striking) → IsAntitone Struck → (g : GridValue) (view d : CandidatesValue) (grade : Grade)
-    (first found : Aim) → IsView g view → IsClosure Struck grade view d → IsFirstAim Struck g first → IsFound (sought_by first) g d found
-    → ((lower : Grade) → IsBelow lower grade → IsNowhere Struck g (sought_by first) lower) → IsLeastBy Struck g grade found
-found_least Struck less g view d grade (Number goal) (Number other) is closed first found below = (
+    (first found : Aim) → IsView g view → LeadsTo Struck grade view d → IsFirstAim Struck g first → IsFound (sought_by first) g d found
+    → ((lower : Grade) → IsLower lower grade → IsNowhere Struck g (sought_by first) lower) → IsLeastBy Struck g grade found
+found_least Struck less g view d grade (Number goal) (Number other) is leads first found below = (
   (found.goal_of, found.empty),
-  shown_by_all Struck less grade g view d other is closed found.shown,
+  shown_by_all Struck less grade g view d other is leads found.shown,
   below,
   first.2,
 )
-found_least Struck less g view d grade (Number goal) (Nothing cell) is closed first found below = absurd found
-found_least Struck less g view d grade (Nothing cell) (Number goal) is closed first found below = absurd found
-found_least Struck less g view d grade (Nothing cell) (Nothing other) is closed first found below = (
-  subst (λ (w : ℕ). other < w * w) (closed.size ∙ is.size) found.0,
-  shown_by_all Struck less grade g view d (OnlyValue other 0) is closed ((empty_shown d other).0 found.1),
+found_least Struck less g view d grade (Number goal) (Nothing cell) is leads first found below = absurd found
+found_least Struck less g view d grade (Nothing cell) (Number goal) is leads first found below = absurd found
+found_least Struck less g view d grade (Nothing cell) (Nothing other) is leads first found below = (
+  subst (λ (w : ℕ). other < w * w) (leads_size Struck grade view d leads ∙ is.size) found.0,
+  shown_by_all Struck less grade g view d (OnlyValue other 0) is leads ((empty_shown d other).0 found.1),
   below,
 )
 
 pub hard_least : (Struck : Striking) (g : GridValue) (first : Aim) → IsFirstAim Struck g first
-    → ((lower : Grade) → IsBelow lower Hard → IsNowhere Struck g (sought_by first) lower) → IsLeastBy Struck g Hard first
+    → ((lower : Grade) → IsLower lower Hard → IsNowhere Struck g (sought_by first) lower) → IsLeastBy Struck g Hard first
 hard_least Struck g (Number goal) first below = (first.0, first.1, below, first.2)
 hard_least Struck g (Nothing cell) first below = (first.0, first.1, below)
 

@@ -15,7 +15,10 @@ use Rattle.trail_solver.proofs.Removals.{set_below}
 use Rattle.trail_solver.proofs.SetPairs.{has_pair-pairs_of}
 use Rattle.clue_rules.specs.Left.{without}
 use Rattle.named_steps.specs.Along.{LooksAlong, StandsAlong}
-use Rattle.named_steps.specs.Grades.{is_of_clues, is_past_easy}
+use Rattle.named_steps.specs.Grades.{IsLower, is_of_clues, rank}
+use Rattle.named_steps.proofs.LinePasses.{latin_has}
+use Rattle.named_steps.specs.declared.grade.Grade.TheVariants.{Easy}
+use Rattle.std.proofs.lemmas.Bool.{le-leb}
 use Rattle.clue_rules.specs.Reasons.{IsByPeer, IsByPlace, IsBySet, Striking}
 use Rattle.named_steps.specs.Passes.{AreCluesSettled, AreGivensSettled}
 use Rattle.named_steps.specs.Following.{IsSettled}
@@ -65,7 +68,7 @@ givens_settled : (p : Puzzle) (Struck : Striking) → IsGame p Struck → (grade
 givens_settled p Struck game grade c idle = λ at cell value pair h.
     let inside : at < c.size * c.size = subst (λ (n : ℕ). n < c.size * c.size) h.here pair.inside in
     found_idle Struck grade c Squares (2 * at) (Given at) idle (omega (arith, inside)) (λ found is. is.0 at refl)
-    cell value refl pair ((game.shared.given c at cell value).0 h)
+    cell value (latin_has grade (Given at) refl) pair ((game.shared.given c at cell value).0 h)
 
 peer_idle : (Struck : Striking) (grade : Grade) (c : CandidatesValue) (by : ℕ) → AreAllIdle Struck grade c
     → by < c.size * c.size → IsIdle Struck grade c (Peer by)
@@ -87,7 +90,7 @@ rest_settled p Struck game grade c size idle line line_is = λ k v low pair h. e
       let by = line_cell c.size line peer.0 in
       let cell = line_cell c.size line k in
       let is : IsByPeer c.size c by cell v = record { peers = line_peers c.size line peer.0 k line_is peer.1 low peer.2; alone = peer.3 } in
-      peer_idle Struck grade c by idle (line_cell_inside c.size line peer.0 line_is peer.1) cell v refl pair
+      peer_idle Struck grade c by idle (line_cell_inside c.size line peer.0 line_is peer.1) cell v (latin_has grade (Peer by) refl) pair
       ((game.shared.line c (Peer by) cell v refl).0 (subst (λ (w : ℕ). IsByPeer w c by cell v) (sym size) is))
   | inr place ↦
       let cell = line_cell c.size line k in
@@ -95,7 +98,8 @@ rest_settled p Struck game grade c size idle line line_is = λ k v low pair h. e
       record { line_is = line_is; index_is = low; low = place.1; high = place.2; here = refl; apart = place.3; alone = place.4 } in
       let same : place.0 - 1 + 1 ≡ place.0 = omega (arith, place.1) in
       subst (λ (u : ℕ). IsIdle Struck grade c (Place line k u)) same
-      (place_idle Struck grade c line k (place.0 - 1) idle line_is low (omega (arith, place.1, place.2))) cell v refl pair
+      (place_idle Struck grade c line k (place.0 - 1) idle line_is low (omega (arith, place.1, place.2))) cell v
+      (latin_has grade (Place line k place.0) refl) pair
       ((game.shared.line c (Place line k place.0) cell v refl).0 (subst (λ (w : ℕ). IsByPlace w c line k place.0 cell v) (sym size) is))
 ]
 
@@ -149,7 +153,7 @@ clues_settled p Struck game grade c size idle = λ reason cell value is has pair
     along_idle Struck grade c idle line reason cell low along cell value has pair h
 
 groups_settled : (p : Puzzle) (Struck : Striking) → IsGame p Struck → (grade : Grade) (c : CandidatesValue) → p.size ≡ c.size
-    → AreAllIdle Struck grade c → is_past_easy grade ≡ true → (line : ℕ) → line < 2 * c.size → IsGroupQuiet line c
+    → AreAllIdle Struck grade c → IsLower Easy grade → (line : ℕ) → line < 2 * c.size → IsGroupQuiet line c
 groups_settled p Struck game grade c size idle past line line_is = λ cell value pair h.
     let is : IsBySet c.size c line h.squares h.union cell value = record {
       line_is = line_is;
@@ -165,7 +169,7 @@ groups_settled p Struck game grade c size idle past line line_is = λ cell value
     let at = line * 2 ^ c.size + h.squares in
     let low : at < 2 * c.size * 2 ^ c.size = omega (arith, mul-add-lt line (2 ^ c.size) h.squares (2 * c.size) line_is h.below) in
     found_idle Struck grade c Groups at (Set line h.squares h.union) idle low
-    (λ found there. there line h.squares h.union line_is h.below refl (h.is, h.same)) cell value past pair
+    (λ found there. there line h.squares h.union line_is h.below refl (h.is, h.same)) cell value (le-leb 2 (rank grade) (omega (arith, past))) pair
     ((game.shared.line c (Set line h.squares h.union) cell value refl).0 (subst (λ (w : ℕ). IsBySet w c line h.squares h.union cell value) (sym size) is))
 
 -- then no reason of the grade does

@@ -6,9 +6,10 @@ use Rattle.trail_solver.specs.Candidates.{CandidatesValue}
 use Rattle.trail_solver.specs.Completions.{Completes}
 use Rattle.trail_solver.specs.Puzzles.{Puzzle}
 use Rattle.named_steps.specs.Chains.{IsExplained, IsView, goal_cell, goal_value}
+use Rattle.named_steps.specs.Grades.{IsLower}
 use Rattle.clue_rules.specs.declared.reason.Reason.{Reason}
 use Rattle.named_steps.specs.declared.grade.Grade.{Grade}
-use Rattle.named_steps.specs.declared.grade.Grade.TheVariants.{Latin, Easy, Hard}
+use Rattle.named_steps.specs.declared.grade.Grade.TheVariants.{Hard}
 use Rattle.named_steps.specs.declared.goal.Goal.TheVariants.{OnlyValue}
 use Rattle.step_chains.specs.declared.hints.NextHint.{NextHint}
 use Rattle.step_chains.specs.declared.hints.NextHint.TheVariants.{Follows, Refuted, Nothing}
@@ -16,23 +17,13 @@ use Rattle.step_chains.specs.ChainValues.{steps_of}
 use Rattle.step_chains.specs.Explanations.{AreNeededFrom, IsLiveFrom, IsRefutation, IsRefutedGrid, NothingIsShown}
 use Rattle.clue_rules.specs.Reasons.{Striking}
 
--- how many grades are below one
-abbrev pub height : Grade → ℕ
-height Latin = 0
-height Easy = 1
-height Hard = 2
-
--- the first grade is below the second
-abbrev pub IsBelow : Grade → Grade → Type 0
-IsBelow lower grade = height lower < height grade
-
 -- the steps of no grade below show a number
 abbrev pub NoneBelowShows : Striking → Grade → GridValue → Type 0
-NoneBelowShows Struck grade g = (lower : Grade) → IsBelow lower grade → NothingIsShown Struck lower g
+NoneBelowShows Struck grade g = (lower : Grade) → IsLower lower grade → NothingIsShown Struck lower g
 
 -- the steps of no grade below refute the grid's numbers
 abbrev pub NoneBelowRefutes : Striking → Grade → GridValue → Type 0
-NoneBelowRefutes Struck grade g = (lower : Grade) → IsBelow lower grade → IsRefutedGrid Struck lower g → ⊥
+NoneBelowRefutes Struck grade g = (lower : Grade) → IsLower lower grade → IsRefutedGrid Struck lower g → ⊥
 
 -- its steps of that grade show the number, those of no grade below show any, and no steps refute the grid's numbers;
 -- or its steps refute them, and those of no grade below do; or no steps show a number, and none refute the grid's

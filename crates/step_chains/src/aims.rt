@@ -42,7 +42,7 @@ impl Aim {
     {
         match self {
             Aim::Number(_) => Sought::NumberShown,
-            Aim::Nothing { cell: _ } => Sought::SquareEmptied,
+            Aim::Nothing { .. } => Sought::SquareEmptied,
         }
     }
 

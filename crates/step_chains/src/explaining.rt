@@ -17,7 +17,7 @@ use crate::shortest::short_chain;
 use crate::tightening::tighten;
 use crate::view::view_of;
 use latin_board::{Grid, OutOfMemory};
-use named_steps::{Goal, Grade, KnownRows, Steps};
+use named_steps::{Goal, Grade, Steps};
 use std::alloc::Global;
 use trail_solver::{Candidates, Rules};
 
@@ -29,7 +29,7 @@ pub(crate) fn chain_to<P: Steps>(
     grid: &Grid,
     grade: Grade,
     goal: Goal,
-    known: &mut KnownRows,
+    known: &mut P::Known,
 ) -> Result<Chain, OutOfMemory>
     requires size { grid.now.size ≡ (P.puzzle p.now).size }
     requires open { IsOpen grid.now goal }
@@ -53,7 +53,7 @@ fn short_number<P: Steps>(
     p: &P,
     grid: &Grid,
     grade: Grade,
-    known: &mut KnownRows,
+    known: &mut P::Known,
 ) -> Result<Option<Chain>, OutOfMemory>
     requires { grid.now.size ≡ (P.puzzle p.now).size }
     ensures is { IfOk result (λ found. IfSome found
@@ -83,7 +83,7 @@ fn plain_number<P: Steps>(
     grid: &Grid,
     grade: Grade,
     goal: Goal,
-    known: &mut KnownRows,
+    known: &mut P::Known,
 ) -> Result<Chain, OutOfMemory>
     requires size { grid.now.size ≡ (P.puzzle p.now).size }
     requires open { IsOpen grid.now goal }
@@ -106,7 +106,7 @@ pub(crate) fn refutation_at<P: Steps>(
     grid: &Grid,
     grade: Grade,
     cell: usize,
-    known: &mut KnownRows,
+    known: &mut P::Known,
 ) -> Result<Refutation, OutOfMemory>
     requires size { grid.now.size ≡ (P.puzzle p.now).size }
     requires inside { cell < grid.now.size * grid.now.size }
@@ -136,7 +136,7 @@ fn plain_chain<P: Steps>(
     grid: &Grid,
     grade: Grade,
     aim: Aim,
-    known: &mut KnownRows,
+    known: &mut P::Known,
 ) -> Result<Vec<Step>, OutOfMemory>
     requires size { grid.now.size ≡ (P.puzzle p.now).size }
     requires aim { IsAimOf grid.now.size aim }
@@ -195,7 +195,7 @@ fn reaches<P: Steps>(p: &P, grid: &Grid, grade: Grade, steps: &[Step], aim: Aim)
     ensures { IsTrue result ↔ IsReached (P.struck_by p.now) grade grid.now (steps_of steps.now) (aim_goal aim) }
 {
     let mut view = view_of(grid);
-    let mut known = KnownRows::none();
+    let mut known = P::Known::default();
     if !shows_without(p, grade, &mut view, steps, steps.len(), aim, &mut known) {
         return false;
     }
@@ -209,7 +209,7 @@ fn is_tight<P: Steps>(
     candidates: &mut Candidates,
     steps: &[Step],
     aim: Aim,
-    known: &mut KnownRows,
+    known: &mut P::Known,
 ) -> bool
     requires size { candidates.old.size ≡ (P.puzzle p.now).size }
     requires aim { IsAimOf candidates.old.size aim }

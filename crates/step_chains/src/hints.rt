@@ -7,7 +7,7 @@ use crate::chain::{Chain, Refutation};
 use crate::explaining::{chain_to, refutation_at};
 use crate::first_aims::first_aim;
 use latin_board::{Grid, OutOfMemory};
-use named_steps::{Grade, KnownRows, Steps, laws};
+use named_steps::{Grade, Steps, laws};
 use std::alloc::Global;
 use trail_solver::Rules;
 
@@ -39,23 +39,40 @@ pub fn next_hint<P: Steps>(alloc: Global, p: &P, grid: &Grid) -> Result<NextHint
     ensures right { IfOk result (IsRightHint (P.puzzle p.now) grid.now) }
     ensures forced { IfOk result (SaysForced (P.struck_by p.now) grid.now) }
 {
+    // What is known serves all that follows, since it takes ten kilobytes of the stack.
+    let mut known = P::Known::default();
+    hint_knowing(alloc, p, grid, &mut known)
+}
+
+// The same, for who keeps what is known: it is used and added to.
+fn hint_knowing<P: Steps>(
+    alloc: Global,
+    p: &P,
+    grid: &Grid,
+    known: &mut P::Known,
+) -> Result<NextHint, OutOfMemory>
+    requires { grid.now.size ≡ (P.puzzle p.now).size }
+    ensures least { IfOk result (IsNextHint (P.struck_by p.now) grid.now) }
+    ensures live { IfOk result (IsLiveHint grid.now) }
+    ensures needed { IfOk result (IsNeededHint (P.struck_by p.now) grid.now) }
+    ensures right { IfOk result (IsRightHint (P.puzzle p.now) grid.now) }
+    ensures forced { IfOk result (SaysForced (P.struck_by p.now) grid.now) }
+{
     laws::<P>();
     let _valid = p.size();
-    // One table for all that follows, since it takes ten kilobytes of the stack.
-    let mut known = KnownRows::none();
-    let Some(first) = first_aim(p, grid, &mut known) else {
+    let Some(first) = first_aim(p, grid, known) else {
         return Ok(NextHint::Nothing);
     };
     match first.aim {
         Aim::Number(goal) => {
-            let chain = chain_to(alloc, p, grid, first.grade, goal, &mut known)?;
+            let chain = chain_to(alloc, p, grid, first.grade, goal, known)?;
             Ok(NextHint::Follows {
                 grade: first.grade,
                 chain,
             })
         }
         Aim::Nothing { cell } => {
-            let refutation = refutation_at(alloc, p, grid, first.grade, cell, &mut known)?;
+            let refutation = refutation_at(alloc, p, grid, first.grade, cell, known)?;
             Ok(NextHint::Refuted {
                 grade: first.grade,
                 refutation,

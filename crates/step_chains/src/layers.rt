@@ -11,7 +11,7 @@ use crate::replays::{struck, take};
 use crate::seen::{Seen, last_place, row_of, shared_numbers, sharing, standing, union_of};
 use arrayvec::ArrayVec;
 use latin_board::{CELLS, Grid, OutOfMemory};
-use named_steps::{Grade, KnownRows, Reason, Steps};
+use named_steps::{Grade, Reason, Steps};
 use number_sets::NumberSet;
 use std::alloc::Global;
 use trail_solver::{Candidates, Mark, Rules};
@@ -21,7 +21,7 @@ const ROUNDS: usize = 729;
 
 /// Rounds of steps: the candidates at the beginning of a round, what its steps have struck by now, and all steps so far.
 #[derive(Drop)]
-pub(crate) struct Rounds<'a> {
+pub(crate) struct Rounds<'a, P: Steps> {
     pub(crate) now: Candidates,
     start: Mark,
     gone: Values,
@@ -32,17 +32,17 @@ pub(crate) struct Rounds<'a> {
     stands: Seen,
     clues: Seen,
     groups: Seen,
-    pub(crate) known: &'a mut KnownRows,
+    pub(crate) known: &'a mut P::Known,
 }
 
-impl<'a> Rounds<'a> {
+impl<'a, P: Steps> Rounds<'a, P> {
     /// No round yet, from what is in view.
     pub(crate) fn of(
         alloc: Global,
         view: Candidates,
         sought: Sought,
-        known: &'a mut KnownRows,
-    ) -> Rounds<'a> {
+        known: &'a mut P::Known,
+    ) -> Rounds<'a, P> {
         Rounds {
             start: view.mark(),
             now: view,
@@ -67,7 +67,7 @@ impl<'a> Rounds<'a> {
     /// Steps of the grade's from what is in view of the grid, round after round, until they lead to what is sought or strike nothing
     /// more.
     #[inline(never)]
-    pub(crate) fn go_through<P: Steps>(
+    pub(crate) fn go_through(
         &mut self,
         p: &P,
         grid: &Grid,
@@ -82,13 +82,7 @@ impl<'a> Rounds<'a> {
     }
 
     // Rounds with the kinds up to one, while they strike anything and what is sought isn't found.
-    fn go_on<P: Steps>(
-        &mut self,
-        p: &P,
-        grid: &Grid,
-        grade: Grade,
-        last: usize,
-    ) -> Result<(), OutOfMemory> {
+    fn go_on(&mut self, p: &P, grid: &Grid, grade: Grade, last: usize) -> Result<(), OutOfMemory> {
         for _round in 0..ROUNDS {
             if self.now.size() != grid.size() || self.has_found(grid) {
                 return Ok(());
@@ -118,7 +112,7 @@ impl<'a> Rounds<'a> {
     }
 
     // One round with the kinds up to one; its steps all look at the same candidates.
-    fn round<P: Steps>(&mut self, p: &P, grade: Grade, last: usize) -> Result<(), OutOfMemory> {
+    fn round(&mut self, p: &P, grade: Grade, last: usize) -> Result<(), OutOfMemory> {
         let before = self.steps.len();
         for kind in 0..KINDS.len() {
             if kind <= last
@@ -134,7 +128,7 @@ impl<'a> Rounds<'a> {
     }
 
     // The steps of one kind.
-    fn look<P: Steps>(&mut self, p: &P, grade: Grade, kind: Kind) -> Result<(), OutOfMemory> {
+    fn look(&mut self, p: &P, grade: Grade, kind: Kind) -> Result<(), OutOfMemory> {
         match kind {
             Kind::Peer | Kind::Given => self.look_at_squares(p, grade, kind),
             Kind::Bound | Kind::Stand | Kind::Clue => self.look_at_clues(p, grade, kind),
@@ -148,12 +142,7 @@ impl<'a> Rounds<'a> {
     }
 
     // The steps of the givens, or of the squares of which one value is left.
-    fn look_at_squares<P: Steps>(
-        &mut self,
-        p: &P,
-        grade: Grade,
-        kind: Kind,
-    ) -> Result<(), OutOfMemory> {
+    fn look_at_squares(&mut self, p: &P, grade: Grade, kind: Kind) -> Result<(), OutOfMemory> {
         let size = self.now.size();
         let width = size.get() as usize;
         for cell in 0..width * width {
@@ -169,12 +158,7 @@ impl<'a> Rounds<'a> {
     }
 
     // The steps of the clues at the edge as the kind looks at them, where it sees what it didn't.
-    fn look_at_clues<P: Steps>(
-        &mut self,
-        p: &P,
-        grade: Grade,
-        kind: Kind,
-    ) -> Result<(), OutOfMemory> {
+    fn look_at_clues(&mut self, p: &P, grade: Grade, kind: Kind) -> Result<(), OutOfMemory> {
         let size = self.now.size();
         for place in 0..4 * size.get() as usize {
             let row = row_of(&self.now, &squares_from(size, place));
@@ -195,7 +179,7 @@ impl<'a> Rounds<'a> {
 
     // The steps of the values that have one place left in a row or column; or none, and then that
     // of the line's first square.
-    fn look_at_places<P: Steps>(&mut self, p: &P, grade: Grade) -> Result<(), OutOfMemory> {
+    fn look_at_places(&mut self, p: &P, grade: Grade) -> Result<(), OutOfMemory> {
         let size = self.now.size();
         for line in 0..2 * size.get() as usize {
             let cells = squares_of(size, line);
@@ -214,12 +198,7 @@ impl<'a> Rounds<'a> {
 
     // The steps of the signs at the lesser ends, which strike the greatest number there, or at the
     // greater ones.
-    fn look_at_signs<P: Steps>(
-        &mut self,
-        p: &P,
-        grade: Grade,
-        at_lesser: bool,
-    ) -> Result<(), OutOfMemory> {
+    fn look_at_signs(&mut self, p: &P, grade: Grade, at_lesser: bool) -> Result<(), OutOfMemory> {
         let greatest = single(self.now.size().get());
         for place in 0..Part::Signs.count(self.now.size()) {
             if let Some(Reason::Sign { from, to }) = Part::Signs.nth(&self.now, place) {
@@ -236,7 +215,7 @@ impl<'a> Rounds<'a> {
 
     // The steps of groups of squares, of rows and columns that aren't what they were. A square that
     // shares no value with another is in no group that strikes anything.
-    fn look_at_groups<P: Steps>(&mut self, p: &P, grade: Grade) -> Result<(), OutOfMemory> {
+    fn look_at_groups(&mut self, p: &P, grade: Grade) -> Result<(), OutOfMemory> {
         let size = self.now.size();
         for line in 0..2 * size.get() as usize {
             let cells = squares_of(size, line);
@@ -258,7 +237,7 @@ impl<'a> Rounds<'a> {
     }
 
     // What a clue strikes in the squares from its place, all found at once.
-    fn look_from<P: Steps>(
+    fn look_from(
         &mut self,
         p: &P,
         grade: Grade,
@@ -269,10 +248,10 @@ impl<'a> Rounds<'a> {
         if p.size() != size || place >= 4 * size.get() as usize {
             return Ok(());
         }
-        let Some(row) = p.strikes_from(&self.now, *reason, place, self.known) else {
-            return Ok(());
-        };
         let cells = squares_from(size, place);
+        let Some(row) = p.strikes_from(&self.now, *reason, place, self.known) else {
+            return self.look_among(p, grade, reason, &cells);
+        };
         for k in 0..cells.len() {
             if k < 9 {
                 self.list(grade, reason, cells[k] as usize, row[k])?;
@@ -282,7 +261,7 @@ impl<'a> Rounds<'a> {
     }
 
     // What a reason strikes in some squares.
-    fn look_among<P: Steps>(
+    fn look_among(
         &mut self,
         p: &P,
         grade: Grade,
@@ -296,7 +275,7 @@ impl<'a> Rounds<'a> {
     }
 
     // What a reason strikes in one square.
-    fn look_in<P: Steps>(
+    fn look_in(
         &mut self,
         p: &P,
         grade: Grade,

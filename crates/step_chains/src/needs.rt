@@ -101,22 +101,14 @@ pub(crate) fn left(candidates: &Candidates, cell: usize) -> NumberSet {
 /// The squares at whose candidates a reason looks.
 pub(crate) fn looked_at(size: Size, reason: &Reason) -> ArrayVec<u8, 9> {
     match *reason {
-        Reason::Given { cell: _ } => ArrayVec::new(),
+        Reason::Given { .. } => ArrayVec::new(),
         Reason::Peer { cell } => just(cell),
-        Reason::Place {
-            line,
-            index,
-            value: _,
-        } => squares_but(size, line, index),
-        Reason::Bound { place: _ } => ArrayVec::new(),
+        Reason::Place { line, index, .. } => squares_but(size, line, index),
+        Reason::Bound { .. } => ArrayVec::new(),
         Reason::Stand { place } => squares_from(size, place),
         Reason::Clue { place } => squares_from(size, place),
-        Reason::Sign { from, to: _ } => just(from),
-        Reason::Set {
-            line,
-            squares,
-            values: _,
-        } => squares_among(size, line, squares),
+        Reason::Sign { from, .. } => just(from),
+        Reason::Set { line, squares, .. } => squares_among(size, line, squares),
     }
 }
 

@@ -8,7 +8,7 @@ ghost use Rattle.step_chains.specs.Inner.Quiet.{IsNew, IsIdleIn, IsIdle, IsIdleA
 use crate::chain::Step;
 use crate::reasons::{PARTS, Part};
 use latin_board::OutOfMemory;
-use named_steps::{Grade, KnownRows, Reason, Steps};
+use named_steps::{Grade, Reason, Steps};
 use std::alloc::Global;
 use trail_solver::{Candidates, Rules};
 
@@ -19,7 +19,7 @@ pub(crate) fn all_steps<P: Steps>(
     p: &P,
     grade: Grade,
     candidates: &mut Candidates,
-    known: &mut KnownRows,
+    known: &mut P::Known,
 ) -> Result<Vec<Step>, OutOfMemory>
     requires { candidates.old.size ≡ (P.puzzle p.now).size }
     ensures leads { IfOk result
@@ -42,7 +42,7 @@ fn next_step<P: Steps>(
     p: &P,
     grade: Grade,
     candidates: &Candidates,
-    known: &mut KnownRows,
+    known: &mut P::Known,
 ) -> Option<Step>
     requires { candidates.now.size ≡ (P.puzzle p.now).size }
     ensures { MatchOption result (IsSettled (P.struck_by p.now) grade candidates.now)
@@ -64,7 +64,7 @@ fn step_in_part<P: Steps>(
     grade: Grade,
     candidates: &Candidates,
     part: Part,
-    known: &mut KnownRows,
+    known: &mut P::Known,
 ) -> Option<Step>
     requires { candidates.now.size ≡ (P.puzzle p.now).size }
     ensures { MatchOption result (AreIdleIn (P.struck_by p.now) grade candidates.now part)
@@ -85,7 +85,7 @@ fn step_at<P: Steps>(
     candidates: &Candidates,
     part: Part,
     place: usize,
-    known: &mut KnownRows,
+    known: &mut P::Known,
 ) -> Option<Step>
     requires { candidates.now.size ≡ (P.puzzle p.now).size }
     ensures { MatchOption result (IsIdleAt (P.struck_by p.now) grade candidates.now part place)
@@ -101,7 +101,7 @@ fn step_by<P: Steps>(
     grade: Grade,
     candidates: &Candidates,
     reason: &Reason,
-    known: &mut KnownRows,
+    known: &mut P::Known,
 ) -> Option<Step>
     requires { candidates.now.size ≡ (P.puzzle p.now).size }
     ensures { MatchOption result (IsIdle (P.struck_by p.now) grade candidates.now reason.now)
@@ -123,7 +123,7 @@ fn step_in<P: Steps>(
     candidates: &Candidates,
     reason: &Reason,
     cell: usize,
-    known: &mut KnownRows,
+    known: &mut P::Known,
 ) -> Option<Step>
     requires size { candidates.now.size ≡ (P.puzzle p.now).size }
     requires inside { cell < candidates.now.size * candidates.now.size }

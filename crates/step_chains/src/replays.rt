@@ -14,7 +14,7 @@ ghost use Rattle.step_chains.specs.Inner.Replays.{IsGradeStep, IsGradeChain, Lea
 
 use crate::aims::Aim;
 use crate::chain::Step;
-use named_steps::{Grade, KnownRows, Reason, Steps, strike};
+use named_steps::{Grade, Reason, Steps, strike};
 use number_sets::NumberSet;
 use trail_solver::{Candidates, Rules};
 
@@ -28,7 +28,7 @@ pub(crate) fn shows_without<P: Steps>(
     steps: &[Step],
     place: usize,
     aim: Aim,
-    known: &mut KnownRows,
+    known: &mut P::Known,
 ) -> bool
     requires size { candidates.old.size ≡ (P.puzzle p.now).size }
     requires aim { IsAimOf candidates.old.size aim }
@@ -51,7 +51,7 @@ pub(crate) fn shows_from<P: Steps>(
     steps: &[Step],
     place: usize,
     aim: Aim,
-    known: &mut KnownRows,
+    known: &mut P::Known,
 ) -> bool
     requires size { candidates.old.size ≡ (P.puzzle p.now).size }
     requires aim { IsAimOf candidates.old.size aim }
@@ -74,7 +74,7 @@ fn leads_from<P: Steps>(
     steps: &[Step],
     place: usize,
     aim: Aim,
-    known: &mut KnownRows,
+    known: &mut P::Known,
 ) -> bool
     requires size { candidates.old.size ≡ (P.puzzle p.now).size }
     requires aim { IsAimOf candidates.old.size aim }
@@ -96,7 +96,7 @@ fn follow_from<P: Steps>(
     candidates: &mut Candidates,
     steps: &[Step],
     place: usize,
-    known: &mut KnownRows,
+    known: &mut P::Known,
 ) -> bool
     requires size { candidates.old.size ≡ (P.puzzle p.now).size }
     requires inside { place ≤ length steps.now }
@@ -130,7 +130,7 @@ fn leads_to<P: Steps>(
     steps: &[Step],
     place: usize,
     aim: Aim,
-    known: &mut KnownRows,
+    known: &mut P::Known,
 ) -> bool
     requires size { candidates.old.size ≡ (P.puzzle p.now).size }
     requires aim { IsAimOf candidates.old.size aim }
@@ -151,7 +151,7 @@ fn follow_without<P: Steps>(
     candidates: &mut Candidates,
     steps: &[Step],
     place: usize,
-    known: &mut KnownRows,
+    known: &mut P::Known,
 ) -> bool
     requires { candidates.old.size ≡ (P.puzzle p.now).size }
     ensures earlier { IsEarlier candidates.old candidates.new }
@@ -175,7 +175,7 @@ fn follow<P: Steps>(
     grade: Grade,
     candidates: &mut Candidates,
     steps: &[Step],
-    known: &mut KnownRows,
+    known: &mut P::Known,
 ) -> bool
     requires { candidates.old.size ≡ (P.puzzle p.now).size }
     ensures earlier { IsEarlier candidates.old candidates.new }
@@ -198,7 +198,7 @@ fn follow_one<P: Steps>(
     grade: Grade,
     candidates: &mut Candidates,
     step: &Step,
-    known: &mut KnownRows,
+    known: &mut P::Known,
 ) -> bool
     requires { candidates.old.size ≡ (P.puzzle p.now).size }
     ensures earlier { IsEarlier candidates.old candidates.new }
@@ -219,7 +219,7 @@ fn is_step<P: Steps>(
     grade: Grade,
     candidates: &Candidates,
     step: &Step,
-    known: &mut KnownRows,
+    known: &mut P::Known,
 ) -> bool
     requires { candidates.now.size ≡ (P.puzzle p.now).size }
     ensures { IsTrue result ↔ IsGradeStep (P.struck_by p.now) grade candidates.now (step_value step.now) }
@@ -238,7 +238,7 @@ pub(crate) fn struck<P: Steps>(
     candidates: &Candidates,
     reason: &Reason,
     cell: usize,
-    known: &mut KnownRows,
+    known: &mut P::Known,
 ) -> NumberSet
     ensures { (v : ℕ) → (has_number result v ≡ true) ↔ ((candidates.now.size ≡ (P.puzzle p.now).size)
         × (IsPair candidates.now.size cell v × P.struck_by p.now candidates.now reason.now cell v)) }

@@ -17,7 +17,7 @@ use crate::slices::{gathered, slice};
 use crate::tightening::tighten;
 use crate::view::view_of;
 use latin_board::{Grid, OutOfMemory};
-use named_steps::{Grade, KnownRows, Reason, Steps};
+use named_steps::{Grade, Reason, Steps};
 use std::alloc::Global;
 use trail_solver::{Candidates, Rules};
 
@@ -30,7 +30,7 @@ pub(crate) fn short_chain<P: Steps>(
     grid: &Grid,
     grade: Grade,
     sought: Sought,
-    known: &mut KnownRows,
+    known: &mut P::Known,
 ) -> Result<Option<Aimed>, OutOfMemory>
     ensures reached { IfOk result (λ found. IfSome found (λ a. IsAimOf grid.now.size a.aim
         × IsReached (P.struck_by p.now) grade grid.now (steps_of a.steps.items) (aim_goal a.aim))) }
@@ -55,7 +55,7 @@ fn shorten_from_view<P: Steps>(
     grade: Grade,
     steps: &mut Vec<Step>,
     aim: Aim,
-    known: &mut KnownRows,
+    known: &mut P::Known,
 ) -> bool
     ensures reached { OnTrue result (IsAimOf grid.now.size aim
         × IsReached (P.struck_by p.now) grade grid.now (steps_of steps.new.items) (aim_goal aim)) }
@@ -75,7 +75,7 @@ fn shorten<P: Steps>(
     candidates: &mut Candidates,
     steps: &mut Vec<Step>,
     aim: Aim,
-    known: &mut KnownRows,
+    known: &mut P::Known,
 ) -> bool
     ensures same { candidates.new ≡ candidates.old }
     ensures of { OnTrue result (IsAimOf candidates.old.size aim) }
@@ -108,7 +108,7 @@ fn least_chain<P: Steps>(
     grid: &Grid,
     grade: Grade,
     sought: Sought,
-    known: &mut KnownRows,
+    known: &mut P::Known,
 ) -> Result<Option<Aimed>, OutOfMemory> {
     let mut rounds = Rounds::of(alloc, view_of(grid), sought, known);
     rounds.go_through(p, grid, grade)?;
@@ -221,7 +221,7 @@ impl Least {
         &mut self,
         alloc: Global,
         p: &P,
-        rounds: &mut Rounds,
+        rounds: &mut Rounds<P>,
         aim: Aim,
     ) -> Result<(), OutOfMemory> {
         let needed = slice(
@@ -258,20 +258,9 @@ fn cost_of(steps: &[Step]) -> usize {
 // How dear a look is.
 fn weight(reason: &Reason) -> usize {
     match *reason {
-        Reason::Given { cell: _ } | Reason::Bound { place: _ } | Reason::Sign { from: _, to: _ } =>
-            1000,
-        Reason::Peer { cell: _ }
-        | Reason::Place {
-            line: _,
-            index: _,
-            value: _,
-        }
-        | Reason::Stand { place: _ } => 2000,
-        Reason::Clue { place: _ } => 3000,
-        Reason::Set {
-            line: _,
-            squares: _,
-            values: _,
-        } => 4000,
+        Reason::Given { .. } | Reason::Bound { .. } | Reason::Sign { .. } => 1000,
+        Reason::Peer { .. } | Reason::Place { .. } | Reason::Stand { .. } => 2000,
+        Reason::Clue { .. } => 3000,
+        Reason::Set { .. } => 4000,
     }
 }

@@ -7,7 +7,7 @@ use crate::needs::{Values, left, looked_at, needs_of};
 use crate::replays::{struck, take};
 use arrayvec::ArrayVec;
 use latin_board::{CELLS, OutOfMemory};
-use named_steps::{KnownRows, Reason, Steps};
+use named_steps::{Reason, Steps};
 use number_sets::NumberSet;
 use std::alloc::Global;
 use trail_solver::{Candidates, Rules};
@@ -20,7 +20,7 @@ pub(crate) fn slice<P: Steps>(
     candidates: &mut Candidates,
     steps: &[Step],
     aim: Aim,
-    known: &mut KnownRows,
+    known: &mut P::Known,
 ) -> Result<Vec<Step>, OutOfMemory> {
     let mut needs = needs_of(candidates, aim);
     let mut gone = Values::none();
@@ -62,7 +62,7 @@ fn few_premises<P: Steps>(
     gone: &Values,
     needs: &Values,
     step: &Step,
-    known: &mut KnownRows,
+    known: &mut P::Known,
 ) -> Values {
     let cells = looked_at(candidates.size(), &step.reason);
     let mut rest = *gone;
@@ -84,7 +84,7 @@ fn leave_out<P: Steps>(
     needs: &Values,
     step: &Step,
     made: &Step,
-    known: &mut KnownRows,
+    known: &mut P::Known,
 ) {
     let cell = made.cell as usize;
     let spare = made.values.difference(needs.of(cell));
@@ -119,7 +119,7 @@ fn leave_out_values<P: Steps>(
     step: &Step,
     cell: usize,
     values: NumberSet,
-    known: &mut KnownRows,
+    known: &mut P::Known,
 ) -> bool {
     rest.remove(cell, values);
     if strikes_by(p, candidates, cells, rest, step, known) {
@@ -136,7 +136,7 @@ fn strikes_by<P: Steps>(
     cells: &ArrayVec<u8, 9>,
     gone: &Values,
     step: &Step,
-    known: &mut KnownRows,
+    known: &mut P::Known,
 ) -> bool {
     let mark = candidates.mark();
     for cell in cells.as_slice() {
@@ -170,7 +170,7 @@ pub(crate) fn gathered<P: Steps>(
     p: &P,
     candidates: &mut Candidates,
     steps: &[Step],
-    known: &mut KnownRows,
+    known: &mut P::Known,
 ) -> Result<Vec<Step>, OutOfMemory> {
     let mark = candidates.mark();
     let mut found = Vec::new(alloc);
@@ -195,7 +195,7 @@ fn gather<P: Steps>(
     steps: &[Step],
     reason: &Reason,
     found: &mut Vec<Step>,
-    known: &mut KnownRows,
+    known: &mut P::Known,
 ) -> Result<(), OutOfMemory> {
     let now = struck_now(p, candidates, steps, reason, known);
     for cell in 0..CELLS {
@@ -219,7 +219,7 @@ fn struck_now<P: Steps>(
     candidates: &Candidates,
     steps: &[Step],
     reason: &Reason,
-    known: &mut KnownRows,
+    known: &mut P::Known,
 ) -> Values {
     let mut now = Values::none();
     for step in steps {

@@ -8,7 +8,7 @@ ghost use Rattle.step_chains.specs.Inner.Tight.{IsTightFrom, IsNeededFrom, IsNee
 use crate::aims::Aim;
 use crate::chain::Step;
 use crate::replays::shows_from;
-use named_steps::{Grade, KnownRows, Steps};
+use named_steps::{Grade, Steps};
 use trail_solver::{Candidates, Rules};
 
 /// Leaves out, from the last step to the first, each number without which the steps still come to the aim, and each step of which none is
@@ -20,7 +20,7 @@ pub(crate) fn tighten<P: Steps>(
     candidates: &mut Candidates,
     steps: &mut Vec<Step>,
     aim: Aim,
-    known: &mut KnownRows,
+    known: &mut P::Known,
 )
     requires size { candidates.old.size ≡ (P.puzzle p.now).size }
     requires aim { IsAimOf candidates.old.size aim }
@@ -52,7 +52,7 @@ fn narrow<P: Steps>(
     steps: &mut Vec<Step>,
     place: usize,
     aim: Aim,
-    known: &mut KnownRows,
+    known: &mut P::Known,
 )
     requires size { candidates.old.size ≡ (P.puzzle p.now).size }
     requires aim { IsAimOf candidates.old.size aim }
@@ -88,7 +88,7 @@ fn leave_out<P: Steps>(
     place: usize,
     value: u8,
     aim: Aim,
-    known: &mut KnownRows,
+    known: &mut P::Known,
 )
     requires size { candidates.old.size ≡ (P.puzzle p.now).size }
     requires aim { IsAimOf candidates.old.size aim }

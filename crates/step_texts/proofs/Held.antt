@@ -16,13 +16,13 @@ use Rattle.shown_counts.specs.Shown.{IsShownBy}
 use Rattle.step_texts.specs.declared.told.Strike.{Strike}
 use Rattle.step_texts.specs.declared.told.ToldStep.{ToldStep}
 use Rattle.step_texts.specs.Looks.{HoldsAt, AreRising}
-use Rattle.step_texts.specs.Told.{AreToldCounts, IsToldStrike, AreToldStrikes, AreTold, clue_at, IsHeldStrike, AreAfter, AreInOrder, strike_value, told_values, AreHeld}
+use Rattle.step_texts.specs.Told.{AreToldCounts, IsToldStrike, AreToldStrikes, AreTold, reason_clue, IsHeldStrike, AreAfter, AreInOrder, strike_value, told_values, AreHeld}
 use Rattle.clue_rules.specs.Reasons.{Striking}
 
 -- a reason strikes no number with whose counts its clue is
 abbrev IsToldBy : Striking → (ℕ → ℕ) → ℕ → Type 0
 IsToldBy Struck clue w = (c : CandidatesValue) (reason : Reason) (cell value : ℕ) → c.size ≡ w → Struck c reason cell value
-    → IsShownBy c reason cell value (clue_at clue reason) → ⊥
+    → IsShownBy c reason cell value (reason_clue clue reason) → ⊥
 
 -- each number of the step is left of its square, and its reason strikes it there
 abbrev IsHolding : Striking → CandidatesValue → Step → Type 0
@@ -74,7 +74,7 @@ strike_held Struck clue w law c reason step strike size same holds told = λ v h
     let by : Struck c reason step.cell v = subst (λ r. Struck c r step.cell v) same here.1 in (
       subst (λ n. IsLeft c n v) (sym told.cell) here.0,
       subst (λ n. Struck c reason n v) (sym told.cell) by,
-      counts_held c reason step.cell step.values v (clue_at clue reason) strike.shows told.shows one (law c reason step.cell v size by),
+      counts_held c reason step.cell step.values v (reason_clue clue reason) strike.shows told.shows one (law c reason step.cell v size by),
     )
 
 strikes_held : (Struck : Striking) (clue : ℕ → ℕ) (w : ℕ) → IsToldBy Struck clue w → (c : CandidatesValue) (reason : Reason)

@@ -6,14 +6,14 @@ use Rattle.clue_rules.specs.Fillings.{Anything, Standing}
 use Rattle.clue_rules.specs.declared.reason.Reason.{Reason}
 use Rattle.clue_rules.specs.declared.reason.Reason.TheVariants.{Given, Peer, Place, Bound, Stand, Clue, Sign, Set}
 use Rattle.step_chains.specs.declared.chain.Step.{Step}
-use Rattle.shown_counts.specs.Shown.{IsShown, IsShownBy, is_at_clue}
+use Rattle.shown_counts.specs.Shown.{CanShow, IsShownBy, is_at_clue}
 use Rattle.step_texts.specs.declared.told.Strike.{Strike}
 use Rattle.step_texts.specs.declared.told.ToldStep.{ToldStep}
 use Rattle.step_texts.specs.Told.{AreToldCounts, AreToldStrikes, IsToldOf}
 
 -- where more may stand, what was shown is shown
-shown_more : (w : ℕ) (May More : ℕ → ℕ → Type 0) (place cell v count : ℕ) → ((at n : ℕ) → May at n → More at n) → IsShown w May place cell v count
-    → IsShown w More place cell v count
+shown_more : (w : ℕ) (May More : ℕ → ℕ → Type 0) (place cell v count : ℕ) → ((at n : ℕ) → May at n → More at n) → CanShow w May place cell v count
+    → CanShow w More place cell v count
 shown_more w May More place cell v count more s =
     let f = s.filling in
     record {
@@ -32,12 +32,12 @@ shown_left : (c d : CandidatesValue) → c.size ≡ d.size → IsFewer d c → (
 shown_left c d size fewer (Given at) cell v count s = s
 shown_left c d size fewer (Peer by) cell v count s = s
 shown_left c d size fewer (Place line index other) cell v count s = s
-shown_left c d size fewer (Bound place) cell v count s = subst (λ w. IsShown w Anything place cell v count) size s
+shown_left c d size fewer (Bound place) cell v count s = subst (λ w. CanShow w Anything place cell v count) size s
 shown_left c d size fewer (Stand place) cell v count s =
     shown_more d.size (Standing c) (Standing d) place cell v count (λ at n stands alone none. stands alone (λ other left. none other (fewer at other left)))
-    (subst (λ w. IsShown w (Standing c) place cell v count) size s)
+    (subst (λ w. CanShow w (Standing c) place cell v count) size s)
 shown_left c d size fewer (Clue place) cell v count s =
-    shown_more d.size (IsLeft c) (IsLeft d) place cell v count fewer (subst (λ w. IsShown w (IsLeft c) place cell v count) size s)
+    shown_more d.size (IsLeft c) (IsLeft d) place cell v count fewer (subst (λ w. CanShow w (IsLeft c) place cell v count) size s)
 shown_left c d size fewer (Sign from to) cell v count s = s
 shown_left c d size fewer (Set line squares values) cell v count s = s
 

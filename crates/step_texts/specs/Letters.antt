@@ -4,13 +4,13 @@ use Rattle.named_steps.specs.declared.grade.Grade.{Grade}
 use Rattle.named_steps.specs.declared.grade.Grade.TheVariants.{Latin, Easy, Hard}
 
 -- in Towers, where the least grade has no letter of its own
-abbrev pub towers_letter : Grade → List ℕ
-towers_letter Latin = codes "e"
-towers_letter Easy = codes "e"
-towers_letter Hard = codes "h"
+abbrev pub towers_grade_text : Grade → List ℕ
+towers_grade_text Latin = codes "e"
+towers_grade_text Easy = codes "e"
+towers_grade_text Hard = codes "h"
 
 -- in Unequal
-abbrev pub unequal_letter : Grade → List ℕ
-unequal_letter Latin = codes "t"
-unequal_letter Easy = codes "e"
-unequal_letter Hard = codes "k"
+abbrev pub unequal_grade_text : Grade → List ℕ
+unequal_grade_text Latin = codes "t"
+unequal_grade_text Easy = codes "e"
+unequal_grade_text Hard = codes "k"

@@ -58,15 +58,15 @@ AreTold Struck w c steps (told ∷ later) =
 -- ---- what holds of the told steps of a chain
 
 -- the clue of a reason, by the clues at the places of the edge; 0 of a reason that has none
-abbrev pub clue_at : (ℕ → ℕ) → Reason → ℕ
-clue_at clue (Given at) = 0
-clue_at clue (Peer by) = 0
-clue_at clue (Place line index other) = 0
-clue_at clue (Bound place) = clue place
-clue_at clue (Stand place) = clue place
-clue_at clue (Clue place) = clue place
-clue_at clue (Sign from to) = 0
-clue_at clue (Set line squares values) = 0
+abbrev pub reason_clue : (ℕ → ℕ) → Reason → ℕ
+reason_clue clue (Given at) = 0
+reason_clue clue (Peer by) = 0
+reason_clue clue (Place line index other) = 0
+reason_clue clue (Bound place) = clue place
+reason_clue clue (Stand place) = clue place
+reason_clue clue (Clue place) = clue place
+reason_clue clue (Sign from to) = 0
+reason_clue clue (Set line squares values) = 0
 
 -- the square is one of those from the place
 pub record IsSeenFrom (w place cell : ℕ) : Type 0 where
@@ -90,7 +90,7 @@ IsInView w (Set line squares values) cell = ⊥
 abbrev pub IsHeldStrike : Striking → (ℕ → ℕ) → CandidatesValue → Reason → Strike → Type 0
 IsHeldStrike Struck clue c reason strike = (v : ℕ) → has_number strike.values v ≡ true
     → IsLeft c strike.cell v × Struck c reason strike.cell v
-    × IfSome strike.shows (λ shows. has_number (slice_index shows v) (clue_at clue reason) ≡ false)
+    × IfSome strike.shows (λ shows. has_number (slice_index shows v) (reason_clue clue reason) ≡ false)
 
 -- the square of each strike is after that of the one before it, and that of the first is after this one
 abbrev pub AreAfter : ℕ → List Strike → Type 0

@@ -9,7 +9,7 @@ ghost use Rattle.clue_rules.specs.Takes.{Takes};
 ghost use Rattle.step_chains.specs.ChainValues.{step_value, steps_of};
 ghost use Rattle.step_texts.specs.Looks.{HoldsAt, IsJoinable, AreJoined, HasNoMore};
 
-use named_steps::{KnownRows, Reason, Steps, strike as take};
+use named_steps::{Reason, Steps, strike as take};
 use number_sets::NumberSet;
 use step_chains::Step;
 use trail_solver::{Candidates, Rules};
@@ -21,7 +21,7 @@ pub(crate) fn joined_steps<P: Steps>(
     candidates: &Candidates,
     first: &Step,
     steps: &[Step],
-    known: &mut KnownRows,
+    known: &mut P::Known,
 ) -> usize
     ensures within { result ≤ length steps.now }
     ensures room { result + 1 < 2 ^ 64 }
@@ -49,7 +49,7 @@ fn is_joinable<P: Steps>(
     reason: Reason,
     after: u8,
     step: &Step,
-    known: &mut KnownRows,
+    known: &mut P::Known,
 ) -> bool
     ensures { IsTrue result
         ↔ IsJoinable (P.struck_by p.now) (P.puzzle p.now).size candidates.now reason after step.now }
@@ -61,7 +61,7 @@ fn is_joinable<P: Steps>(
 }
 
 // Whether a step strikes by what is left numbers that are left.
-fn holds_at<P: Steps>(p: &P, candidates: &Candidates, step: &Step, known: &mut KnownRows) -> bool
+fn holds_at<P: Steps>(p: &P, candidates: &Candidates, step: &Step, known: &mut P::Known) -> bool
     ensures { IsTrue result ↔ HoldsAt (P.struck_by p.now) (P.puzzle p.now).size candidates.now step.now }
 {
     let values = struck_left(p, candidates, &step.reason, step.cell as usize, known);
@@ -74,7 +74,7 @@ fn struck_left<P: Steps>(
     candidates: &Candidates,
     reason: &Reason,
     cell: usize,
-    known: &mut KnownRows,
+    known: &mut P::Known,
 ) -> NumberSet
     ensures { (v : ℕ) → (has_number result v ≡ true) ↔ ((candidates.now.size ≡ (P.puzzle p.now).size)
         × (IsPair candidates.now.size cell v × (may_be candidates.now cell v ≡ true)

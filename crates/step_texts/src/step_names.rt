@@ -4,7 +4,7 @@ ghost use Rattle.trail_solver.specs.Candidates.{CandidatesValue};
 ghost use Rattle.named_steps.specs.declared.grade.Grade.{Grade};
 ghost use Rattle.clue_rules.specs.declared.reason.Reason.{Reason};
 ghost use Rattle.shown_counts.specs.Shown.{IsShownBy};
-ghost use Rattle.step_texts.specs.Told.{clue_at, IsInView};
+ghost use Rattle.step_texts.specs.Told.{reason_clue, IsInView};
 
 use clue_rules::{Towers, Unequal};
 use named_steps::{Grade, Steps};
@@ -37,23 +37,23 @@ pub trait StepNames: Steps {
     // What a clue strikes is told by the counts: the clue is in none of those with a number that it strikes.
     ghost struck_unshown: { (p : Self) (c : CandidatesValue) (reason : Reason) (cell value : ℕ)
         → c.size ≡ (Self.Rules.puzzle p).size
-        → Self.struck_by p c reason cell value → IsShownBy c reason cell value (clue_at (edge_clue_of p) reason) → ⊥ };
+        → Self.struck_by p c reason cell value → IsShownBy c reason cell value (reason_clue (edge_clue_of p) reason) → ⊥ };
 
     // And a clue strikes each number of its squares of which it isn't among the counts.
     ghost unshown_struck: { (p : Self) (c : CandidatesValue) (reason : Reason) (cell value : ℕ)
         → c.size ≡ (Self.Rules.puzzle p).size
-        → 0 < clue_at (edge_clue_of p) reason → IsInView (Self.Rules.puzzle p).size reason cell
-        → (IsShownBy c reason cell value (clue_at (edge_clue_of p) reason) → ⊥)
+        → 0 < reason_clue (edge_clue_of p) reason → IsInView (Self.Rules.puzzle p).size reason cell
+        → (IsShownBy c reason cell value (reason_clue (edge_clue_of p) reason) → ⊥)
         → Self.struck_by p c reason cell value };
 }
 
 impl StepNames for Towers {
     ghost use Rattle.std.specs.Prelude.{false};
     ghost use Rattle.clue_rules.specs.Towers.{clue_of};
-    ghost use Rattle.step_texts.specs.Letters.{towers_letter};
+    ghost use Rattle.step_texts.specs.Letters.{towers_grade_text};
     ghost use Rattle.step_texts.specs.Laws.ToldByCounts as laws;
 
-    ghost grade_letter = { towers_letter };
+    ghost grade_letter = { towers_grade_text };
 
     ghost edge_clue_of = { clue_of };
 
@@ -83,10 +83,10 @@ impl StepNames for Towers {
 impl StepNames for Unequal {
     ghost use Rattle.std.specs.Prelude.{zero};
     ghost use Rattle.clue_rules.specs.Unequal.{is_greater};
-    ghost use Rattle.step_texts.specs.Letters.{unequal_letter};
+    ghost use Rattle.step_texts.specs.Letters.{unequal_grade_text};
     ghost use Rattle.step_texts.specs.Laws.ToldByCounts as laws;
 
-    ghost grade_letter = { unequal_letter };
+    ghost grade_letter = { unequal_grade_text };
 
     ghost edge_clue_of = { λ _ _. zero };
 

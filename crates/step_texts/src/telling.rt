@@ -10,7 +10,6 @@ use crate::sentences::say_step;
 use crate::step_names::StepNames;
 use crate::told::{Strike, ToldStep};
 use crate::writing::Writing;
-use named_steps::KnownRows;
 use number_sets::NumberSet;
 use shown_counts::ClueCounts;
 use std::alloc::{AllocError, Global};
@@ -31,7 +30,7 @@ pub fn told_steps<P: StepNames>(
         (λ told. AreTold (P.struck_by p.now) (P.Rules.puzzle p.now).size candidates steps.now told.items) }
 {
     let mut candidates = candidates;
-    let mut known = KnownRows::none();
+    let mut known = P::Known::default();
     let mut told = Vec::new(alloc);
     let mut rest = steps;
     while let Some(first) = rest.first() {

@@ -1,5 +1,5 @@
 -- A turn: one line of a session that is kept as the text of a save.
-use Rattle.std.specs.Prelude.{◌≡◌, ◌≢◌, ◌⊎◌, ◌<◌, ℕ, List, [], Bool, true, false, Option, Some, None, length}
+use Rattle.std.specs.Prelude.{◌≡◌, ◌≢◌, ◌⊎◌, ◌<◌, ℕ, List, [], Bool, true, false, Option, Some, None, Ok, Err, length}
 use Rattle.play_midend.specs.Histories.{History}
 use Rattle.play_save.specs.Written.{save_of}
 use Rattle.puzzle_cli.specs.declared.line.machine.Response.{Response}
@@ -13,7 +13,7 @@ use Rattle.puzzle_cli.specs.GameFacts.{GameFacts}
 use Rattle.puzzle_cli.specs.Lines.{Line, as_line, unless_long}
 use Rattle.puzzle_cli.specs.Machines.{IsResponse}
 use Rattle.puzzle_cli.specs.StartFault.{start_fault_line}
-use Rattle.puzzle_cli.specs.Programs.{GameReply, IsFirst, IsFirstRefused}
+use Rattle.puzzle_cli.specs.Programs.{GameReply, Begins}
 use Rattle.puzzle_cli.specs.Texts.{text_bytes}
 use Rattle.web_turn.specs.declared.outcome.Outcome.{Outcome}
 use Rattle.web_turn.specs.declared.outcome.Outcome.TheVariants.{Answered, Ended, Unread, OutOfMemory, OutOfRoom}
@@ -31,8 +31,8 @@ file_of [] = None
 file_of bytes = Some bytes
 
 -- the line, of the bytes that have come without their LF
-abbrev pub line_of : List ℕ → Line
-line_of come = as_line (unless_long come)
+abbrev pub come_line : List ℕ → Line
+come_line come = as_line (unless_long come)
 
 -- ---- what goes out
 
@@ -71,7 +71,7 @@ pub record IsTurn {P : Type 0} (f : GameFacts P) (reply : GameReply P) (before :
   pub old : Option (History P)
   pub new : Option (History P)
   pub response : Response
-  pub begins : IsFirst f None (file_of before) old
+  pub begins : Begins f None (file_of before) (Ok old)
   pub answered : IsResponse reply is_quit old line response new
   pub is_said : said ≡ said_text response
   pub is_saved : saved ≡ saved_text f new
@@ -79,16 +79,16 @@ pub record IsTurn {P : Type 0} (f : GameFacts P) (reply : GameReply P) (before :
 
 -- The text before is no save of this game, and that is not for want of memory; `said` is the program's line on it.
 abbrev pub IsUnread : {P : Type 0} → GameFacts P → List ℕ → List ℕ → Type 0
-IsUnread f before said = (fault : StartFault) × IsFirstRefused f None (file_of before) fault × (fault ≢ NoMemoryToLoad)
+IsUnread f before said = (fault : StartFault) × Begins f None (file_of before) (Err fault) × (fault ≢ NoMemoryToLoad)
     × (said ≡ start_fault_line fault)
 
 -- what comes of the line: a turn that ends the session or doesn't, or no turn and nothing saved
-abbrev pub IsAnswer : {P : Type 0} → GameFacts P → GameReply P → List ℕ → Line → List ℕ → List ℕ → Outcome → Type 0
-IsAnswer f reply before line said saved Answered = IsTurn f reply before line said saved false
-IsAnswer f reply before line said saved Ended = IsTurn f reply before line said saved true
-IsAnswer f reply before line said saved Unread = IsUnread f before said × (saved ≡ [])
-IsAnswer f reply before line said saved OutOfMemory = ⊥
-IsAnswer f reply before line said saved OutOfRoom = ⊥
+abbrev pub IsTurnOutcome : {P : Type 0} → GameFacts P → GameReply P → List ℕ → Line → List ℕ → List ℕ → Outcome → Type 0
+IsTurnOutcome f reply before line said saved Answered = IsTurn f reply before line said saved false
+IsTurnOutcome f reply before line said saved Ended = IsTurn f reply before line said saved true
+IsTurnOutcome f reply before line said saved Unread = IsUnread f before said × (saved ≡ [])
+IsTurnOutcome f reply before line said saved OutOfMemory = ⊥
+IsTurnOutcome f reply before line said saved OutOfRoom = ⊥
 
 -- What comes of the line has one text of so many bytes and one of so many, and one of both has no place in its room.
 pub record IsTooLong {P : Type 0} (f : GameFacts P) (reply : GameReply P) (before : List ℕ) (line : Line)
@@ -97,7 +97,7 @@ pub record IsTooLong {P : Type 0} (f : GameFacts P) (reply : GameReply P) (befor
   pub said : List ℕ
   pub saved : List ℕ
   pub outcome : Outcome
-  pub answer : IsAnswer f reply before line said saved outcome
+  pub answer : IsTurnOutcome f reply before line said saved outcome
   pub said_is : said_bytes ≡ length said
   pub saved_is : saved_bytes ≡ length saved
   pub over : (said_room < said_bytes) ⊎ (saved_room < saved_bytes)

@@ -3,7 +3,7 @@
 ghost use Rattle.std.specs.Prelude.{◌≡◌, ◌⊎◌, ◌≤◌, ◌<◌, length, take, true, false, Some, vec_items};
 ghost use Rattle.puzzle_cli.specs.Programs.{OfGame};
 ghost use Rattle.web_turn.specs.declared.outcome.Outcome.{Outcome};
-ghost use Rattle.web_turn.specs.Turns.{IsAnswer, IsTooLong, game_of, line_of, outcome_number};
+ghost use Rattle.web_turn.specs.Turns.{IsTurnOutcome, IsTooLong, game_of, come_line, outcome_number};
 
 use crate::outcome::Outcome;
 use crate::turn::{Answer, answer_line};
@@ -40,24 +40,24 @@ pub extern "C" fn puzzles_turn(
     ending: &mut Ending,
 )
     ensures answered { ending.new.outcome ≡ outcome_number Outcome.Answered → OfGame (game_of is_unequal)
-        (IsAnswer ⟦<Towers as Facts>⟧.facts ⟦<Json as Format<Towers>>⟧.reply before.now (line_of line.now)
+        (IsTurnOutcome ⟦<Towers as Facts>⟧.facts ⟦<Json as Format<Towers>>⟧.reply before.now (come_line line.now)
         (take ending.new.said said.new) (take ending.new.saved saved.new) Outcome.Answered)
-        (IsAnswer ⟦<Unequal as Facts>⟧.facts ⟦<Json as Format<Unequal>>⟧.reply before.now (line_of line.now)
+        (IsTurnOutcome ⟦<Unequal as Facts>⟧.facts ⟦<Json as Format<Unequal>>⟧.reply before.now (come_line line.now)
         (take ending.new.said said.new) (take ending.new.saved saved.new) Outcome.Answered) }
     ensures ended { ending.new.outcome ≡ outcome_number Outcome.Ended → OfGame (game_of is_unequal)
-        (IsAnswer ⟦<Towers as Facts>⟧.facts ⟦<Json as Format<Towers>>⟧.reply before.now (line_of line.now)
+        (IsTurnOutcome ⟦<Towers as Facts>⟧.facts ⟦<Json as Format<Towers>>⟧.reply before.now (come_line line.now)
         (take ending.new.said said.new) (take ending.new.saved saved.new) Outcome.Ended)
-        (IsAnswer ⟦<Unequal as Facts>⟧.facts ⟦<Json as Format<Unequal>>⟧.reply before.now (line_of line.now)
+        (IsTurnOutcome ⟦<Unequal as Facts>⟧.facts ⟦<Json as Format<Unequal>>⟧.reply before.now (come_line line.now)
         (take ending.new.said said.new) (take ending.new.saved saved.new) Outcome.Ended) }
     ensures unread { ending.new.outcome ≡ outcome_number Outcome.Unread → OfGame (game_of is_unequal)
-        (IsAnswer ⟦<Towers as Facts>⟧.facts ⟦<Json as Format<Towers>>⟧.reply before.now (line_of line.now)
+        (IsTurnOutcome ⟦<Towers as Facts>⟧.facts ⟦<Json as Format<Towers>>⟧.reply before.now (come_line line.now)
         (take ending.new.said said.new) (take ending.new.saved saved.new) Outcome.Unread)
-        (IsAnswer ⟦<Unequal as Facts>⟧.facts ⟦<Json as Format<Unequal>>⟧.reply before.now (line_of line.now)
+        (IsTurnOutcome ⟦<Unequal as Facts>⟧.facts ⟦<Json as Format<Unequal>>⟧.reply before.now (come_line line.now)
         (take ending.new.said said.new) (take ending.new.saved saved.new) Outcome.Unread) }
     ensures room { ending.new.outcome ≡ outcome_number Outcome.OutOfRoom → OfGame (game_of is_unequal)
-        (IsTooLong ⟦<Towers as Facts>⟧.facts ⟦<Json as Format<Towers>>⟧.reply before.now (line_of line.now)
+        (IsTooLong ⟦<Towers as Facts>⟧.facts ⟦<Json as Format<Towers>>⟧.reply before.now (come_line line.now)
         ending.new.said ending.new.saved (length said.old) (length saved.old))
-        (IsTooLong ⟦<Unequal as Facts>⟧.facts ⟦<Json as Format<Unequal>>⟧.reply before.now (line_of line.now)
+        (IsTooLong ⟦<Unequal as Facts>⟧.facts ⟦<Json as Format<Unequal>>⟧.reply before.now (come_line line.now)
         ending.new.said ending.new.saved (length said.old) (length saved.old)) }
     ensures lengths { ending.new.outcome ≤ outcome_number Outcome.Unread →
         (ending.new.said ≤ length said.new) × (ending.new.saved ≤ length saved.new) }

@@ -1,10 +1,10 @@
 //! A turn of a game: from the text of a save, or of none, and a line, to what is said and the text of a save of the session after.
 
-ghost use Rattle.std.specs.Prelude.{◌≡◌, ◌≢◌, ◌≤◌, length, vec_items, IfErr, IfOk, Some, None};
+ghost use Rattle.std.specs.Prelude.{◌≡◌, ◌≢◌, ◌≤◌, length, vec_items, IfErr, IfOk, Some, None, Err};
 ghost use Rattle.std.specs.Option.{option_copied};
 ghost use Rattle.puzzle_cli.specs.declared.start.start_fault.StartFault.{StartFault};
-ghost use Rattle.puzzle_cli.specs.Programs.{IsFirst, IsFirstRefused, OfGame};
-ghost use Rattle.web_turn.specs.Turns.{IsAnswer, IsTurn, file_of, is_end, line_of, said_text, saved_text};
+ghost use Rattle.puzzle_cli.specs.Programs.{Begins, OfGame};
+ghost use Rattle.web_turn.specs.Turns.{IsTurnOutcome, IsTurn, file_of, is_end, come_line, said_text, saved_text};
 
 use crate::outcome::Outcome;
 use clue_rules::{Towers, Unequal};
@@ -45,9 +45,9 @@ pub(crate) fn answer_line(
     come: &[u8],
 ) -> Result<Answer, AllocError>
     ensures { IfOk result (λ answer. OfGame game
-        (IsAnswer ⟦<Towers as Facts>⟧.facts ⟦<Json as Format<Towers>>⟧.reply before.now (line_of come.now)
+        (IsTurnOutcome ⟦<Towers as Facts>⟧.facts ⟦<Json as Format<Towers>>⟧.reply before.now (come_line come.now)
         (vec_items answer.said) (vec_items answer.saved) answer.outcome)
-        (IsAnswer ⟦<Unequal as Facts>⟧.facts ⟦<Json as Format<Unequal>>⟧.reply before.now (line_of come.now)
+        (IsTurnOutcome ⟦<Unequal as Facts>⟧.facts ⟦<Json as Format<Unequal>>⟧.reply before.now (come_line come.now)
         (vec_items answer.said) (vec_items answer.saved) answer.outcome)) }
 {
     match game {
@@ -63,7 +63,7 @@ fn answer_in<T: Format<P>, P: Draw>(
     line: Option<&[u8]>,
 ) -> Result<Answer, AllocError>
     ensures { IfOk result (λ answer.
-        IsAnswer ⟦<P as Facts>⟧.facts T.reply before.now (option_copied line.entry)
+        IsTurnOutcome ⟦<P as Facts>⟧.facts T.reply before.now (option_copied line.entry)
         (vec_items answer.said) (vec_items answer.saved) answer.outcome) }
 {
     match turn_in::<T, P>(alloc, before, line) {
@@ -108,7 +108,7 @@ fn turn_in<T: Format<P>, P: Draw>(
         IsTurn ⟦<P as Facts>⟧.facts T.reply before.now (option_copied line.entry)
         (vec_items turn.said) (vec_items turn.saved) turn.ends) }
     ensures unread { IfErr result (λ fault. fault ≢ StartFault.OutOfMemory →
-        IsFirstRefused ⟦<P as Facts>⟧.facts None (file_of before.now) fault) }
+        Begins ⟦<P as Facts>⟧.facts None (file_of before.now) (Err fault)) }
 {
     let mut session = first::<P>(alloc, before)?;
     let response = T::answer(alloc, &mut session, line);
@@ -119,7 +119,7 @@ fn turn_in<T: Format<P>, P: Draw>(
 
 // The line, or none where it is too long.
 fn line(come: &[u8]) -> Option<&[u8]>
-    ensures { option_copied result ≡ line_of come.now }
+    ensures { option_copied result ≡ come_line come.now }
 {
     if come.len() > LINE_BYTES {
         return None;
@@ -132,8 +132,7 @@ fn line(come: &[u8]) -> Option<&[u8]>
 
 // The session of the text before, or none.
 fn first<P: Draw>(alloc: Global, before: &[u8]) -> Result<Option<Session<P>>, StartFault>
-    ensures first { IfOk result (λ first. IsFirst ⟦<P as Facts>⟧.facts None (file_of before.now) first) }
-    ensures unread { IfErr result (λ fault. IsFirstRefused ⟦<P as Facts>⟧.facts None (file_of before.now) fault) }
+    ensures { Begins ⟦<P as Facts>⟧.facts None (file_of before.now) result }
 {
     begin::<P>(alloc, None, file(before))
 }

@@ -19,7 +19,7 @@ use Rattle.clue_rules.proofs.LineSquares.{view_index_apart, view_inside}
 use Rattle.clue_rules.proofs.ViewSteps.{view_number}
 use Rattle.board_checks.specs.declared.spot.Spot.{Spot}
 use Rattle.board_checks.specs.declared.spot.Spot.TheVariants.{Edge, RightOf, Below}
-use Rattle.board_checks.specs.Demands.{Demand, IsOnLine, numbers_of}
+use Rattle.board_checks.specs.Demands.{Demand, IsOfPeers, numbers_of}
 use Rattle.board_checks.specs.Spots.{IsSpot, MeetsAll}
 use Rattle.board_checks.specs.Games.{clue_demand, towers_demand}
 
@@ -48,7 +48,7 @@ demand_spot v (Below cell) d valid e = absurd (none-some d e)
 
 -- ---- the squares of a clue's line
 
-clue_on_line : (v : TowersValue) (place : ℕ) → place < 4 * v.size → IsOnLine v.size (clue_demand v place)
+clue_on_line : (v : TowersValue) (place : ℕ) → place < 4 * v.size → IsOfPeers v.size (clue_demand v place)
 clue_on_line v place inside =
     let w = v.size in
     let len = length-map-range_with_len (view_cell w place) 0 w in
@@ -67,10 +67,10 @@ clue_on_line v place inside =
     }
 
 pub demand_line : (v : TowersValue) (spot : Spot) (d : Demand) → IsTowers v → towers_demand v spot ≡ Some d
-    → IsOnLine v.size d
+    → IsOfPeers v.size d
 demand_line v (Edge place) d valid e =
     let there = demanded v place d e in
-    subst (IsOnLine v.size) there.1 (clue_on_line v place (placed v place valid there.0))
+    subst (IsOfPeers v.size) there.1 (clue_on_line v place (placed v place valid there.0))
 demand_line v (RightOf cell) d valid e = absurd (none-some d e)
 demand_line v (Below cell) d valid e = absurd (none-some d e)
 

@@ -15,7 +15,7 @@ use Rattle.clue_rules.specs.Laws.Signs.{IsSaid, right_between, below_between, sa
 use Rattle.clue_rules.proofs.SignLemmas.{signs_held, held_signs}
 use Rattle.board_checks.specs.declared.spot.Spot.{Spot}
 use Rattle.board_checks.specs.declared.spot.Spot.TheVariants.{Edge, RightOf, Below}
-use Rattle.board_checks.specs.Demands.{Demand, IsOnLine, numbers_of}
+use Rattle.board_checks.specs.Demands.{Demand, IsOfPeers, numbers_of}
 use Rattle.board_checks.specs.Spots.{IsSpot, MeetsAll}
 use Rattle.board_checks.specs.Games.{sign_demand, demand_if_present, unequal_demand}
 use Rattle.board_checks.specs.Laws.TwoSquares.{two_all, two_pairs}
@@ -76,16 +76,16 @@ next_peers w a b small next =
     (λ same. omega arith) in
     rw (on.first, on.second) at peers
 
-demanded_on_line : (v : UnequalValue) (a b : ℕ) (d : Demand) → IsUnequal v → IsDemanded v a b d → IsOnLine v.size d
+demanded_on_line : (v : UnequalValue) (a b : ℕ) (d : Demand) → IsUnequal v → IsDemanded v a b d → IsOfPeers v.size d
 demanded_on_line v a b d valid h =
     let small = valid.givens.smallest in
-    subst (IsOnLine v.size) h.is (record {
+    subst (IsOfPeers v.size) h.is (record {
       inside = two_all (λ cell. cell < v.size * v.size) a b h.next.inside (next_inside v.size a b small h.next);
       peers = two_pairs (ArePeers v.size) a b (next_peers v.size a b small h.next);
     })
 
 pub demand_line : (v : UnequalValue) (spot : Spot) (d : Demand) → IsUnequal v → unequal_demand v spot ≡ Some d
-    → IsOnLine v.size d
+    → IsOfPeers v.size d
 demand_line v (Edge place) d valid e = absurd (none-some d e)
 demand_line v (RightOf cell) d valid e = demanded_on_line v cell (cell + 1) d valid (right_demanded v cell d valid e)
 demand_line v (Below cell) d valid e = demanded_on_line v cell (cell + v.size) d valid (below_demanded v cell d valid e)

@@ -113,16 +113,11 @@ fn hint_of<P: Game + Steps>(alloc: Global, p: &P, grid: &Grid) -> Option<Said> {
         return None;
     }
     match next_hint(alloc, p, grid) {
-        Ok(NextHint::Follows { grade: _, chain }) if chain.goal.is_of(size) => {
+        Ok(NextHint::Follows { chain, .. }) if chain.goal.is_of(size) => {
             Some(Said::Number(chain.goal.cell(size), chain.goal.value()))
         }
         Ok(NextHint::Nothing) => Some(Said::Nothing),
-        Ok(
-            NextHint::Refuted {
-                grade: _,
-                refutation: _,
-            },
-        ) => Some(Said::Contradiction),
+        Ok(NextHint::Refuted { .. }) => Some(Said::Contradiction),
         _ => None,
     }
 }

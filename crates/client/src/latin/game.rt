@@ -2,7 +2,7 @@
 
 ghost use Rattle.std.specs.Prelude.{◌≡◌, ◌≤◌, map, IfOk};
 ghost use Rattle.byte_text.specs.Bytes.{digit};
-ghost use Rattle.client.specs.Latin.{latin_at, number_in};
+ghost use Rattle.client.specs.Latin.{latin_at, number_of_byte};
 
 use crate::latin::Latin;
 use clue_rules::{Game, IdFault};
@@ -12,18 +12,18 @@ use trail_solver::Rules;
 
 impl Game for Latin {
     ghost use Rattle.std.specs.Prelude.{◌≡◌, codes};
-    ghost use Rattle.client.specs.Latin.{latin_at, latin_text};
+    ghost use Rattle.client.specs.Latin.{latin_at, latin_desc};
     ghost use Rattle.client.specs.LatinTexts as laws;
 
     ghost title = { codes "Latin" };
 
     ghost letter_codes = { codes "en" };
 
-    ghost describes = { λ text p. text ≡ latin_text p };
+    ghost describes = { λ text p. text ≡ latin_desc p };
 
     ghost desc_at = { latin_at };
 
-    ghost desc_of = { latin_text };
+    ghost desc_of = { latin_desc };
 
     fn name() -> &'static str {
         "Latin"
@@ -66,7 +66,7 @@ impl Game for Latin {
 
 fn number_of(width: u8, byte: u8) -> Option<u8>
     requires { width ≤ 9 }
-    ensures { result ≡ number_in width byte }
+    ensures { result ≡ number_of_byte width byte }
 {
     if b'0' <= byte && byte <= b'0' + width {
         Some(byte - b'0')

@@ -1,5 +1,5 @@
 -- Candidates from which a grade's steps lead on as from all pairs.
-use Rattle.std.specs.Prelude.{◌≡◌, ℕ, List}
+use Rattle.std.specs.Prelude.{◌≡◌, List}
 use Rattle.latin_board.specs.Squares.{GridValue}
 use Rattle.trail_solver.specs.Candidates.{CandidatesValue, IsWithin}
 use Rattle.clue_rules.specs.Left.{IsFewer, all_of}

@@ -18,14 +18,14 @@ words_of size grade seed =
     else None
 
 -- the second and the third after a first
-abbrev pub two_at : List ℕ → List ℕ → Option (FairWords (List ℕ))
-two_at size rest = option_and_then (λ seed. words_of size (before space rest) seed) (behind space rest)
+abbrev pub two_words_at : List ℕ → List ℕ → Option (FairWords (List ℕ))
+two_words_at size rest = option_and_then (λ seed. words_of size (before space rest) seed) (behind space rest)
 
 -- the three words of a text, if it is that
-abbrev pub three_at : List ℕ → Option (FairWords (List ℕ))
-three_at text = option_and_then (λ rest. two_at (before space text) rest) (behind space text)
+abbrev pub three_words_at : List ℕ → Option (FairWords (List ℕ))
+three_words_at text = option_and_then (λ rest. two_words_at (before space text) rest) (behind space text)
 
 -- the words of a line, if it is `fair` and three
 abbrev pub fair_at : Line → Option (FairWords (List ℕ))
 fair_at None = None
-fair_at (Some text) = option_and_then three_at (rest_behind (codes "fair ") text)
+fair_at (Some text) = option_and_then three_words_at (rest_behind (codes "fair ") text)

@@ -8,7 +8,7 @@ use Rattle.puzzle_cli.specs.GameFacts.{GameFacts}
 use Rattle.puzzle_cli.specs.Texts.{text_bytes}
 use Rattle.json_replies.specs.ObjectLines.{OrLost}
 use Rattle.json_replies.specs.declared.fair_words.FairWords.{FairWords}
-use Rattle.json_replies.specs.Replies.{Answer, left_by, IsReplyLine}
+use Rattle.json_replies.specs.Replies.{Answer, session_left, IsReplyLine}
 use Rattle.json_replies.specs.FurtherLines.{BoardFacts}
 use Rattle.json_replies.specs.FairReplies.{FairGives}
 use Rattle.json_replies.specs.JsonReplies.{TellsOutcome, TellsAnswer}
@@ -25,4 +25,5 @@ TellsResponse f _ new _ = ⊥
 abbrev pub TellsFair : {P : Type 0} → GameFacts P → BoardFacts P → Option (History P) → FairWords (List ℕ) → List ℕ
     → Option (History P) → Type 0
 TellsFair {P} f b old words bytes new =
-    (answer : Answer P) × FairGives f b old words answer × (new ≡ left_by old answer) × TellsAnswer f answer new bytes
+    (answer : Answer P) × FairGives f b old words answer × (new ≡ session_left old answer)
+    × TellsAnswer f answer new bytes

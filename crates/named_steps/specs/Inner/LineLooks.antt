@@ -1,18 +1,19 @@
 -- Lines that wait to be looked at, and what holds of those that don't.
-use Rattle.std.specs.Prelude.{◌≡◌, ◌≢◌, ℕ, ◌*◌, ◌<◌, true, false}
+use Rattle.std.specs.Prelude.{◌≡◌, ◌≢◌, ℕ, ◌*◌, ◌<◌, false}
 use Rattle.number_sets.specs.Sets.{has_number}
 use Rattle.trail_solver.specs.Candidates.{CandidatesValue}
-use Rattle.named_steps.specs.Grades.{is_past_latin}
+use Rattle.named_steps.specs.Grades.{IsLower}
 use Rattle.named_steps.specs.Along.{IsQuietAlong}
 use Rattle.named_steps.specs.Passes.{StaysOn}
 use Rattle.clue_rules.specs.LineStrikes.{IsRestQuiet}
 use Rattle.named_steps.specs.declared.grade.Grade.{Grade}
+use Rattle.named_steps.specs.declared.grade.Grade.TheVariants.{Latin}
 use Rattle.clue_rules.specs.Reasons.{Striking}
 
 -- along the line lone values, last places, and clues or signs where the grade has these strike nothing that is left
 pub record IsQuietOn (Struck : Striking) (grade : Grade) (line : ℕ) (c : CandidatesValue) : Type 0 where
   pub squares : IsRestQuiet line c
-  pub clues : is_past_latin grade ≡ true → IsQuietAlong Struck grade line c
+  pub clues : IsLower Latin grade → IsQuietAlong Struck grade line c
 
 -- so along each line that isn't in the set of those that wait
 abbrev pub AreWaiting : Striking → Grade → ℕ → CandidatesValue → Type 0

@@ -41,11 +41,11 @@ IsToldOfKind kind (HelpAsked text) = (kind ≢ DisplayHelp) × (kind ≢ Display
 IsToldOfKind kind NoMemory = ⊥
 
 -- so the words are refused
-abbrev pub IsRefusal : List Text → CommandFault → Type 0
-IsRefusal words fault = AreRead words (Err fault)
+abbrev pub AreWordsRefused : List Text → CommandFault → Type 0
+AreWordsRefused words fault = AreRead words (Err fault)
 
 -- these are the values that were found
-pub record IsFound (found : Found) (args : Args) : Type 0 where
+pub record AreValuesFound (found : Found) (args : Args) : Type 0 where
   pub game : first_value found (codes "game") ≡ Some (game_word args.game)
   pub id : first_value found (codes "id") ≡ option_map string_bytes args.id
   pub load : first_value found (codes "load") ≡ option_map string_bytes args.load

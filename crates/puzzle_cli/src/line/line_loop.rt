@@ -8,7 +8,7 @@ ghost use Rattle.puzzle_io.specs.Device.{IsPassedOn};
 ghost use Rattle.puzzle_cli.specs.Lines.{as_line};
 ghost use Rattle.puzzle_cli.specs.Inner.LineBuffer.{ended_from, last_from};
 ghost use Rattle.puzzle_cli.specs.Runs.{point_at, progress_at, Ends};
-ghost use Rattle.puzzle_cli.specs.Inner.Steps.{Goes};
+ghost use Rattle.puzzle_cli.specs.Inner.Steps.{ComeTo};
 
 use crate::line::line_buffer::LineBuffer;
 use crate::line::machine::{Machine, Response};
@@ -101,7 +101,7 @@ fn take_piece<M: Machine, W: Sink>(
     sink: &mut W,
 ) -> Flow
     requires { W.has_failed sink.old ≡ false }
-    ensures goes { Goes M.reply M.is_quit result (ended_from line.old piece.now)
+    ensures goes { ComeTo M.reply M.is_quit result (ended_from line.old piece.now)
         (progress_at W.Sink machine.old sink.old) (progress_at W.Sink machine.new sink.new) }
     ensures line { result ≡ Flow.More → line.new ≡ last_from line.old piece.now }
     ensures flushed { W.flushed sink.old ≡ W.taken sink.old → result ≢ Flow.Unsent
@@ -125,7 +125,7 @@ fn take_byte<M: Machine, W: Sink>(
     sink: &mut W,
 ) -> Flow
     requires { W.has_failed sink.old ≡ false }
-    ensures goes { Goes M.reply M.is_quit result (ended_from line.old (byte ∷ []))
+    ensures goes { ComeTo M.reply M.is_quit result (ended_from line.old (byte ∷ []))
         (progress_at W.Sink machine.old sink.old) (progress_at W.Sink machine.new sink.new) }
     ensures line { line.new ≡ last_from line.old (byte ∷ []) }
     ensures flushed { W.flushed sink.old ≡ W.taken sink.old → result ≢ Flow.Unsent
@@ -146,7 +146,7 @@ fn end_line<M: Machine, W: Sink>(
     sink: &mut W,
 ) -> Flow
     requires { W.has_failed sink.old ≡ false }
-    ensures goes { Goes M.reply M.is_quit result (as_line line.old ∷ [])
+    ensures goes { ComeTo M.reply M.is_quit result (as_line line.old ∷ [])
         (progress_at W.Sink machine.old sink.old) (progress_at W.Sink machine.new sink.new) }
     ensures line { line.new ≡ Some [] }
     ensures flushed { W.flushed sink.old ≡ W.taken sink.old → result ≢ Flow.Unsent
@@ -165,7 +165,7 @@ fn answer_line<M: Machine, W: Sink>(
     sink: &mut W,
 ) -> Flow
     requires { W.has_failed sink.old ≡ false }
-    ensures goes { Goes M.reply M.is_quit result (option_copied line.entry ∷ [])
+    ensures goes { ComeTo M.reply M.is_quit result (option_copied line.entry ∷ [])
         (progress_at W.Sink machine.old sink.old) (progress_at W.Sink machine.new sink.new) }
     ensures flushed { W.flushed sink.old ≡ W.taken sink.old → result ≢ Flow.Unsent
         → W.flushed sink.new ≡ W.taken sink.new }

@@ -5,7 +5,7 @@ ghost use Rattle.std.specs.Prelude.{IfErr, OnOk};
 ghost use Rattle.std.specs.Result.{result_err};
 ghost use Rattle.std.specs.declared.io.Error.{Error};
 ghost use Rattle.puzzle_cli.specs.Faults.{fault_status};
-ghost use Rattle.puzzle_cli.specs.GameFiles.{IsLoaded, IsSaved, IsToldAs, IsToldOf, IsUnread, IsUnsaved};
+ghost use Rattle.puzzle_cli.specs.GameFiles.{IsToldAs, IsToldOfUnwritten, Loads, Saves};
 ghost use Rattle.puzzle_cli.specs.declared.program.game_files.Unwritten.{Unwritten};
 
 use crate::fault::Fault;
@@ -49,8 +49,8 @@ pub(crate) fn load_file<F: GameFiles>(
     path: &Option<String>,
 ) -> Result<Option<Vec<u8>>, Fault>
     ensures loaded { IfOk result (λ bytes.
-        IsLoaded F.reads files.old path.now (option_map vec_items bytes) files.new) }
-    ensures why { IfErr result (λ fault. IsUnread F.reads files.old path.now fault files.new) }
+        Loads F.reads path.now files.old (Ok (option_map vec_items bytes)) files.new) }
+    ensures why { IfErr result (λ fault. Loads F.reads path.now files.old (Err fault) files.new) }
     ensures status { IfErr result (λ fault. fault_status fault ≡ 1) }
 {
     let Some(path) = path else {
@@ -68,10 +68,10 @@ pub(crate) fn save_file<F: GameFiles>(
     path: &Option<String>,
     text: &Option<Vec<u8>>,
 ) -> Result<(), Fault>
-    ensures saved { OnOk result (IsSaved F.writes files.old path.now (option_map vec_items text.now)
-        files.new) }
-    ensures why { IfErr result (λ fault. IsUnsaved F.writes files.old path.now
-        (option_map vec_items text.now) fault files.new) }
+    ensures saved { OnOk result (Saves F.writes path.now (option_map vec_items text.now)
+        files.old (Ok tt) files.new) }
+    ensures why { IfErr result (λ fault. Saves F.writes path.now (option_map vec_items text.now)
+        files.old (Err fault) files.new) }
     ensures status { IfErr result (λ fault. fault_status fault ≡ 1) }
 {
     let (Some(path), Some(text)) = (path, text) else {
@@ -85,7 +85,7 @@ pub(crate) fn save_file<F: GameFiles>(
 
 // The fault for bytes that weren't written.
 fn told_of(why: Unwritten) -> Fault
-    ensures told { IsToldOf why result }
+    ensures told { IsToldOfUnwritten why result }
     ensures status { fault_status result ≡ 1 }
 {
     match why {

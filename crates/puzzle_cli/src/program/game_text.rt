@@ -1,12 +1,10 @@
 //! A game from its first session to the text to be saved.
 
-ghost use Rattle.std.specs.Prelude.{◌≡◌, ◌≢◌, false, true, is_some, option_map, vec_items, IfOk, IfErr, OnErr, OnOk};
+ghost use Rattle.std.specs.Prelude.{◌≡◌, ◌≢◌, false, option_map, vec_items, Ok, Err, IfOk, IfErr, OnOk};
 ghost use Rattle.std.specs.Option.{option_copied};
 ghost use Rattle.puzzle_cli.specs.Faults.{fault_status};
-ghost use Rattle.puzzle_cli.specs.Programs.{IsBroken, IsFirst, IsFirstRefused, IsFinished, IsPlayed, IsUnplayed};
-ghost use Rattle.puzzle_cli.specs.Programs.{text_to_save};
+ghost use Rattle.puzzle_cli.specs.Programs.{Begins, Plays, Runs, Spells};
 ghost use Rattle.puzzle_cli.specs.RunLaws.{IsNoneOrStorable};
-ghost use Rattle.puzzle_cli.specs.Runs.{point_at};
 
 use crate::draw::Draw;
 use crate::fault::Fault;
@@ -23,7 +21,6 @@ use puzzle_io::{Sink, Source};
 use std::alloc::Global;
 
 /// Plays a game with replies in this format, from the session of the ID or of the file's bytes on, or from none, and gives the text to be saved.
-#[tactic(auto, using(crate::proofs::UnplayedGames::refused_game))]
 pub(crate) fn game_text<T: Format<P>, P: Draw, R: Source, W: Sink>(
     alloc: Global,
     args: &Args,
@@ -33,15 +30,12 @@ pub(crate) fn game_text<T: Format<P>, P: Draw, R: Source, W: Sink>(
 ) -> Result<Option<Vec<u8>>, Fault>
     requires source { R.has_failed source.old ≡ false }
     requires sink { W.has_failed sink.old ≡ false }
-    ensures played { IfOk result (λ text. IsPlayed ⟦<P as Facts>⟧.facts T.reply args.now.id
-        (option_map vec_items bytes.now) args.now.save
-        (λ session. point_at R.Source W.Sink session source.old sink.old)
-        (λ session. point_at R.Source W.Sink session source.new sink.new)
-        (option_map vec_items text)) }
-    ensures unplayed { IfErr result (IsUnplayed ⟦<P as Facts>⟧.facts T.reply args.now.id
-        (option_map vec_items bytes.now) args.now.save
-        (λ session. point_at R.Source W.Sink session source.old sink.old)
-        (λ session. point_at R.Source W.Sink session source.new sink.new)) }
+    ensures played { IfOk result (λ text.
+        Plays ⟦<P as Facts>⟧.facts T.reply R.Source W.Sink args.now (option_map vec_items bytes.now)
+        (source.old, sink.old) (Ok (option_map vec_items text)) (source.new, sink.new)) }
+    ensures unplayed { IfErr result (λ fault.
+        Plays ⟦<P as Facts>⟧.facts T.reply R.Source W.Sink args.now (option_map vec_items bytes.now)
+        (source.old, sink.old) (Err fault) (source.new, sink.new)) }
     ensures status { IfErr result (λ fault. fault_status fault ≢ 0) }
     ensures flushed { OnOk result (W.flushed sink.old ≡ W.taken sink.old
         → W.flushed sink.new ≡ W.taken sink.new) }
@@ -58,11 +52,11 @@ fn first_session<P: Draw>(
     id: &Option<String>,
     bytes: &Option<Vec<u8>>,
 ) -> Result<Option<Session<P>>, StartFault>
-    ensures first { IfOk result
-        (IsFirst ⟦<P as Facts>⟧.facts id.now (option_map vec_items bytes.now)) }
+    ensures first { IfOk result (λ first.
+        Begins ⟦<P as Facts>⟧.facts id.now (option_map vec_items bytes.now) (Ok first)) }
+    ensures refused { IfErr result (λ fault.
+        Begins ⟦<P as Facts>⟧.facts id.now (option_map vec_items bytes.now) (Err fault)) }
     ensures storable { IfOk result (IsNoneOrStorable ⟦<P as Facts>⟧.facts) }
-    ensures refused { IfErr result
-        (IsFirstRefused ⟦<P as Facts>⟧.facts id.now (option_map vec_items bytes.now)) }
 {
     match id {
         Some(id) => begin::<P>(alloc, Some(id.as_bytes()), None),
@@ -89,12 +83,10 @@ fn run_game<T: Format<P>, P: Draw, R: Source, W: Sink>(
     requires storable { IsNoneOrStorable ⟦<P as Facts>⟧.facts first }
     requires source { R.has_failed source.old ≡ false }
     requires sink { W.has_failed sink.old ≡ false }
-    ensures finished { IfOk result (λ last. IsFinished ⟦<P as Facts>⟧.facts T.reply
-        (point_at R.Source W.Sink first source.old sink.old)
-        (point_at R.Source W.Sink last source.new sink.new)) }
-    ensures broken { IfErr result (λ fault. (last : _) × IsBroken T.reply
-        (point_at R.Source W.Sink first source.old sink.old)
-        (point_at R.Source W.Sink last source.new sink.new) fault) }
+    ensures finished { IfOk result (λ last. Runs ⟦<P as Facts>⟧.facts T.reply R.Source W.Sink first
+        (source.old, sink.old) (Ok last) (source.new, sink.new)) }
+    ensures broken { IfErr result (λ fault. Runs ⟦<P as Facts>⟧.facts T.reply R.Source W.Sink first
+        (source.old, sink.old) (Err fault) (source.new, sink.new)) }
     ensures status { IfErr result (λ fault. fault_status fault ≢ 0) }
     ensures flushed { OnOk result (W.flushed sink.old ≡ W.taken sink.old
         → W.flushed sink.new ≡ W.taken sink.new) }
@@ -113,11 +105,10 @@ fn text_of<P: Draw>(
     last: &Option<Session<P>>,
     path: &Option<String>,
 ) -> Result<Option<Vec<u8>>, Fault>
-    ensures text { IfOk result (λ text. option_map vec_items text
-        ≡ text_to_save ⟦<P as Facts>⟧.facts path.now last.now) }
-    ensures wanted { OnErr result
-        (is_some (text_to_save ⟦<P as Facts>⟧.facts path.now last.now) ≡ true) }
-    ensures memory { IfErr result (λ fault. fault ≡ Fault.OutOfMemory) }
+    ensures text { IfOk result (λ text.
+        Spells ⟦<P as Facts>⟧.facts path.now last.now (Ok (option_map vec_items text))) }
+    ensures memory { IfErr result (λ fault. Spells ⟦<P as Facts>⟧.facts path.now last.now (Err fault)) }
+    ensures status { IfErr result (λ fault. fault_status fault ≢ 0) }
 {
     match (last, path) {
         (Some(session), Some(_)) => match save(alloc, session) {

@@ -8,7 +8,8 @@ ghost use Rattle.clap.specs.Words.{app_of, first_value, found_of, rule_of};
 ghost use Rattle.puzzle_cli.specs.declared.start.command_line.GameName.{GameName};
 ghost use Rattle.puzzle_cli.specs.CommandLine.{AreRead, AreUnfit, IsCommandLine, NotBoth, game_word, option_rule};
 ghost use Rattle.puzzle_cli.specs.CommandLine.{program_line, word_texts};
-ghost use Rattle.puzzle_cli.specs.Inner.WordReading.{AreParsed, IsFound, IsGameRule, IsParseFault, IsRefusal};
+ghost use Rattle.puzzle_cli.specs.Inner.WordReading.{AreParsed, AreValuesFound, IsGameRule, IsParseFault};
+ghost use Rattle.puzzle_cli.specs.Inner.WordReading.{AreWordsRefused};
 ghost use Rattle.puzzle_cli.specs.Inner.WordReading.{IsToldOfKind};
 
 use crate::start::command_fault::CommandFault;
@@ -177,7 +178,7 @@ fn args_of(alloc: Global, matches: &ArgMatches<'_>) -> Result<Option<Args>, Allo
         (AreUnfit (first_value (found_of matches.now) (codes "game"))
         (first_value (found_of matches.now) (codes "id"))
         (first_value (found_of matches.now) (codes "load")))
-        (λ args. IsFound (found_of matches.now) args)) }
+        (λ args. AreValuesFound (found_of matches.now) args)) }
 {
     let Some(game) = game_of(matches) else {
         return Ok(None);
@@ -226,7 +227,7 @@ fn fault_of(
     error: &clap::Error,
 ) -> Result<CommandFault, AllocError>
     requires { IsParseFault (word_texts words.now) (kind_of error.now) }
-    ensures { IfOk result (λ fault. IsRefusal (word_texts words.now) fault) }
+    ensures { IfOk result (λ fault. AreWordsRefused (word_texts words.now) fault) }
 {
     if error.kind() == ErrorKind::OutOfMemory {
         return Ok(CommandFault::OutOfMemory);

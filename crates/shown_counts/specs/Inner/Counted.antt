@@ -5,7 +5,7 @@ use Rattle.number_sets.specs.Sets.{has_number}
 use Rattle.tower_lines.specs.LineFillings.{IsSupported}
 
 -- the second row is the first with the value alone at the place
-pub record IsAlone (row : List ℕ) (place value : ℕ) (alone : List ℕ) : Type 0 where
+pub record HasAlone (row : List ℕ) (place value : ℕ) (alone : List ℕ) : Type 0 where
   pub count : length alone ≡ 9
   pub before : length row ≡ 9
   pub here : (v : ℕ) → has_number (slice_index alone place) v ≡ (v == value)
@@ -41,6 +41,6 @@ AreListed w row None = Unit {0}
 AreListed w row (Some rows) = AreKeptBelow (take w row) (w + 1) rows
 
 -- the place is one of the edge's, and what was found of the row is so
-pub record IsFound (w place : ℕ) (row : List ℕ) (kept : Option (List (List ℕ))) : Type 0 where
+pub record IsRowFound (w place : ℕ) (row : List ℕ) (kept : Option (List (List ℕ))) : Type 0 where
   pub edge : place < 4 * w
   pub listed : AreListed w row kept

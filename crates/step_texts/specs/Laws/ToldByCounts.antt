@@ -9,12 +9,12 @@ use Rattle.clue_rules.specs.Fillings.{Anything, Standing, IsUnfilled}
 use Rattle.clue_rules.specs.Reasons.{IsTowersStruckBy, IsUnequalStruckBy}
 use Rattle.clue_rules.specs.declared.reason.Reason.{Reason}
 use Rattle.clue_rules.specs.declared.reason.Reason.TheVariants.{Given, Peer, Place, Bound, Stand, Clue, Sign, Set}
-use Rattle.shown_counts.specs.Shown.{IsShown, IsShownBy}
-use Rattle.step_texts.specs.Told.{clue_at, IsSeenFrom, IsInView}
+use Rattle.shown_counts.specs.Shown.{CanShow, IsShownBy}
+use Rattle.step_texts.specs.Told.{reason_clue, IsSeenFrom, IsInView}
 
 -- no line shows the clue with a value there that none of its lines has there
 unfilled_unshown : (w : ℕ) (May : ℕ → ℕ → Type 0) (place clue cell value : ℕ) → IsUnfilled w May place clue cell value
-    → IsShown w May place cell value clue → ⊥
+    → CanShow w May place cell value clue → ⊥
 unfilled_unshown w May place clue cell value u s =
     let same : u.index ≡ s.index =
     view_cell_once w place u.index s.index s.edge u.inside s.inside (u.here ∙ sym s.here) in
@@ -22,7 +22,7 @@ unfilled_unshown w May place clue cell value u s =
 
 -- and where none shows the clue with the value there, none of its lines has it there
 unshown_unfilled : (w : ℕ) (May : ℕ → ℕ → Type 0) (place clue cell value : ℕ) → IsSeenFrom w place cell
-    → (IsShown w May place cell value clue → ⊥)
+    → (CanShow w May place cell value clue → ⊥)
     → IsUnfilled w May place clue cell value
 unshown_unfilled w May place clue cell value seen none = record {
   index = seen.index;
@@ -41,25 +41,25 @@ unshown_unfilled w May place clue cell value seen none = record {
 
 pub towers_unshown : (v : TowersValue) (c : CandidatesValue) (reason : Reason) (cell value : ℕ) → c.size ≡ v.size
     → IsTowersStruckBy v c reason cell value
-    → IsShownBy c reason cell value (clue_at (clue_of v) reason) → ⊥
+    → IsShownBy c reason cell value (reason_clue (clue_of v) reason) → ⊥
 towers_unshown v c (Given at) cell value size h s = s
 towers_unshown v c (Peer by) cell value size h s = s
 towers_unshown v c (Place line index other) cell value size h s = s
 towers_unshown v c (Bound place) cell value size h s =
     unfilled_unshown v.size Anything place (clue_of v place) cell value h.unfilled
-    (subst (λ w. IsShown w Anything place cell value (clue_of v place)) size s)
+    (subst (λ w. CanShow w Anything place cell value (clue_of v place)) size s)
 towers_unshown v c (Stand place) cell value size h s =
     unfilled_unshown v.size (Standing c) place (clue_of v place) cell value h.unfilled
-    (subst (λ w. IsShown w (Standing c) place cell value (clue_of v place)) size s)
+    (subst (λ w. CanShow w (Standing c) place cell value (clue_of v place)) size s)
 towers_unshown v c (Clue place) cell value size h s =
     unfilled_unshown v.size (IsLeft c) place (clue_of v place) cell value h.unfilled
-    (subst (λ w. IsShown w (IsLeft c) place cell value (clue_of v place)) size s)
+    (subst (λ w. CanShow w (IsLeft c) place cell value (clue_of v place)) size s)
 towers_unshown v c (Sign from to) cell value size h s = s
 towers_unshown v c (Set line squares values) cell value size h s = s
 
 pub towers_told : (v : TowersValue) (c : CandidatesValue) (reason : Reason) (cell value : ℕ) → c.size ≡ v.size
-    → 0 < clue_at (clue_of v) reason
-    → IsInView v.size reason cell → (IsShownBy c reason cell value (clue_at (clue_of v) reason) → ⊥)
+    → 0 < reason_clue (clue_of v) reason
+    → IsInView v.size reason cell → (IsShownBy c reason cell value (reason_clue (clue_of v) reason) → ⊥)
     → IsTowersStruckBy v c reason cell value
 towers_told v c (Given at) cell value size some seen none = absurd seen
 towers_told v c (Peer by) cell value size some seen none = absurd seen
@@ -68,19 +68,19 @@ towers_told v c (Bound place) cell value size some seen none = record {
   place_is = seen.edge;
   clued = some;
   unfilled = unshown_unfilled v.size Anything place (clue_of v place) cell value seen
-      (λ s. none (subst (λ w. IsShown w Anything place cell value (clue_of v place)) (sym size) s));
+      (λ s. none (subst (λ w. CanShow w Anything place cell value (clue_of v place)) (sym size) s));
 }
 towers_told v c (Stand place) cell value size some seen none = record {
   place_is = seen.edge;
   clued = some;
   unfilled = unshown_unfilled v.size (Standing c) place (clue_of v place) cell value seen
-      (λ s. none (subst (λ w. IsShown w (Standing c) place cell value (clue_of v place)) (sym size) s));
+      (λ s. none (subst (λ w. CanShow w (Standing c) place cell value (clue_of v place)) (sym size) s));
 }
 towers_told v c (Clue place) cell value size some seen none = record {
   place_is = seen.edge;
   clued = some;
   unfilled = unshown_unfilled v.size (IsLeft c) place (clue_of v place) cell value seen
-      (λ s. none (subst (λ w. IsShown w (IsLeft c) place cell value (clue_of v place)) (sym size) s));
+      (λ s. none (subst (λ w. CanShow w (IsLeft c) place cell value (clue_of v place)) (sym size) s));
 }
 towers_told v c (Sign from to) cell value size some seen none = absurd seen
 towers_told v c (Set line squares values) cell value size some seen none = absurd seen
@@ -88,7 +88,7 @@ towers_told v c (Set line squares values) cell value size some seen none = absur
 -- in Unequal no clue strikes
 pub unequal_unshown : (v : UnequalValue) (c : CandidatesValue) (reason : Reason) (cell value : ℕ) → c.size ≡ v.size
     → IsUnequalStruckBy v c reason cell value
-    → IsShownBy c reason cell value (clue_at (λ _. zero) reason) → ⊥
+    → IsShownBy c reason cell value (reason_clue (λ _. zero) reason) → ⊥
 unequal_unshown v c (Given at) cell value size h s = s
 unequal_unshown v c (Peer by) cell value size h s = s
 unequal_unshown v c (Place line index other) cell value size h s = s
@@ -98,7 +98,7 @@ unequal_unshown v c (Clue place) cell value size h s = h
 unequal_unshown v c (Sign from to) cell value size h s = s
 unequal_unshown v c (Set line squares values) cell value size h s = s
 
-no_clue : (reason : Reason) → 0 < clue_at (λ _. zero) reason → ⊥
+no_clue : (reason : Reason) → 0 < reason_clue (λ _. zero) reason → ⊥
 no_clue (Given at) some = omega (arith, some)
 no_clue (Peer by) some = omega (arith, some)
 no_clue (Place line index other) some = omega (arith, some)
@@ -109,7 +109,7 @@ no_clue (Sign from to) some = omega (arith, some)
 no_clue (Set line squares values) some = omega (arith, some)
 
 pub unequal_told : (v : UnequalValue) (c : CandidatesValue) (reason : Reason) (cell value : ℕ) → c.size ≡ v.size
-    → 0 < clue_at (λ _. zero) reason
-    → IsInView v.size reason cell → (IsShownBy c reason cell value (clue_at (λ _. zero) reason) → ⊥)
+    → 0 < reason_clue (λ _. zero) reason
+    → IsInView v.size reason cell → (IsShownBy c reason cell value (reason_clue (λ _. zero) reason) → ⊥)
     → IsUnequalStruckBy v c reason cell value
 unequal_told v c reason cell value size some seen none = absurd (no_clue reason some)

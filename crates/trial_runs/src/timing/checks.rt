@@ -45,13 +45,8 @@ impl<P: Shows> Call for BoardCheck<P> {
         match self.check {
             Check::Errors => u64::from(errors(puzzle, grid).any()),
             Check::Hint => match next_hint(alloc, puzzle, grid) {
-                Ok(NextHint::Follows { grade: _, chain }) => u64::from(chain.goal.value()),
-                Ok(
-                    NextHint::Refuted {
-                        grade: _,
-                        refutation,
-                    },
-                ) => refutation.cell as u64,
+                Ok(NextHint::Follows { chain, .. }) => u64::from(chain.goal.value()),
+                Ok(NextHint::Refuted { refutation, .. }) => refutation.cell as u64,
                 Ok(NextHint::Nothing) => 100,
                 Err(_) => 101,
             },

@@ -1,11 +1,29 @@
 use Rattle.std.proofs.Common.{ℕ, ◌<◌, MatchOption, ◌∙◌, ap, subst}
+use Rattle.puzzle_gen.proofs.ItemLaws.{laws_of}
 use Rattle.rand_core.specs.Steps.{stream_of, steps_u32}
 use Rattle.rand_chacha.specs.ChaCha.{of_seed, next_word}
 use Rattle.fair_games.specs.Squares.{fair_key}
 use Rattle.fair_games.specs.Draws.{draw_at}
 use Rattle.fair_games.specs.Offers.{letter_code}
 use Rattle.fair_games.specs.Fair.{IsPassedOver, IsFair, most_draws}
+use Rattle.fair_games.proofs.PruneSteps.{HasSteps}
+use Rattle.fair_games.proofs.FairSteps.{all_promised}
 use Rattle.fair_games.proofs.games.seeded.Goals as goal
+use Rattle.fair_games.proofs.games.seeded.Given.{Over}
+
+-- the laws of the puzzle's steps
+steps_of : (g : Over) → HasSteps g.P.Rules g.P.Steps.struck_by
+steps_of g = record {
+  items = laws_of g.met.P.Rules;
+  less = g.met.P.Steps.struck_less;
+  sound = λ p valid d reason cell value h. g.met.P.Steps.struck_sound p d reason cell value h valid;
+  cut = g.met.P.Steps.struck_cut;
+}
+
+pub returns-clause-promised : goal.returns-clause-promised
+returns-clause-promised g c =
+    all_promised g.P.Rules g.P.Steps.struck_by (steps_of g) c.args.grade (g.P.FairGame.trial_of c.args.grade) c.args.size _ c.find_game.result _
+    c.find_game.ensures.needed c.find_game.ensures.fair
 
 pub returns-clause-fair : goal.returns-clause-fair
 returns-clause-fair g c =

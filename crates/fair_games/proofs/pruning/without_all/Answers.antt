@@ -4,7 +4,9 @@ use Rattle.puzzle_gen.proofs.ItemLaws.{laws_of}
 use Rattle.named_steps.specs.Following.{Follows}
 use Rattle.fair_games.specs.Inner.PrunedTo.{IsPrunedTo}
 use Rattle.fair_games.specs.Fair.{FailsBy}
-use Rattle.fair_games.proofs.PruneSteps.{HasSteps, left_without, solves_without}
+use Rattle.fair_games.proofs.PruneSteps.{HasSteps, left_without, solves_without, without_holds}
+use Rattle.named_steps.proofs.Leads.{leads_earlier, leads_size}
+use Rattle.named_steps.proofs.Rounds.{closure_reached}
 use Rattle.fair_games.proofs.pruning.without_all.Goals as goal
 use Rattle.fair_games.proofs.pruning.without_all.Given.{Over}
 
@@ -17,18 +19,31 @@ steps_of g = record {
   cut = g.met.P.Steps.struck_cut;
 }
 
-pub settle_on-requires : goal.settle_on-requires
-settle_on-requires g c =
+pub settle-requires : goal.settle-requires
+settle-requires g c =
     let solves = solves_without g.P.Rules g.P.Steps.struck_by (laws_of g.met.P.Rules) c.args.trying.now.grade c.args.trying.now.grid.now c.args.trying.now.order.now c.args.first c.args.last
     c.args.puzzle c.without-fewer.result c.size-size.ensures.valid c.requires.latin c.requires.pruned c.without-fewer.ensures in
     c.requires.base.size ∙ solves.same_size
+
+pub are_numbers-requires : goal.are_numbers-requires
+are_numbers-requires g c =
+    leads_size (g.P.Steps.struck_by c.without-fewer.result) c.args.trying.now.grade c.args.left.now c.settle.new.candidates c.settle.ensures.leads
+    ∙ c.requires.base.size
+
+pub returns-then-not-settle : goal.returns-then-not-settle
+returns-then-not-settle g c =
+    absurd (without_holds g.P.Rules g.P.Steps.struck_by (steps_of g) c.args.trying.now.grade c.args.trying.now.grid.now c.args.trying.now.order.now
+    c.args.first c.args.last c.args.puzzle c.without-fewer.result c.args.left.now c.settle.new.candidates c.size-size.ensures.valid c.requires.latin
+    c.requires.pruned c.without-fewer.ensures c.requires.base c.settle.ensures.leads c.if-not-settle.ensures.emptied)
 
 pub returns-then-are_numbers : goal.returns-then-are_numbers
 returns-then-are_numbers g c =
     let square = c.args.trying.now.grid.now in
     let left = left_without g.P.Rules g.P.Steps.struck_by (steps_of g) c.args.trying.now.grade square c.args.trying.now.order.now c.args.first c.args.last
-    c.args.puzzle c.without-fewer.result c.args.left.now c.settle_on.new.candidates c.size-size.ensures.valid c.requires.latin c.requires.ordered
-    c.requires.pruned c.without-fewer.ensures c.requires.base c.settle_on.ensures.closure in
+    c.args.puzzle c.without-fewer.result c.args.left.now c.settle.new.candidates c.size-size.ensures.valid c.requires.latin c.requires.ordered
+    c.requires.pruned c.without-fewer.ensures c.requires.base
+    (closure_reached (g.P.Steps.struck_by c.without-fewer.result) c.args.trying.now.grade c.args.left.now c.settle.new.candidates c.settle.ensures.leads
+    c.if-not-settle.ensures.settled) in
     record {
       cut = search rules;
       pruned = subst (IsPrunedTo g.P.Rules (FailsBy g.P.Steps.struck_by c.args.trying.now.grade square) square c.args.trying.now.order.now c.args.last)
@@ -37,20 +52,22 @@ returns-then-are_numbers g c =
           (left.follows (c.are_numbers.ensures.0 c.if-are_numbers.true));
       earlier = search rules;
       base = left.base;
-      later = search rules;
+      later = leads_earlier (g.P.Steps.struck_by c.without-fewer.result) c.args.trying.now.grade c.args.left.now c.settle.new.candidates c.settle.ensures.leads;
     }
 
 pub returns-else-are_numbers : goal.returns-else-are_numbers
 returns-else-are_numbers g c =
     let square = c.args.trying.now.grid.now in
     let left = left_without g.P.Rules g.P.Steps.struck_by (steps_of g) c.args.trying.now.grade square c.args.trying.now.order.now c.args.first c.args.last
-    c.args.puzzle c.without-fewer.result c.args.left.now c.settle_on.new.candidates c.size-size.ensures.valid c.requires.latin c.requires.ordered
-    c.requires.pruned c.without-fewer.ensures c.requires.base c.settle_on.ensures.closure in
+    c.args.puzzle c.without-fewer.result c.args.left.now c.settle.new.candidates c.size-size.ensures.valid c.requires.latin c.requires.ordered
+    c.requires.pruned c.without-fewer.ensures c.requires.base
+    (closure_reached (g.P.Steps.struck_by c.without-fewer.result) c.args.trying.now.grade c.args.left.now c.settle.new.candidates c.settle.ensures.leads
+    c.if-not-settle.ensures.settled) in
     record {
       cut = search rules;
       pruned = left.fails (λ only. both_ways c.are_numbers.result c.if-are_numbers.false (c.are_numbers.ensures.1 only));
       follows = search rules;
       earlier = search rules;
       base = left.base;
-      later = search rules;
+      later = leads_earlier (g.P.Steps.struck_by c.without-fewer.result) c.args.trying.now.grade c.args.left.now c.settle.new.candidates c.settle.ensures.leads;
     }

@@ -1,4 +1,5 @@
 use Rattle.std.proofs.Common.{◌≡◌, ℕ, List, [], ◌∷◌, ◌++◌, get_or, true, sym, ◌∙◌, ap}
+use Rattle.std.specs.List.{slice_get}
 use Rattle.fair_games.specs.Squares.{is_free}
 use Rattle.fair_games.proofs.RowSteps.{row_begins, row_found, passes_free, passes_taken, tries_none, without_last}
 use Rattle.fair_games.proofs.square.+find_row.Goals as goal
@@ -39,5 +40,6 @@ loop-k-preserved t c =
 
 pub returns-clause-none : goal.returns-clause-none
 returns-clause-none t c =
-    row_begins c.args.grid.now c.args.numbers.now c.args.columns.now c.args.chosen.now.items c.in-len1-up.len_at_least ∙ c.loop-k.invariant.1
-    ∙ tries_none _ c.args.numbers.now c.loop-k.k c.loop-k-test.false
+    ap (λ (ws : List (List ℕ)). slice_get ws 0)
+    (row_begins c.args.grid.now c.args.numbers.now c.args.columns.now c.args.chosen.now.items c.in-len1-up.len_at_least ∙ c.loop-k.invariant.1
+    ∙ tries_none _ c.args.numbers.now c.loop-k.k c.loop-k-test.false)

@@ -39,15 +39,20 @@ loop-line-smaller g c =
     (λ k out. lost_one line k first taken c.in-Some.ensures.line.rest out) in
     nearer (length now.trail) (length next.trail) (first % 2 ^ 32) (last % 2 ^ 32) (leads_length Struck c.args.grade now next c.look_along.ensures.leads)
     (omega (arith, c.trail_len-length.ensures.value, c.trail_len-length.ensures.bound, cube)) (omega (arith, low))
-    (λ still. omega (arith, ap (λ (n : ℕ). n % 2 ^ 32) (c.look_along.ensures.none still), less))
+    (λ still. omega (arith, ap (λ (n : ℕ). n % 2 ^ 32) (c.if-not-look_along.ensures.none still), less))
 
 pub loop-line-preserved : goal.loop-line-preserved
 loop-line-preserved g c = (
   leads_on (g.P.Steps.struck_by c.args.p.now) c.args.grade c.args.candidates.now c.loop-line.candidates c.look_along.new.candidates
       c.loop-line.invariant.0 c.look_along.ensures.leads,
-  c.look_along.ensures.waiting,
+  c.if-not-look_along.ensures.waiting,
   omega (arith, c.in-Some.ensures.line.one.0),
 )
+
+pub returns-then-not-look_along-clause-leads : goal.returns-then-not-look_along-clause-leads
+returns-then-not-look_along-clause-leads g c =
+    leads_on (g.P.Steps.struck_by c.args.p.now) c.args.grade c.args.candidates.now c.loop-line.candidates c.look_along.new.candidates
+    c.loop-line.invariant.0 c.look_along.ensures.leads
 
 pub returns-clause-quiet : goal.returns-clause-quiet
 returns-clause-quiet g c = λ line low.

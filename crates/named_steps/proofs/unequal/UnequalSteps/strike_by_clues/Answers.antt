@@ -1,9 +1,9 @@
-use Rattle.std.proofs.Common.{sym, subst}
+use Rattle.std.proofs.Common.{sym, subst, arith}
 use Rattle.clue_rules.specs.Reasons.{IsUnequalStruckBy}
 use Rattle.named_steps.specs.Passes.{LeadsTo}
 use Rattle.named_steps.specs.Along.{IsQuietAlong}
 use Rattle.named_steps.specs.Laws.Along.{signs_along, latin_along}
-use Rattle.named_steps.proofs.Followed.{hard_has}
+use Rattle.named_steps.proofs.Followed.{higher_has}
 use Rattle.named_steps.proofs.Leads.{leads_wider}
 use Rattle.named_steps.proofs.WaitingLines.{stays_all}
 use Rattle.named_steps.specs.declared.grade.Grade.{Grade}
@@ -29,7 +29,7 @@ returns-in-Hard-clause-leads c =
     let a = c.args.candidates.now in
     let b = c.strike_signs-in-Hard.new.candidates in
     subst (λ (grade : Grade). LeadsTo (IsUnequalStruckBy v) grade a b) (sym c.in-Hard.is)
-    (leads_wider (IsUnequalStruckBy v) (IsUnequalStruckBy v) Easy Hard (λ d reason cell x s. s) hard_has a b c.strike_signs-in-Hard.ensures.leads)
+    (leads_wider (IsUnequalStruckBy v) (IsUnequalStruckBy v) Easy Hard (λ d reason cell x s. s) (higher_has Easy Hard (omega arith)) a b c.strike_signs-in-Hard.ensures.leads)
 
 pub returns-in-Hard-clause-quiet : goal.returns-in-Hard-clause-quiet
 returns-in-Hard-clause-quiet c = λ none.

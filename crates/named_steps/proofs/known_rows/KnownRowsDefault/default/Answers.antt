@@ -2,7 +2,7 @@ use Rattle.std.proofs.Common.{ℕ, List, replicate, sym, subst}
 use Rattle.named_steps.specs.declared.known_rows.TheConstants.{SLOTS}
 use Rattle.named_steps.specs.Inner.KnownRows.{AreKnown}
 use Rattle.named_steps.proofs.RowsNoted.{none_known}
-use Rattle.named_steps.proofs.known_rows.KnownRows.none.Goals as goal
+use Rattle.named_steps.proofs.known_rows.KnownRowsDefault.default.Goals as goal
 
 pub invariant_of-result : goal.invariant_of-result
 invariant_of-result c =

@@ -2,17 +2,15 @@ use Rattle.std.proofs.Common.{◌≡◌, ℕ, ◌-◌, ◌*◌, ◌<◌, ◌≤�
 use Rattle.std.proofs.lemmas.Bool.{both_ways, lt-ltb}
 use Rattle.number_sets.specs.Sets.{has_number}
 use Rattle.trail_solver.specs.Candidates.{CandidatesValue}
-use Rattle.trail_solver.proofs.Earlier.{earlier_trans}
 use Rattle.clue_rules.specs.Reasons.{IsByLine}
 use Rattle.named_steps.specs.Following.{IsSettled}
-use Rattle.named_steps.specs.Grades.{is_past_easy}
 use Rattle.named_steps.specs.Inner.LineLooks.{IsQuietOn}
 use Rattle.named_steps.proofs.GivenPasses.{givens_stay}
 use Rattle.named_steps.proofs.LineLooks.{waits_on}
-use Rattle.named_steps.proofs.Rounds.{IsShared, givens_lead, groups_lead, look_settled, closure_reached}
-use Rattle.named_steps.proofs.Leads.{leads_earlier, leads_fewer, leads_length, leads_on, leads_same, leads_size}
+use Rattle.named_steps.proofs.Rounds.{IsShared, givens_lead, groups_lead, look_settled}
+use Rattle.named_steps.proofs.Leads.{leads_fewer, leads_length, leads_on, leads_same, leads_size}
 use Rattle.named_steps.specs.declared.grade.Grade.TheVariants.{Latin, Hard}
-use Rattle.named_steps.proofs.settling.settle_on.Goals as goal
+use Rattle.named_steps.proofs.settling.settle.Goals as goal
 
 pub loop-grade-init : goal.loop-grade-init
 loop-grade-init g c =
@@ -32,8 +30,18 @@ pub look-requires-clause-size : goal.look-requires-clause-size
 look-requires-clause-size g c =
     leads_size (g.P.Steps.struck_by c.args.p.now) c.args.grade c.args.candidates.now c.loop-grade.candidates c.loop-grade.invariant.0 ∙ c.requires
 
-pub returns-then-not-has_groups-clause-closure : goal.returns-then-not-has_groups-clause-closure
-returns-then-not-has_groups-clause-closure g c =
+pub returns-then-not-look-clause-leads : goal.returns-then-not-look-clause-leads
+returns-then-not-look-clause-leads g c =
+    leads_on (g.P.Steps.struck_by c.args.p.now) c.args.grade c.args.candidates.now c.loop-grade.candidates c.look.new.candidates
+    c.loop-grade.invariant.0 c.look.ensures.leads
+
+pub returns-then-not-has_groups-clause-leads : goal.returns-then-not-has_groups-clause-leads
+returns-then-not-has_groups-clause-leads g c =
+    leads_on (g.P.Steps.struck_by c.args.p.now) c.args.grade c.args.candidates.now c.loop-grade.candidates c.look.new.candidates
+    c.loop-grade.invariant.0 c.look.ensures.leads
+
+pub returns-then-not-has_groups-clause-settled : goal.returns-then-not-has_groups-clause-settled
+returns-then-not-has_groups-clause-settled g c =
     let p = c.args.p.now in
     let Struck = g.P.Steps.struck_by p in
     let shared : IsShared (g.P.Rules.puzzle p) Struck = record { given = g.met.P.Steps.given_struck p; line = g.met.P.Steps.line_struck p } in
@@ -42,21 +50,13 @@ returns-then-not-has_groups-clause-closure g c =
     let now = c.loop-grade.candidates in
     let next = c.look.new.candidates in
     let before = leads_size Struck grade first now c.loop-grade.invariant.0 in
-    closure_reached Struck grade first next (leads_on Struck grade first now next c.loop-grade.invariant.0 c.look.ensures.leads)
-    (look_settled (g.P.Rules.puzzle p) Struck shared
+    look_settled (g.P.Rules.puzzle p) Struck shared
     (λ d reason cell value is struck. g.met.P.Steps.stands_along p d reason cell value c.size-valid.ensures.valid is struck) grade now next
-    (omega (arith, before, c.size.ensures.valid.largest)) (before ∙ c.requires) c.loop-grade.invariant.1 c.look.ensures.leads c.look.ensures.quiet
-    (λ past line low. absurd (both_ways (is_past_easy grade) (sym c.has_groups.ensures ∙ c.if-not-has_groups.true) past)))
+    (omega (arith, before, c.size.ensures.valid.largest)) (before ∙ c.requires) c.loop-grade.invariant.1 c.look.ensures.leads c.if-not-look.ensures.quiet
+    (λ past line low. absurd (both_ways c.has_groups.result c.if-not-has_groups.true (c.has_groups.ensures.1 past)))
 
-pub returns-then-not-has_groups-clause-earlier : goal.returns-then-not-has_groups-clause-earlier
-returns-then-not-has_groups-clause-earlier g c =
-    let Struck = g.P.Steps.struck_by c.args.p.now in
-    let first = c.args.candidates.now in
-    leads_earlier Struck c.args.grade first c.look.new.candidates
-    (leads_on Struck c.args.grade first c.loop-grade.candidates c.look.new.candidates c.loop-grade.invariant.0 c.look.ensures.leads)
-
-pub returns-then-trail_len-count-clause-closure : goal.returns-then-trail_len-count-clause-closure
-returns-then-trail_len-count-clause-closure g c =
+pub returns-then-trail_len-count-clause-settled : goal.returns-then-trail_len-count-clause-settled
+returns-then-trail_len-count-clause-settled g c =
     let p = c.args.p.now in
     let Struck = g.P.Steps.struck_by p in
     let shared : IsShared (g.P.Rules.puzzle p) Struck = record { given = g.met.P.Steps.given_struck p; line = g.met.P.Steps.line_struck p } in
@@ -67,29 +67,28 @@ returns-then-trail_len-count-clause-closure g c =
     let next = c.look_for_groups.new.candidates in
     let before = leads_size Struck grade first now c.loop-grade.invariant.0 in
     let groups = groups_lead (g.P.Rules.puzzle p) Struck shared grade middle next
-    (leads_size Struck grade now middle c.look.ensures.leads ∙ before ∙ c.requires) (sym c.has_groups.ensures ∙ c.if-not-has_groups.false)
+    (leads_size Struck grade now middle c.look.ensures.leads ∙ before ∙ c.requires) (c.has_groups.ensures.0 c.if-not-has_groups.false)
     c.look_for_groups.ensures.leads in
     let still : length next.trail ≡ length middle.trail = sym c.trail_len.ensures.value ∙ c.if-trail_len-count.true ∙ c.trail_len-count.ensures.value in
     let is : next ≡ middle = leads_same Struck grade middle next groups still in
-    closure_reached Struck grade first next
-    (leads_on Struck grade first middle next (leads_on Struck grade first now middle c.loop-grade.invariant.0 c.look.ensures.leads) groups)
-    (subst (λ (d : CandidatesValue). IsSettled Struck grade d) (sym is) (look_settled (g.P.Rules.puzzle p) Struck shared
+    subst (λ (d : CandidatesValue). IsSettled Struck grade d) (sym is) (look_settled (g.P.Rules.puzzle p) Struck shared
     (λ d reason cell value is struck. g.met.P.Steps.stands_along p d reason cell value c.size-valid.ensures.valid is struck) grade now middle
-    (omega (arith, before, c.size.ensures.valid.largest)) (before ∙ c.requires) c.loop-grade.invariant.1 c.look.ensures.leads c.look.ensures.quiet
-    (λ past. c.look_for_groups.ensures.none still)))
+    (omega (arith, before, c.size.ensures.valid.largest)) (before ∙ c.requires) c.loop-grade.invariant.1 c.look.ensures.leads c.if-not-look.ensures.quiet
+    (λ past. c.look_for_groups.ensures.none still))
 
-pub returns-then-trail_len-count-clause-earlier : goal.returns-then-trail_len-count-clause-earlier
-returns-then-trail_len-count-clause-earlier g c =
+pub returns-then-trail_len-count-clause-leads : goal.returns-then-trail_len-count-clause-leads
+returns-then-trail_len-count-clause-leads g c =
     let p = c.args.p.now in
     let Struck = g.P.Steps.struck_by p in
+    let shared : IsShared (g.P.Rules.puzzle p) Struck = record { given = g.met.P.Steps.given_struck p; line = g.met.P.Steps.line_struck p } in
+    let grade = c.args.grade in
     let first = c.args.candidates.now in
     let now = c.loop-grade.candidates in
     let middle = c.look.new.candidates in
     let next = c.look_for_groups.new.candidates in
-    let looks = leads_on Struck c.args.grade first now middle c.loop-grade.invariant.0 c.look.ensures.leads in
-    let size = leads_size Struck c.args.grade first middle looks in
-    earlier_trans first middle next (leads_earlier Struck c.args.grade first middle looks)
-    (leads_earlier (IsByLine middle.size) Hard middle next c.look_for_groups.ensures.leads)
+    let looks = leads_on Struck grade first now middle c.loop-grade.invariant.0 c.look.ensures.leads in
+    leads_on Struck grade first middle next looks (groups_lead (g.P.Rules.puzzle p) Struck shared grade middle next
+    (leads_size Struck grade first middle looks ∙ c.requires) (c.has_groups.ensures.0 c.if-not-has_groups.false) c.look_for_groups.ensures.leads)
 
 pub loop-grade-smaller : goal.loop-grade-smaller
 loop-grade-smaller g c =
@@ -122,7 +121,7 @@ loop-grade-preserved g c =
     let next = c.look_for_groups.new.candidates in
     let looks = leads_on Struck grade first now middle c.loop-grade.invariant.0 c.look.ensures.leads in
     let here = leads_size Struck grade first middle looks ∙ c.requires in
-    let groups = groups_lead (g.P.Rules.puzzle p) Struck shared grade middle next here (sym c.has_groups.ensures ∙ c.if-not-has_groups.false)
+    let groups = groups_lead (g.P.Rules.puzzle p) Struck shared grade middle next here (c.has_groups.ensures.0 c.if-not-has_groups.false)
     c.look_for_groups.ensures.leads in
     let both = leads_on Struck grade now middle next c.look.ensures.leads groups in
     let same = leads_size Struck grade now middle c.look.ensures.leads in (
@@ -130,5 +129,5 @@ loop-grade-preserved g c =
       givens_stay (g.P.Rules.puzzle p) now next (leads_size Struck grade now next both) (leads_fewer Struck grade now next both) c.loop-grade.invariant.1,
       waits_on (g.P.Rules.puzzle p).size Struck (g.met.P.Steps.looks_along p) grade c.look.new.waiting c.look_for_groups.new.waiting middle next here
           (leads_size Struck grade middle next groups) (leads_fewer Struck grade middle next groups) c.look_for_groups.ensures.waiting
-          (λ line low free. c.look.ensures.quiet line (omega (arith, low, same))),
+          (λ line low free. c.if-not-look.ensures.quiet line (omega (arith, low, same))),
     )

@@ -1,7 +1,7 @@
 use Rattle.std.proofs.Common.{◌-◌, ◌*◌, length}
 use Rattle.named_steps.specs.Passes.{LeadsTo, AreGivensSettled}
 use Rattle.named_steps.specs.Inner.LineLooks.{AreWaiting}
-use Rattle.named_steps.proofs.settling.settle_on.Given as goal
+use Rattle.named_steps.proofs.settling.settle.Given as goal
 
 abbrev pub invariant-loop-grade : goal.invariant-loop-grade
 invariant-loop-grade g l =

@@ -1,6 +1,6 @@
 use Rattle.step_chains.specs.ChainValues.{steps_of}
 use Rattle.step_chains.proofs.NextHints.{refuted_grid}
-use Rattle.step_chains.proofs.hints.next_hint.Goals as goal
+use Rattle.step_chains.proofs.hints.hint_knowing.Goals as goal
 
 pub returns-in_default-clause-forced : goal.returns-in_default-clause-forced
 returns-in_default-clause-forced g c = λ cell forced same. c.in_default.ensures.forced cell forced

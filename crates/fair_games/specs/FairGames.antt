@@ -1,0 +1,38 @@
+-- What a fair game promises to who plays it, whichever size, grade and seed it is of. Which of these games a seed gives is
+-- a format (`Fair`).
+use Rattle.std.specs.Prelude.{◌≡◌, ℕ, ◌-◌, ◌*◌, ◌<◌, ◌≤◌, Bool, false, Some, IsTrue}
+use Rattle.latin_board.specs.Squares.{GridValue}
+use Rattle.trail_solver.specs.Solutions.{IsOnlySolution}
+use Rattle.trail_solver.specs.declared.rules.Rules.{Ghosts}
+use Rattle.clue_rules.specs.Reasons.{Striking}
+use Rattle.named_steps.specs.Following.{Follows}
+use Rattle.named_steps.specs.Graded.{FollowsBy, IsGradeOf}
+use Rattle.named_steps.specs.declared.grade.Grade.{Grade}
+use Rattle.fair_games.specs.declared.trial.Trial.{Trial}
+use Rattle.fair_games.specs.declared.trial.Trial.TheVariants.{GivensAlone}
+
+-- the puzzle follows by the grade, and not by the one below
+abbrev pub IsOfGrade : {P : Type 0} → Ghosts P → (P → Striking) → Grade → P → Type 0
+IsOfGrade f Struck grade p = IsGradeOf (f.puzzle p) (Struck p) (Some grade)
+
+-- the item is tried: each given is, and so is each of the marks, which come before the givens, but where these are alone
+abbrev pub IsTriedIn : Trial → ℕ → ℕ → Type 0
+IsTriedIn trial marks i = trial ≡ GivensAlone → marks ≤ i
+
+-- without any set of its items that has one that is tried, the puzzle doesn't follow by the grade
+abbrev pub NeedsItems : {P : Type 0} → Ghosts P → (P → Striking) → Grade → Trial → ℕ → P → Type 0
+NeedsItems f Struck grade trial w p =
+    (keep : ℕ → Bool) (i : ℕ) → i < f.items_of w → IsTrue (f.has p i) → IsTriedIn trial (f.items_of w - w * w) i
+    → keep i ≡ false
+    → FollowsBy (f.puzzle (f.cut p keep)) (Struck (f.cut p keep)) grade → ⊥
+
+-- The promise: the puzzle has the width and one solution, which follows by the grade; it doesn't follow by the grade
+-- below; and no item that is tried can be spared.
+pub record IsFairGame {P : Type 0} (f : Ghosts P) (Struck : P → Striking) (grade : Grade) (trial : Trial) (w : ℕ)
+    (p : P) : Type 0 where
+  pub size : (f.puzzle p).size ≡ w
+  pub solution : GridValue
+  pub only : IsOnlySolution (f.puzzle p) solution
+  pub follows : Follows (Struck p) grade solution
+  pub graded : IsOfGrade f Struck grade p
+  pub needed : NeedsItems f Struck grade trial w p
