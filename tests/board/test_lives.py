@@ -76,14 +76,15 @@ def test_ended(front: BoardFront, room: Room, end: Callable[[Terminal], None], s
 def is_gone(pid: int) -> bool:
     """Whether a process has ended, or does so in a moment."""
     end = time.monotonic() + 5
-    while os.path.exists(f'/proc/{pid}'):
-        with open(f'/proc/{pid}/stat', encoding='ascii') as file:
-            if file.read().rpartition(')')[2].split()[0] == 'Z':
-                return True
-        if time.monotonic() > end:
-            return False
+    while time.monotonic() < end:
+        try:
+            with open(f'/proc/{pid}/stat', encoding='ascii') as file:
+                if file.read().rpartition(')')[2].split()[0] == 'Z':
+                    return True
+        except (FileNotFoundError, ProcessLookupError):
+            return True
         time.sleep(0.02)
-    return True
+    return False
 
 
 def test_resized(front: BoardFront, room: Room) -> None:

@@ -82,8 +82,12 @@ class Driver:
         """Until an expression is true in the page, or in the one that comes after it."""
         end = time.monotonic() + self._seconds
         while not self._holds(condition):
-            assert time.monotonic() < end, f'{condition} in vain'
+            assert time.monotonic() < end, f'{condition} in vain; there is {self.text()!r}'
             time.sleep(0.02)
+
+    def text(self) -> str:
+        """All that can be read on the page."""
+        return str(self.value('document.body.innerText'))
 
     def _holds(self, condition: str) -> bool:
         try:

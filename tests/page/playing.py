@@ -6,6 +6,7 @@ import json
 from typing import Any, Dict, List, Optional, Sequence, Set, Tuple
 
 from playing.naming import Place
+from tests.harness.builds import TOP
 from tests.harness.driver import Driver
 
 #: Sizes of windows.
@@ -13,6 +14,9 @@ LAPTOP, PHONE, SMALL = (1280, 800), (390, 844), (320, 568)
 
 #: What is kept in the browser begins so.
 OURS = 'puzzles:'
+
+#: A picture beside the page, which keeps nothing; of a disk's pages Chromium shows it what they keep.
+BESIDE = f'file://{TOP}/page/icon.svg'
 
 #: Until what was asked for so far is done and seen: the clock of the frames goes on twice.
 PAINTED = 'new Promise((done) => requestAnimationFrame(() => requestAnimationFrame(() => done(true))))'
@@ -98,16 +102,23 @@ class Player(Seen):
 
     def load(self, link: str = '') -> None:
         """Opens the page, as on the next day."""
-        self.driver.go('about:blank')
+        # With a link alone it is left for another one in between, without which its address would only change: a browser that has much else to do
+        # may tell a new process a moment later what was kept.
+        if link:
+            self.driver.go('about:blank')
+        else:
+            self.driver.value('window.isLeft = true')
         self.driver.go(self.address + (f'#{link}' if link else ''))
         self.there()
 
     def there(self) -> None:
-        self.driver.wait_for('document.readyState === "complete" && document.querySelector("[data-place]")')
+        self.driver.wait_for('!window.isLeft && document.readyState === "complete" && document.querySelector("[data-place]")')
 
     def forget(self) -> None:
-        """The browser keeps nothing any more."""
-        self.driver.value('[localStorage.clear(), sessionStorage.clear()]')
+        """The browser keeps nothing any more, whatever the page is still about to keep, and no other page sees what it kept."""
+        self.driver.value('(Storage.prototype.setItem = () => undefined, [localStorage.clear(), sessionStorage.clear()])')
+        self.driver.go(BESIDE)
+        self.driver.wait_for('localStorage.length + sessionStorage.length === 0')
 
     def press(self, *keys: str) -> None:
         self.driver.press(*keys)

@@ -22,7 +22,7 @@ def test_site(browser: Browser, room: Room) -> None:
     assert browser.complaints == []
     player.load()
     player.called('Towers 3×3')
-    player.forget()
     player.driver.value('navigator.serviceWorker.getRegistration().then((it) => it.unregister())')
+    player.forget()
     browser.go('about:blank')
     browser.complaints.clear()

@@ -82,6 +82,8 @@ def test_hints(place: Place) -> None:
     givens = sum(sum(letter in '1234' for letter in text) for text in texts)
     times = r'( +\d+){3}\n'
     assert re.search(rf'\nunequal 4de  hint +{3 * 16 - givens}{times}unequal 4de  at start +3{times}unequal 4de  grade +3{times}$', ended.said), ended.said
+    wrong = place.run(['bench/time_hints', '--wrong', '7', 'unequal', '5de'], env={'PUZZLES_JSON': place.objects})
+    assert re.search(rf'\nunequal 5de  wrong +7{times}$', wrong.said), wrong.said
 
 
 def test_made_puzzles(place: Place) -> None:

@@ -156,8 +156,12 @@ def test_stopped(room: Room, number: signal.Signals) -> None:
 
 
 def is_silent(process: int) -> bool:
-    with open(f'/proc/{process}/comm', encoding='utf-8') as file:
-        return file.read() == 'sleep\n'
+    try:
+        with open(f'/proc/{process}/comm', encoding='utf-8') as file:
+            return file.read() == 'sleep\n'
+    except (FileNotFoundError, ProcessLookupError):
+        # It has ended in between.
+        return False
 
 
 def eventually(holds: Callable[[], object]) -> bool:

@@ -14,7 +14,11 @@ FOR_TESTS = re.compile(r'tests$|^trial_runs$|^client$')
 #: An item of a file, from its attributes and comments to its end.
 TYPE = re.compile(r'^((?: *(?://|#\[).*\n)*)pub(?:\(crate\))? (?:struct|enum) (\w+)[^;{]*(?:;|\{(?:.*\n)*?\}\n)', re.MULTILINE)
 CONSTANT = re.compile(r'^((?:///.*\n)*)pub(?:\(crate\))? const (\w+): [^;]*;', re.MULTILINE)
-FUNCTION = re.compile(r'^( *)(?:pub(?:\(crate\))? )?(?:final )?(?:extern "C" )?fn (\w+)\b.*?(?:;\n|(?=^\1\{[\n}]))', re.MULTILINE | re.DOTALL)
+#: A function up to its body. Without clauses that begins on the same line.
+PLAIN = r'(?:(?!\b(?:requires|ensures)\b|;\n).)*?(?= \{\n)'
+FUNCTION = re.compile(
+    rf'^( *)(?:pub(?:\(crate\))? )?(?:final )?(?:extern "C" )?fn (\w+)\b(?:{PLAIN}|.*?(?:;\n|(?=^\1\{{[\n}}])))', re.MULTILINE | re.DOTALL
+)
 GHOST = re.compile(r'((?:^    //[^\n]*\n)*)^    ghost (\w+)(?:: | = )(\{.*?\});\n', re.MULTILINE | re.DOTALL)
 BLOCK = re.compile(r'^(?:pub(?:\(crate\))? )?(?:impl|trait)\b[^{]*\{\n(?:.*\n)*?\}\n', re.MULTILINE)
 

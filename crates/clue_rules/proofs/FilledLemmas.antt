@@ -1,5 +1,5 @@
 -- Filling a table from the front.
-use Rattle.std.proofs.Common.{◌≡◌, ℕ, ◌+◌, ◌-◌, ◌<◌, ◌≤◌, List, [], ◌∷◌, ◌++◌, take, drop, set, replicate, map, refl, sym, ap, ◌∙◌, arith, length-set, length, slice_index_or, inl, inr}
+use Rattle.std.proofs.Common.{◌≡◌, ℕ, ◌+◌, ◌-◌, ◌<◌, ◌≤◌, List, [], ◌∷◌, ◌++◌, take, drop, set, replicate, map, refl, sym, ap, ◌∙◌, arith, length-set, length, slice_index_or, inl, inr, slice_index, subst}
 use Rattle.std.specs.List.{range_with_len}
 use Rattle.std.proofs.Math.Seq.{take-add}
 use Rattle.std.proofs.lemmas.List.{drop-drop, drop-replicate, take-replicate, length-replicate, take_more_set, drop-set-lt, get_or-set_same, get_or-set_other}
@@ -54,4 +54,17 @@ pub entries_more : {X : Type 0} (P : ℕ → X → Type 0) (xs : List X) (n : �
 entries_more P xs n v d inside before here k low = elim (cases_eq k n) [
   | inl same ↦ rw (same, get_or-set_same xs n v d inside) here
   | inr other ↦ rw (get_or-set_other xs n k v d other) (before k (omega arith))
+]
+
+-- one set of a row more
+pub row_next : (P : ℕ → ℕ → Type 0) (row : List ℕ) (k value : ℕ) → length row ≡ 9 → k < 9 → P k value → ((j : ℕ) → j < k → P j (slice_index row j))
+    → (j : ℕ) → j < k + 1 → P j (slice_index (set row k value) j)
+row_next P row k value count low here before = λ j less. elim (cases_eq j k) [
+  | inl same ↦
+      let in_list : k < length row = omega (arith, low, count) in
+      let is : slice_index (set row k value) j ≡ value = ap (λ (i : ℕ). slice_index (set row k value) i) same ∙ get_or-set_same row k value 0 in_list in
+      subst (λ (n : ℕ). P j n) (sym is) (subst (λ (i : ℕ). P i value) (sym same) here)
+  | inr other ↦
+      let is : slice_index (set row k value) j ≡ slice_index row j = get_or-set_other row k j value 0 other in
+      subst (λ (n : ℕ). P j n) (sym is) (before j (omega (arith, less, other)))
 ]

@@ -7,7 +7,11 @@ use Rattle.std.proofs.lemmas.Nat.{and_le_r, mod_below, pow_pos}
 use Rattle.std.proofs.lemmas.Nat.Bits.{bit_at-trailing_zeros}
 use Rattle.number_sets.specs.Sets.{has_number, IsSubset}
 use Rattle.number_sets.proofs.Members.{below_from_numbers, has_number-above, has_number-and, has_number-mod, has_number-none, number-from_bit, subset_test}
-use Rattle.clue_rules.specs.ChangedLines.{HasNoneBelow, IsOneBelow}
+use Rattle.clue_rules.specs.Inner.ChangedLines.{HasNoneBelow, IsOneBelow}
+use Rattle.std.proofs.Math.Bool.{and-true, and-false}
+use Rattle.std.proofs.lemmas.Bool.{eq-eqb}
+use Rattle.clue_rules.specs.Inner.ChangedLines.{LosesLine}
+use Rattle.std.proofs.Math.Nat.{mul-le-mul_left}
 
 -- ---- the next one of the first lines
 
@@ -81,3 +85,27 @@ nearer old new m n longer bound small less = elim (cases_eq new old) [
   | inl same ↦ let fewer = less same in omega (arith, same, fewer)
   | inr grown ↦ omega (arith, longer, grown, bound, small)
 ]
+
+-- a set without a line has the other lines as before
+pub lost_other : (line k s t : ℕ) → LosesLine line s t → k ≢ line → has_number t k ≡ has_number s k
+lost_other line k s t loses apart = loses k ∙ rw (ne_eqb k line apart) (and-true (has_number s k))
+
+lost_itself : (line s t : ℕ) → LosesLine line s t → has_number t line ≡ false
+lost_itself line s t loses = loses line ∙ rw (eq-eqb line line refl) (and-false (has_number s line))
+
+-- a set that lost a line has neither it nor what it lacked before
+pub lost_one : (line k s t : ℕ) → LosesLine line s t → (k ≡ line) ⊎ (has_number s k ≡ false) → has_number t k ≡ false
+lost_one line k s t loses out = elim (cases_eq k line) [
+  | inl same ↦ subst (λ (i : ℕ). has_number t i ≡ false) (sym same) (lost_itself line s t loses)
+  | inr apart ↦ elim out [
+    | inl same ↦ absurd (apart same)
+    | inr lacks ↦ lost_other line k s t loses apart ∙ lacks
+  ]
+]
+
+-- no size has more pairs than the widest
+pub cube_most : (w : ℕ) → w ≤ 9 → w * w * w ≤ 729
+cube_most w small =
+    let square = mul-le-mul_left w small in
+    let cube = mul-le-mul_left (w * w) small in
+    omega (arith, square, cube)

@@ -6,10 +6,17 @@ use Rattle.number_sets.proofs.Members.{has_number-none}
 use Rattle.latin_board.specs.Lines.{line_cell}
 use Rattle.trail_solver.specs.Candidates.{CandidatesValue, IsSetOf, may_be}
 use Rattle.clue_rules.specs.Left.{IsLeft, HasNoOtherPlace}
-use Rattle.clue_rules.specs.LineStrikes.{IsAlone, IsByRest, IsLeftByRest, IsRestQuiet, IsVoid, IsClash}
+use Rattle.clue_rules.specs.Inner.LineStrikes.{IsAlone, IsByRest, IsLeftByRest, IsLiveLine, IsRestQuiet, IsVoid, IsClash}
 use Rattle.clue_rules.specs.Inner.LineTallies.{AreTallied, IsTallyOf, IsSinglesOf, IsCounted, IsAloneBefore, IsClashing, IsForced, IsFree, IsHidden, IsQuietTally, Goes, IsKeptOf}
 use Rattle.clue_rules.proofs.OtherNumbers.{another, has_rest}
 use Rattle.clue_rules.specs.declared.lines.latin.LineTally.{LineTally}
+use Rattle.std.proofs.Common.{◌++◌, ◌*◌}
+use Rattle.trail_solver.specs.Pairs.{pairs_of}
+use Rattle.trail_solver.specs.Candidates.{AreCandidates}
+use Rattle.clue_rules.specs.Inner.LineStrikes.{StrikesRest}
+use Rattle.clue_rules.specs.Takes.{Strikes, Takes}
+use Rattle.clue_rules.proofs.TakenLines.{changed_none}
+use Rattle.clue_rules.proofs.Takes.{set_before, strikes_whole, takes_next, takes_still}
 
 -- ---- squares and their sets
 
@@ -211,6 +218,13 @@ tally_struck c line k set kept struck t low is h keeps struck_is v =
       λ by. rest.1 (left.1 by.1, λ has. (keeps.only v has).1 (rest_goes c line k set v t low is h by.0)),
     )
 
+-- of a line that has a tally something is left of each square and of each number
+pub tally_live : (c : CandidatesValue) (line : ℕ) (t : LineTally) → IsTallyOf line c t → IsLiveLine line c
+tally_live c line t h = record {
+  some = h.tally.some;
+  placed = λ v low high. (h.tally.once v).0 (h.placed v low high);
+}
+
 -- where the values that are left of just one square are those that are alone in one, nothing is struck
 pub quiet_tally : (c : CandidatesValue) (line : ℕ) (t : LineTally) → IsTallyOf line c t → IsQuietTally t → IsRestQuiet line c
 quiet_tally c line t h quiet k v low pair by = false_from_ne_true (may_be c (line_cell c.size line k) v) (λ may.
@@ -353,3 +367,31 @@ counted_more t u set single both s some apart in_once in_both in_twice in_single
       some = some;
       fresh = λ v one. false_from_ne_true (has_number t.singles v) (λ e. apart (v, e, (s.is v).1 one));
     }
+
+-- where they strike nothing that is left, nothing goes
+pub rest_none : (c : CandidatesValue) (line places : ℕ) → IsEmpty places → IsRestQuiet line c → StrikesRest line places c c
+rest_none c line places none quiet = record {
+  takes = takes_still (λ cell v. (k : ℕ) × (k < c.size) × (cell ≡ line_cell c.size line k) × IsLeftByRest c line k v) c (λ cell v by left.
+      both_ways (may_be c (line_cell c.size line by.0) v) (quiet by.0 v by.1 by.3.1.pair by.3.0) by.3.1.may);
+  changed = changed_none line places c none;
+}
+
+-- square by square
+pub square_struck : (line k set kept struck : ℕ) (t : LineTally) (first now next : CandidatesValue) → line < 2 * first.size → k < first.size → first.size ≤ 9
+    → IsTallyOf line first t
+    → Takes (λ cell v. (j : ℕ) × (j < k) × (cell ≡ line_cell first.size line j) × IsLeftByRest first line j v) first now
+    → IsSetOf now (line_cell first.size line k) set → IsKeptOf t set kept
+    → ((n : ℕ) → has_number struck n ≡ (has_number set n && not (has_number kept n)))
+    → next.size ≡ now.size → next.trail ≡ now.trail ++ pairs_of (line_cell first.size line k) struck
+    → AreCandidates now (line_cell first.size line k) struck × Strikes now next (line_cell first.size line k) struck
+    × Takes (λ cell v. (j : ℕ) × (j < k + 1) × (cell ≡ line_cell first.size line j) × IsLeftByRest first line j v) first next
+square_struck line k set kept struck t first now next on low small tally taken values keeps struck_is size trail =
+    let cell = line_cell first.size line k in
+    let before = set_before (λ j v. IsLeftByRest first line j v) line k set first now on taken values in
+    let left : AreCandidates now cell struck = λ v has. (values v).0 ((has_rest set kept struck v struck_is).0 has).0 in
+    let strikes = strikes_whole now next cell struck (omega (arith, taken.size, small)) left size trail in (
+      left,
+      strikes,
+      takes_next (line_cell first.size line) (λ j v. IsLeftByRest first line j v) k struck first now next taken strikes
+          (λ v pair. tally_struck first line k set kept struck t low before tally keeps struck_is v),
+    )

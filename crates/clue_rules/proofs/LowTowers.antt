@@ -1,26 +1,24 @@
 -- How many towers are seen along a line that has a tall one near its beginning.
-use Rattle.std.proofs.Common.{◌≡◌, ℕ, ◌+◌, ◌-◌, ◌*◌, ◌<◌, ◌≤◌, ◌&&◌, inl, inr, Bool, true, false, cond, refl, leb, ltb, List, [], ◌∷◌, ◌++◌, length, get_or, slice_index, zero, suc, sym, ap, ◌∙◌, arith}
+use Rattle.std.proofs.Common.{◌≡◌, ℕ, ◌+◌, ◌-◌, ◌*◌, ◌<◌, ◌≤◌, ◌&&◌, inl, inr, Bool, true, false, cond, not, nat_le, refl, ltb, List, [], ◌∷◌, ◌++◌, length, get_or, zero, suc, sym, ap, ◌∙◌, subst, arith}
 use Rattle.std.specs.List.{All, list_all}
-use Rattle.std.proofs.lemmas.Bool.{cases_Bool, ltb-true, and_parts, and_from, le-leb}
+use Rattle.std.proofs.lemmas.Bool.{both_ways, cases_Bool, cases_lt, ltb-true, and_parts, and_from, le-leb}
 use Rattle.std.proofs.lemmas.List.{get_or_default}
 use Rattle.std.proofs.lemmas.List.Elements.{All-tail}
 use Rattle.std.proofs.lemmas.List.Folds.{list_all-append}
 use Rattle.number_sets.specs.Sets.{has_number}
-use Rattle.latin_board.specs.Squares.{GridValue, number_at}
-use Rattle.tower_lines.specs.TowersSeen.{seen, seen_after}
-use Rattle.trail_solver.specs.Candidates.{CandidatesValue, IsEarlier}
-use Rattle.trail_solver.specs.Solutions.{KeepsSolutions}
-use Rattle.trail_solver.proofs.Earlier.{earlier_trans, stays_gone}
-use Rattle.clue_rules.specs.Inner.Narrowing.{IsSquare, KeepsEach, KeepsInSquare}
-use Rattle.clue_rules.specs.Inner.TowersLines.{MeetsClue}
-use Rattle.clue_rules.specs.Laws.TowersItems.{length-view_of, clues_decide}
-use Rattle.clue_rules.specs.Struck.{NoneLeft}
-use Rattle.clue_rules.specs.Towers.{towers_puzzle, TowersValue, clue_of}
-use Rattle.clue_rules.specs.Views.{view_of, view_cell}
-use Rattle.clue_rules.proofs.KeptCandidates.{within_kept}
-use Rattle.clue_rules.proofs.LineSquares.{view_inside}
-use Rattle.clue_rules.proofs.LineSteps.{grid_pair}
-use Rattle.clue_rules.proofs.ViewSteps.{view_number}
+use Rattle.tower_lines.specs.TowersSeen.{seen_after}
+use Rattle.trail_solver.specs.Candidates.{CandidatesValue}
+use Rattle.clue_rules.specs.Fillings.{Anything, IsUnfilled}
+use Rattle.clue_rules.specs.Laws.Less.{towers_less}
+use Rattle.clue_rules.specs.Chains.{LeadsTo}
+use Rattle.clue_rules.specs.Reasons.{IsTowersStruckBy}
+use Rattle.clue_rules.specs.Takes.{Strikes}
+use Rattle.clue_rules.specs.Towers.{TowersValue, clue_of}
+use Rattle.clue_rules.specs.Views.{view_cell}
+use Rattle.clue_rules.proofs.Leads.{leads_taken}
+use Rattle.clue_rules.proofs.Takes.{takes_struck}
+use Rattle.clue_rules.specs.declared.grade.Grade.TheVariants.{Easy}
+use Rattle.clue_rules.specs.declared.reason.Reason.TheVariants.{Bound}
 
 -- ---- towers after a value
 
@@ -69,67 +67,43 @@ seen_around n (suc j) before (x ∷ line) within inside =
 
 -- ---- a square near a clue
 
--- the number of the square at an index from a place that shows so many towers
-low_enough : (g : GridValue) (place clue j : ℕ) → IsSquare g → place < 4 * g.size → j < g.size → seen (view_of g place) ≡ clue
-    → number_at g (view_cell g.size place j) + clue ≤ g.size + j + 1
-low_enough g place clue j s inside near shown =
-    let line = view_of g place in
-    let whole = length-view_of g place in
-    let number : (k : ℕ) → k < g.size → slice_index line k ≡ number_at g (view_cell g.size place k) = λ k low. view_number g place k inside low in
-    let within : All (λ v. v ≤ g.size) line =
-    λ k d low.
-    let most = (grid_pair g g.size (view_cell g.size place k) s refl (view_inside g.size place k inside (omega arith))).high in
-    omega (arith, get_or_default line k d 0 low, number k (omega arith), most) in
-    omega (arith, seen_around g.size j [] line within (omega arith), number j near)
-
--- a step that keeps the grids that meet the clue
-pub record KeepsClue (place clue : ℕ) (first now : CandidatesValue) : Type 0 where
-  pub less : IsEarlier first now
-  pub keeps : KeepsEach (MeetsClue first.size place clue) first now
-
--- one square more, the k-th from the place, counted from 1
-pub keeps_clue_more : (place clue k most kept cell : ℕ) (first now new : CandidatesValue) → place < 4 * first.size → 0 < k → k < clue → clue ≤ first.size
-    → most + clue ≡ first.size + k → cell ≡ view_cell first.size place (k - 1) → ((v : ℕ) → has_number kept v ≡ (leb 1 v && leb v most))
-    → KeepsClue place clue first now → KeepsInSquare now new cell kept → KeepsClue place clue first new
-keeps_clue_more place clue k most kept cell first now new inside some low small bound here members h step = record {
-  less = earlier_trans first now new h.less step.less;
-  keeps = λ g meets w.
-      let size = meets.0 in
-      let shows = meets.1 (omega arith) in
-      let near : k - 1 < first.size = omega arith in
-      let there : cell ≡ view_cell g.size place (k - 1) = here ∙ ap (λ (n : ℕ). view_cell n place (k - 1)) (sym size) in
-      let number = number_at g (view_cell g.size place (k - 1)) in
-      let pair = grid_pair g g.size (view_cell g.size place (k - 1)) shows.0 refl (view_inside g.size place (k - 1) (omega arith) (omega arith)) in
-      let top = low_enough g place clue (k - 1) shows.0 (omega arith) (omega arith) shows.1 in
-      let has : has_number kept number ≡ true =
-      members number ∙ and_from _ _ (le-leb 1 number (omega (arith, pair.low))) (le-leb number most (omega (arith, top))) in
-      within_kept now new cell kept g step (h.keeps g meets w) (ap (λ (i : ℕ). has_number kept (number_at g i)) there ∙ has);
+-- no line that shows so many towers has a greater number near its beginning
+pub low_unfilled : (w place clue j value : ℕ) → j < w → w + j + 1 < value + clue → IsUnfilled w Anything place clue (view_cell w place j) value
+low_unfilled w place clue j value near high = record {
+  index = j;
+  inside = near;
+  here = refl;
+  none = λ line filling same.
+      let within : All (λ v. v ≤ w) line = λ k d low.
+      let most = (filling.pairs k (omega (arith, low, filling.whole))).high in
+      omega (arith, get_or_default line k d 0 low, most) in
+      omega (arith, high, same, filling.shown, seen_around w j [] line within (omega (arith, near, filling.whole)));
 }
 
--- ---- every clue
-
--- a step that keeps the solutions
-pub record KeepsTowers (v : TowersValue) (first now : CandidatesValue) : Type 0 where
-  pub less : IsEarlier first now
-  pub keeps : KeepsSolutions (towers_puzzle v) first now
-
-pub keeps_towers_more : (v : TowersValue) (place clue : ℕ) (first now new : CandidatesValue) → first.size ≡ v.size → place < 4 * v.size
-    → clue ≡ clue_of v place → KeepsTowers v first now → IsEarlier now new → KeepsEach (MeetsClue now.size place clue) now new
-    → KeepsTowers v first new
-keeps_towers_more v place clue first now new size inside is h less keeps = record {
-  less = earlier_trans first now new h.less less;
-  keeps = λ g s w.
-      keeps g (
-        omega (arith, s.same_size, size, h.less.size),
-        λ some. (
-          record { is_grid = s.is_grid; latin = s.latin },
-          ((clues_decide v g).0 s.clues).each place inside (omega arith) ∙ sym is,
-        ),
-      )
-      (h.keeps g s w);
-}
-
--- what was gone before a step is gone after it
-pub none_left_later : (Struck : CandidatesValue → ℕ → ℕ → Type 0) (first now new : CandidatesValue) → NoneLeft Struck first now → IsEarlier now new
-    → NoneLeft Struck first new
-none_left_later Struck first now new none less cell value pair struck = stays_gone now new cell value less (none cell value pair struck)
+-- what is too great for a clue in the k-th square from it, counted from 1, is struck by the clue alone
+pub low_leads : (v : TowersValue) (place clue k most all low high cell : ℕ) (a b : CandidatesValue) → a.size ≡ v.size → place < 4 * a.size
+    → clue ≡ clue_of v place → 0 < k → k < clue → clue ≤ a.size → most + clue ≡ a.size + k → cell ≡ view_cell a.size place (k - 1)
+    → ((n : ℕ) → has_number low n ≡ (nat_le 1 n && nat_le n most)) → ((n : ℕ) → has_number high n ≡ (has_number all n && not (has_number low n)))
+    → Strikes a b cell high → LeadsTo (IsTowersStruckBy v) Easy a b
+low_leads v place clue k most all low high cell a b size inside is some near small bound here low_is high_is strikes =
+    leads_taken (IsTowersStruckBy v) (towers_less v) Easy (λ n u. (n ≡ cell) × (has_number high u ≡ true)) a b (takes_struck a b cell high strikes)
+    (λ n u pair h.
+    let both = and_parts (has_number all u) (not (has_number low u)) (sym (high_is u) ∙ h.1) in
+    let above : most < u = elim (cases_lt most u) [
+      | inl up ↦ up
+      | inr down ↦ absurd (both_ways (not (has_number low u))
+          (ap not (low_is u ∙ and_from (nat_le 1 u) (nat_le u most) (le-leb 1 u pair.low) (le-leb u most down))) both.1)
+    ] in
+    let far : k - 1 < a.size = omega (arith, near, small) in
+    let unfilled : IsUnfilled a.size Anything place clue (view_cell a.size place (k - 1)) u =
+    low_unfilled a.size place clue (k - 1) u far (omega (arith, above, bound, some)) in
+    let U : ℕ → ℕ → ℕ → Type 0 = λ w i c. IsUnfilled w Anything place i c u in (
+      Bound place,
+      refl,
+      record {
+        place_is = omega (arith, inside, size);
+        clued = omega (arith, is, near);
+        unfilled = subst (λ (w : ℕ). U w (clue_of v place) n) size (subst (λ (i : ℕ). U a.size i n) is
+            (subst (λ (c : ℕ). U a.size clue c) (sym (h.0 ∙ here)) unfilled));
+      },
+    ))

@@ -1,9 +1,10 @@
 -- A line whose squares have one candidate each: its only filling.
-use Rattle.std.proofs.Common.{◌≡◌, ◌≢◌, ℕ, ◌+◌, ◌<◌, true, List, length, set, sym, ap, ◌∙◌, subst, inl, inr, ◌||◌, arith, slice_index}
+use Rattle.std.proofs.Common.{◌≡◌, ◌≢◌, ℕ, ◌+◌, ◌<◌, ◌≤◌, take, true, List, length, set, sym, ap, ◌∙◌, subst, inl, inr, ◌||◌, arith, slice_index}
 use Rattle.std.proofs.Math.ListN.{length-set}
-use Rattle.std.proofs.lemmas.Bool.{cases_eq, or_left, or_right}
-use Rattle.std.proofs.lemmas.List.{get_or-set_same, get_or-set_other}
-use Rattle.number_sets.specs.Sets.{has_number, IsShared, IsSingle}
+use Rattle.std.proofs.lemmas.Bool.{both_ways, cases_eq, cases_lt, or_left, or_right}
+use Rattle.std.proofs.lemmas.List.{get_or-set_same, get_or-set_other, get_or-take, length-take-le}
+use Rattle.number_sets.specs.Sets.{has_number, IsEmpty, IsShared, IsSingle}
+use Rattle.clue_rules.specs.Inner.RowSets.{AreKept, AreSupported}
 use Rattle.clue_rules.proofs.FilledLemmas.{entries_more}
 
 -- the first n sets have one value each, those of the line, all different and all used
@@ -36,3 +37,20 @@ settled_more sets line n used more v h inside single fresh joined =
         | inr other ↦ h.apart i j before (omega arith) (sym (there i (λ e. omega arith)) ∙ same ∙ there j other)
       ];
     }
+
+-- where each number of a row is in some filling, the row is what its fillings keep
+pub alone_kept : (w clue : ℕ) (sets : List ℕ) → w ≤ length sets → AreSupported w clue sets sets → ((k : ℕ) → w ≤ k → IsEmpty (slice_index sets k))
+    → AreKept (take w sets) clue sets
+alone_kept w clue sets room all rest place value = (
+  λ has. elim (cases_lt place w) [
+    | inl low ↦ all place value low has
+    | inr out ↦ absurd (both_ways (has_number (slice_index sets place) value) (rest place out value) has)
+  ],
+  λ s.
+      let long : length (take w sets) ≡ w = length-take-le w sets room in
+      let low : place < w = omega (arith, s.inside, long) in
+      let at : has_number (slice_index (take w sets) place) (slice_index s.line place) ≡ true =
+      s.filling.start.candidates place (omega (arith, s.inside, s.filling.whole)) in
+      subst (λ (v : ℕ). has_number (slice_index sets place) v ≡ true) s.here
+      (subst (λ (set : ℕ). has_number set (slice_index s.line place) ≡ true) (get_or-take w sets place 0 low) at),
+)

@@ -7,9 +7,8 @@ use Rattle.number_sets.specs.Sets.{has_number}
 use Rattle.number_sets.proofs.Members.{has_number-none}
 use Rattle.latin_board.specs.Lines.{line_cell}
 use Rattle.latin_board.proofs.PeerLines.{places_apart}
-use Rattle.trail_solver.specs.Pairs.{IsPair, IsPrefix, has_pair, pairs_of}
-use Rattle.trail_solver.specs.Candidates.{CandidatesValue, IsEarlier, IsSetOf, AreCandidates, may_be}
-use Rattle.trail_solver.proofs.Earlier.{prefix-append}
+use Rattle.trail_solver.specs.Pairs.{IsPair, has_pair, pairs_of}
+use Rattle.trail_solver.specs.Candidates.{CandidatesValue, IsSetOf, AreCandidates, may_be}
 use Rattle.trail_solver.proofs.Removals.{set_below}
 use Rattle.trail_solver.proofs.SetPairs.{has_pair-pairs_of, length-pairs_of}
 use Rattle.clue_rules.specs.Left.{IsLeft, IsFewer, without}
@@ -222,13 +221,6 @@ same_more a b m e =
     let none : m.pairs ≡ [] = nil_from_length m.pairs (omega (arith, e, ap length m.trail, length-append a.trail m.pairs)) in
     let trail : b.trail ≡ a.trail = m.trail ∙ ap (λ (ps : List (ℕ × ℕ)). a.trail ++ ps) none ∙ append-nil a.trail in
     λ i. record { size = m.size i; trail = trail i }
-
--- what is taken comes at the trail's end
-pub takes_earlier : (Which : ℕ → ℕ → Type 0) (a b : CandidatesValue) → Takes Which a b → IsEarlier a b
-takes_earlier Which a b t = record {
-  size = t.size;
-  adds = let P : List (ℕ × ℕ) → Type 0 = λ ps. IsPrefix a.trail ps in subst P (sym t.trail) (prefix-append a.trail t.pairs);
-}
 
 -- what is taken makes the trail longer
 pub takes_length : (Which : ℕ → ℕ → Type 0) (a b : CandidatesValue) → Takes Which a b → length a.trail ≤ length b.trail

@@ -5,14 +5,14 @@ use Rattle.std.proofs.lemmas.List.{get_or-map, take_more, take_more_set, map-app
 use Rattle.std.proofs.lemmas.List.Folds.{list_all-append, list_all-map, list_all_at}
 use Rattle.latin_board.specs.Squares.{GridValue}
 use Rattle.clue_rules.specs.Inner.UnequalPieces.{texts_of}
-use Rattle.clue_rules.specs.UnequalText.{number_in, has_number, has_letters, grid_in}
+use Rattle.clue_rules.specs.UnequalText.{number_in, begins_with_number, has_letters, grid_in}
 
 -- one piece more that has a number
-pub good_more : (w i n : ℕ) (pieces : List (List ℕ)) → i < length pieces → list_all (has_number w) (take i pieces) ≡ true
-    → number_in w (slice_index_or pieces i []) ≡ Some n → list_all (has_number w) (take (i + 1) pieces) ≡ true
+pub good_more : (w i n : ℕ) (pieces : List (List ℕ)) → i < length pieces → list_all (begins_with_number w) (take i pieces) ≡ true
+    → number_in w (slice_index_or pieces i []) ≡ Some n → list_all (begins_with_number w) (take (i + 1) pieces) ≡ true
 good_more w i n pieces inside before here =
-    let good : has_number w (slice_index_or pieces i []) ≡ true = ap is_some here in
-    rw (take_more pieces i [] inside, list_all-append (has_number w) (take i pieces) (slice_index_or pieces i [] ∷ []), before, good) refl
+    let good : begins_with_number w (slice_index_or pieces i []) ≡ true = ap is_some here in
+    rw (take_more pieces i [] inside, list_all-append (begins_with_number w) (take i pieces) (slice_index_or pieces i [] ∷ []), before, good) refl
 
 pub numbers_more : (w i n : ℕ) (pieces : List (List ℕ)) (numbers : List ℕ) → i < length pieces → i < length numbers
     → number_in w (slice_index_or pieces i []) ≡ Some n → take i numbers ≡ map (λ p. unwrap_or (number_in w p) 0) (take i pieces)
@@ -24,8 +24,8 @@ numbers_more w i n pieces numbers inside room here before =
 
 -- a piece without a number
 pub bad_piece : (w i : ℕ) (pieces : List (List ℕ)) → i < length pieces → number_in w (slice_index_or pieces i []) ≡ None
-    → list_all (has_number w) pieces ≡ false
-bad_piece w i pieces inside none = list_all_at (has_number w) pieces i [] inside (ap is_some none)
+    → list_all (begins_with_number w) pieces ≡ false
+bad_piece w i pieces inside none = list_all_at (begins_with_number w) pieces i [] inside (ap is_some none)
 
 -- the piece at a place, as the list of references and as the list of texts
 pub piece_here : (pieces : List (Bor (List ℕ))) (i w : ℕ) (d : Bor (List ℕ)) (o : Option ℕ) → i < length pieces
@@ -34,14 +34,14 @@ piece_here pieces i w d o inside e = rw (get_or-map (λ p. p.now) pieces i d [] 
 
 -- all pieces are read
 pub givens_read : (w i : ℕ) (g : GridValue) (pieces : List (List ℕ)) → g.size ≡ w → length g.numbers ≡ length pieces
-    → length pieces ≤ i → list_all (has_number w) (take i pieces) ≡ true
+    → length pieces ≤ i → list_all (begins_with_number w) (take i pieces) ≡ true
     → take i g.numbers ≡ map (λ p. unwrap_or (number_in w p) 0) (take i pieces)
-    → Some g ≡ (if list_all (has_number w) pieces then Some (grid_in w pieces) else None)
+    → Some g ≡ (if list_all (begins_with_number w) pieces then Some (grid_in w pieces) else None)
 givens_read w i g pieces size count all good numbers =
     let whole : take i pieces ≡ pieces = take_all i pieces all in
     let read : g.numbers ≡ map (λ p. unwrap_or (number_in w p) 0) pieces =
     sym (take_all i g.numbers (omega arith)) ∙ numbers ∙ ap (map (λ p. unwrap_or (number_in w p) 0)) whole in
-    let each : list_all (has_number w) pieces ≡ true = rw whole at good in
+    let each : list_all (begins_with_number w) pieces ≡ true = rw whole at good in
     let same : g ≡ grid_in w pieces = λ j. record { size = size j; numbers = read j } in
     rw each (ap (λ x. Some x) same)
 

@@ -16,7 +16,7 @@ Standing c cell value = (alone : ℕ) → HasNoOther c cell alone → value ≡ 
 
 -- the line has in each square from the place a value of the size that may stand there, none twice, and shows the clue's
 -- towers
-pub record IsFilling (w : ℕ) (May : ℕ → ℕ → Type 0) (place clue : ℕ) (line : List ℕ) : Type 0 where
+pub record IsFillingFrom (w : ℕ) (May : ℕ → ℕ → Type 0) (place clue : ℕ) (line : List ℕ) : Type 0 where
   pub whole : length line ≡ w
   pub pairs : (k : ℕ) → k < w → IsPair w (view_cell w place k) (slice_index line k)
   pub may : (k : ℕ) → k < w → May (view_cell w place k) (slice_index line k)
@@ -28,4 +28,4 @@ pub record IsUnfilled (w : ℕ) (May : ℕ → ℕ → Type 0) (place clue cell 
   pub index : ℕ
   pub inside : index < w
   pub here : view_cell w place index ≡ cell
-  pub none : (line : List ℕ) → IsFilling w May place clue line → slice_index line index ≢ value
+  pub none : (line : List ℕ) → IsFillingFrom w May place clue line → slice_index line index ≢ value

@@ -1,19 +1,26 @@
 -- Lemmas for the laws of the traits that the games keep: items and cuts, and texts that are read and written.
+pub mod Along
 pub mod CluePart
+pub mod Cuts
 pub mod Edges
 pub mod Exactly
 pub mod GameIds
+pub mod GivensAlone
 pub mod GoodPieces
 pub mod KeptItems
+pub mod Less
 pub mod Letters
+pub mod LineSquares
 pub mod Neighbours
-pub mod OwnLines
+pub mod NotForMemory
 pub mod Pieces
 pub mod RangeTests
 pub mod Refusals
 pub mod SaidSigns
+pub mod Shared
+pub mod SignLemmas
 pub mod Signs
-pub mod NotForMemory
+pub mod Sound
 pub mod SquarePart
 pub mod SquaresWritten
 pub mod TowersItems
@@ -23,3 +30,4 @@ pub mod UnequalItems
 pub mod UnequalSameness
 pub mod UnequalText
 pub mod UnequalWritten
+pub mod ViewLines

@@ -1,6 +1,6 @@
 -- The pairs of a square and a value that are left of candidates. All that steps ask of candidates is asked of the pairs
 -- that are left, so it holds of fewer candidates too.
-use Rattle.std.specs.Prelude.{◌≡◌, ℕ, ◌<◌, true, List, [], ◌++◌}
+use Rattle.std.specs.Prelude.{◌≡◌, ℕ, ◌<◌, ◌≤◌, true, List, [], ◌++◌, ◌*◌}
 use Rattle.latin_board.specs.Lines.{line_cell}
 use Rattle.trail_solver.specs.Pairs.{IsPair}
 use Rattle.trail_solver.specs.Candidates.{CandidatesValue, may_be}
@@ -33,3 +33,13 @@ all_of w = record { size = w; trail = [] }
 -- the candidates without some pairs
 abbrev pub without : CandidatesValue → List (ℕ × ℕ) → CandidatesValue
 without c pairs = record { size = c.size; trail = c.trail ++ pairs }
+
+-- some square is left nothing
+abbrev pub IsEmptied : CandidatesValue → Type 0
+IsEmptied c = (cell : ℕ) × (cell < c.size * c.size) × ((value : ℕ) → IsLeft c cell value → ⊥)
+
+-- something is left of each square, and each number of the size is left in each row and column
+pub record IsLive (c : CandidatesValue) : Type 0 where
+  pub cells : (cell : ℕ) → cell < c.size * c.size → (value : ℕ) × IsLeft c cell value
+  pub lines : (line value : ℕ) → line < 2 * c.size → 1 ≤ value → value ≤ c.size
+      → (k : ℕ) × (k < c.size) × IsLeft c (line_cell c.size line k) value

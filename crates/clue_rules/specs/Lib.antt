@@ -13,11 +13,16 @@ pub mod Struck
 pub mod Left
 pub mod Fillings
 pub mod Reasons
--- what is taken from candidates, what the squares of a line strike in one another, and which lines are to be looked at
--- again
+-- which reasons a grade has; steps, chains of them, and what they lead to
+pub mod Grades
+pub mod Chains
+-- what a grade leaves
+pub mod Settled
+-- along which line a clue or a sign looks, and what goes from its squares
+pub mod Along
+-- what may stand in the squares from a clue, as a row of sets; and what is taken from candidates
+pub mod Rows
 pub mod Takes
-pub mod LineStrikes
-pub mod ChangedLines
 -- the texts: for each its grammar, the form that is written, and what is read; and the faults of reading
 pub mod IdFaults
 pub mod Parameters

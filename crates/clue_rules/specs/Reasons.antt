@@ -2,9 +2,11 @@
 use Rattle.std.specs.Prelude.{◌≡◌, ◌≢◌, ◌↔◌, ℕ, ◌*◌, ◌<◌, ◌≤◌, ◌⊎◌, true, false, List, length, slice_index, count_ones}
 use Rattle.number_sets.specs.Sets.{has_number}
 use Rattle.latin_board.specs.Lines.{line_cell, ArePeers}
+use Rattle.latin_board.specs.Squares.{GridValue}
 use Rattle.trail_solver.specs.Pairs.{IsPair}
 use Rattle.trail_solver.specs.Candidates.{CandidatesValue}
 use Rattle.trail_solver.specs.Puzzles.{Puzzle}
+use Rattle.clue_rules.specs.Givens.{given_puzzle}
 use Rattle.clue_rules.specs.Towers.{TowersValue, clue_of, towers_puzzle}
 use Rattle.clue_rules.specs.Unequal.{UnequalValue, IsGreater, unequal_puzzle}
 use Rattle.clue_rules.specs.Views.{view_cell}
@@ -62,6 +64,19 @@ IsByLine w c (Stand place) cell value = ⊥
 IsByLine w c (Clue place) cell value = ⊥
 IsByLine w c (Sign from to) cell value = ⊥
 IsByLine w c (Set line squares values) cell value = IsBySet w c line squares values cell value
+
+-- ---- givens alone
+
+-- what a reason strikes in a puzzle of givens alone
+abbrev pub IsGivensStruckBy : GridValue → CandidatesValue → Reason → ℕ → ℕ → Type 0
+IsGivensStruckBy p c (Given at) cell value = IsByGiven (given_puzzle p) at cell value
+IsGivensStruckBy p c (Peer by) cell value = IsByPeer p.size c by cell value
+IsGivensStruckBy p c (Place line index other) cell value = IsByPlace p.size c line index other cell value
+IsGivensStruckBy p c (Bound place) cell value = ⊥
+IsGivensStruckBy p c (Stand place) cell value = ⊥
+IsGivensStruckBy p c (Clue place) cell value = ⊥
+IsGivensStruckBy p c (Sign from to) cell value = ⊥
+IsGivensStruckBy p c (Set line squares values) cell value = IsBySet p.size c line squares values cell value
 
 -- ---- Towers
 

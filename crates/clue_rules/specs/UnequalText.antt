@@ -98,8 +98,8 @@ number_in w (b ∷ bs) =
     if nat_le digit_zero b && nat_le b (digit_zero + w) && not (begins_digit bs) then Some (b - digit_zero) else None
 
 -- the piece begins with one digit from 0 to w
-abbrev pub has_number : ℕ → List ℕ → Bool
-has_number w piece = is_some (number_in w piece)
+abbrev pub begins_with_number : ℕ → List ℕ → Bool
+begins_with_number w piece = is_some (number_in w piece)
 
 -- the direction that a letter stands for
 abbrev pub direction_of : ℕ → Option Direction
@@ -161,7 +161,7 @@ puzzle_in w pieces = signed_puzzle w (sign_said w pieces) (grid_in w pieces).num
 -- the puzzle that pieces describe, or the first of the faults that lie in them
 abbrev pub puzzle_at : ℕ → List (List ℕ) → Result UnequalValue IdFault
 puzzle_at w pieces =
-    if not (list_all (has_number w) pieces) then Err BadSquares
+    if not (list_all (begins_with_number w) pieces) then Err BadSquares
     else (if not (list_all has_letters pieces) then Err BadClue
     else (if not (list_all (points_inside w pieces) (range_with_len 0 (w * w))) then Err OffGrid
     else (if contradicts w pieces then Err Contradiction

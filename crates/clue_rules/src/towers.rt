@@ -5,11 +5,17 @@ ghost use Rattle.std.specs.Cmp.{decided, partial_equiv_from_equiv};
 ghost use Rattle.clue_rules.specs.Towers.{IsTowers, towers_given_grid, clue_of};
 ghost use Rattle.clue_rules.specs.Laws.TowersSameness.{same_towers, same_towers_decides};
 
+pub(crate) mod clue_rows;
+mod clue_strikes;
 mod description;
 mod game;
+mod known_rows;
 mod lines;
 mod low_towers;
+mod row_fillings;
+mod row_sets;
 mod rules;
+mod steps;
 
 use latin_board::Grid;
 use std::marker::Model;

@@ -16,6 +16,9 @@ mod pieces;
 mod reasons;
 mod rules;
 mod sign;
+mod sign_bounds;
+mod sign_strikes;
+mod steps;
 
 use latin_board::{CELLS, Grid, Size};
 use sign::Sign;

@@ -5,12 +5,14 @@ use Rattle.trail_solver.specs.Candidates.{CandidatesValue, IsOnly, IsWithin}
 use Rattle.trail_solver.specs.Pairs.{IsPair}
 use Rattle.trail_solver.specs.Puzzles.{Puzzle, Solves}
 use Rattle.clue_rules.specs.Left.{IsLeft, IsFewer, all_of, without}
-use Rattle.named_steps.specs.Chains.{StepValue, IsChain, AreOfGrade, left_by}
-use Rattle.named_steps.specs.Following.{IsClosure, Follows}
-use Rattle.named_steps.proofs.Antitone.{IsAntitone, chain_less, chain_settled, left_size}
-use Rattle.named_steps.proofs.Kept.{IsSoundFor, number_left, chain_keeps}
+use Rattle.clue_rules.specs.Chains.{StepValue, IsChain, AreOfGrade, left_by}
+use Rattle.clue_rules.specs.Settled.{IsClosure}
+use Rattle.named_steps.specs.Following.{Follows}
+use Rattle.named_steps.proofs.Antitone.{chain_settled}
+use Rattle.clue_rules.proofs.Chains.{IsAntitone, chain_less, left_size}
+use Rattle.clue_rules.proofs.KeptSolutions.{IsSoundFor, number_left, chain_keeps}
 use Rattle.clue_rules.specs.declared.reason.Reason.{Reason}
-use Rattle.named_steps.specs.declared.grade.Grade.{Grade}
+use Rattle.clue_rules.specs.declared.grade.Grade.{Grade}
 use Rattle.fair_games.specs.Inner.Bases.{IsBase}
 use Rattle.clue_rules.specs.Reasons.{Striking}
 

@@ -8,12 +8,12 @@ use Rattle.trail_solver.specs.declared.rules.Rules.{Ghosts}
 use Rattle.rand_core.specs.Stream.{Stream}
 use Rattle.puzzle_gen.proofs.ItemLaws.{ItemLaws, cuts_of_full}
 use Rattle.named_steps.specs.Following.{Follows}
-use Rattle.named_steps.specs.Grades.{rank}
+use Rattle.clue_rules.specs.Grades.{rank}
 use Rattle.named_steps.specs.Graded.{FollowsBy, IsGradeOf}
 use Rattle.named_steps.proofs.Followed.{follows_only}
 use Rattle.named_steps.proofs.Solutions.{graded_next}
-use Rattle.named_steps.specs.declared.grade.Grade.{Grade}
-use Rattle.named_steps.specs.declared.grade.Grade.TheVariants.{Latin, Easy, Hard}
+use Rattle.clue_rules.specs.declared.grade.Grade.{Grade}
+use Rattle.clue_rules.specs.declared.grade.Grade.TheVariants.{Latin, Easy, Hard}
 use Rattle.puzzle_gen.specs.SeededSquares.{drawn_order, square_of}
 use Rattle.fair_games.specs.Squares.{drawn_rows, first_row, with_first_row}
 use Rattle.fair_games.proofs.RowSteps.{with_row_size}

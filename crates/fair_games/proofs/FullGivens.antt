@@ -12,12 +12,11 @@ use Rattle.clue_rules.specs.Reasons.{IsByGiven, Striking}
 use Rattle.clue_rules.specs.Left.{IsLeft, all_of, without}
 use Rattle.named_steps.specs.Following.{Follows}
 use Rattle.clue_rules.specs.Takes.{Takes}
-use Rattle.named_steps.proofs.Antitone.{IsAntitone}
-use Rattle.named_steps.proofs.Followed.{higher_has}
-use Rattle.named_steps.specs.declared.grade.Grade.TheVariants.{Latin}
-use Rattle.named_steps.proofs.Leads.{leads_taken}
+use Rattle.clue_rules.proofs.Chains.{IsAntitone, higher_has}
+use Rattle.clue_rules.specs.declared.grade.Grade.TheVariants.{Latin}
+use Rattle.clue_rules.proofs.Leads.{leads_taken}
 use Rattle.clue_rules.specs.declared.reason.Reason.TheVariants.{Given}
-use Rattle.named_steps.specs.declared.grade.Grade.{Grade}
+use Rattle.clue_rules.specs.declared.grade.Grade.{Grade}
 
 -- the pairs of a square and the numbers from 1 on, but for one of them
 abbrev others_of : ℕ → ℕ → ℕ → List (ℕ × ℕ)

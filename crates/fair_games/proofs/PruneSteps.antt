@@ -7,14 +7,16 @@ use Rattle.trail_solver.specs.Puzzles.{Solves}
 use Rattle.trail_solver.specs.declared.rules.Rules.{Ghosts}
 use Rattle.puzzle_gen.specs.Orders.{place_in}
 use Rattle.puzzle_gen.proofs.ItemLaws.{AreCuts, ItemLaws, cuts_of_full}
-use Rattle.named_steps.specs.Following.{IsClosure, IsEmptied, Follows}
-use Rattle.named_steps.specs.Passes.{LeadsTo}
-use Rattle.named_steps.proofs.Emptied.{solved_holds}
-use Rattle.named_steps.proofs.Antitone.{IsAntitone}
-use Rattle.named_steps.proofs.Kept.{IsSoundFor}
+use Rattle.clue_rules.specs.Settled.{IsClosure}
+use Rattle.named_steps.specs.Following.{Follows}
+use Rattle.clue_rules.specs.Left.{IsEmptied}
+use Rattle.clue_rules.specs.Chains.{LeadsTo}
+use Rattle.clue_rules.proofs.Emptied.{solved_holds}
+use Rattle.clue_rules.proofs.Chains.{IsAntitone}
+use Rattle.clue_rules.proofs.KeptSolutions.{IsSoundFor}
 use Rattle.named_steps.proofs.Followed.{follows_more}
 use Rattle.clue_rules.specs.declared.reason.Reason.{Reason}
-use Rattle.named_steps.specs.declared.grade.Grade.{Grade}
+use Rattle.clue_rules.specs.declared.grade.Grade.{Grade}
 use Rattle.fair_games.specs.Fair.{FailsBy}
 use Rattle.fair_games.specs.Inner.PrunedTo.{outside, IsPrunedTo}
 use Rattle.fair_games.specs.Inner.Bases.{IsBase}

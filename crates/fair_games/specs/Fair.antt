@@ -4,7 +4,7 @@ use Rattle.std.specs.Prelude.{◌≡◌, ℕ, ◌<◌, Bool, true, false, List, 
 use Rattle.latin_board.specs.Squares.{GridValue}
 use Rattle.trail_solver.specs.declared.rules.Rules.{Ghosts}
 use Rattle.named_steps.specs.Following.{Follows}
-use Rattle.named_steps.specs.declared.grade.Grade.{Grade}
+use Rattle.clue_rules.specs.declared.grade.Grade.{Grade}
 use Rattle.fair_games.specs.FairGames.{IsOfGrade}
 use Rattle.fair_games.specs.Pruned.{IsPrunedBy}
 use Rattle.fair_games.specs.declared.fair_fault.FairFault.{FairFault}

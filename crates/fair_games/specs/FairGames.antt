@@ -7,7 +7,7 @@ use Rattle.trail_solver.specs.declared.rules.Rules.{Ghosts}
 use Rattle.clue_rules.specs.Reasons.{Striking}
 use Rattle.named_steps.specs.Following.{Follows}
 use Rattle.named_steps.specs.Graded.{FollowsBy, IsGradeOf}
-use Rattle.named_steps.specs.declared.grade.Grade.{Grade}
+use Rattle.clue_rules.specs.declared.grade.Grade.{Grade}
 use Rattle.fair_games.specs.declared.trial.Trial.{Trial}
 use Rattle.fair_games.specs.declared.trial.Trial.TheVariants.{GivensAlone}
 

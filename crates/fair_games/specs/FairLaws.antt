@@ -2,7 +2,7 @@
 use Rattle.std.specs.Prelude.{◌≡◌, ℕ, ◌<◌, Bool, false, List, IsTrue}
 use Rattle.latin_board.specs.Squares.{GridValue}
 use Rattle.trail_solver.specs.declared.rules.Rules.{Ghosts}
-use Rattle.named_steps.specs.declared.grade.Grade.{Grade}
+use Rattle.clue_rules.specs.declared.grade.Grade.{Grade}
 use Rattle.fair_games.specs.Pruned.{IsTried}
 use Rattle.fair_games.specs.Fair.{FailsBy, IsPrunedGame}
 use Rattle.clue_rules.specs.Reasons.{Striking}

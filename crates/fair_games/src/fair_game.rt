@@ -1,7 +1,7 @@
 //! What fair games ask of a game: a letter for each grade, and an order in which items are tried.
 
 ghost use Rattle.std.specs.Prelude.{◌≡◌, ℕ, ◌+◌, ◌*◌, ◌≤◌, Option};
-ghost use Rattle.named_steps.specs.declared.grade.Grade.{Grade};
+ghost use Rattle.clue_rules.specs.declared.grade.Grade.{Grade};
 ghost use Rattle.fair_games.specs.declared.trial.Trial.{Trial};
 
 use crate::trial::Trial;

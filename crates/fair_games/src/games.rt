@@ -2,7 +2,7 @@
 
 ghost use Rattle.std.specs.Prelude.{◌≡◌, ◌≢◌, ℕ, ◌<◌, ◌↔◌, Result, IfOk, IfSome, IsTrue, MatchOption, Some};
 ghost use Rattle.named_steps.specs.Graded.{FollowsBy};
-ghost use Rattle.named_steps.specs.declared.grade.Grade.{Grade};
+ghost use Rattle.clue_rules.specs.declared.grade.Grade.{Grade};
 ghost use Rattle.fair_games.specs.declared.fair_fault.FairFault.{FairFault};
 ghost use Rattle.fair_games.specs.FairGames.{IsFairGame, IsOfGrade, NeedsItems};
 ghost use Rattle.fair_games.specs.Squares.{fair_stream};
@@ -68,7 +68,7 @@ fn has_letter<P: FairGame>(grade: Grade, letter: u8) -> bool
 /// The fair game of a size, a grade and a seed.
 ///
 /// It has one solution, which follows by the steps of the grade, from nothing to the whole square, and not by those of the grade
-/// below; and no item that is tried can be spared. Refused as `NotOffered`, or else as `NoneFound` where no draw gives a game of the
+/// below; and no item that is tried can be spared. Refused as `NotOffered`, or otherwise as `NoneFound` where no draw gives a game of the
 /// grade. It takes no memory.
 pub fn fair<P: FairGame>(size: Size, grade: Grade, seed: u64) -> Result<P, FairFault>
     ensures promised { IfOk result (IsFairGame ⟦<P as Rules>⟧ P.struck_by grade (P.trial_of grade) size) }
@@ -120,7 +120,7 @@ fn letter_byte<P: FairGame>(grade: Grade) -> u8
     }
 }
 
-// The same by a stream of random words. What is known of rows of sets serves all draws.
+// The same by a stream of random words. `known` serves all draws.
 fn find_game<P: FairGame, R: Rng>(rng: &mut R, size: Size, grade: Grade) -> Option<P>
     ensures needed { IfSome result (NeedsItems ⟦<P as Rules>⟧ P.struck_by grade (P.trial_of grade) size) }
     ensures fair { MatchOption result

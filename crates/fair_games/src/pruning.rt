@@ -41,7 +41,7 @@ pub(crate) fn pruned<P: Steps>(grid: &Grid, order: &[u8], grade: Grade, known: &
 }
 
 // The puzzle without the items from one place of the order up to another, where the rest follows. The candidates are a base: from them
-// the steps of the rest lead on as from all pairs; and so they do from what the rest leaves of them. What is known of rows of sets serves
+// the steps of the rest lead on as from all pairs; and so they do from what the rest leaves of them. `known` serves
 // all tries.
 fn without_all<P: Steps>(
     puzzle: P,

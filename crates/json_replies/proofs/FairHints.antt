@@ -11,14 +11,14 @@ use Rattle.named_steps.specs.Chains.{IsView}
 use Rattle.named_steps.specs.Following.{Follows}
 use Rattle.named_steps.specs.StepLaws.{GradesAreNested}
 use Rattle.named_steps.specs.declared.goal.Goal.TheVariants.{OnlyValue}
-use Rattle.named_steps.specs.declared.grade.Grade.{Grade}
-use Rattle.named_steps.specs.declared.grade.Grade.TheVariants.{Latin, Easy, Hard}
-use Rattle.named_steps.proofs.Antitone.{IsAntitone}
+use Rattle.clue_rules.specs.declared.grade.Grade.{Grade}
+use Rattle.clue_rules.specs.declared.grade.Grade.TheVariants.{Latin, Easy, Hard}
+use Rattle.clue_rules.proofs.Chains.{IsAntitone}
 use Rattle.named_steps.proofs.Followed.{boards_lead, boards_refuted}
 use Rattle.step_chains.specs.Explanations.{NothingIsShown, IsRefutedGrid}
 use Rattle.step_chains.specs.declared.hints.NextHint.{NextHint}
 use Rattle.step_chains.specs.declared.hints.NextHint.TheVariants.{Follows as Found, Refuted, Nothing}
-use Rattle.named_steps.specs.Grades.{IsLower, rank}
+use Rattle.clue_rules.specs.Grades.{IsLower, rank}
 use Rattle.step_chains.specs.NextHints.{NoneBelowShows}
 use Rattle.puzzle_cli.specs.GameFacts.{GameFacts}
 use Rattle.json_replies.specs.FairLaws.{IsContradiction, IsExplainedBy, IsWrongAt, HintsLeadOn}

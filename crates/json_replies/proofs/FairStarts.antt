@@ -4,7 +4,7 @@ use Rattle.std.specs.Option.{IsSomeAnd}
 use Rattle.clue_rules.specs.declared.params.Params.{Params}
 use Rattle.clue_rules.specs.Parameters.{IsParams}
 use Rattle.play_midend.specs.Histories.{History}
-use Rattle.named_steps.specs.declared.grade.Grade.{Grade}
+use Rattle.clue_rules.specs.declared.grade.Grade.{Grade}
 use Rattle.fair_games.proofs.PruneSteps.{HasSteps}
 use Rattle.fair_games.proofs.FairSteps.{fair_puzzle, fair_solved, draw_size}
 use Rattle.puzzle_cli.specs.declared.reply.refusal.Refusal.TheVariants.{Memory}

@@ -15,7 +15,7 @@ use Rattle.clue_rules.specs.declared.reason.Reason.{Reason}
 use Rattle.clue_rules.specs.declared.reason.Reason.TheVariants.{Given, Peer, Place, Bound, Stand, Clue, Sign, Set}
 use Rattle.named_steps.specs.declared.goal.Goal.{Goal}
 use Rattle.named_steps.specs.declared.goal.Goal.TheVariants.{OnlyValue, OnlyPlace}
-use Rattle.named_steps.specs.declared.grade.Grade.{Grade}
+use Rattle.clue_rules.specs.declared.grade.Grade.{Grade}
 use Rattle.step_chains.specs.declared.hints.NextHint.{NextHint}
 use Rattle.step_chains.specs.declared.hints.NextHint.TheVariants.{Follows, Refuted, Nothing}
 use Rattle.step_texts.specs.declared.told.Strike.{Strike}
@@ -27,7 +27,7 @@ use Rattle.json_replies.specs.Texts.{text_data, list_data}
 use Rattle.json_replies.specs.Boards.{when, mark_set_data, squares}
 use Rattle.json_replies.specs.ObjectLines.{IsShallow}
 use Rattle.json_replies.specs.Reasons.{ReasonParts, one_data, squares_data, parts_of}
-use Rattle.json_replies.specs.Steps.{x_data, y_data, clue_data, greater_data, less_data, shows_data, strike_data, look_data, step_data, steps_data}
+use Rattle.json_replies.specs.Steps.{x_data, y_data, edge_clue_data, greater_data, less_data, shows_data, strike_data, look_data, step_data, steps_data}
 use Rattle.json_replies.specs.HintObjects.{SaidData, by_word, goal_line_data, grade_data, said_of, left_data, view_data, hint_data, IsHintValue}
 use Rattle.json_replies.specs.Laws.Spellings.{no_float_or, list_fits, listed_fits, when_fits, text_fits}
 use Rattle.clue_rules.specs.Reasons.{Striking}
@@ -93,7 +93,7 @@ y_fits : (w : ℕ) (edge : Option ℕ) → IsShallow 0 (y_data w edge)
 y_fits w None = null_fits 0
 y_fits w (Some place) = integer_fits (edge_xy w place).1
 
-clue_fits : (clue : ℕ → ℕ) (edge : Option ℕ) → IsShallow 0 (clue_data clue edge)
+clue_fits : (clue : ℕ → ℕ) (edge : Option ℕ) → IsShallow 0 (edge_clue_data clue edge)
 clue_fits clue None = null_fits 0
 clue_fits clue (Some place) = count_fits (clue place)
 
@@ -150,7 +150,7 @@ look_fits w clue parts strikes text fit h i =
     let jj = j.flat in
     let kk = k.flat in
     record {
-      whole = no_float_or (has_float parts.cells) _ a.whole (no_float_or (has_float (clue_data clue parts.edge)) _ b.whole
+      whole = no_float_or (has_float parts.cells) _ a.whole (no_float_or (has_float (edge_clue_data clue parts.edge)) _ b.whole
           (no_float_or (has_float (greater_data parts.ends)) _ c.whole
           (no_float_or (has_float (less_data parts.ends)) _ d.whole (no_float_or (has_float parts.line) _ e.whole
           (no_float_or (has_float parts.numbers) _ f.whole (no_float_or (has_float strikes) _ h.whole

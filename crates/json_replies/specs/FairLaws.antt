@@ -8,10 +8,10 @@ use Rattle.trail_solver.specs.Solutions.{IsOnlySolution}
 use Rattle.play_midend.specs.Histories.{History}
 use Rattle.named_steps.specs.Chains.{IsView}
 use Rattle.named_steps.specs.Following.{Follows}
-use Rattle.named_steps.specs.declared.grade.Grade.{Grade}
+use Rattle.clue_rules.specs.declared.grade.Grade.{Grade}
 use Rattle.step_chains.specs.declared.hints.NextHint.{NextHint}
 use Rattle.step_chains.specs.declared.hints.NextHint.TheVariants.{Follows as Found, Refuted, Nothing}
-use Rattle.named_steps.specs.Grades.{rank}
+use Rattle.clue_rules.specs.Grades.{rank}
 use Rattle.fair_games.specs.FairGames.{IsOfGrade}
 use Rattle.puzzle_cli.specs.Lines.{Line}
 use Rattle.puzzle_cli.specs.GameFacts.{GameFacts}

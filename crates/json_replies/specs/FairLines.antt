@@ -1,12 +1,11 @@
 -- The line `fair SIZE GRADE SEED`: its words, and what they ask for.
-use Rattle.std.specs.Prelude.{◌≡◌, ◌≢◌, ℕ, ◌≤◌, true, Contains, List, [], ◌∷◌, ◌++◌, codes, Option, Some, Result, Ok}
-use Rattle.std.specs.Prelude.{Err}
+use Rattle.std.specs.Prelude.{◌≡◌, ◌≢◌, ℕ, ◌≤◌, true, Contains, List, [], ◌∷◌, ◌++◌, codes, Option, Some, Result, Ok, Err}
 use denote.Ref.{Bor}
 use Rattle.byte_text.specs.Bytes.{space, digit}
 use Rattle.byte_text.specs.Cuts.{Lacks}
 use Rattle.byte_text.specs.Decimals.{decimal_value}
 use Rattle.clue_rules.specs.GameIds.{largest_seed}
-use Rattle.named_steps.specs.declared.grade.Grade.{Grade}
+use Rattle.clue_rules.specs.declared.grade.Grade.{Grade}
 use Rattle.fair_games.specs.Offers.{is_offered}
 use Rattle.puzzle_cli.specs.Lines.{Line}
 use Rattle.json_replies.specs.declared.fair_words.FairWords.{FairWords}

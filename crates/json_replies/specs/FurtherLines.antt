@@ -16,7 +16,7 @@ use Rattle.board_checks.specs.Errors.{ErrorsValue, has_repeated, has_broken}
 use Rattle.board_checks.specs.declared.spot.Spot.{Spot}
 use Rattle.named_steps.specs.Graded.{IsGradeOf}
 use Rattle.clue_rules.specs.declared.reason.Reason.{Reason}
-use Rattle.named_steps.specs.declared.grade.Grade.{Grade}
+use Rattle.clue_rules.specs.declared.grade.Grade.{Grade}
 use Rattle.fair_games.specs.declared.trial.Trial.{Trial}
 use Rattle.puzzle_cli.specs.declared.command.line_fault.LineFault.TheVariants.{NoGame}
 use Rattle.puzzle_cli.specs.declared.reply.refusal.Refusal.TheVariants.{Line as OfLine}
@@ -25,8 +25,7 @@ use Rattle.puzzle_cli.specs.GameFacts.{GameFacts}
 use Rattle.puzzle_cli.specs.Inner.CommandReading.{entry_at}
 use Rattle.puzzle_cli.specs.SessionReplies.{shown_board}
 use Rattle.json_replies.specs.declared.further_line.FurtherLine.{FurtherLine}
-use Rattle.json_replies.specs.declared.further_line.FurtherLine.TheVariants.{Board, Completable, Hint as AskHint}
-use Rattle.json_replies.specs.declared.further_line.FurtherLine.TheVariants.{Grade as AskGrade}
+use Rattle.json_replies.specs.declared.further_line.FurtherLine.TheVariants.{Board, Completable, Hint as AskHint, Grade as AskGrade}
 use Rattle.json_replies.specs.Boards.{board_data}
 use Rattle.step_chains.specs.declared.hints.NextHint.{NextHint}
 use Rattle.json_replies.specs.HintObjects.{IsHintValue, grade_data}
@@ -103,7 +102,7 @@ IsAnswer f b h AskGrade answer =
     (grade : Option Grade) × IsGradeOf (f.rules.puzzle h.puzzle) (b.struck_by h.puzzle) grade
     × (answer ≡ grade_data b.letter grade)
 
--- the line of the object: NoGame where there is no session, else the answer beside what each object has
+-- the line of the object: NoGame where there is no session, otherwise the answer beside what each object has
 abbrev pub IsFurtherLine : {P : Type 0} → GameFacts P → BoardFacts P → FurtherLine → Option (History P) → List ℕ
     → Type 0
 IsFurtherLine f b which None bytes = IsReplyLine f (Err (OfLine NoGame)) None bytes

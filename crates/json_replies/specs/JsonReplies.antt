@@ -36,7 +36,8 @@ AnswerGives f b old line answer =
     ((words : FairWords (List ℕ)) × IsFairLine words line × FairGives f b old words answer)
     ⊎ (((words : FairWords (List ℕ)) → IsFairLine words line → ⊥) × PlainGives f old line answer)
 
--- what is said to one of the lines beside the commands, which leaves the session, or else to a line by what comes of it
+-- what is said to one of the lines beside the commands, which leaves the session, or otherwise to a line by what comes
+-- of it
 abbrev pub TellsLine : {P : Type 0} → GameFacts P → BoardFacts P → Option (History P) → Line → Option FurtherLine
     → List ℕ → Option (History P) → Type 0
 TellsLine f b old line (Some which) bytes new = (new ≡ old) × OrLost (IsFurtherLine f b which old) bytes

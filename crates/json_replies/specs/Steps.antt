@@ -27,9 +27,9 @@ y_data w None = null
 y_data w (Some place) = number (of_integer (edge_xy w place).1)
 
 -- the clue itself
-abbrev pub clue_data : (ℕ → ℕ) → Option ℕ → Data
-clue_data clue None = null
-clue_data clue (Some place) = count_data (clue place)
+abbrev pub edge_clue_data : (ℕ → ℕ) → Option ℕ → Data
+edge_clue_data clue None = null
+edge_clue_data clue (Some place) = count_data (clue place)
 
 -- the greater square of a sign
 abbrev pub greater_data : Option Ends → Data
@@ -67,7 +67,7 @@ strike_data strike = object
 abbrev pub look_data : ℕ → (ℕ → ℕ) → ReasonParts → Data → Data → Data
 look_data w clue parts strikes text = object
     (member (codes "cells") parts.cells
-    (member (codes "clue") (clue_data clue parts.edge)
+    (member (codes "clue") (edge_clue_data clue parts.edge)
     (member (codes "greater") (greater_data parts.ends)
     (member (codes "less") (less_data parts.ends)
     (member (codes "line") parts.line

@@ -1,7 +1,7 @@
 //! What a line `fair` asks for, and why it is refused.
 
 ghost use Rattle.std.specs.Prelude.{◌≡◌, ◌≤◌, ℕ, length, MatchOption, IfOk, IfErr, Ok, Err};
-ghost use Rattle.named_steps.specs.declared.grade.Grade.{Grade};
+ghost use Rattle.clue_rules.specs.declared.grade.Grade.{Grade};
 ghost use Rattle.json_replies.specs.FairLines.{IsSizeWord, IsGradeWord, IsSeedWord, IsAsked, words_copied};
 ghost use Rattle.json_replies.specs.FairRefusals.{fair_refusal_name};
 

@@ -6,7 +6,7 @@ ghost use Rattle.trail_solver.specs.Answers.{Fits};
 ghost use Rattle.trail_solver.specs.Completions.{Completes};
 ghost use Rattle.trail_solver.specs.declared.answer.Answer.{Answer};
 ghost use Rattle.named_steps.specs.Graded.{IsGradeOf};
-ghost use Rattle.named_steps.specs.declared.grade.Grade.{Grade};
+ghost use Rattle.clue_rules.specs.declared.grade.Grade.{Grade};
 ghost use Rattle.json_replies.specs.FurtherLines.{IsAnswer, IsFurtherLine, IsHintAnswer, answer_data};
 ghost use Rattle.json_replies.specs.HintObjects.{grade_data};
 

@@ -4,7 +4,7 @@ ghost use Rattle.std.specs.Prelude.{◌≡◌, ◌*◌, ◌<◌, ◌++◌, map, 
 ghost use Rattle.serde_json.specs.View.{view};
 ghost use Rattle.json_replies.specs.Boards.{when, mark_set_data};
 ghost use Rattle.json_replies.specs.Texts.{list_data};
-ghost use Rattle.json_replies.specs.Steps.{x_data, y_data, clue_data, greater_data, less_data, counts_data, shows_data};
+ghost use Rattle.json_replies.specs.Steps.{x_data, y_data, edge_clue_data, greater_data, less_data, counts_data, shows_data};
 ghost use Rattle.json_replies.specs.Steps.{strike_data, step_data, steps_data};
 
 use crate::lists::{number_set_value, push_value};
@@ -80,7 +80,7 @@ fn y_value(size: Size, edge: Option<u8>) -> Value
 
 fn clue_value<P: StepNames>(p: &P, edge: Option<u8>) -> Value
     requires { IfSome edge (λ place. place < 4 * (P.Rules.puzzle p.now).size) }
-    ensures { view result ≡ clue_data (P.edge_clue_of p.now) edge }
+    ensures { view result ≡ edge_clue_data (P.edge_clue_of p.now) edge }
 {
     match edge {
         Some(place) => Value::from(p.edge_clue(place)),

@@ -15,7 +15,7 @@ use step_texts::Line;
 pub(crate) fn latin_text(alloc: Global, bytes: &[u8]) -> Result<String, AllocError>
     ensures { IfOk result (λ text. string_bytes text ≡ latin_text bytes.now) }
 {
-    let mut text = String::new(alloc);
+    let mut text = String::with_capacity(alloc, bytes.len())?;
     for byte in bytes {
         text.push(char::from(*byte))?;
     }

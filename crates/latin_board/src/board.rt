@@ -151,7 +151,6 @@ impl Board {
         ensures places { (other : ℕ) → is_done self.new other
             ≡ (if other == place then not (is_done self.old other) else is_done self.old other) }
     {
-        let _size = self.grid.size();
         self.done.flip(place);
     }
 
@@ -200,7 +199,6 @@ impl Board {
           cheated = self.old.cheated;
         } }
     {
-        let _size = self.grid.size();
         let number = self.grid.get(square.cell);
         let marks = self.marks[square.cell];
         self.grid.set(square.cell, square.number);

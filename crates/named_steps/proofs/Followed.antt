@@ -8,14 +8,15 @@ use Rattle.trail_solver.specs.Puzzles.{Puzzle, Solves}
 use Rattle.trail_solver.specs.Solutions.{IsOnlySolution}
 use Rattle.trail_solver.specs.Completions.{Completes}
 use Rattle.clue_rules.specs.Left.{IsLeft, IsFewer, all_of, without}
-use Rattle.std.proofs.lemmas.Bool.{le-leb, leb-true}
-use Rattle.named_steps.specs.Grades.{IsLower, has_reason, least_grade, rank}
-use Rattle.named_steps.specs.Chains.{StepValue, IsChain, left_by, AreOfGrade, Shows, IsView}
+use Rattle.clue_rules.specs.Grades.{IsLower, has_reason, rank}
+use Rattle.named_steps.specs.Chains.{Shows, IsView}
+use Rattle.clue_rules.specs.Chains.{StepValue, IsChain, left_by, AreOfGrade}
 use Rattle.named_steps.specs.Following.{Follows, IsRefuted}
-use Rattle.named_steps.proofs.Antitone.{IsAntitone, chain_less, left_fewer, left_size}
-use Rattle.named_steps.proofs.Kept.{IsSoundFor, number_left, chain_keeps, completion_in_view}
+use Rattle.clue_rules.proofs.Chains.{IsAntitone, chain_less, left_fewer, left_size, higher_has}
+use Rattle.named_steps.proofs.Kept.{completion_in_view}
+use Rattle.clue_rules.proofs.KeptSolutions.{IsSoundFor, number_left, chain_keeps}
 use Rattle.clue_rules.specs.declared.reason.Reason.{Reason}
-use Rattle.named_steps.specs.declared.grade.Grade.{Grade}
+use Rattle.clue_rules.specs.declared.grade.Grade.{Grade}
 use Rattle.named_steps.specs.declared.goal.Goal.TheVariants.{OnlyValue}
 use Rattle.clue_rules.specs.Reasons.{Striking}
 
@@ -46,13 +47,6 @@ pub next_has : (lower higher : Grade) → ((reason : Reason) → has_reason lowe
     → (steps : List StepValue) → AreOfGrade lower steps → AreOfGrade higher steps
 next_has lower higher has [] h = tt
 next_has lower higher has (step ∷ steps) h = (has step.reason h.0, next_has lower higher has steps h.1)
-
--- a grade has the kinds of those below it
-pub higher_has : (lower higher : Grade) → rank lower ≤ rank higher → (reason : Reason) → has_reason lower reason ≡ true
-    → has_reason higher reason ≡ true
-higher_has lower higher up reason has =
-    let least : rank (least_grade reason) ≤ rank lower = leb-true (rank (least_grade reason)) (rank lower) has in
-    le-leb (rank (least_grade reason)) (rank higher) (omega (arith, least, up))
 
 -- what follows by a grade follows by those above it
 pub follows_up : (Struck : Striking) (lower higher : Grade) (g : GridValue) → rank lower ≤ rank higher → Follows Struck lower g

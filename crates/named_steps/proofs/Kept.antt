@@ -1,54 +1,22 @@
--- What a chain leaves has each solution that was within its start, and what it shows is so in each.
-use Rattle.std.proofs.Common.{◌≡◌, ◌≢◌, ℕ, ◌*◌, ◌<◌, ◌≤◌, false, List, [], ◌∷◌, refl, sym, ap, ◌∙◌, subst, inl, inr, arith}
-use Rattle.std.proofs.lemmas.Bool.{cases_eq, false_from_ne_true}
+-- What a chain shows is so in each solution that was within its start.
+use Rattle.std.proofs.Common.{◌≡◌, ℕ, ◌*◌, ◌<◌, ◌≤◌, List, sym, ap, ◌∙◌, subst, inl, inr, arith}
+use Rattle.std.proofs.lemmas.Bool.{cases_eq}
 use Rattle.latin_board.specs.Squares.{GridValue, number_at}
 use Rattle.latin_board.specs.Lines.{line_cell, ArePeers}
 use Rattle.latin_board.proofs.LatinLines.{line_cell_inside, peers_differ, value_at}
-use Rattle.trail_solver.specs.Pairs.{has_pair}
 use Rattle.trail_solver.specs.Candidates.{CandidatesValue, IsWithin}
 use Rattle.trail_solver.specs.Puzzles.{Puzzle, Solves}
 use Rattle.trail_solver.specs.Completions.{Completes}
 use Rattle.trail_solver.proofs.FilledGrids.{solution_pair}
-use Rattle.clue_rules.specs.Left.{IsLeft, without}
-use Rattle.named_steps.specs.Chains.{StepValue, IsStep, IsChain, left_by, IsShown, IsView, IsGoalOf, goal_cell, goal_value, IsExplained}
-use Rattle.clue_rules.proofs.Takes.{still_left}
-use Rattle.named_steps.proofs.Antitone.{left_size}
-use Rattle.clue_rules.specs.declared.reason.Reason.{Reason}
-use Rattle.named_steps.specs.declared.grade.Grade.{Grade}
+use Rattle.clue_rules.specs.Left.{IsLeft}
+use Rattle.named_steps.specs.Chains.{IsShown, IsView, IsGoalOf, goal_cell, goal_value, IsExplained}
+use Rattle.clue_rules.specs.Chains.{StepValue, left_by}
+use Rattle.clue_rules.proofs.Chains.{left_size}
+use Rattle.clue_rules.specs.declared.grade.Grade.{Grade}
 use Rattle.named_steps.specs.declared.goal.Goal.{Goal}
 use Rattle.named_steps.specs.declared.goal.Goal.TheVariants.{OnlyValue, OnlyPlace}
 use Rattle.clue_rules.specs.Reasons.{Striking}
-
--- what is struck is in no solution within the candidates
-abbrev pub IsSoundFor : Puzzle → Striking → Type 0
-IsSoundFor p Struck =
-    (c : CandidatesValue) (reason : Reason) (cell value : ℕ) (g : GridValue) → c.size ≡ p.size → Solves p g → IsWithin c g
-    → cell < p.size * p.size → Struck c reason cell value → number_at g cell ≢ value
-
--- the number of a solution within the candidates is left
-pub number_left : (p : Puzzle) (c : CandidatesValue) (g : GridValue) (cell : ℕ) → c.size ≡ p.size → Solves p g → IsWithin c g
-    → cell < c.size * c.size → IsLeft c cell (number_at g cell)
-number_left p c g cell size s within inside = record { pair = solution_pair p g c.size cell s size inside; may = within.each cell inside }
-
--- a step loses no solution
-pub step_keeps : (p : Puzzle) (Struck : Striking) → IsSoundFor p Struck → (c : CandidatesValue) (step : StepValue)
-    (g : GridValue) → c.size ≡ p.size → IsStep Struck c step → Solves p g → IsWithin c g → IsWithin (without c step.strikes) g
-step_keeps p Struck sound c step g size h s within = record {
-  each = λ cell inside.
-      let other : has_pair step.strikes cell (number_at g cell) ≡ false =
-      false_from_ne_true (has_pair step.strikes cell (number_at g cell)) (λ has.
-      let was = h cell (number_at g cell) has in
-      let here : cell < p.size * p.size = subst (λ (w : ℕ). cell < w * w) size inside in
-      sound c step.reason cell (number_at g cell) g size s within here was.1 refl) in
-      (still_left c step.strikes cell (number_at g cell) (number_left p c g cell size s within inside) other).may;
-}
-
--- a chain loses no solution
-pub chain_keeps : (p : Puzzle) (Struck : Striking) → IsSoundFor p Struck → (c : CandidatesValue)
-    (steps : List StepValue) (g : GridValue) → c.size ≡ p.size → IsChain Struck c steps → Solves p g → IsWithin c g → IsWithin (left_by c steps) g
-chain_keeps p Struck sound c [] g size h s within = within
-chain_keeps p Struck sound c (step ∷ steps) g size h s within =
-    chain_keeps p Struck sound (without c step.strikes) steps g size h.1 s (step_keeps p Struck sound c step g size h.0 s within)
+use Rattle.clue_rules.proofs.KeptSolutions.{IsSoundFor, number_left, chain_keeps}
 
 -- what candidates show is so in each solution within them
 pub shown_right : (p : Puzzle) (c : CandidatesValue) (goal : Goal) (g : GridValue) → c.size ≡ p.size → Solves p g → IsWithin c g

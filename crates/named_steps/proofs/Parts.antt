@@ -2,12 +2,13 @@
 use Rattle.std.proofs.Common.{◌≡◌, List, [], ◌∷◌, ◌++◌, inl, inr, ◌⊎◌, refl, sym, ap, ◌∙◌, subst}
 use Rattle.trail_solver.specs.Candidates.{CandidatesValue}
 use Rattle.clue_rules.specs.Left.{IsFewer, without}
-use Rattle.named_steps.specs.Chains.{StepValue, IsChain, left_by, AreOfGrade, Shows, IsTight}
+use Rattle.named_steps.specs.Chains.{Shows, IsTight}
+use Rattle.clue_rules.specs.Chains.{StepValue, left_by, AreOfGrade}
 use Rattle.named_steps.specs.StepLaws.{IsPart}
-use Rattle.named_steps.proofs.Antitone.{IsAntitone, chain_less, left_size, fewer_without}
+use Rattle.clue_rules.proofs.Chains.{IsAntitone, chain_less, left_size, fewer_without, left_append, chain_split, chain_joined}
 use Rattle.clue_rules.proofs.Takes.{without_fewer}
 use Rattle.named_steps.proofs.Shown.{shown_less}
-use Rattle.named_steps.specs.declared.grade.Grade.{Grade}
+use Rattle.clue_rules.specs.declared.grade.Grade.{Grade}
 use Rattle.named_steps.specs.declared.goal.Goal.{Goal}
 use Rattle.clue_rules.specs.Reasons.{Striking}
 
@@ -63,25 +64,6 @@ part_fewer (step ∷ steps) part c d fewer h = elim h [
 ]
 
 -- ---- a chain in two pieces
-
--- two chains, one after the other, leave what the second leaves of what the first does
-pub left_append : (c : CandidatesValue) (front back : List StepValue) → left_by c (front ++ back) ≡ left_by (left_by c front) back
-left_append c [] back = refl
-left_append c (step ∷ front) back = left_append (without c step.strikes) front back
-
--- a chain in two pieces
-pub chain_split : (Struck : Striking) (c : CandidatesValue) (front back : List StepValue) → IsChain Struck c (front ++ back)
-    → IsChain Struck c front × IsChain Struck (left_by c front) back
-chain_split Struck c [] back h = (tt, h)
-chain_split Struck c (step ∷ front) back h =
-    let rest = chain_split Struck (without c step.strikes) front back h.1 in
-    ((h.0, rest.0), rest.1)
-
--- two chains, one after the other, are one
-pub chain_joined : (Struck : Striking) (c : CandidatesValue) (front back : List StepValue) → IsChain Struck c front
-    → IsChain Struck (left_by c front) back → IsChain Struck c (front ++ back)
-chain_joined Struck c [] back first second = second
-chain_joined Struck c (step ∷ front) back first second = (first.0, chain_joined Struck (without c step.strikes) front back first.1 second)
 
 grade_split : (grade : Grade) (front back : List StepValue) (step : StepValue) → AreOfGrade grade (front ++ step ∷ back) → AreOfGrade grade (front ++ back)
 grade_split grade [] back step h = h.1

@@ -5,19 +5,20 @@ use Rattle.latin_board.proofs.Numbers.{same_numbers}
 use Rattle.trail_solver.specs.Candidates.{CandidatesValue, IsOnly, IsWithin}
 use Rattle.trail_solver.specs.Puzzles.{Puzzle, Solves}
 use Rattle.trail_solver.specs.Inner.Squares.{IsFilled}
-use Rattle.clue_rules.specs.Left.{IsLeft, all_of}
-use Rattle.named_steps.specs.Chains.{left_by}
-use Rattle.named_steps.specs.Following.{IsClosure, IsEmptied, Follows}
-use Rattle.named_steps.specs.Passes.{LeadsTo}
-use Rattle.named_steps.proofs.Emptied.{solved_holds}
-use Rattle.named_steps.specs.Grades.{rank}
+use Rattle.clue_rules.specs.Left.{IsLeft, all_of, IsEmptied}
+use Rattle.clue_rules.specs.Chains.{left_by, LeadsTo}
+use Rattle.clue_rules.specs.Settled.{IsClosure}
+use Rattle.named_steps.specs.Following.{Follows}
+use Rattle.clue_rules.proofs.Emptied.{solved_holds}
+use Rattle.clue_rules.specs.Grades.{rank}
 use Rattle.named_steps.specs.Graded.{IsSolutionBy, IsGradeOf, FollowsBy}
 use Rattle.named_steps.specs.Inner.Fills.{HasOpen}
-use Rattle.named_steps.proofs.Antitone.{IsAntitone, chain_settled, closure_fewer, left_size}
+use Rattle.named_steps.proofs.Antitone.{chain_settled, closure_fewer}
+use Rattle.clue_rules.proofs.Chains.{IsAntitone, left_size}
 use Rattle.named_steps.proofs.Followed.{follows_up}
-use Rattle.named_steps.proofs.Kept.{IsSoundFor, number_left, chain_keeps}
-use Rattle.named_steps.specs.declared.grade.Grade.{Grade}
-use Rattle.named_steps.specs.declared.grade.Grade.TheVariants.{Latin, Easy, Hard}
+use Rattle.clue_rules.proofs.KeptSolutions.{IsSoundFor, number_left, chain_keeps}
+use Rattle.clue_rules.specs.declared.grade.Grade.{Grade}
+use Rattle.clue_rules.specs.declared.grade.Grade.TheVariants.{Latin, Easy, Hard}
 use Rattle.clue_rules.specs.Reasons.{Striking}
 
 all_pairs : (c : CandidatesValue) (w : ℕ) → c.size ≡ w → c.trail ≡ [] → c ≡ all_of w

@@ -3,8 +3,8 @@ use Rattle.std.specs.Prelude.{Option, Some, None}
 use Rattle.latin_board.specs.Squares.{GridValue}
 use Rattle.trail_solver.specs.Puzzles.{Puzzle, Solves}
 use Rattle.named_steps.specs.Following.{Follows}
-use Rattle.named_steps.specs.Grades.{IsLower}
-use Rattle.named_steps.specs.declared.grade.Grade.{Grade}
+use Rattle.clue_rules.specs.Grades.{IsLower}
+use Rattle.clue_rules.specs.declared.grade.Grade.{Grade}
 use Rattle.clue_rules.specs.Reasons.{Striking}
 
 -- the grid is a solution that follows by the grade

@@ -1,13 +1,10 @@
 //! Which puzzles follow by a grade.
-ghost use Rattle.std.specs.Prelude.{◌≡◌, ◌↔◌, ℕ, ◌*◌, ◌<◌, IsTrue, MatchOption};
-ghost use Rattle.latin_board.specs.Squares.{GridValue};
+ghost use Rattle.std.specs.Prelude.{◌↔◌, ◌*◌, ◌<◌, IsTrue, MatchOption};
 ghost use Rattle.named_steps.specs.Graded.{FollowsBy, IsGradeOf, IsSolutionBy};
 ghost use Rattle.trail_solver.specs.Inner.Squares.{IsFilled};
 ghost use Rattle.named_steps.specs.Inner.Fills.{HasOpen};
 
-use crate::grade::Grade;
-use crate::settling::settle;
-use crate::steps::Steps;
+use clue_rules::{Grade, Steps, settle};
 use latin_board::Grid;
 use trail_solver::{Candidates, Rules, solves};
 
@@ -19,7 +16,7 @@ pub fn solution_by<P: Steps>(p: &P, grade: Grade) -> Option<Grid>
     solution_knowing(p, grade, &mut P::Known::default())
 }
 
-// The same, for who keeps what is known.
+// The same with `known`.
 fn solution_knowing<P: Steps>(p: &P, grade: Grade, known: &mut P::Known) -> Option<Grid>
     ensures { MatchOption result (FollowsBy (P.puzzle p.now) (P.struck_by p.now) grade → ⊥)
         (IsSolutionBy (P.puzzle p.now) (P.struck_by p.now) grade) }
@@ -41,7 +38,7 @@ pub fn follows<P: Steps>(p: &P, grade: Grade) -> bool
     follows_knowing(p, grade, &mut P::Known::default())
 }
 
-/// As `follows`, for who keeps what is known: it is used and added to.
+/// As `follows`, with `known`, which is used and added to.
 pub fn follows_knowing<P: Steps>(p: &P, grade: Grade, known: &mut P::Known) -> bool
     ensures { IsTrue result ↔ FollowsBy (P.puzzle p.now) (P.struck_by p.now) grade }
 {

@@ -6,7 +6,7 @@ ghost use Rattle.latin_board.specs.Changes.{FitsBoard, OneSquare, board_after};
 ghost use Rattle.play_midend.specs.Steps.{cell_of, entry_refusal, refusal_of, with_number, with_mark_flipped};
 ghost use Rattle.play_midend.specs.Steps.{marks_of_all, all_marked, filled, givens_of, start_of, moved, step};
 ghost use Rattle.play_midend.specs.Steps.{IsRefusalOf, Makes};
-ghost use Rattle.play_midend.specs.Inner.Effects.{effect_on, IsWithin, IsOfSquare, IsEffect};
+ghost use Rattle.play_midend.specs.Inner.Effects.{effect_on, IsOfBoard, IsOfSquare, IsEffect};
 
 use crate::fault::PlayFault;
 use crate::moves::Move;
@@ -232,7 +232,7 @@ pub(crate) fn change_for<P: Game>(
     effect: Effect,
 ) -> Result<Change, OutOfMemory>
     requires size { board.now.size ≡ (P.puzzle puzzle.now).size }
-    requires within { IsWithin board.now effect }
+    requires within { IsOfBoard board.now effect }
     ensures fits { IfOk result (FitsBoard board.now) }
     ensures board { IfOk result (λ change.
         board_after board.now change ≡ effect_on (P.puzzle puzzle.now) board.now effect) }

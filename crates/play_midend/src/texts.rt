@@ -125,7 +125,7 @@ fn read_text(text: &[u8]) -> Result<Move, PlayFault>
 /// whose size follows from their count, and `Dx,y` with x and y of -1 or from 0 to 127. Numbers are decimal, without leading
 /// zeros.
 ///
-/// `Unsupported` where the first byte is `H` or `F`, else `BadMove` where the text is no move.
+/// `Unsupported` where the first byte is `H` or `F`, otherwise `BadMove` where the text is no move.
 #[tactic(auto, using(crate::proofs::MoveTextLaws::reads))]
 pub fn read_move(text: &[u8]) -> Result<Move, PlayFault>
     ensures value { result ≡ move_at text.now }

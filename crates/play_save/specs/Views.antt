@@ -9,5 +9,5 @@ abbrev pub entry_of : Record → Entry
 entry_of r = record { key = r.key.now; value = r.value.now }
 
 -- a record and what follows it
-abbrev pub parts_of : Record × Bor (List ℕ) → Entry × List ℕ
-parts_of p = (entry_of p.0, p.1.now)
+abbrev pub entry_and_rest : Record × Bor (List ℕ) → Entry × List ℕ
+entry_and_rest p = (entry_of p.0, p.1.now)

@@ -6,7 +6,7 @@ ghost use Rattle.byte_text.specs.Reading.{Gives};
 ghost use Rattle.byte_text.specs.Decimals.{digit_onto};
 ghost use Rattle.play_save.specs.Records.{Entry, BeginsWith, AreBreaks, is_break, skip_breaks, unpadded, field_at};
 ghost use Rattle.play_save.specs.Records.{length_at, value_behind, record_behind, record_at};
-ghost use Rattle.play_save.specs.Views.{entry_of, parts_of};
+ghost use Rattle.play_save.specs.Views.{entry_of, entry_and_rest};
 
 use crate::fault::LoadFault;
 use byte_text::cut;
@@ -99,7 +99,7 @@ fn value(bytes: &[u8]) -> Option<(&[u8], &[u8])>
 
 #[tactic(auto, unfolding(crate::specs::Records::record_behind))]
 fn first_record(bytes: &[u8]) -> Option<(Record, &[u8])>
-    ensures { option_map parts_of result ≡ record_behind bytes.now }
+    ensures { option_map entry_and_rest result ≡ record_behind bytes.now }
 {
     let (key, rest) = field(bytes)?;
     if key.len() != 8 {
@@ -117,7 +117,7 @@ fn first_record(bytes: &[u8]) -> Option<(Record, &[u8])>
 
 #[tactic(auto, unfolding(crate::specs::Records::record_at))]
 fn read_record(bytes: &[u8]) -> Result<Option<(Record, &[u8])>, LoadFault>
-    ensures { Gives (option_map parts_of) result (record_at bytes.now) }
+    ensures { Gives (option_map entry_and_rest) result (record_at bytes.now) }
 {
     let bytes = without_breaks(bytes);
     if bytes.is_empty() {
@@ -136,12 +136,12 @@ fn read_record(bytes: &[u8]) -> Result<Option<(Record, &[u8])>, LoadFault>
 ///
 /// `Malformed` where the bytes begin with no record.
 pub fn next_record(bytes: &[u8]) -> Result<Option<(Record, &[u8])>, LoadFault>
-    ensures value { Gives (option_map parts_of) result (record_at bytes.now) }
+    ensures value { Gives (option_map entry_and_rest) result (record_at bytes.now) }
     ensures found { IfOk result (λ o. MatchOption o (AreBreaks bytes.now)
         (λ p. BeginsWith (entry_of p.0) p.1.now bytes.now)) }
     ensures only { (e : Entry) (rest : List ℕ) → BeginsWith e rest bytes.now
-        → Gives (option_map parts_of) result (Ok (Some (e, rest))) }
-    ensures end { AreBreaks bytes.now → Gives (option_map parts_of) result (Ok None) }
+        → Gives (option_map entry_and_rest) result (Ok (Some (e, rest))) }
+    ensures end { AreBreaks bytes.now → Gives (option_map entry_and_rest) result (Ok None) }
     ensures fault { IfErr result (λ fault. fault ≡ LoadFault.Malformed) }
 {
     read_record(bytes)

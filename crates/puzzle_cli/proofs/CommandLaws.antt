@@ -13,7 +13,7 @@ use Rattle.puzzle_cli.specs.declared.command.Request.TheVariants.{Act, Listing}
 use Rattle.puzzle_cli.specs.declared.command.Action.TheVariants.{Play}
 use Rattle.puzzle_cli.specs.declared.command.line_fault.LineFault.TheVariants.{LongLine, BadCommand, NoGame}
 use Rattle.puzzle_cli.specs.Lines.{Line}
-use Rattle.puzzle_cli.specs.Commands.{Reading, words, IsEntry, HasArgument, is_quit, IsCommandLine, IsRead, read_map}
+use Rattle.puzzle_cli.specs.Commands.{Reading, words, IsEntry, HasArgument, is_quit, IsLineOfCommand, IsRead, read_map}
 use Rattle.puzzle_cli.specs.Inner.CommandReading.{rest_behind, entry_at, nonzero, limit_at, word_at, argument_at, command_at, read_at}
 
 -- ---- tables
@@ -105,13 +105,13 @@ argument_taken line c h =
       ]
     ]
 
-command_taken : (line : List ℕ) (c : Command (List ℕ)) → command_at line ≡ Some c → IsCommandLine c line
+command_taken : (line : List ℕ) (c : Command (List ℕ)) → command_at line ≡ Some c → IsLineOfCommand c line
 unfolding command_at
 command_taken line c h =
     elim (or_taken (word_at line) (argument_at line) c h)
     [ inl e ↦ inl (entry_taken words line c e) | inr e ↦ inr (argument_taken line c e) ]
 
-command_again : (c : Command (List ℕ)) (line : List ℕ) → IsCommandLine c line → command_at line ≡ Some c
+command_again : (c : Command (List ℕ)) (line : List ℕ) → IsLineOfCommand c line → command_at line ≡ Some c
 unfolding command_at
 command_again c line (inl h) = ap (λ o. option_or o (argument_at line)) (entry_again words line c h)
 command_again (New id) line (inr h) = rw h refl
@@ -124,7 +124,7 @@ not_empty : (line : List ℕ) → line ≢ [] → (length line == 0) ≡ false
 not_empty [] h = absurd (h refl)
 not_empty (b ∷ bs) h = grind (arith, nat_tests)
 
-command_full : (c : Command (List ℕ)) (line : List ℕ) → IsCommandLine c line → (length line == 0) ≡ false
+command_full : (c : Command (List ℕ)) (line : List ℕ) → IsLineOfCommand c line → (length line == 0) ≡ false
 unfolding command_at
 command_full c [] h = let again : command_at [] ≡ Some c = command_again c [] h in cc
 command_full c (b ∷ bs) h = not_empty (b ∷ bs) (λ e. cc)
@@ -164,7 +164,7 @@ pub read_found : {X : Type 0} (view : X → List ℕ) (line : Line) (result : Re
 read_found view line result h = subst (λ (r : Reading (List ℕ)). IsRead line r) (sym h) (line_is_read line)
 
 -- a word alone is the line of its command
-pub word_read : (line : List ℕ) (c : Command (List ℕ)) → word_at line ≡ Some c → IsCommandLine c line
+pub word_read : (line : List ℕ) (c : Command (List ℕ)) → word_at line ≡ Some c → IsLineOfCommand c line
 word_read line c h = inl (entry_taken words line c h)
 
 -- ---- the line that ends a run

@@ -44,8 +44,8 @@ HasArgument (Ask (Listing n)) line = (1 ≤ n) × (n ≤ MOST_LISTED) × (line �
 HasArgument _ line = ⊥
 
 -- the line is that of the command
-abbrev pub IsCommandLine : Command (List ℕ) → List ℕ → Type 0
-IsCommandLine command line = IsEntry words line command ⊎ HasArgument command line
+abbrev pub IsLineOfCommand : Command (List ℕ) → List ℕ → Type 0
+IsLineOfCommand command line = IsEntry words line command ⊎ HasArgument command line
 
 -- whether a line ends the run
 abbrev pub is_quit : Line → Bool
@@ -56,13 +56,13 @@ is_quit (Some line) = bytes_eq line (codes "quit")
 abbrev pub Reading : Type 0 → Type 0
 Reading X = Result (Option (Command X)) LineFault
 
--- a line as it is read: nothing where it is empty, else its command, or why there is none
+-- a line as it is read: nothing where it is empty, otherwise its command, or why there is none
 abbrev pub IsRead : Line → Reading (List ℕ) → Type 0
 IsRead line (Ok None) = line ≡ Some []
-IsRead line (Ok (Some command)) = (text : List ℕ) × (line ≡ Some text) × IsCommandLine command text
+IsRead line (Ok (Some command)) = (text : List ℕ) × (line ≡ Some text) × IsLineOfCommand command text
 IsRead line (Err LongLine) = line ≡ None
 IsRead line (Err BadCommand) =
-    (text : List ℕ) × (line ≡ Some text) × (text ≢ []) × ((command : Command (List ℕ)) → IsCommandLine command text → ⊥)
+    (text : List ℕ) × (line ≡ Some text) × (text ≢ []) × ((command : Command (List ℕ)) → IsLineOfCommand command text → ⊥)
 IsRead line (Err NoGame) = ⊥
 
 -- how many solutions a list has at most

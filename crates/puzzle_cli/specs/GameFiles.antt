@@ -31,7 +31,7 @@ Reads F = F → List ℕ → ℕ → Result (List ℕ) Error → F → Type 0
 abbrev pub Writes : Type 0 → Type 1
 Writes F = F → List ℕ → List ℕ → Option Unwritten → F → Type 0
 
--- an error is told as a want of memory where its kind is that, and else as this fault
+-- an error is told as a want of memory where its kind is that, and otherwise as this fault
 abbrev pub IsToldAs : Fault → Error → Fault → Type 0
 IsToldAs other error fault =
     ((error_kind error ≡ NoMemory) × (fault ≡ OutOfMemory)) ⊎ ((error_kind error ≢ NoMemory) × (fault ≡ other))

@@ -28,7 +28,7 @@ use Rattle.puzzle_cli.specs.Starts.{FileBegins}
 abbrev pub GameReply : Type 0 → Type 1
 GameReply P = ReplyRule (Option (History P))
 
--- the first session: that of the ID, or else that of the file's bytes, or why it is refused; none without both
+-- the first session: that of the ID, or otherwise that of the file's bytes, or why it is refused; none without both
 abbrev pub Begins : {P : Type 0} → GameFacts P → Option Word → Option (List ℕ)
     → Result (Option (History P)) StartFault → Type 0
 Begins f (Some id) bytes (Ok first) = IsSomeAnd first (λ h. TextBegins f (string_bytes id) (Ok h))

@@ -122,7 +122,7 @@ abbrev pub IsCallOf : Request (List ℕ) → Call → Type 0
 IsCallOf (Act action) call = IsCallRead action (Ok call)
 IsCallOf _ call = ⊥
 
--- what is said of a call that was made: of a solution its move, else `ok`
+-- what is said of a call that was made: of a solution its move, otherwise `ok`
 abbrev pub IsMade : Call → List ℕ → Type 0
 IsMade ToSolution text = (g : GridValue) × (text ≡ move_line (Filling g))
 IsMade _ text = text ≡ ok_line

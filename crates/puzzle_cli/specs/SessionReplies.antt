@@ -67,7 +67,7 @@ abbrev pub call_sentence : Call → PlayFault → Option (List ℕ)
 call_sentence ToSolution fault = solve_sentence fault
 call_sentence call fault = None
 
--- a sentence, or else the refusal
+-- a sentence, or otherwise the refusal
 abbrev pub sentence_outcome : {P : Type 0} → History P → Option (List ℕ) → PlayFault → Outcome P
 sentence_outcome h (Some sentence) fault = text_outcome h sentence
 sentence_outcome h None fault = Err (play_refusal fault)

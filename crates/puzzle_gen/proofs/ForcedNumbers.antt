@@ -10,7 +10,7 @@ use Rattle.latin_board.proofs.LatinLines.{latin_full, peers_differ, some_width}
 use Rattle.latin_board.proofs.Numbers.{number_within, same_numbers}
 use Rattle.trail_solver.specs.Puzzles.{Puzzle, Solves}
 use Rattle.trail_solver.specs.Solutions.{HasSeveralSolutions}
-use Rattle.puzzle_gen.specs.Inner.ForcedSquares.{HasFound, IsForced, StandsAtPeer}
+use Rattle.puzzle_gen.specs.Inner.ForcedSquares.{HasFound, IsForcedNumber, StandsAtPeer}
 
 -- ---- what is seen from a blank square
 
@@ -62,7 +62,7 @@ seen_more g cell n xs before here v low seen =
 -- ---- what is found
 
 -- the number of a square is the one that the others leave
-forced_value : (found h : GridValue) (cell value : ℕ) → cell < found.size * found.size → IsForced found cell value → IsGrid h
+forced_value : (found h : GridValue) (cell value : ℕ) → cell < found.size * found.size → IsForcedNumber found cell value → IsGrid h
     → IsLatin h → h.size ≡ found.size → HasFound found h → number_at h cell ≡ value
 forced_value found h cell value inside forced grid latin same has =
     let there : cell < h.size * h.size = subst (λ (n : ℕ). cell < n * n) (sym same) inside in
@@ -79,7 +79,7 @@ forced_value found h cell value inside forced grid latin same has =
     ]
 
 pub found_more : (found new h : GridValue) (cell value : ℕ) → cell < found.size * found.size → number_at found cell ≡ 0
-    → IsForced found cell value → new.size ≡ found.size → length found.numbers ≡ found.size * found.size
+    → IsForcedNumber found cell value → new.size ≡ found.size → length found.numbers ≡ found.size * found.size
     → new.numbers ≡ set found.numbers cell value → IsGrid h → IsLatin h → h.size ≡ found.size → HasFound found h
     → HasFound new h
 found_more found new h cell value inside blank forced size count written grid latin same has = record {

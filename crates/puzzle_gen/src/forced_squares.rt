@@ -5,7 +5,7 @@ ghost use Rattle.std.specs.Bool.{OnTrue};
 ghost use Rattle.latin_board.specs.Squares.{GridValue, IsFull, IsGrid, IsLatin, number_at};
 ghost use Rattle.trail_solver.specs.Puzzles.{Solves};
 ghost use Rattle.trail_solver.specs.Solutions.{HasSeveralSolutions};
-ghost use Rattle.puzzle_gen.specs.Inner.ForcedSquares.{HasFound, IsForced, StandsAtPeer};
+ghost use Rattle.puzzle_gen.specs.Inner.ForcedSquares.{HasFound, IsForcedNumber, StandsAtPeer};
 
 use latin_board::{CELLS, Grid};
 use trail_solver::Rules;
@@ -82,7 +82,7 @@ fn is_forced_square(known: &Grid, found: &Grid, cell: usize) -> bool
     requires size { found.now.size ≡ known.now.size }
     requires inside { cell < found.now.size * found.now.size }
     requires blank { number_at found.now cell ≡ 0 }
-    ensures { OnTrue result (IsForced found.now cell (number_at known.now cell)) }
+    ensures { OnTrue result (IsForcedNumber found.now cell (number_at known.now cell)) }
 {
     let seen = seen_from(found, cell);
     let number = known.get(cell);

@@ -18,7 +18,7 @@ use trail_solver::Rules;
 
 /// The puzzle of these parameters and this seed.
 ///
-/// Refused as `SizeTooLarge` where the size is above 6, or else as `Graded` where there is a letter. It takes no memory.
+/// Refused as `SizeTooLarge` where the size is above 6, or otherwise as `Graded` where there is a letter. It takes no memory.
 pub fn generate<P: Game>(params: &Params, seed: u64) -> Result<P, GenFault>
     ensures generates { Generates ⟦<P as Rules>⟧ params.now seed result }
 

@@ -34,7 +34,7 @@ fn item_at(order: &[u8], k: usize) -> usize
     order[k] as usize
 }
 
-// The puzzle without the item, where that has just one solution, or else the puzzle itself, of which the grid is the only one.
+// The puzzle without the item, where that has just one solution, or otherwise the puzzle itself, of which the grid is the only one.
 fn tried<P: Rules>(puzzle: P, grid: &Grid, item: usize) -> P
     requires inside { item < P.items_of (P.puzzle puzzle).size }
     requires only { IsOnlySolution (P.puzzle puzzle) grid.now }

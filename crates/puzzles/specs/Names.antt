@@ -2,12 +2,12 @@
 use Rattle.std.specs.Prelude.{◌≡◌, ◌⊎◌, ◌++◌, ℕ, List, [], ◌∷◌, codes, String, string_bytes}
 
 -- what stands between the parts of a path
-abbrev pub slash : ℕ
-slash = 47
+abbrev pub separator : ℕ
+separator = 47
 
 -- the path is the name in a folder, after its last `/`; a name has no `/` itself
 abbrev pub IsInFolder : List ℕ → List ℕ → Type 0
-IsInFolder name path = (folder : List ℕ) × (path ≡ folder ++ slash ∷ name)
+IsInFolder name path = (folder : List ℕ) × (path ≡ folder ++ separator ∷ name)
 
 -- the last part of the path is the name
 abbrev pub IsLastPart : List ℕ → List ℕ → Type 0

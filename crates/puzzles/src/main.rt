@@ -3,8 +3,8 @@
 //! Each line of standard input is answered on standard output: by lines of text, or, where the program is called `puzzles-json`, by
 //! one JSON object on one line ([`program_name`]). The words of the process, the file to load, the first session, the run from standard
 //! input to standard output, the file to save to, in this order ([`whole_game`]). The first fault ends the program with its status and
-//! its line on standard error; help goes to standard output ([`ending`]). Who types lines at a terminal is told there first which
-//! there are.
+//! its line on standard error; help goes to standard output ([`ending`]). At a terminal the first thing that is
+//! told there is which lines can be typed.
 #![tactic(auto)]
 
 mod ending;

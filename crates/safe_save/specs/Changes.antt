@@ -6,8 +6,8 @@ use Rattle.safe_save.specs.declared.changes.FolderChange.{FolderChange}
 use Rattle.safe_save.specs.declared.folder.FolderCall.{FolderCall}
 use Rattle.safe_save.specs.declared.folder.FolderFault.{FolderFault}
 
--- what stands at a name after a change, where this stood there: the content at its name, nothing at the other, and else
--- the same
+-- what stands at a name after a change, where this stood there: the content at its name, nothing at the other, and
+-- otherwise the same
 abbrev pub changed : List ℕ → Option (List ℕ) → FolderChange → Option (List ℕ)
 changed name before change =
     if bytes_eq change.name.bytes.items name

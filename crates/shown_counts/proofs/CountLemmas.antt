@@ -2,7 +2,8 @@
 use Rattle.std.proofs.Common.{◌≡◌, ◌↔◌, ℕ, ◌+◌, ◌<◌, ◌≤◌, true, ◌&&◌, ◌||◌, Bool, false, eqb, List, [], length, take, set, slice_index, slice_index_or, sym, ap, ◌∙◌, subst, arith, inl, inr}
 use Rattle.std.proofs.lemmas.Bool.{both_ways, cases_eq, cases_lt, eqb-true, eq-eqb, or_cases, or_left, or_right, and_parts, and_from}
 use Rattle.std.proofs.lemmas.List.{get_or-take, length-take-le, get_or-set_same, get_or-set_other, get_or_past}
-use Rattle.number_sets.specs.Sets.{has_number, no_numbers}
+use Rattle.std.specs.Bool.{IsTrue}
+use Rattle.number_sets.specs.Sets.{has_number}
 use Rattle.number_sets.proofs.Members.{has_number-none}
 use Rattle.tower_lines.specs.LineFillings.{IsFilling, IsSupported}
 use Rattle.tower_lines.specs.TowersSeen.{seen}
@@ -74,6 +75,26 @@ alone_supported row alone w place value clue small low has a =
                 ]) f,
           ),
     )
+
+-- one count more
+pub counts_more : (sets : List ℕ) (place value n counts more : ℕ) (b : Bool) → AreCounts sets place value n counts
+    → ((k : ℕ) → has_number more k ≡ (has_number counts k || (b && eqb k n))) → IsTrue b ↔ IsSupported sets n place value
+    → AreCounts sets place value (n + 1) more
+counts_more sets place value n counts more b are new is = λ count. (
+  λ has. elim (or_cases (has_number counts count) (b && eqb count n) (sym (new count) ∙ has)) [
+    | inl old ↦ let was = (are count).0 old in (omega (arith, was.0), was.1)
+    | inr now ↦
+        let both = and_parts b (eqb count n) now in
+        let same : count ≡ n = eqb-true count n both.1 in
+        (omega (arith, same), subst (λ (k : ℕ). IsSupported sets k place value) (sym same) (is.0 both.0))
+  ],
+  λ h. elim (cases_eq count n) [
+    | inl same ↦ new count
+        ∙ or_right (has_number counts count) _
+        (and_from b (eqb count n) (is.1 (subst (λ (k : ℕ). IsSupported sets k place value) same h.1)) (eq-eqb count n same))
+    | inr other ↦ new count ∙ or_left (has_number counts count) _ ((are count).1 (omega (arith, h.0, other), h.1))
+  ],
+)
 
 -- all of them, below a number past the length
 pub all_counts : (sets : List ℕ) (place value n counts : ℕ) → length sets < n → AreCounts sets place value n counts

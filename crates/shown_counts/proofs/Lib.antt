@@ -1,3 +1,4 @@
 -- Lemmas on counts that are shown.
 pub mod CountLemmas
+pub mod PossibleCounts
 pub mod ShownRows

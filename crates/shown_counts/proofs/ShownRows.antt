@@ -2,11 +2,11 @@
 use Rattle.std.proofs.Common.{◌≡◌, ◌↔◌, ℕ, ◌<◌, ◌≤◌, true, List, take, slice_index, sym, ap, ◌∙◌, subst}
 use Rattle.number_sets.specs.Sets.{has_number}
 use Rattle.clue_rules.specs.Views.{view_cell}
-use Rattle.clue_rules.proofs.LineSquares.{view_cell_once}
+use Rattle.clue_rules.specs.Laws.LineSquares.{view_cell_once}
 use Rattle.trail_solver.specs.Candidates.{CandidatesValue}
 use Rattle.clue_rules.specs.Left.{IsLeft}
 use Rattle.clue_rules.specs.Fillings.{Anything, Standing}
-use Rattle.named_steps.proofs.Supports.{filled_supported}
+use Rattle.clue_rules.proofs.Supports.{filled_supported}
 use Rattle.clue_rules.specs.declared.reason.Reason.{Reason}
 use Rattle.clue_rules.specs.declared.reason.Reason.TheVariants.{Given, Peer, Place, Bound, Stand, Clue, Sign, Set}
 use Rattle.shown_counts.specs.Shown.{CanShow, AreShown, ClueRow, IsRowFrom, IsRowOf}

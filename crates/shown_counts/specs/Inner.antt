@@ -1,2 +1,3 @@
 -- Words that the contracts of private functions alone use.
 pub mod Counted
+pub mod Possible

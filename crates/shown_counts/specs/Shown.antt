@@ -4,8 +4,8 @@ use Rattle.number_sets.specs.Sets.{has_number}
 use Rattle.clue_rules.specs.Views.{view_cell}
 use Rattle.trail_solver.specs.Candidates.{CandidatesValue}
 use Rattle.clue_rules.specs.Left.{IsLeft}
-use Rattle.clue_rules.specs.Fillings.{Anything, Standing, IsFilling}
-use Rattle.named_steps.specs.Inner.Rows.{AreMaySets}
+use Rattle.clue_rules.specs.Fillings.{Anything, Standing, IsFillingFrom}
+use Rattle.clue_rules.specs.Rows.{AreMaySets}
 use Rattle.clue_rules.specs.declared.reason.Reason.{Reason}
 use Rattle.clue_rules.specs.declared.reason.Reason.TheVariants.{Given, Peer, Place, Bound, Stand, Clue, Sign, Set}
 
@@ -16,7 +16,7 @@ pub record CanShow (w : ℕ) (May : ℕ → ℕ → Type 0) (place cell value co
   pub inside : index < w
   pub here : view_cell w place index ≡ cell
   pub line : List ℕ
-  pub filling : IsFilling w May place count line
+  pub filling : IsFillingFrom w May place count line
   pub there : slice_index line index ≡ value
 
 -- so by what a reason knows of the line that it looks along from a clue

@@ -2,14 +2,15 @@
 ghost use Rattle.std.specs.Prelude.{◌≡◌, ◌≢◌, ◌↔◌, ℕ, ◌+◌, ◌*◌, ◌<◌, ◌≤◌, true, false, List, take, slice_index, ◌==◌};
 ghost use Rattle.std.specs.Prelude.{◌||◌, ◌&&◌, IsTrue, MatchOption};
 ghost use Rattle.number_sets.specs.Sets.{has_number};
-ghost use Rattle.tower_lines.specs.LineFillings.{IsSupported};
+ghost use Rattle.tower_lines.specs.LineFillings.{IsFilling, IsSupported};
 ghost use Rattle.clue_rules.specs.Views.{view_cell};
 ghost use Rattle.trail_solver.specs.Candidates.{CandidatesValue};
 ghost use Rattle.clue_rules.specs.declared.reason.Reason.{Reason};
-ghost use Rattle.named_steps.specs.Inner.Rows.{May};
+ghost use Rattle.clue_rules.specs.Rows.{May};
 ghost use Rattle.shown_counts.specs.Shown.{AreShown, IsRowFrom, IsRowOf, IsLineOf};
 ghost use Rattle.shown_counts.specs.Inner.Counted.{HasAlone, AreCountsOf, AreKeptBelow};
 
+use crate::possible_counts::possible_counts;
 use clue_rules::view_cell;
 use latin_board::Size;
 use named_steps::{Look, Reason, looked_row};
@@ -19,7 +20,7 @@ use tower_lines::{has_filling, supported};
 use trail_solver::Candidates;
 
 // For so many numbers of a line or more it takes less time to go over the line once for each count.
-const MANY: usize = 5;
+const MANY: usize = 10;
 
 /// The squares of a clue's line, with what may stand in each of them, to be asked for counts.
 #[derive(Debug, Drop)]
@@ -101,12 +102,44 @@ impl ClueCounts {
         ensures { (count : ℕ)
             → (has_number result count ≡ true) ↔ IsSupported (take self.now.size self.now.row) count index value }
     {
+        let possible = self.possible(index, value);
         let mut counts = NumberSet::empty();
         for count in 1..self.size.get() + 1 {
-            let is_shown = self.is_shown(index, value, count);
+            let is_shown = self.is_one_shown(possible, index, value, count);
             counts = with_count(counts, count, is_shown);
         }
         counts
+    }
+
+    // Counts that may be shown with the value there, and no others: all, where they were found for each count.
+    fn possible(&self, index: u8, value: u8) -> NumberSet
+        requires index { index < self.now.size }
+        requires value { value < 16 }
+        ensures { (count : ℕ) → IsSupported (take self.now.size self.now.row) count index value
+            → has_number result count ≡ true }
+    {
+        let width = self.size.get();
+        if self.kept.is_some() {
+            return NumberSet::up_to(width);
+        }
+        possible_counts(&with_alone(&self.row, index, value), width)
+    }
+
+    // Whether a filling of the row has the value there and shows this count, which isn't asked where the count can't be shown.
+    fn is_one_shown(&self, possible: NumberSet, index: u8, value: u8, count: u8) -> bool
+        requires index { index < self.now.size }
+        requires value { value < 16 }
+        requires some { 1 ≤ count }
+        requires most { count ≤ self.now.size }
+        requires possible { (count : ℕ) → IsSupported (take self.now.size self.now.row) count index value
+            → has_number possible count ≡ true }
+        ensures { IsTrue result ↔ IsSupported (take self.now.size self.now.row) count index value }
+    {
+        let _size = self.size.get();
+        if !possible.has(count) {
+            return false;
+        }
+        self.is_shown(index, value, count)
     }
 
     // Whether a filling of the row has the value there and shows this count.
@@ -168,11 +201,27 @@ fn kept_rows(row: &[NumberSet; 9], width: u8) -> [[NumberSet; 9]; 10]
     requires { width ≤ 9 }
     ensures { AreKeptBelow (take width row.now) (width + 1) result }
 {
+    let possible = possible_counts(row, width);
     let mut rows = [[NumberSet::empty(); 9]; 10];
     for count in 1..width + 1 {
-        rows[count as usize] = supported(&row[..width as usize], count);
+        rows[count as usize] = kept_row(row, width, possible, count);
     }
     rows
+}
+
+// The values of each square that fillings with one count have there: none, where the count can't be shown.
+fn kept_row(row: &[NumberSet; 9], width: u8, possible: NumberSet, count: u8) -> [NumberSet; 9]
+    requires width { width ≤ 9 }
+    requires count { count ≤ width }
+    requires possible { (line : List ℕ) (count : ℕ) → IsFilling (take width row.now) count line
+        → has_number possible count ≡ true }
+    ensures { (place value : ℕ) → (has_number (slice_index result place) value ≡ true)
+        ↔ IsSupported (take width row.now) count place value }
+{
+    if !possible.has(count) {
+        return [NumberSet::empty(); 9];
+    }
+    supported(&row[..width as usize], count)
 }
 
 // Whether a filling of the row has the value at the index and shows this count: one of the row with the value alone there.

@@ -12,5 +12,6 @@
 #![tactic(auto)]
 
 mod clue_counts;
+mod possible_counts;
 
 pub use clue_counts::ClueCounts;

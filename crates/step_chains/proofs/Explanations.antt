@@ -8,20 +8,21 @@ use Rattle.latin_board.specs.Squares.{GridValue, number_at}
 use Rattle.trail_solver.specs.Pairs.{IsPair}
 use Rattle.trail_solver.specs.Candidates.{CandidatesValue}
 use Rattle.clue_rules.specs.Left.{IsLeft, IsFewer}
-use Rattle.named_steps.specs.Chains.{StepValue, Shows, IsShown, IsTight, IsView, IsExplained, left_by}
-use Rattle.named_steps.specs.Following.{IsSettled, IsClosure}
-use Rattle.named_steps.specs.Passes.{LeadsTo}
-use Rattle.named_steps.proofs.Leads.{leads_size}
-use Rattle.named_steps.proofs.Antitone.{IsAntitone, chain_less, chain_settled, closure_fewer}
+use Rattle.named_steps.specs.Chains.{Shows, IsShown, IsTight, IsView, IsExplained}
+use Rattle.clue_rules.specs.Chains.{StepValue, left_by, LeadsTo}
+use Rattle.clue_rules.specs.Settled.{IsSettled, IsClosure}
+use Rattle.clue_rules.proofs.Leads.{leads_size}
+use Rattle.named_steps.proofs.Antitone.{chain_settled, closure_fewer}
+use Rattle.clue_rules.proofs.Chains.{IsAntitone, chain_less}
 use Rattle.named_steps.proofs.Shown.{closure_shows, shown_less}
-use Rattle.named_steps.specs.declared.grade.Grade.{Grade}
+use Rattle.clue_rules.specs.declared.grade.Grade.{Grade}
 use Rattle.named_steps.specs.declared.goal.Goal.{Goal}
 use Rattle.named_steps.specs.declared.goal.Goal.TheVariants.{OnlyValue}
 use Rattle.step_chains.specs.declared.chain.Step.{Step}
 use Rattle.step_chains.specs.ChainValues.{step_value, steps_of, LeavesNothing}
 use Rattle.step_chains.specs.Explanations.{NothingIsShown, IsRefutation, IsRefutedGrid}
 use Rattle.step_chains.specs.Inner.Replays.{Leads}
-use Rattle.step_chains.specs.Inner.Goals.{IsOpen, IsOpenShown, IsShownByAll}
+use Rattle.step_chains.specs.Inner.Goals.{IsOfEmptySquare, IsOpenShown, IsShownByAll}
 use Rattle.step_chains.specs.Inner.Aims.{IsReached, HasSome}
 use Rattle.step_chains.proofs.Followed.{none_removed, shows_where}
 use Rattle.step_chains.proofs.Tight.{shows_alike}
@@ -80,7 +81,7 @@ tested_where b test is = (λ e. is.0 (test.0 e), λ h. test.1 (is.1 h))
 
 -- a number of an empty square that is come to is explained, and the other way round
 pub explained_where : (Struck : Striking) (grade : Grade) (g : GridValue) (steps : List StepValue) (goal : Goal)
-    → IsOpen g goal → IsReached Struck grade g steps goal ↔ IsExplained Struck grade g steps goal
+    → IsOfEmptySquare g goal → IsReached Struck grade g steps goal ↔ IsExplained Struck grade g steps goal
 explained_where Struck grade g steps goal open_one = (
   λ r. record { view = r.view; in_view = r.in_view; goal_of = open_one.0; empty = open_one.1; shows = r.shows; tight = r.tight },
   λ e. record { view = e.view; in_view = e.in_view; shows = e.shows; tight = e.tight },

@@ -9,14 +9,14 @@ use Rattle.trail_solver.specs.Pairs.{IsPair, has_pair, pairs_of}
 use Rattle.trail_solver.specs.Candidates.{CandidatesValue, may_be}
 use Rattle.trail_solver.proofs.SetPairs.{has_pair-pairs_of}
 use Rattle.clue_rules.specs.Left.{IsLeft, AreAlike, without}
-use Rattle.named_steps.specs.Grades.{has_reason}
-use Rattle.named_steps.specs.Chains.{StepValue, IsStep, AreOfGrade, left_by, IsShown, Shows}
+use Rattle.clue_rules.specs.Grades.{has_reason}
+use Rattle.named_steps.specs.Chains.{IsShown, Shows}
+use Rattle.clue_rules.specs.Chains.{StepValue, IsStep, AreOfGrade, left_by}
 use Rattle.clue_rules.specs.Takes.{Strikes, Takes}
-use Rattle.named_steps.proofs.Antitone.{IsAntitone, chain_less, left_size}
+use Rattle.clue_rules.proofs.Chains.{IsAntitone, chain_less, left_size, left_append, chain_split, chain_joined}
 use Rattle.clue_rules.proofs.Takes.{was_left, still_left, takes_struck, takes_map}
-use Rattle.named_steps.proofs.Parts.{left_append, chain_split, chain_joined}
 use Rattle.named_steps.proofs.Shown.{shown_less}
-use Rattle.named_steps.specs.declared.grade.Grade.{Grade}
+use Rattle.clue_rules.specs.declared.grade.Grade.{Grade}
 use Rattle.named_steps.specs.declared.goal.Goal.{Goal}
 use Rattle.step_chains.specs.declared.chain.Step.{Step}
 use Rattle.step_chains.specs.ChainValues.{step_value, steps_of}
@@ -40,29 +40,29 @@ step_by_set Struck c w s set low size is = (
       (is v).1 (size, step s.cell v listed),
 )
 
--- what a step lists goes from its square
-pub takes_inside : (a b : CandidatesValue) (s : Step) → s.values < 2 ^ 16 → Strikes a b s.cell s.values
-    → Takes (λ cell v. has_pair (step_value s).strikes cell v ≡ true) a b
-takes_inside a b s low struck =
-    takes_map (λ cell v. (cell ≡ s.cell) × (has_number s.values v ≡ true)) (λ cell v. has_pair (step_value s).strikes cell v ≡ true) a b
-    (λ cell v h. has_pair-pairs_of s.cell s.values cell v low
-    ∙ and_from (cell == s.cell) (has_number s.values v) (eq-eqb cell s.cell h.0) h.1)
-    (λ cell v pair has.
-    let both = and_parts (cell == s.cell) (has_number s.values v) (sym (has_pair-pairs_of s.cell s.values cell v low) ∙ has) in
-    (eqb-true cell s.cell both.0, both.1))
-    (takes_struck a b s.cell s.values struck)
+-- values that are struck from a square go from it
+pub takes_inside : (a b : CandidatesValue) (cell values : ℕ) → values < 2 ^ 16 → Strikes a b cell values
+    → Takes (λ at v. has_pair (pairs_of cell values) at v ≡ true) a b
+takes_inside a b cell values low struck =
+    takes_map (λ at v. (at ≡ cell) × (has_number values v ≡ true)) (λ at v. has_pair (pairs_of cell values) at v ≡ true) a b
+    (λ at v h. has_pair-pairs_of cell values at v low
+    ∙ and_from (at == cell) (has_number values v) (eq-eqb at cell h.0) h.1)
+    (λ at v pair has.
+    let both = and_parts (at == cell) (has_number values v) (sym (has_pair-pairs_of cell values at v low) ∙ has) in
+    (eqb-true at cell both.0, both.1))
+    (takes_struck a b cell values struck)
 
 -- and nothing goes where the grid has no such square
-pub takes_outside : (a : CandidatesValue) (s : Step) → s.values < 2 ^ 16 → (s.cell < a.size * a.size → ⊥)
-    → Takes (λ cell v. has_pair (step_value s).strikes cell v ≡ true) a a
-takes_outside a s low outside = record {
+pub takes_outside : (a : CandidatesValue) (cell values : ℕ) → values < 2 ^ 16 → (cell < a.size * a.size → ⊥)
+    → Takes (λ at v. has_pair (pairs_of cell values) at v ≡ true) a a
+takes_outside a cell values low outside = record {
   pairs = [];
   size = refl;
   trail = sym (append-nil a.trail);
-  each = λ cell v has. absurd (cc);
-  gone = λ cell v pair has.
-      let both = and_parts (cell == s.cell) (has_number s.values v) (sym (has_pair-pairs_of s.cell s.values cell v low) ∙ has) in
-      absurd (outside (subst (λ (n : ℕ). n < a.size * a.size) (eqb-true cell s.cell both.0) pair.inside));
+  each = λ at v has. absurd (cc);
+  gone = λ at v pair has.
+      let both = and_parts (at == cell) (has_number values v) (sym (has_pair-pairs_of cell values at v low) ∙ has) in
+      absurd (outside (subst (λ (n : ℕ). n < a.size * a.size) (eqb-true at cell both.0) pair.inside));
 }
 
 -- ---- what is left then
@@ -94,7 +94,8 @@ allowed_joined : (grade : Grade) (front back : List StepValue) → AreOfGrade gr
 allowed_joined grade [] back first second = second
 allowed_joined grade (step ∷ front) back first second = (first.0, allowed_joined grade front back first.1 second)
 
-allowed_split : (grade : Grade) (front back : List StepValue) → AreOfGrade grade (front ++ back) → AreOfGrade grade front × AreOfGrade grade back
+-- the steps of two pieces are of the grade where those of each are
+pub allowed_split : (grade : Grade) (front back : List StepValue) → AreOfGrade grade (front ++ back) → AreOfGrade grade front × AreOfGrade grade back
 allowed_split grade [] back h = (tt, h)
 allowed_split grade (step ∷ front) back h = let rest = allowed_split grade front back h.1 in ((h.0, rest.0), rest.1)
 
@@ -188,12 +189,6 @@ from_place steps place =
 pub leads_known : (Struck : Striking) (grade : Grade) (c d : CandidatesValue) (steps : List StepValue)
     → IsGradeChain Struck grade c steps → d.size ≡ c.size → AreAlike (left_by c steps) d → Leads Struck grade c steps d
 leads_known Struck grade c d steps chain size alike = record { chain = chain.0; allowed = chain.1; size = size; alike = alike }
-
--- some of the first steps of a chain are one
-pub front_chain : (Struck : Striking) (grade : Grade) (c : CandidatesValue) (front back : List StepValue) (goal : Goal)
-    → Shows Struck grade c (front ++ back) goal → IsGradeChain Struck grade c front
-front_chain Struck grade c front back goal h =
-    ((chain_split Struck c front back h.chain).0, (allowed_split grade front back h.allowed).0)
 
 -- where the second piece leads on, or breaks, all does
 pub both_lead : (Struck : Striking) → IsAntitone Struck → (grade : Grade) (c d e : CandidatesValue)

@@ -1,5 +1,5 @@
 -- What narrowing forces is forced by reasons, which strike from what is in view, too.
-use Rattle.std.proofs.Common.{◌≡◌, ℕ, inl, inr, subst, sym, ◌∙◌}
+use Rattle.std.proofs.Common.{ℕ, inl, inr, subst, sym}
 use Rattle.std.proofs.lemmas.Bool.{cases_eq}
 use Rattle.latin_board.specs.Squares.{GridValue, number_at}
 use Rattle.trail_solver.specs.Pairs.{IsPair}
@@ -11,8 +11,8 @@ use Rattle.clue_rules.specs.Struck.{IsNarrowed, IsTowersStruck, IsUnequalStruck}
 use Rattle.clue_rules.specs.Left.{IsFewer}
 use Rattle.named_steps.specs.Chains.{IsView}
 use Rattle.clue_rules.specs.Reasons.{IsTowersStruckBy, IsUnequalStruckBy, Striking}
-use Rattle.named_steps.specs.Laws.Less.{towers_less, unequal_less}
-use Rattle.named_steps.proofs.Antitone.{IsAntitone}
+use Rattle.clue_rules.specs.Laws.Less.{towers_less, unequal_less}
+use Rattle.clue_rules.proofs.Chains.{IsAntitone}
 use Rattle.step_chains.specs.ForcedLaws.{ForcesMore}
 
 -- what is in view of a grid is among its candidates

@@ -9,10 +9,10 @@ use Rattle.trail_solver.specs.Candidates.{CandidatesValue, IsSetOf, may_be}
 use Rattle.trail_solver.proofs.Removals.{set_below}
 use Rattle.trail_solver.proofs.SetPairs.{has_pair-pairs_of}
 use Rattle.clue_rules.specs.Left.{IsLeft}
-use Rattle.named_steps.specs.Grades.{has_reason}
-use Rattle.named_steps.specs.Inner.LineStrikes.{IsUnion}
+use Rattle.clue_rules.specs.Grades.{has_reason}
+use Rattle.clue_rules.specs.Inner.Groups.{IsUnion}
 use Rattle.clue_rules.specs.declared.reason.Reason.{Reason}
-use Rattle.named_steps.specs.declared.grade.Grade.{Grade}
+use Rattle.clue_rules.specs.declared.grade.Grade.{Grade}
 use Rattle.step_chains.specs.declared.chain.Step.{Step}
 use Rattle.step_chains.specs.Inner.Quiet.{IsNew}
 use Rattle.clue_rules.specs.Reasons.{Striking}

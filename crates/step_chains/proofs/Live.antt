@@ -7,20 +7,19 @@ use Rattle.number_sets.specs.Sets.{has_number, IsSubset, IsEmpty}
 use Rattle.trail_solver.specs.Pairs.{has_pair, pairs_of, IsPrefix}
 use Rattle.trail_solver.specs.Candidates.{CandidatesValue, IsSetOf, IsEarlier}
 use Rattle.clue_rules.specs.Left.{IsLeft, IsFewer, AreAlike, without}
-use Rattle.named_steps.specs.Chains.{StepValue, left_by}
+use Rattle.clue_rules.specs.Chains.{StepValue, left_by}
 use Rattle.clue_rules.proofs.Takes.{without_fewer}
-use Rattle.named_steps.proofs.Antitone.{fewer_without, left_size}
+use Rattle.clue_rules.proofs.Chains.{fewer_without, left_size, left_append}
 use Rattle.trail_solver.proofs.Removals.{set_below}
 use Rattle.trail_solver.proofs.SetPairs.{has_pair-pairs_of}
 use Rattle.std.specs.Prelude.{◌==◌}
-use Rattle.named_steps.specs.declared.grade.Grade.{Grade}
+use Rattle.clue_rules.specs.declared.grade.Grade.{Grade}
 use Rattle.step_chains.specs.Inner.Quiet.{IsNew}
 use Rattle.step_chains.specs.Inner.Replays.{Leads}
 use Rattle.step_chains.specs.declared.chain.Step.{Step}
 use Rattle.step_chains.specs.ChainValues.{step_value, steps_of, AreLive, IsLiveStep}
 use Rattle.std.specs.Bool.{IsTrue, MatchBool}
 use Rattle.trail_solver.proofs.Earlier.{prefix-append}
-use Rattle.named_steps.proofs.Parts.{left_append}
 use Rattle.clue_rules.specs.Takes.{Takes}
 use Rattle.step_chains.proofs.Followed.{taken_alike}
 use Rattle.step_chains.proofs.Tight.{parted, remove_at, steps_removed}

@@ -1,90 +1,72 @@
 -- The least grade whose steps lead to an aim, and what no steps lead to.
-use Rattle.std.proofs.Common.{◌≡◌, ℕ, ◌*◌, ◌<◌, ◌≤◌, Bool, false, List, refl, sym, ◌∙◌, subst, arith, inl, inr, true}
+use Rattle.std.proofs.Common.{◌≡◌, Option, Some, None, ℕ, ◌*◌, ◌<◌, ◌≤◌, Bool, false, List, refl, sym, ◌∙◌, subst, arith, inl, inr, true}
 use Rattle.std.proofs.lemmas.Bool.{cases_eq, both_ways}
 use Rattle.latin_board.specs.Squares.{GridValue}
 use Rattle.trail_solver.specs.Pairs.{IsPair}
 use Rattle.trail_solver.specs.Candidates.{CandidatesValue, may_be}
-use Rattle.clue_rules.specs.Left.{IsLeft}
-use Rattle.named_steps.specs.Grades.{has_reason}
-use Rattle.named_steps.specs.Chains.{StepValue, IsView}
-use Rattle.named_steps.specs.Following.{IsClosure, IsEmptied, IsRefuted, IsSettled}
-use Rattle.named_steps.specs.Passes.{LeadsTo}
-use Rattle.named_steps.proofs.Leads.{leads_on, leads_size, leads_wider}
-use Rattle.named_steps.proofs.Rounds.{closure_reached}
+use Rattle.clue_rules.specs.Left.{IsLeft, IsEmptied}
+use Rattle.clue_rules.specs.Grades.{has_reason, IsLower, rank}
+use Rattle.named_steps.specs.Chains.{IsView}
+use Rattle.clue_rules.specs.Chains.{StepValue, LeadsTo}
+use Rattle.clue_rules.specs.Settled.{IsClosure, IsSettled}
+use Rattle.named_steps.specs.Following.{IsRefuted}
+use Rattle.clue_rules.proofs.Leads.{leads_on, leads_size, leads_wider}
+use Rattle.clue_rules.proofs.Rounds.{closure_reached}
 use Rattle.std.specs.Bool.{OnTrue, OnFalse}
-use Rattle.named_steps.proofs.Antitone.{IsAntitone, closure_fewer}
+use Rattle.std.specs.Option.{MatchOption}
+use Rattle.named_steps.proofs.Antitone.{closure_fewer}
+use Rattle.clue_rules.proofs.Chains.{IsAntitone, higher_has}
 use Rattle.clue_rules.specs.declared.reason.Reason.{Reason}
 use Rattle.clue_rules.specs.declared.reason.Reason.TheVariants.{Given, Peer, Place, Bound, Stand, Clue, Sign, Set}
-use Rattle.named_steps.specs.declared.grade.Grade.{Grade}
-use Rattle.named_steps.specs.declared.grade.Grade.TheVariants.{Latin, Easy, Hard}
+use Rattle.clue_rules.specs.declared.grade.Grade.{Grade}
+use Rattle.clue_rules.specs.declared.grade.Grade.TheVariants.{Latin, Easy, Hard}
 use Rattle.named_steps.specs.declared.goal.Goal.{Goal}
 use Rattle.named_steps.specs.declared.goal.Goal.TheVariants.{OnlyValue}
-use Rattle.step_chains.specs.declared.aims.Aim.{Aim}
 use Rattle.step_chains.specs.declared.aims.Aim.TheVariants.{Number, Nothing}
-use Rattle.step_chains.specs.declared.kinds.Sought.{Sought}
-use Rattle.step_chains.specs.declared.kinds.Sought.TheVariants.{NumberShown, SquareEmptied}
 use Rattle.step_chains.specs.Explanations.{IsRefutation, IsRefutedGrid, NothingIsShown}
-use Rattle.named_steps.specs.Grades.{IsLower, rank}
-use Rattle.named_steps.proofs.Followed.{higher_has, next_has}
-use Rattle.step_chains.specs.NextHints.{IsForcedSquare}
-use Rattle.step_chains.specs.Inner.Aims.{HasSome, IsFirstAim, IsFound, IsLeastBy, IsNotFound, sought_by}
+use Rattle.step_chains.specs.NextHints.{IsForcedSquare, NoneBelowRefutes, NoneBelowShows}
+use Rattle.step_chains.specs.Inner.Aims.{AreLeftBy, HasSome, IsLeastBy, IsLeftNothing, IsOver, LeadNowhere}
 use Rattle.step_chains.specs.Inner.Goals.{IsOpenShown}
 use Rattle.step_chains.proofs.Explanations.{empty_shown, none_refuted, nothing_shown, shown_by_all}
 use Rattle.clue_rules.specs.Reasons.{Striking}
 
 -- ---- one grade after another
 
--- steps of a grade, and then those of the one above
-pub leads_up : (Struck : Striking) (c d e : CandidatesValue) → LeadsTo Struck Latin c d → LeadsTo Struck Easy d e → LeadsTo Struck Easy c e
-leads_up Struck c d e first second =
-    leads_on Struck Easy c d e (leads_wider Struck Struck Latin Easy (λ _ reason cell v h. h) (higher_has Latin Easy (omega arith)) c d first) second
+-- what steps of a grade leave is left by steps of a higher one
+pub left_up : (Struck : Striking) (lower grade : Grade) (g : GridValue) (c : CandidatesValue) → rank lower ≤ rank grade → AreLeftBy Struck lower g c
+    → AreLeftBy Struck grade g c
+left_up Struck lower grade g c h (view, is, leads) =
+    (view, is, leads_wider Struck Struck lower grade (λ _ reason cell v h. h) (higher_has lower grade h) view c leads)
 
--- what steps lead to is all that the grade leaves, where it strikes nothing more, or else a square is left nothing
-pub closed_by : (Struck : Striking) (grade : Grade) (c d : CandidatesValue) (b : Bool) → LeadsTo Struck grade c d → OnTrue b (IsSettled Struck grade d)
-    → OnFalse b (IsEmptied d) → (IsEmptied d → ⊥) → IsClosure Struck grade c d
-closed_by Struck grade c d true leads settled emptied holds = closure_reached Struck grade c d leads settled
-closed_by Struck grade c d false leads settled emptied holds = absurd (holds emptied)
+-- steps, and then more steps
+pub left_on : (Struck : Striking) (grade : Grade) (g : GridValue) (c d : CandidatesValue) → AreLeftBy Struck grade g c → LeadsTo Struck grade c d
+    → AreLeftBy Struck grade g d
+left_on Struck grade g c d (view, is, leads) more = (view, is, leads_on Struck grade view c d leads more)
 
-rank_most : (grade : Grade) → rank grade ≤ rank Hard
-rank_most Latin = omega arith
-rank_most Easy = omega arith
-rank_most Hard = omega arith
+pub left_size : (Struck : Striking) (grade : Grade) (g : GridValue) (c : CandidatesValue) → AreLeftBy Struck grade g c → c.size ≡ g.size
+left_size Struck grade g c (view, is, leads) = leads_size Struck grade view c leads ∙ is.size
 
--- where steps leave a square nothing, the hardest grade refutes the grid
-refuted_by : (Struck : Striking) (grade : Grade) (g : GridValue) (view d : CandidatesValue) → IsView g view → LeadsTo Struck grade view d
-    → IsEmptied d → IsRefutedGrid Struck Hard g
-refuted_by Struck grade g view d is leads (cell, inside, nothing) = (
-  view,
-  is,
-  record {
-    steps = leads.steps;
-    chain = leads.chain;
-    allowed = next_has grade Hard (higher_has grade Hard (rank_most grade)) leads.steps leads.allowed;
-    cell = cell;
-    inside = subst (λ (w : ℕ). cell < w * w) (leads_size Struck grade view d leads) inside;
-    nothing = λ value left. nothing value (subst (λ (x : CandidatesValue). IsLeft x cell value) (sym leads.is) left);
-  },
-)
+-- where a grade is settled, or a square is left nothing, and none is, the grade is over
+over_by : (Struck : Striking) (grade : Grade) (g : GridValue) (d : CandidatesValue) (b : Bool) → AreLeftBy Struck grade g d
+    → OnTrue b (IsSettled Struck grade d) → OnFalse b (IsEmptied d) → HasSome d → IsOver Struck grade g d
+over_by Struck grade g d true (view, is, leads) settled emptied some = (view, is, closure_reached Struck grade view d leads settled, some)
+over_by Struck grade g d false left settled (at, inside, nothing) some = let (value, has) = some at inside in absurd (nothing value has)
 
--- where something is left of each square, none is left nothing
-pub some_left : (d : CandidatesValue) → HasSome d → IsEmptied d → ⊥
-some_left d some (at, inside, nothing) = let (value, left) = some at inside in nothing value left
+pub over_found : (Struck : Striking) (grade : Grade) (g : GridValue) (d : CandidatesValue) (b : Bool) (found : Option ℕ)
+    → AreLeftBy Struck grade g d → OnTrue b (IsSettled Struck grade d) → OnFalse b (IsEmptied d)
+    → MatchOption found (HasSome d) (IsLeftNothing d) → MatchOption found (IsOver Struck grade g d) (IsLeftNothing d)
+over_found Struck grade g d b (Some cell) left settled emptied nothing = nothing
+over_found Struck grade g d b None left settled emptied some = over_by Struck grade g d b left settled emptied some
 
--- where what is sought isn't found, they leave each square something
-pub found_none : (Struck : Striking) (g : GridValue) (view d : CandidatesValue) (grade : Grade) (first : Aim) → IsView g view
-    → LeadsTo Struck grade view d → IsFirstAim Struck g first → IsNotFound (sought_by first) g d → IsEmptied d → ⊥
-found_none Struck g view d grade (Number goal) is leads first none emptied = first.2 (refuted_by Struck grade g view d is leads emptied)
-found_none Struck g view d grade (Nothing cell) is leads first some emptied = some_left d some emptied
+-- then its steps don't refute the grid's numbers
+pub over_holds : (Struck : Striking) → IsAntitone Struck → (grade : Grade) (g : GridValue) (d : CandidatesValue) → IsOver Struck grade g d
+    → IsRefutedGrid Struck grade g → ⊥
+over_holds Struck less grade g d (view, is, closed, some) = none_refuted Struck less grade g view d is closed some
 
--- the steps of a grade lead to no aim of what is sought
-abbrev pub IsNowhere : Striking → GridValue → Sought → Grade → Type 0
-IsNowhere Struck g NumberShown grade = NothingIsShown Struck grade g
-IsNowhere Struck g SquareEmptied grade = IsRefutedGrid Struck grade g → ⊥
-
-pub nowhere_where : (Struck : Striking) → IsAntitone Struck → (g : GridValue) (view d : CandidatesValue) (grade : Grade)
-    (sought : Sought) → IsView g view → IsClosure Struck grade view d → IsNotFound sought g d → IsNowhere Struck g sought grade
-nowhere_where Struck less g view d grade NumberShown is closed none = nothing_shown Struck less grade g view d is closed none
-nowhere_where Struck less g view d grade SquareEmptied is closed some = none_refuted Struck less grade g view d is closed some
+-- and show no number where what it leaves shows none
+pub over_silent : (Struck : Striking) → IsAntitone Struck → (grade : Grade) (g : GridValue) (d : CandidatesValue) → IsOver Struck grade g d
+    → ((goal : Goal) → IsOpenShown g d goal → ⊥) → NothingIsShown Struck grade g
+over_silent Struck less grade g d (view, is, closed, some) none = nothing_shown Struck less grade g view d is closed none
 
 -- ---- the grades below one
 
@@ -105,28 +87,26 @@ below_hard P first second Hard h = absurd (omega (arith, h))
 
 -- ---- the least grade that leads to an aim
 
--- what a grade leaves shows an aim of the kind of the first, and no grade below leads to one
-pub found_least : (Struck : Striking) → IsAntitone Struck → (g : GridValue) (view d : CandidatesValue) (grade : Grade)
-    (first found : Aim) → IsView g view → LeadsTo Struck grade view d → IsFirstAim Struck g first → IsFound (sought_by first) g d found
-    → ((lower : Grade) → IsLower lower grade → IsNowhere Struck g (sought_by first) lower) → IsLeastBy Struck g grade found
-found_least Struck less g view d grade (Number goal) (Number other) is leads first found below = (
-  (found.goal_of, found.empty),
-  shown_by_all Struck less grade g view d other is leads found.shown,
-  below,
-  first.2,
-)
-found_least Struck less g view d grade (Number goal) (Nothing cell) is leads first found below = absurd found
-found_least Struck less g view d grade (Nothing cell) (Number goal) is leads first found below = absurd found
-found_least Struck less g view d grade (Nothing cell) (Nothing other) is leads first found below = (
-  subst (λ (w : ℕ). other < w * w) (leads_size Struck grade view d leads ∙ is.size) found.0,
-  shown_by_all Struck less grade g view d (OnlyValue other 0) is leads ((empty_shown d other).0 found.1),
+-- a square that a grade leaves nothing, where no grade below refutes the grid
+pub emptied_least : (Struck : Striking) → IsAntitone Struck → (grade : Grade) (g : GridValue) (d : CandidatesValue)
+    (cell : ℕ) → AreLeftBy Struck grade g d → IsLeftNothing d cell → NoneBelowRefutes Struck grade g
+    → IsLeastBy Struck g grade (Nothing cell)
+emptied_least Struck less grade g d cell (view, is, leads) found below = (
+  subst (λ (w : ℕ). cell < w * w) (leads_size Struck grade view d leads ∙ is.size) found.0,
+  shown_by_all Struck less grade g view d (OnlyValue cell 0) is leads ((empty_shown d cell).0 found.1),
   below,
 )
 
-pub hard_least : (Struck : Striking) (g : GridValue) (first : Aim) → IsFirstAim Struck g first
-    → ((lower : Grade) → IsLower lower Hard → IsNowhere Struck g (sought_by first) lower) → IsLeastBy Struck g Hard first
-hard_least Struck g (Number goal) first below = (first.0, first.1, below, first.2)
-hard_least Struck g (Nothing cell) first below = (first.0, first.1, below)
+-- a number that a grade shows, where no grade below shows any and none refutes the grid
+pub shown_least : (Struck : Striking) → IsAntitone Struck → (grade : Grade) (g : GridValue) (d : CandidatesValue)
+    (goal : Goal) → AreLeftBy Struck grade g d → IsOpenShown g d goal → NoneBelowShows Struck grade g
+    → (IsRefutedGrid Struck Hard g → ⊥) → IsLeastBy Struck g grade (Number goal)
+shown_least Struck less grade g d goal (view, is, leads) found below holds = (
+  (found.goal_of, found.empty),
+  shown_by_all Struck less grade g view d goal is leads found.shown,
+  below,
+  holds,
+)
 
 -- ---- what is forced
 
@@ -160,6 +140,15 @@ none_forced Struck less g view d is closed some none cell f =
       empty = f.empty;
       shown = λ other there. only other there ∙ sym (only value left);
     })
+
+-- where the hardest grade is over and shows no number, no steps lead on
+pub nowhere_left : (Struck : Striking) → IsAntitone Struck → (g : GridValue) (d : CandidatesValue) → IsOver Struck Hard g d
+    → ((goal : Goal) → IsOpenShown g d goal → ⊥) → LeadNowhere Struck g
+nowhere_left Struck less g d (view, is, closed, some) none = record {
+  shown = nothing_shown Struck less Hard g view d is closed none;
+  holds = none_refuted Struck less Hard g view d is closed some;
+  forced = none_forced Struck less g view d is closed some none;
+}
 
 -- ---- what a hint says of solutions
 

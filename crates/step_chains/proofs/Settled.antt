@@ -1,6 +1,6 @@
 -- Where the reasons that were looked at strike nothing more, the grade is settled.
 use Rattle.std.proofs.Common.{◌≡◌, ℕ, ◌+◌, ◌-◌, ◌*◌, ◌^◌, ◌<◌, ◌≤◌, ◌⊎◌, true, List, [], ◌∷◌, ◌++◌, length, refl, sym, ap, ◌∙◌, subst, arith, inl, inr, length-append}
-use Rattle.std.proofs.lemmas.Bool.{and_from, cases_lt, eq-eqb}
+use Rattle.std.proofs.lemmas.Bool.{and_from, cases_lt, eq-eqb, le-leb}
 use Rattle.std.specs.Prelude.{Option, Some, IfSome}
 use Rattle.std.proofs.lemmas.List.{map-append}
 use Rattle.std.proofs.lemmas.Nat.{mul-add-lt}
@@ -14,21 +14,20 @@ use Rattle.trail_solver.specs.Puzzles.{Puzzle}
 use Rattle.trail_solver.proofs.Removals.{set_below}
 use Rattle.trail_solver.proofs.SetPairs.{has_pair-pairs_of}
 use Rattle.clue_rules.specs.Left.{without}
-use Rattle.named_steps.specs.Along.{LooksAlong, StandsAlong}
-use Rattle.named_steps.specs.Grades.{IsLower, is_of_clues, rank}
-use Rattle.named_steps.proofs.LinePasses.{latin_has}
-use Rattle.named_steps.specs.declared.grade.Grade.TheVariants.{Easy}
-use Rattle.std.proofs.lemmas.Bool.{le-leb}
+use Rattle.clue_rules.specs.Along.{LooksAlong, StandsAlong}
+use Rattle.clue_rules.specs.Grades.{IsLower, is_of_clues, rank}
+use Rattle.clue_rules.proofs.LinePasses.{latin_has}
+use Rattle.clue_rules.specs.declared.grade.Grade.TheVariants.{Easy}
 use Rattle.clue_rules.specs.Reasons.{IsByPeer, IsByPlace, IsBySet, Striking}
-use Rattle.named_steps.specs.Passes.{AreCluesSettled, AreGivensSettled}
-use Rattle.named_steps.specs.Following.{IsSettled}
-use Rattle.clue_rules.specs.LineStrikes.{IsRestQuiet}
-use Rattle.named_steps.specs.Inner.LineStrikes.{IsGroupQuiet}
-use Rattle.named_steps.proofs.Antitone.{IsAntitone}
-use Rattle.named_steps.proofs.Rounds.{IsShared, settled_all}
+use Rattle.clue_rules.specs.Settled.{AreCluesSettled, AreGivensSettled, IsSettled}
+use Rattle.clue_rules.specs.Inner.LineStrikes.{IsRestQuiet}
+use Rattle.clue_rules.specs.Inner.Groups.{IsGroupQuiet}
+use Rattle.clue_rules.proofs.Chains.{IsAntitone}
+use Rattle.clue_rules.proofs.Rounds.{settled_all}
+use Rattle.clue_rules.proofs.SharedReasons.{IsShared}
 use Rattle.clue_rules.specs.declared.reason.Reason.{Reason}
 use Rattle.clue_rules.specs.declared.reason.Reason.TheVariants.{Given, Peer, Place, Bound, Stand, Clue, Sign, Set}
-use Rattle.named_steps.specs.declared.grade.Grade.{Grade}
+use Rattle.clue_rules.specs.declared.grade.Grade.{Grade}
 use Rattle.step_chains.specs.declared.chain.Step.{Step}
 use Rattle.step_chains.specs.ChainValues.{step_value, steps_of}
 use Rattle.step_chains.specs.Inner.Replays.{Leads}

@@ -2,28 +2,26 @@
 use Rattle.std.proofs.Common.{◌≡◌, ◌≢◌, ◌↔◌, ℕ, ◌+◌, ◌^◌, ◌<◌, ◌≤◌, true, false, ◌==◌, List, [], ◌∷◌, ◌++◌, length, take, refl, sym, ap, ◌∙◌, subst, arith, append_assoc, inl, inr}
 use Rattle.std.specs.List.{remove}
 use Rattle.std.specs.Prelude.{slice_set, slice_index_or}
-use Rattle.std.proofs.Math.Seq.{get_or-append_seam, take-append_seam}
-use Rattle.std.proofs.lemmas.List.{set_at, length-append, length-map, map-append}
+use Rattle.std.proofs.Math.Seq.{get_or-append_seam}
+use Rattle.std.proofs.lemmas.List.{set_at, take-append-le, length-append, length-map, map-append}
 use Rattle.std.proofs.lemmas.Bool.{cases_eq, both_ways, and_parts, and_from, eq-eqb, eqb-true, false_from_ne_true, false≢true}
 use Rattle.number_sets.specs.Sets.{has_number}
 use Rattle.trail_solver.specs.Pairs.{IsPair, has_pair}
 use Rattle.trail_solver.specs.Candidates.{CandidatesValue}
 use Rattle.trail_solver.proofs.SetPairs.{has_pair-pairs_of}
 use Rattle.clue_rules.specs.Left.{IsFewer, without}
-use Rattle.named_steps.specs.Grades.{has_reason}
-use Rattle.named_steps.specs.Chains.{StepValue, IsStep, IsChain, AreOfGrade, left_by, Shows}
-use Rattle.named_steps.proofs.Antitone.{IsAntitone, chain_less, left_size}
+use Rattle.clue_rules.specs.Grades.{has_reason}
+use Rattle.named_steps.specs.Chains.{Shows}
+use Rattle.clue_rules.specs.Chains.{StepValue, IsStep, IsChain, AreOfGrade, left_by}
+use Rattle.clue_rules.proofs.Chains.{IsAntitone, chain_less, left_size, left_append, chain_split, chain_joined}
 use Rattle.clue_rules.proofs.Takes.{was_left, still_left, without_fewer}
-use Rattle.named_steps.proofs.Parts.{left_append, chain_split, chain_joined}
 use Rattle.named_steps.proofs.Shown.{shown_less}
 use Rattle.clue_rules.specs.declared.reason.Reason.{Reason}
-use Rattle.named_steps.specs.declared.grade.Grade.{Grade}
+use Rattle.clue_rules.specs.declared.grade.Grade.{Grade}
 use Rattle.named_steps.specs.declared.goal.Goal.{Goal}
 use Rattle.step_chains.specs.declared.chain.Step.{Step}
 use Rattle.step_chains.specs.ChainValues.{step_value, steps_of, AreLive, StrikesLess}
-use Rattle.step_chains.specs.Inner.Tight.{IsTightFrom, IsNeededFrom, IsNeededBelow, IsNeededAt, Lacks, IsLeftOut, IsNarrowed, IsDoneFrom}
-use Rattle.step_chains.specs.Inner.Replays.{IsGradeChain}
-use Rattle.step_chains.proofs.Followed.{front_chain}
+use Rattle.step_chains.specs.Inner.Tight.{IsTightFrom, IsNeededFrom, IsNeededBelow, IsNeededAt, IsStepWithout, IsLeftOut, IsNarrowedBelow, IsDoneFrom}
 use Rattle.step_chains.proofs.Live.{live_more}
 use Rattle.step_chains.proofs.Tight.{fronts_part, parted, remove_at, shows_with, steps_removed, tight_without}
 use Rattle.clue_rules.specs.Reasons.{Striking}
@@ -157,13 +155,13 @@ pairs_where s cell v low = (
 )
 
 -- a step with a value less strikes some of its pairs
-pub lacks_among : (s t : Step) (value : ℕ) → s.values < 2 ^ 16 → t.values < 2 ^ 16 → Lacks value s t → Among (step_value t) (step_value s)
+pub lacks_among : (s t : Step) (value : ℕ) → s.values < 2 ^ 16 → t.values < 2 ^ 16 → IsStepWithout value s t → Among (step_value t) (step_value s)
 lacks_among s t value low small lacks = λ cell v has.
     let h = (pairs_where t cell v small).0 has in
     (pairs_where s cell v low).1 (h.0 ∙ lacks.cell, ((lacks.values v).0 h.1).0)
 
 -- what lacks the value of the step is among the step with that value less
-less_among : (s t : Step) (at value : ℕ) (less : StepValue) → s.values < 2 ^ 16 → t.values < 2 ^ 16 → Lacks value s t
+less_among : (s t : Step) (at value : ℕ) (less : StepValue) → s.values < 2 ^ 16 → t.values < 2 ^ 16 → IsStepWithout value s t
     → StrikesLess at value less (step_value s) → Among less (step_value t)
 less_among s t at value less low small lacks by = λ cell v has.
     let h = (pairs_where s cell v low).0 (by.among cell v has) in
@@ -176,7 +174,7 @@ less_among s t at value less low small lacks by = λ cell v has.
 
 -- where the goal isn't shown with a value less, it isn't with anything that lacks the value
 pub needed_here : (Struck : Striking) → IsAntitone Struck → (grade : Grade) (c : CandidatesValue)
-    (front back : List StepValue) (s t : Step) (value : ℕ) (less : StepValue) (goal : Goal) → s.values < 2 ^ 16 → t.values < 2 ^ 16 → Lacks value s t
+    (front back : List StepValue) (s t : Step) (value : ℕ) (less : StepValue) (goal : Goal) → s.values < 2 ^ 16 → t.values < 2 ^ 16 → IsStepWithout value s t
     → Shows Struck grade c (front ++ step_value s ∷ back) goal → (Shows Struck grade c (front ++ step_value t ∷ back) goal → ⊥)
     → (at : ℕ) → StrikesLess at value less (step_value s) → Shows Struck grade c (front ++ less ∷ back) goal → ⊥
 needed_here Struck antitone grade c front back s t value less goal low small lacks whole none cell by shows =
@@ -200,18 +198,14 @@ parts_at steps place s low is =
     let same : s ≡ at.1 = is ∙ (λ i. slice_index_or (at.3 i) (sym at.4 i) s) ∙ get_or-append_seam at.0 at.1 at.2 s in
     (at.0, at.2, at.3 ∙ ap (λ (x : Step). at.0 ++ x ∷ at.2) (sym same), at.4)
 
--- where another one is put in its place, those before it are a chain as before
-pub front_stays : (Struck : Striking) (grade : Grade) (c : CandidatesValue) (place : ℕ) (steps set : List Step) (s t : Step)
-    (goal : Goal) → place < length steps → s ≡ slice_index_or steps place s → set ≡ slice_set steps place t → Shows Struck grade c (steps_of steps) goal
-    → (place ≤ length set) × IsGradeChain Struck grade c (steps_of (take place set))
-front_stays Struck grade c place steps set s t goal low is set_is shows =
-    let (front, back, parts, at) = parts_at steps place s low is in
-    let other : set ≡ front ++ t ∷ back = set_is ∙ ap (λ (xs : List Step). slice_set xs place t) parts ∙ set_at front s back t place at in
-    let first : take place set ≡ front = (λ i. take (sym at i) (other i)) ∙ take-append_seam front (t ∷ back) in (
-      omega (arith, at, ap length other, length-append front (t ∷ back)),
-      subst (λ (xs : List Step). IsGradeChain Struck grade c (steps_of xs)) (sym first)
-          (front_chain Struck grade c (steps_of front) (step_value s ∷ steps_of back) goal
-          (subst (λ xs. Shows Struck grade c xs goal) (listed steps front back s parts) shows)),
+-- a step that goes leaves those before it
+pub kept_front : (steps front back rest : List Step) (s : Step) (from place : ℕ) → from ≤ place → steps ≡ front ++ s ∷ back → length front ≡ place
+    → rest ≡ remove steps place → (take from rest ≡ take from steps) × (length rest + 1 ≡ length steps)
+kept_front steps front back rest s from place order is at gone =
+    let rest_is : rest ≡ front ++ back = gone ∙ (λ i. remove (is i) (sym at i)) ∙ remove_at front back s in
+    let short : from ≤ length front = omega (arith, order, at) in (
+      ap (take from) rest_is ∙ take-append-le from front back short ∙ sym (take-append-le from front (s ∷ back) short) ∙ ap (take from) (sym is),
+      omega (arith, ap length rest_is, ap length is, length-append front back, length-append front (s ∷ back)),
     )
 
 -- the step doesn't strike the number
@@ -235,7 +229,7 @@ left_none Struck grade c place value steps s goal low is small none =
 
 -- it does, and goes without
 pub left_less : (Struck : Striking) (grade : Grade) (c : CandidatesValue) (place value : ℕ) (steps : List Step)
-    (s t : Step) (goal : Goal) → place < length steps → s ≡ slice_index_or steps place s → s.values < 2 ^ 16 → t.values < 2 ^ 16 → Lacks value s t
+    (s t : Step) (goal : Goal) → place < length steps → s ≡ slice_index_or steps place s → s.values < 2 ^ 16 → t.values < 2 ^ 16 → IsStepWithout value s t
     → IsLeftOut Struck grade c place value steps (slice_set steps place t) goal
 left_less Struck grade c place value steps s t goal low is small few lacks =
     let (front, back, parts, at) = parts_at steps place s low is in
@@ -263,7 +257,7 @@ set_back steps place s t low is =
 -- it can't go without
 pub left_with : (Struck : Striking) → IsAntitone Struck → (grade : Grade) (c : CandidatesValue) (place value : ℕ)
     (steps set : List Step) (s t : Step) (goal : Goal) → place < length steps → s ≡ slice_index_or steps place s → s.values < 2 ^ 16 → t.values < 2 ^ 16
-    → Lacks value s t → set ≡ slice_set steps place t → Shows Struck grade c (steps_of steps) goal
+    → IsStepWithout value s t → set ≡ slice_set steps place t → Shows Struck grade c (steps_of steps) goal
     → (Shows Struck grade c (steps_of set) goal → ⊥)
     → IsLeftOut Struck grade c place value steps (slice_set (slice_set steps place t) place s) goal
 left_with Struck antitone grade c place value steps set s t goal low is small few lacks set_is shows none =
@@ -304,7 +298,7 @@ same_parts (h ∷ xs) (k ∷ ys) us bs x y same size =
 
 pub narrowed_on : (Struck : Striking) → IsAntitone Struck → (grade : Grade) (c : CandidatesValue) (place value : ℕ)
     (old new : List Step) (goal : Goal) → Shows Struck grade c (steps_of old) goal → IsLeftOut Struck grade c place value old new goal
-    → IsNarrowed Struck grade c place value old goal → IsNarrowed Struck grade c place (value + 1) new goal
+    → IsNarrowedBelow Struck grade c place value old goal → IsNarrowedBelow Struck grade c place (value + 1) new goal
 narrowed_on Struck antitone grade c place value old new goal shows o h =
     let F = steps_of o.front in
     let B = steps_of o.back in
@@ -349,11 +343,6 @@ left_out_live Struck grade c place value old new goal o live =
     subst (AreLive c) (sym (listed new o.front o.back o.now o.new_is))
     (live_less c (steps_of o.front) (steps_of o.back) (step_value o.now) (step_value o.was) o.among
     (subst (AreLive c) (listed old o.front o.back o.was o.old_is) live))
-
-pub left_out_size : (Struck : Striking) (grade : Grade) (c : CandidatesValue) (place value : ℕ)
-    (old new : List Step) (goal : Goal) → IsLeftOut Struck grade c place value old new goal → length new ≡ length old
-left_out_size Struck grade c place value old new goal o =
-    omega (arith, ap length o.old_is, ap length o.new_is, length-append o.front (o.was ∷ o.back), length-append o.front (o.now ∷ o.back))
 
 -- the values that a step strikes are numbers of the size
 struck_size : (Struck : Striking) (grade : Grade) (c : CandidatesValue) (steps front back : List StepValue)

@@ -3,8 +3,9 @@ use Rattle.std.specs.Prelude.{◌≡◌, ℕ, ◌*◌, ◌<◌, true, false, Lis
 use Rattle.trail_solver.specs.Pairs.{pairs_of, has_pair}
 use Rattle.trail_solver.specs.Candidates.{CandidatesValue}
 use Rattle.clue_rules.specs.Left.{IsLeft, without}
-use Rattle.named_steps.specs.Chains.{StepValue, IsChain, AreOfGrade, Shows, left_by}
-use Rattle.named_steps.specs.declared.grade.Grade.{Grade}
+use Rattle.named_steps.specs.Chains.{Shows}
+use Rattle.clue_rules.specs.Chains.{StepValue, IsChain, AreOfGrade, left_by}
+use Rattle.clue_rules.specs.declared.grade.Grade.{Grade}
 use Rattle.named_steps.specs.declared.goal.Goal.{Goal}
 use Rattle.step_chains.specs.declared.chain.Step.{Step}
 use Rattle.clue_rules.specs.Reasons.{Striking}

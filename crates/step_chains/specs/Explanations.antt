@@ -2,9 +2,10 @@
 use Rattle.std.specs.Prelude.{◌≡◌, ℕ, List, ◌∷◌, ◌++◌}
 use Rattle.latin_board.specs.Squares.{GridValue, number_at}
 use Rattle.trail_solver.specs.Candidates.{CandidatesValue}
-use Rattle.named_steps.specs.Chains.{StepValue, IsView, IsGoalOf, Shows, goal_cell}
+use Rattle.named_steps.specs.Chains.{IsView, IsGoalOf, Shows, goal_cell}
+use Rattle.clue_rules.specs.Chains.{StepValue}
 use Rattle.named_steps.specs.Following.{IsRefuted}
-use Rattle.named_steps.specs.declared.grade.Grade.{Grade}
+use Rattle.clue_rules.specs.declared.grade.Grade.{Grade}
 use Rattle.named_steps.specs.declared.goal.Goal.{Goal}
 use Rattle.step_chains.specs.ChainValues.{LeavesNothing, AreLive, AreAllNeeded}
 use Rattle.clue_rules.specs.Reasons.{Striking}

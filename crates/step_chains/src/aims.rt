@@ -1,12 +1,10 @@
 //! What the steps of a chain are to come to.
-ghost use Rattle.std.specs.Prelude.{◌≡◌, ◌↔◌, IsTrue, MatchOption};
+ghost use Rattle.std.specs.Prelude.{◌↔◌, IsTrue, MatchOption};
 ghost use Rattle.named_steps.specs.Chains.{IsShown};
-ghost use Rattle.step_chains.specs.Inner.Aims.{IsAimOf, aim_goal, sought_by, HasSome, IsEmpty, IsNotFound, IsFound};
+ghost use Rattle.step_chains.specs.Inner.Aims.{IsAimOf, aim_goal, HasSome, IsLeftNothing};
 
 use crate::chain::Step;
-use crate::goals::shown_goal;
-use crate::kinds::Sought;
-use latin_board::{Grid, Size};
+use latin_board::Size;
 use named_steps::Goal;
 use trail_solver::Candidates;
 
@@ -36,16 +34,6 @@ impl Aim {
         }
     }
 
-    /// What is sought by it.
-    pub(crate) fn sought(self) -> Sought
-        ensures { result ≡ sought_by self }
-    {
-        match self {
-            Aim::Number(_) => Sought::NumberShown,
-            Aim::Nothing { .. } => Sought::SquareEmptied,
-        }
-    }
-
     /// Whether candidates of the size that it speaks of have come to it.
     pub(crate) fn is_met(self, candidates: &Candidates) -> bool
         requires { IsAimOf candidates.now.size self }
@@ -58,26 +46,9 @@ impl Aim {
     }
 }
 
-/// The first aim of what is sought that candidates come to, if they come to any. The sizes are equal.
-pub(crate) fn found_in(sought: Sought, candidates: &Candidates, grid: &Grid) -> Option<Aim>
-    requires { candidates.now.size ≡ grid.now.size }
-    ensures { MatchOption result (IsNotFound sought grid.now candidates.now) (IsFound sought grid.now candidates.now) }
-{
-    match sought {
-        Sought::NumberShown => match shown_goal(candidates, grid) {
-            Some(goal) => Some(Aim::Number(goal)),
-            None => None,
-        },
-        Sought::SquareEmptied => match first_empty(candidates) {
-            Some(cell) => Some(Aim::Nothing { cell }),
-            None => None,
-        },
-    }
-}
-
 /// The first square that is left nothing, if there is one.
 pub(crate) fn first_empty(candidates: &Candidates) -> Option<usize>
-    ensures { MatchOption result (HasSome candidates.now) (IsEmpty candidates.now) }
+    ensures { MatchOption result (HasSome candidates.now) (IsLeftNothing candidates.now) }
 {
     let width = candidates.size().get() as usize;
     for cell in 0..width * width {

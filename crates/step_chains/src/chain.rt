@@ -1,6 +1,6 @@
 //! Chains: steps one after another, and what they show.
 ghost use Rattle.std.specs.Prelude.{◌≡◌, ◌↔◌, ◌<◌, IsTrue};
-ghost use Rattle.step_chains.specs.Inner.Tight.{Lacks};
+ghost use Rattle.step_chains.specs.Inner.Tight.{IsStepWithout};
 
 use named_steps::{Goal, Reason};
 use number_sets::NumberSet;
@@ -17,7 +17,7 @@ impl Step {
     /// The step without one of its values.
     pub(crate) fn without(&self, value: u8) -> Step
         requires { value < 16 }
-        ensures { Lacks value self.now result }
+        ensures { IsStepWithout value self.now result }
     {
         Step {
             reason: self.reason,

@@ -1,11 +1,11 @@
 //! The chains of hints: to a number of an empty square, or to a square that is left nothing; and whether a chain is such.
-ghost use Rattle.std.specs.Prelude.{◌≡◌, ◌↔◌, ◌*◌, ◌<◌, IsTrue, IfOk, IfSome, MatchOption};
+ghost use Rattle.std.specs.Prelude.{◌≡◌, ◌↔◌, ◌*◌, ◌<◌, IsTrue, IfOk, IfSome};
 ghost use Rattle.named_steps.specs.Chains.{IsExplained, IsTight};
 ghost use Rattle.named_steps.specs.declared.goal.Goal.TheVariants.{OnlyValue};
 ghost use Rattle.step_chains.specs.ChainValues.{steps_of};
 ghost use Rattle.step_chains.specs.Explanations.{AreNeededFrom, IsRefutation, IsLiveFrom};
 ghost use Rattle.step_chains.specs.Inner.Aims.{IsAimOf, IsReached, aim_goal};
-ghost use Rattle.step_chains.specs.Inner.Goals.{IsOpen, IsShownByAll};
+ghost use Rattle.step_chains.specs.Inner.Goals.{IsOfEmptySquare, IsShownByAll};
 
 use crate::aims::Aim;
 use crate::chain::{Chain, Refutation, Step};
@@ -32,7 +32,7 @@ pub(crate) fn chain_to<P: Steps>(
     known: &mut P::Known,
 ) -> Result<Chain, OutOfMemory>
     requires size { grid.now.size ≡ (P.puzzle p.now).size }
-    requires open { IsOpen grid.now goal }
+    requires open { IsOfEmptySquare grid.now goal }
     requires shown { IsShownByAll (P.struck_by p.now) grade grid.now goal }
     ensures is { IfOk result
         (λ chain. IsExplained (P.struck_by p.now) grade grid.now (steps_of chain.steps.items) chain.goal) }
@@ -86,7 +86,7 @@ fn plain_number<P: Steps>(
     known: &mut P::Known,
 ) -> Result<Chain, OutOfMemory>
     requires size { grid.now.size ≡ (P.puzzle p.now).size }
-    requires open { IsOpen grid.now goal }
+    requires open { IsOfEmptySquare grid.now goal }
     requires shown { IsShownByAll (P.struck_by p.now) grade grid.now goal }
     ensures is { IfOk result
         (λ chain. IsExplained (P.struck_by p.now) grade grid.now (steps_of chain.steps.items) chain.goal) }

@@ -1,12 +1,13 @@
 //! What all steps lead to first, and the least grade whose steps lead to the like.
 ghost use Rattle.std.specs.Prelude.{◌≡◌, MatchOption};
-ghost use Rattle.step_chains.specs.Inner.Aims.{LeadNowhere, IsFirstAim, IsLeastAim};
+ghost use Rattle.step_chains.specs.declared.aims.Aim.TheVariants.{Number, Nothing};
+ghost use Rattle.step_chains.specs.Inner.Aims.{LeadNowhere, IsLeastAim, AreLeftBy, IsOver, IsLeftNothing};
 
-use crate::aims::{Aim, first_empty, found_in};
+use crate::aims::{Aim, first_empty};
 use crate::goals::shown_goal;
 use crate::view::view_of;
 use latin_board::Grid;
-use named_steps::{Grade, Steps, settle};
+use named_steps::{Goal, Grade, Steps, settle};
 use trail_solver::{Candidates, Rules};
 
 /// An aim to which the steps of a grade lead, while those of no grade below lead to one of its kind.
@@ -17,60 +18,68 @@ pub(crate) struct LeastAim {
 }
 
 /// The first square that the steps of the least grade leave nothing, where any steps leave a square nothing; otherwise the first number
-/// of an empty square that the steps of the least grade show, where any do. What the grades leave is on the stack only here, and not while
-/// a chain is searched.
+/// of an empty square that the steps of the least grade show, where any do. Each grade goes on from what the one below it leaves, which is
+/// on the stack only here, and not while a chain is searched.
 #[inline(never)]
 pub(crate) fn first_aim<P: Steps>(p: &P, grid: &Grid, known: &mut P::Known) -> Option<LeastAim>
     requires { grid.now.size ≡ (P.puzzle p.now).size }
     ensures { MatchOption result (LeadNowhere (P.struck_by p.now) grid.now) (IsLeastAim (P.struck_by p.now) grid.now) }
 {
-    let aim = hardest_aim(p, grid, known)?;
-    Some(least_aim(p, grid, aim, known))
-}
-
-// The first square that all steps together leave nothing, or otherwise the first number of an empty square that they show, if they show any.
-#[inline(never)]
-fn hardest_aim<P: Steps>(p: &P, grid: &Grid, known: &mut P::Known) -> Option<Aim>
-    requires { grid.now.size ≡ (P.puzzle p.now).size }
-    ensures { MatchOption result (LeadNowhere (P.struck_by p.now) grid.now) (IsFirstAim (P.struck_by p.now) grid.now) }
-{
     let mut settled = view_of(grid);
-    settle(p, Grade::Hard, &mut settled, known);
-    if let Some(cell) = first_empty(&settled) {
-        return Some(Aim::Nothing { cell });
+    if let Some(cell) = go_on(p, Grade::Latin, grid, &mut settled, known) {
+        return Some(emptied(Grade::Latin, cell));
     }
-    match shown_goal(&settled, grid) {
-        Some(goal) => Some(Aim::Number(goal)),
-        None => None,
+    let by_latin = shown_goal(&settled, grid);
+    if let Some(cell) = go_on(p, Grade::Easy, grid, &mut settled, known) {
+        return Some(emptied(Grade::Easy, cell));
+    }
+    let by_easy = shown_goal(&settled, grid);
+    if let Some(cell) = go_on(p, Grade::Hard, grid, &mut settled, known) {
+        return Some(emptied(Grade::Hard, cell));
+    }
+    match (by_latin, by_easy, shown_goal(&settled, grid)) {
+        (Some(goal), _, _) => Some(shown(Grade::Latin, goal)),
+        (None, Some(goal), _) => Some(shown(Grade::Easy, goal)),
+        (None, None, Some(goal)) => Some(shown(Grade::Hard, goal)),
+        (None, None, None) => None,
     }
 }
 
-// The least grade whose steps lead to an aim of the kind of this one, to which all steps lead; each grade goes on from what the one below
-// it leaves.
-#[inline(never)]
-fn least_aim<P: Steps>(p: &P, grid: &Grid, aim: Aim, known: &mut P::Known) -> LeastAim
+// Takes away what the steps of a grade strike of what steps up to it leave, and tells the first square that is left nothing, if one is.
+fn go_on<P: Steps>(
+    p: &P,
+    grade: Grade,
+    grid: &Grid,
+    settled: &mut Candidates,
+    known: &mut P::Known,
+) -> Option<usize>
     requires size { grid.now.size ≡ (P.puzzle p.now).size }
-    requires first { IsFirstAim (P.struck_by p.now) grid.now aim }
-    ensures { IsLeastAim (P.struck_by p.now) grid.now result }
+    requires from { AreLeftBy (P.struck_by p.now) grade grid.now settled.old }
+    ensures left { AreLeftBy (P.struck_by p.now) grade grid.now settled.new }
+    ensures over { MatchOption result (IsOver (P.struck_by p.now) grade grid.now settled.new) (IsLeftNothing settled.new) }
 {
-    let sought = aim.sought();
-    let mut settled = view_of(grid);
-    settle(p, Grade::Latin, &mut settled, known);
-    if let Some(aim) = found_in(sought, &settled, grid) {
-        return LeastAim {
-            grade: Grade::Latin,
-            aim,
-        };
-    }
-    settle(p, Grade::Easy, &mut settled, known);
-    if let Some(aim) = found_in(sought, &settled, grid) {
-        return LeastAim {
-            grade: Grade::Easy,
-            aim,
-        };
-    }
+    settle(p, grade, settled, known);
+    first_empty(settled)
+}
+
+// The square, left nothing by the steps of a grade.
+fn emptied(grade: Grade, cell: usize) -> LeastAim
+    ensures grade { result.grade ≡ grade }
+    ensures aim { result.aim ≡ Nothing cell }
+{
     LeastAim {
-        grade: Grade::Hard,
-        aim,
+        grade,
+        aim: Aim::Nothing { cell },
+    }
+}
+
+// The number, shown by the steps of a grade.
+fn shown(grade: Grade, goal: Goal) -> LeastAim
+    ensures grade { result.grade ≡ grade }
+    ensures aim { result.aim ≡ Number goal }
+{
+    LeastAim {
+        grade,
+        aim: Aim::Number(goal),
     }
 }

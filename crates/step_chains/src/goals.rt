@@ -1,6 +1,6 @@
 //! Numbers of empty squares that candidates show.
 ghost use Rattle.std.specs.Prelude.{◌≡◌, ◌↔◌, ℕ, ◌*◌, ◌<◌, IsTrue, MatchOption};
-ghost use Rattle.step_chains.specs.Inner.Goals.{IsOpen, IsOpenShown};
+ghost use Rattle.step_chains.specs.Inner.Goals.{IsOfEmptySquare, IsOpenShown};
 ghost use Rattle.named_steps.specs.declared.goal.Goal.{Goal};
 ghost use Rattle.named_steps.specs.declared.goal.Goal.TheVariants.{OnlyValue, OnlyPlace};
 
@@ -10,7 +10,7 @@ use trail_solver::Candidates;
 
 /// Whether a goal speaks of an empty square of the grid.
 pub(crate) fn is_open(grid: &Grid, goal: Goal) -> bool
-    ensures { IsTrue result ↔ IsOpen grid.now goal }
+    ensures { IsTrue result ↔ IsOfEmptySquare grid.now goal }
 {
     let size = grid.size();
     if !goal.is_of(size) {

@@ -39,12 +39,12 @@ pub fn next_hint<P: Steps>(alloc: Global, p: &P, grid: &Grid) -> Result<NextHint
     ensures right { IfOk result (IsRightHint (P.puzzle p.now) grid.now) }
     ensures forced { IfOk result (SaysForced (P.struck_by p.now) grid.now) }
 {
-    // What is known serves all that follows, since it takes ten kilobytes of the stack.
+    // `known` serves all that follows, since it takes ten kilobytes of the stack.
     let mut known = P::Known::default();
     hint_knowing(alloc, p, grid, &mut known)
 }
 
-// The same, for who keeps what is known: it is used and added to.
+// The same with `known`, which is used and added to.
 fn hint_knowing<P: Steps>(
     alloc: Global,
     p: &P,

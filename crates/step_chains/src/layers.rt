@@ -2,13 +2,17 @@
 //! Nothing here ensures anything: `short_chain` follows what comes of it step by step, and tells it only where it is a chain.
 ghost use Rattle.std.specs.Prelude.{◌≡◌};
 
-use crate::aims::found_in;
+use crate::aims::first_empty;
 use crate::chain::Step;
+use crate::goals::shown_goal;
 use crate::kinds::{KINDS, Kind, Sought, is_done, is_of_use};
-use crate::needs::{Values, left, single, squares_from, squares_of};
+use crate::needs::{Values, left, line_from, single, squares_from, squares_of};
 use crate::reasons::{Part, group};
 use crate::replays::{struck, take};
-use crate::seen::{Seen, last_place, row_of, shared_numbers, sharing, standing, union_of};
+use crate::seen::{
+    LINES, Losses, PLACES, Seen, last_place, row_of, shared_numbers, sharing, standing,
+    struck_along, union_of,
+};
 use arrayvec::ArrayVec;
 use latin_board::{CELLS, Grid, OutOfMemory};
 use named_steps::{Grade, Reason, Steps};
@@ -29,9 +33,16 @@ pub(crate) struct Rounds<'a, P: Steps> {
     sought: Sought,
     // With how many steps it wasn't found yet.
     open: Option<usize>,
-    stands: Seen,
-    clues: Seen,
-    groups: Seen,
+    // The squares of which one value is left and that were looked at: what they strike is listed.
+    peers: Values,
+    // Whether there are signs, which strike something whatever is left.
+    has_signs: bool,
+    // Which rows and columns lost something since they were looked at: only their rows can be others.
+    losses: Losses,
+    places: Seen<LINES>,
+    stands: Seen<PLACES>,
+    clues: Seen<PLACES>,
+    groups: Seen<LINES>,
     pub(crate) known: &'a mut P::Known,
 }
 
@@ -50,6 +61,10 @@ impl<'a, P: Steps> Rounds<'a, P> {
             steps: Vec::new(alloc),
             sought,
             open: None,
+            peers: Values::none(),
+            has_signs: true,
+            losses: Losses::new(),
+            places: Seen::nothing(),
             stands: Seen::nothing(),
             clues: Seen::nothing(),
             groups: Seen::nothing(),
@@ -104,7 +119,10 @@ impl<'a, P: Steps> Rounds<'a, P> {
         if self.open == steps {
             return false;
         }
-        let found = found_in(self.sought, &self.now, grid).is_some();
+        let found = match self.sought {
+            Sought::NumberShown => shown_goal(&self.now, grid).is_some(),
+            Sought::SquareEmptied => first_empty(&self.now).is_some(),
+        };
         if !found {
             self.open = steps;
         }
@@ -122,9 +140,20 @@ impl<'a, P: Steps> Rounds<'a, P> {
                 self.look(p, grade, KINDS[kind])?;
             }
         }
-        catch_up(&mut self.now, self.steps.as_slice(), before);
+        self.catch_up(before);
         self.gone = Values::none();
         Ok(())
+    }
+
+    // Takes away what the steps from a place on list.
+    fn catch_up(&mut self, from: usize) {
+        let size = self.now.size();
+        self.losses.go_on();
+        for place in from..self.steps.len() {
+            let step = self.steps[place];
+            take(&mut self.now, &step);
+            self.losses.note(size, step.cell);
+        }
     }
 
     // The steps of one kind.
@@ -134,10 +163,7 @@ impl<'a, P: Steps> Rounds<'a, P> {
             Kind::Bound | Kind::Stand | Kind::Clue => self.look_at_clues(p, grade, kind),
             Kind::Place => self.look_at_places(p, grade),
             Kind::Set => self.look_at_groups(p, grade),
-            Kind::Sign => {
-                self.look_at_signs(p, grade, true)?;
-                self.look_at_signs(p, grade, false)
-            }
+            Kind::Sign => self.look_at_all_signs(p, grade),
         }
     }
 
@@ -148,7 +174,8 @@ impl<'a, P: Steps> Rounds<'a, P> {
         for cell in 0..width * width {
             if let Kind::Given = kind {
                 self.look_in(p, grade, &Reason::Given { cell }, cell)?;
-            } else if left(&self.now, cell).is_single() {
+            } else if left(&self.now, cell).is_single() && self.peers.of(cell).is_empty() {
+                self.peers.add(cell, left(&self.now, cell));
                 let reason = Reason::Peer { cell };
                 self.look_among(p, grade, &reason, &squares_of(size, cell / width))?;
                 self.look_among(p, grade, &reason, &squares_of(size, width + cell % width))?;
@@ -159,41 +186,92 @@ impl<'a, P: Steps> Rounds<'a, P> {
 
     // The steps of the clues at the edge as the kind looks at them, where it sees what it didn't.
     fn look_at_clues(&mut self, p: &P, grade: Grade, kind: Kind) -> Result<(), OutOfMemory> {
-        let size = self.now.size();
-        for place in 0..4 * size.get() as usize {
-            let row = row_of(&self.now, &squares_from(size, place));
-            let (reason, is_new) = match kind {
-                Kind::Bound => (Reason::Bound { place }, true),
-                Kind::Stand => (
-                    Reason::Stand { place },
-                    self.stands.is_new(place, &standing(&row)),
-                ),
-                _ => (Reason::Clue { place }, self.clues.is_new(place, &row)),
-            };
-            if is_new {
-                self.look_from(p, grade, &reason, place)?;
+        for place in 0..4 * self.now.size().get() as usize {
+            match kind {
+                Kind::Stand => self.look_at_standing(p, grade, place)?,
+                Kind::Clue => self.look_at_marks(p, grade, place)?,
+                _ => self.look_from(p, grade, &Reason::Bound { place }, place)?,
             }
         }
         Ok(())
     }
 
-    // The steps of the values that have one place left in a row or column; or none, and then that
-    // of the line's first square.
+    // The steps of one clue by the numbers that stand in its line.
+    fn look_at_standing(&mut self, p: &P, grade: Grade, place: usize) -> Result<(), OutOfMemory> {
+        let size = self.now.size();
+        if self
+            .stands
+            .may_be_new(place, line_from(size, place), &self.losses)
+        {
+            let row = row_of(&self.now, &squares_from(size, place));
+            if self.stands.is_new(place, &standing(&row)) {
+                self.look_from(p, grade, &Reason::Stand { place }, place)?;
+            }
+        }
+        Ok(())
+    }
+
+    // The steps of one clue by all that is left in its line.
+    fn look_at_marks(&mut self, p: &P, grade: Grade, place: usize) -> Result<(), OutOfMemory> {
+        let size = self.now.size();
+        if self
+            .clues
+            .may_be_new(place, line_from(size, place), &self.losses)
+        {
+            let row = row_of(&self.now, &squares_from(size, place));
+            if self.clues.is_new(place, &row) {
+                self.look_from(p, grade, &Reason::Clue { place }, place)?;
+            }
+        }
+        Ok(())
+    }
+
+    // The steps of the values that have one place left in a row or column that isn't what it was; or none,
+    // and then that of the line's first square.
     fn look_at_places(&mut self, p: &P, grade: Grade) -> Result<(), OutOfMemory> {
         let size = self.now.size();
         for line in 0..2 * size.get() as usize {
-            let cells = squares_of(size, line);
-            let row = row_of(&self.now, &cells);
-            let few = NumberSet::up_to(size.get()).difference(shared_numbers(&row));
-            for value in 1..10 {
-                let index = last_place(&row, value);
-                if few.has(value) && index < cells.len() {
+            if self.places.may_be_new(line, line, &self.losses) {
+                let cells = squares_of(size, line);
+                let row = row_of(&self.now, &cells);
+                if self.places.is_new(line, &row) {
+                    self.look_along(p, grade, line, &cells, &row)?;
+                }
+            }
+        }
+        Ok(())
+    }
+
+    // The same in one row or column, of whose squares this is left.
+    fn look_along(
+        &mut self,
+        p: &P,
+        grade: Grade,
+        line: usize,
+        cells: &ArrayVec<u8, 9>,
+        row: &[NumberSet; 9],
+    ) -> Result<(), OutOfMemory> {
+        let few = NumberSet::up_to(self.now.size().get()).difference(shared_numbers(row));
+        for value in 1..10 {
+            if few.has(value) {
+                let index = last_place(row, value);
+                if index < cells.len() {
                     let reason = Reason::Place { line, index, value };
                     self.look_in(p, grade, &reason, cells[index] as usize)?;
                 }
             }
         }
         Ok(())
+    }
+
+    // The steps of the signs, unless none was found when they were looked at first.
+    fn look_at_all_signs(&mut self, p: &P, grade: Grade) -> Result<(), OutOfMemory> {
+        if !self.has_signs {
+            return Ok(());
+        }
+        self.has_signs = false;
+        self.look_at_signs(p, grade, true)?;
+        self.look_at_signs(p, grade, false)
     }
 
     // The steps of the signs at the lesser ends, which strike the greatest number there, or at the
@@ -205,6 +283,7 @@ impl<'a, P: Steps> Rounds<'a, P> {
                 let (from, to) = if at_lesser { (to, from) } else { (from, to) };
                 let reason = Reason::Sign { from, to };
                 let values = struck(p, &self.now, &reason, to, self.known);
+                self.has_signs |= !values.is_empty();
                 if greatest.is_subset(values) == at_lesser {
                     self.list(grade, &reason, to, values)?;
                 }
@@ -218,18 +297,32 @@ impl<'a, P: Steps> Rounds<'a, P> {
     fn look_at_groups(&mut self, p: &P, grade: Grade) -> Result<(), OutOfMemory> {
         let size = self.now.size();
         for line in 0..2 * size.get() as usize {
-            let cells = squares_of(size, line);
-            let row = row_of(&self.now, &cells);
-            if self.groups.is_new(line, &row) {
-                let among = sharing(&row);
-                for squares in 1..NumberSet::up_to(size.get()).lowered().bits() {
-                    let squares = NumberSet::from_bits(squares);
-                    if squares.is_subset(among) {
-                        let values = union_of(&row, squares);
-                        if let Some(reason) = group(line, squares, values) {
-                            self.look_among(p, grade, &reason, &cells)?;
-                        }
-                    }
+            if self.groups.may_be_new(line, line, &self.losses) {
+                let cells = squares_of(size, line);
+                let row = row_of(&self.now, &cells);
+                if self.groups.is_new(line, &row) {
+                    self.look_at_groups_on(p, grade, line, &cells, &row)?;
+                }
+            }
+        }
+        Ok(())
+    }
+
+    // The same of one row or column, of whose squares this is left.
+    fn look_at_groups_on(
+        &mut self,
+        p: &P,
+        grade: Grade,
+        line: usize,
+        cells: &ArrayVec<u8, 9>,
+        row: &[NumberSet; 9],
+    ) -> Result<(), OutOfMemory> {
+        let among = sharing(row);
+        for squares in 1..NumberSet::up_to(self.now.size().get()).lowered().bits() {
+            let squares = NumberSet::from_bits(squares);
+            if squares.is_subset(among) {
+                if let Some(reason) = group(line, squares, union_of(row, squares)) {
+                    self.look_among(p, grade, &reason, cells)?;
                 }
             }
         }
@@ -244,14 +337,8 @@ impl<'a, P: Steps> Rounds<'a, P> {
         reason: &Reason,
         place: usize,
     ) -> Result<(), OutOfMemory> {
-        let size = self.now.size();
-        if p.size() != size || place >= 4 * size.get() as usize {
-            return Ok(());
-        }
-        let cells = squares_from(size, place);
-        let Some(row) = p.strikes_from(&self.now, *reason, place, self.known) else {
-            return self.look_among(p, grade, reason, &cells);
-        };
+        let cells = squares_from(self.now.size(), place);
+        let row = struck_along(p, &self.now, reason, place, &cells, self.known);
         for k in 0..cells.len() {
             if k < 9 {
                 self.list(grade, reason, cells[k] as usize, row[k])?;
@@ -308,12 +395,5 @@ impl<'a, P: Steps> Rounds<'a, P> {
         self.gone.add(cell, values);
         self.steps.push(step)?;
         Ok(())
-    }
-}
-
-// Takes away what the steps from a place on list.
-fn catch_up(candidates: &mut Candidates, steps: &[Step], from: usize) {
-    for place in from..steps.len() {
-        take(candidates, &steps[place]);
     }
 }

@@ -15,7 +15,9 @@
 #![tactic(auto)]
 
 mod aims;
+mod broken_steps;
 mod chain;
+mod clue_premises;
 mod explaining;
 mod first_aims;
 mod goals;
@@ -24,6 +26,7 @@ mod kinds;
 mod layers;
 mod needs;
 mod next_steps;
+mod premises;
 mod reasons;
 mod replays;
 mod seen;

@@ -47,6 +47,42 @@ impl Values {
     }
 }
 
+/// What is gone of some squares and needed anyhow.
+pub(crate) fn needed_in(cells: &ArrayVec<u8, 9>, gone: &Values, needs: &Values) -> Values {
+    let mut needed = Values::none();
+    for cell in cells.as_slice() {
+        let at = *cell as usize;
+        needed.add(at, gone.of(at).intersection(needs.of(at)));
+    }
+    needed
+}
+
+/// A set of squares.
+#[derive(Clone, Copy, Debug)]
+pub(crate) struct Squares {
+    has: [bool; CELLS],
+}
+
+impl Squares {
+    /// These squares.
+    pub(crate) fn of(cells: &ArrayVec<u8, 9>) -> Squares {
+        let mut has = [false; CELLS];
+        for cell in cells.as_slice() {
+            let cell = *cell as usize;
+            if cell < CELLS {
+                has[cell] = true;
+            }
+        }
+        Squares { has }
+    }
+
+    /// Whether the square is one of them.
+    pub(crate) fn has(&self, cell: u8) -> bool {
+        let cell = cell as usize;
+        cell < CELLS && self.has[cell]
+    }
+}
+
 /// What has to be struck from candidates so that they come to the aim.
 pub(crate) fn needs_of(candidates: &Candidates, aim: Aim) -> Values {
     match aim {
@@ -145,6 +181,16 @@ fn squares_among(size: Size, line: usize, squares: NumberSet) -> ArrayVec<u8, 9>
         }
     }
     cells
+}
+
+/// The row or column along which one looks from a place at the edge.
+pub(crate) fn line_from(size: Size, place: usize) -> usize {
+    let width = size.get() as usize;
+    if place < 2 * width {
+        width + place % width
+    } else {
+        place % width
+    }
 }
 
 /// The squares from a place at the edge.

@@ -1,6 +1,6 @@
 //! All steps that a grade's reasons have, one after another, until they strike nothing more.
 ghost use Rattle.std.specs.Prelude.{◌≡◌, ◌*◌, ◌<◌, MatchOption, IfOk};
-ghost use Rattle.named_steps.specs.Following.{IsSettled};
+ghost use Rattle.clue_rules.specs.Settled.{IsSettled};
 ghost use Rattle.step_chains.specs.ChainValues.{steps_of, AreLive};
 ghost use Rattle.step_chains.specs.Inner.Replays.{Leads};
 ghost use Rattle.step_chains.specs.Inner.Quiet.{IsNew, IsIdleIn, IsIdle, IsIdleAt, AreIdleIn};
@@ -12,8 +12,8 @@ use named_steps::{Grade, Reason, Steps};
 use std::alloc::Global;
 use trail_solver::{Candidates, Rules};
 
-/// Takes away all that the grade's reasons strike, one square after another, and tells by which steps. The sizes are equal. What is known
-/// of rows of sets is used and added to, here and in what follows.
+/// Takes away all that the grade's reasons strike, one square after another, and tells by which steps. The sizes are equal. `known`
+/// is used and added to, here and in what follows.
 pub(crate) fn all_steps<P: Steps>(
     alloc: Global,
     p: &P,

@@ -1,12 +1,13 @@
 //! Chains followed step by step.
-ghost use Rattle.std.specs.Prelude.{◌≡◌, ◌↔◌, ◌≤◌, ℕ, true, take, length, IsTrue};
+ghost use Rattle.std.specs.Prelude.{◌≡◌, ◌↔◌, ℕ, true, IsTrue};
 ghost use Rattle.std.specs.Bool.{OnTrue, OnFalse};
 ghost use Rattle.std.specs.List.{remove};
 ghost use Rattle.number_sets.specs.Sets.{has_number};
-ghost use Rattle.trail_solver.specs.Pairs.{IsPair, has_pair};
+ghost use Rattle.trail_solver.specs.Pairs.{IsPair, has_pair, pairs_of};
 ghost use Rattle.trail_solver.specs.Candidates.{IsEarlier};
-ghost use Rattle.clue_rules.specs.Left.{AreAlike};
-ghost use Rattle.named_steps.specs.Chains.{Shows, left_by};
+ghost use Rattle.clue_rules.specs.Left.{AreAlike, IsFewer};
+ghost use Rattle.named_steps.specs.Chains.{IsShown, Shows};
+ghost use Rattle.clue_rules.specs.Chains.{left_by};
 ghost use Rattle.clue_rules.specs.Takes.{Takes};
 ghost use Rattle.step_chains.specs.ChainValues.{step_value, steps_of, AreLive, IsLiveStep};
 ghost use Rattle.step_chains.specs.Inner.Aims.{IsAimOf, aim_goal};
@@ -14,12 +15,14 @@ ghost use Rattle.step_chains.specs.Inner.Replays.{IsGradeStep, IsGradeChain, Lea
 
 use crate::aims::Aim;
 use crate::chain::Step;
+use crate::needs::{Values, left};
+use arrayvec::ArrayVec;
 use named_steps::{Grade, Reason, Steps, strike};
 use number_sets::NumberSet;
 use trail_solver::{Candidates, Rules};
 
 /// Whether the steps, without the one at a place if they have it, are a chain of the grade's from the candidates and come to the aim.
-/// The candidates are afterwards what they were. The sizes are equal, and the aim is one of the size. What is known of rows of sets is used
+/// The candidates are afterwards what they were. The sizes are equal, and the aim is one of the size. `known` is used
 /// and added to, here and in what follows.
 pub(crate) fn shows_without<P: Steps>(
     p: &P,
@@ -42,77 +45,33 @@ pub(crate) fn shows_without<P: Steps>(
     shows
 }
 
-/// Whether the steps, of which those before a place are known to be a chain of the grade's from the candidates, are all one and come to the
-/// aim. The candidates are afterwards what they were.
-pub(crate) fn shows_from<P: Steps>(
-    p: &P,
-    grade: Grade,
-    candidates: &mut Candidates,
-    steps: &[Step],
-    place: usize,
-    aim: Aim,
-    known: &mut P::Known,
-) -> bool
-    requires size { candidates.old.size ≡ (P.puzzle p.now).size }
-    requires aim { IsAimOf candidates.old.size aim }
-    requires inside { place ≤ length steps.now }
-    requires front { IsGradeChain (P.struck_by p.now) grade candidates.old (steps_of (take place steps.now)) }
+/// Whether the steps don't come to the aim, even if they are a chain: what is left once all that they list is gone doesn't meet it. The
+/// candidates are afterwards what they were, and the aim is one of the size.
+pub(crate) fn misses(candidates: &mut Candidates, steps: &[Step], aim: Aim) -> bool
+    requires { IsAimOf candidates.old.size aim }
     ensures same { candidates.new ≡ candidates.old }
-    ensures shows { IsTrue result ↔ Shows (P.struck_by p.now) grade candidates.old (steps_of steps.now) (aim_goal aim) }
+    ensures misses { OnTrue result
+        (IsShown (left_by candidates.old (steps_of steps.now)) (aim_goal aim) → ⊥) }
 {
     let mark = candidates.mark();
-    let shows = leads_from(p, grade, candidates, steps, place, aim, known);
+    let misses = is_missed_by(candidates, steps, aim);
     candidates.give_back(mark);
-    shows
+    misses
 }
 
-// Follows the steps from a place on, and tells whether all are a chain of the grade's and come to the aim.
-fn leads_from<P: Steps>(
-    p: &P,
-    grade: Grade,
-    candidates: &mut Candidates,
-    steps: &[Step],
-    place: usize,
-    aim: Aim,
-    known: &mut P::Known,
-) -> bool
-    requires size { candidates.old.size ≡ (P.puzzle p.now).size }
-    requires aim { IsAimOf candidates.old.size aim }
-    requires inside { place ≤ length steps.now }
-    requires front { IsGradeChain (P.struck_by p.now) grade candidates.old (steps_of (take place steps.now)) }
+// The same, and what the steps list is taken away.
+fn is_missed_by(candidates: &mut Candidates, steps: &[Step], aim: Aim) -> bool
+    requires { IsAimOf candidates.old.size aim }
     ensures earlier { IsEarlier candidates.old candidates.new }
-    ensures shows { IsTrue result ↔ Shows (P.struck_by p.now) grade candidates.old (steps_of steps.now) (aim_goal aim) }
+    ensures misses { OnTrue result
+        (IsShown (left_by candidates.old (steps_of steps.now)) (aim_goal aim) → ⊥) }
 {
-    if !follow_from(p, grade, candidates, steps, place, known) {
-        return false;
-    }
-    aim.is_met(candidates)
+    take_all(candidates, steps);
+    !aim.is_met(candidates)
 }
 
-// Takes away what the steps before a place list, follows the others, and tells whether all are a chain of the grade's.
-fn follow_from<P: Steps>(
-    p: &P,
-    grade: Grade,
-    candidates: &mut Candidates,
-    steps: &[Step],
-    place: usize,
-    known: &mut P::Known,
-) -> bool
-    requires size { candidates.old.size ≡ (P.puzzle p.now).size }
-    requires inside { place ≤ length steps.now }
-    requires front { IsGradeChain (P.struck_by p.now) grade candidates.old (steps_of (take place steps.now)) }
-    ensures earlier { IsEarlier candidates.old candidates.new }
-    ensures leads { OnTrue result
-        (Leads (P.struck_by p.now) grade candidates.old (steps_of steps.now) candidates.new) }
-    ensures breaks { OnFalse result
-        (IsGradeChain (P.struck_by p.now) grade candidates.old (steps_of steps.now) → ⊥) }
-{
-    take_all(candidates, &steps[..place]);
-    follow(p, grade, candidates, &steps[place..], known)
-}
-
-// Takes away what the steps list.
-fn take_all(candidates: &mut Candidates, steps: &[Step])
+/// Takes away what the steps list.
+pub(crate) fn take_all(candidates: &mut Candidates, steps: &[Step])
     ensures size { candidates.new.size ≡ candidates.old.size }
     ensures earlier { IsEarlier candidates.old candidates.new }
     ensures alike { AreAlike (left_by candidates.old (steps_of steps.now)) candidates.new }
@@ -213,8 +172,8 @@ fn follow_one<P: Steps>(
     true
 }
 
-// Whether a step is one of the grade's by the candidates.
-fn is_step<P: Steps>(
+/// Whether a step is one of the grade's by the candidates.
+pub(crate) fn is_step<P: Steps>(
     p: &P,
     grade: Grade,
     candidates: &Candidates,
@@ -255,13 +214,37 @@ pub(crate) fn struck<P: Steps>(
 pub(crate) fn take(candidates: &mut Candidates, step: &Step)
     ensures { Takes (λ cell v. has_pair (step_value step.now).strikes cell v ≡ true) candidates.old candidates.new }
 {
+    take_from(candidates, step.cell, step.values);
+}
+
+/// Takes values from a square, as far as they are left; nothing where there is no such square.
+pub(crate) fn take_from(candidates: &mut Candidates, cell: u8, values: NumberSet)
+    ensures { Takes (λ at v. has_pair (pairs_of cell values) at v ≡ true) candidates.old candidates.new }
+{
     let width = candidates.size().get() as usize;
-    let cell = step.cell as usize;
-    let _bits = step.values.bits();
+    let cell = cell as usize;
+    let _bits = values.bits();
     if cell >= width * width {
         return;
     }
-    strike(candidates, cell, step.values);
+    strike(candidates, cell, values);
+}
+
+/// Takes all but these values from a square.
+pub(crate) fn keep_in(candidates: &mut Candidates, cell: u8, values: NumberSet)
+    ensures size { candidates.new.size ≡ candidates.old.size }
+    ensures fewer { IsFewer candidates.old candidates.new }
+    ensures earlier { IsEarlier candidates.old candidates.new }
+{
+    let others = left(candidates, cell as usize).difference(values);
+    take_from(candidates, cell, others);
+}
+
+/// Takes these values from some squares.
+pub(crate) fn take_values(candidates: &mut Candidates, cells: &ArrayVec<u8, 9>, values: &Values) {
+    for cell in cells.as_slice() {
+        take_from(candidates, *cell, values.of(*cell as usize));
+    }
 }
 
 /// Whether each step strikes only values that the steps before it leave. The candidates are afterwards what they were.

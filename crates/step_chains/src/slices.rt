@@ -4,11 +4,10 @@
 use crate::aims::Aim;
 use crate::chain::Step;
 use crate::needs::{Values, left, looked_at, needs_of};
+use crate::premises::few_premises;
 use crate::replays::{struck, take};
-use arrayvec::ArrayVec;
 use latin_board::{CELLS, OutOfMemory};
 use named_steps::{Reason, Steps};
-use number_sets::NumberSet;
 use std::alloc::Global;
 use trail_solver::{Candidates, Rules};
 
@@ -50,116 +49,6 @@ pub(crate) fn slice<P: Steps>(
     }
     kept.reverse();
     Ok(kept)
-}
-
-// Few of the values that are gone before a step, of the squares where its reason looks, by which it still strikes its own: those of
-// the latest steps are left out first, and what is needed anyhow stays.
-#[inline(never)]
-fn few_premises<P: Steps>(
-    p: &P,
-    candidates: &mut Candidates,
-    before: &[Step],
-    gone: &Values,
-    needs: &Values,
-    step: &Step,
-    known: &mut P::Known,
-) -> Values {
-    let cells = looked_at(candidates.size(), &step.reason);
-    let mut rest = *gone;
-    for i in 0..before.len() {
-        let made = &before[before.len() - 1 - i];
-        if cells.contains(&made.cell) {
-            leave_out(p, candidates, &cells, &mut rest, needs, step, made, known);
-        }
-    }
-    rest
-}
-
-// Leaves out what one step made, or else each of its values that can be left out.
-fn leave_out<P: Steps>(
-    p: &P,
-    candidates: &mut Candidates,
-    cells: &ArrayVec<u8, 9>,
-    rest: &mut Values,
-    needs: &Values,
-    step: &Step,
-    made: &Step,
-    known: &mut P::Known,
-) {
-    let cell = made.cell as usize;
-    let spare = made.values.difference(needs.of(cell));
-    if spare.is_empty() || leave_out_values(p, candidates, cells, rest, step, cell, spare, known) {
-        return;
-    }
-    if spare.is_single() {
-        return;
-    }
-    for value in 1..10 {
-        if spare.has(value) {
-            leave_out_values(
-                p,
-                candidates,
-                cells,
-                rest,
-                step,
-                cell,
-                NumberSet::one(value),
-                known,
-            );
-        }
-    }
-}
-
-// Leaves the values out, where the step still strikes what it strikes.
-fn leave_out_values<P: Steps>(
-    p: &P,
-    candidates: &mut Candidates,
-    cells: &ArrayVec<u8, 9>,
-    rest: &mut Values,
-    step: &Step,
-    cell: usize,
-    values: NumberSet,
-    known: &mut P::Known,
-) -> bool {
-    rest.remove(cell, values);
-    if strikes_by(p, candidates, cells, rest, step, known) {
-        return true;
-    }
-    rest.add(cell, values);
-    false
-}
-
-// Whether a step strikes its values where these are gone of the squares at which its reason looks.
-fn strikes_by<P: Steps>(
-    p: &P,
-    candidates: &mut Candidates,
-    cells: &ArrayVec<u8, 9>,
-    gone: &Values,
-    step: &Step,
-    known: &mut P::Known,
-) -> bool {
-    let mark = candidates.mark();
-    for cell in cells.as_slice() {
-        take(
-            candidates,
-            &Step {
-                reason: step.reason,
-                cell: *cell,
-                values: gone.of(*cell as usize),
-            },
-        );
-    }
-    let strikes = step.values.is_subset(struck(
-        p,
-        candidates,
-        &step.reason,
-        step.cell as usize,
-        known,
-    ));
-    if mark.len() <= candidates.trail_len() {
-        candidates.give_back(mark);
-    }
-    strikes
 }
 
 /// The chain in which each reason strikes, where it first strikes anything, all that it is to strike in any of the steps, as far as it does so

@@ -7,8 +7,8 @@ use Rattle.trail_solver.specs.Pairs.{has_pair, pairs_of}
 use Rattle.trail_solver.proofs.SetPairs.{has_pair-pairs_of}
 use Rattle.trail_solver.specs.Candidates.{CandidatesValue}
 use Rattle.clue_rules.specs.Left.{IsLeft, without}
-use Rattle.named_steps.specs.Chains.{StepValue, IsStep, IsChain, left_by}
-use Rattle.named_steps.proofs.Antitone.{left_size}
+use Rattle.clue_rules.specs.Chains.{StepValue, IsStep, IsChain, left_by}
+use Rattle.clue_rules.proofs.Chains.{left_size}
 use Rattle.clue_rules.specs.declared.reason.Reason.{Reason}
 use Rattle.step_chains.specs.declared.chain.Step.{Step}
 use Rattle.step_chains.specs.ChainValues.{step_value, steps_of}

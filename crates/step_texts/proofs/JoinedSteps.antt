@@ -5,10 +5,9 @@ use Rattle.std.proofs.lemmas.List.Elements.{All-push}
 use Rattle.trail_solver.specs.Pairs.{has_pair}
 use Rattle.trail_solver.specs.Candidates.{CandidatesValue}
 use Rattle.clue_rules.specs.Left.{AreAlike, without}
-use Rattle.named_steps.specs.Chains.{left_by}
+use Rattle.clue_rules.specs.Chains.{left_by}
 use Rattle.clue_rules.specs.Takes.{Takes}
-use Rattle.named_steps.proofs.Antitone.{left_size}
-use Rattle.named_steps.proofs.Parts.{left_append}
+use Rattle.clue_rules.proofs.Chains.{left_size, left_append}
 use Rattle.step_chains.specs.ChainValues.{step_value, steps_of}
 use Rattle.step_chains.proofs.Followed.{taken_alike}
 use Rattle.step_chains.specs.declared.chain.Step.{Step}

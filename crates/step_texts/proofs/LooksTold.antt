@@ -5,8 +5,8 @@ use Rattle.std.proofs.lemmas.List.{take-append-drop}
 use Rattle.std.proofs.lemmas.List.Elements.{All-weaker}
 use Rattle.trail_solver.specs.Candidates.{CandidatesValue}
 use Rattle.clue_rules.specs.Left.{IsLeft, IsFewer, AreAlike, without}
-use Rattle.named_steps.specs.Chains.{StepValue, left_by}
-use Rattle.named_steps.proofs.Antitone.{IsAntitone, fewer_without, left_size}
+use Rattle.clue_rules.specs.Chains.{StepValue, left_by}
+use Rattle.clue_rules.proofs.Chains.{IsAntitone, fewer_without, left_size}
 use Rattle.clue_rules.specs.declared.reason.Reason.{Reason}
 use Rattle.step_chains.specs.declared.chain.Step.{Step}
 use Rattle.step_chains.specs.ChainValues.{steps_of}

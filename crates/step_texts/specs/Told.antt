@@ -1,12 +1,11 @@
 -- Chains as they are told: which steps are one, what is told of each, and what holds of it.
-use Rattle.std.specs.Prelude.{◌≡◌, ◌<◌, ◌*◌, ◌^◌, ℕ, true, false, List, [], ◌∷◌, ◌++◌, All, map, slice_index, Option}
-use Rattle.std.specs.Prelude.{Some, None, IfSome}
+use Rattle.std.specs.Prelude.{◌≡◌, ◌<◌, ◌*◌, ◌^◌, ℕ, true, false, List, [], ◌∷◌, ◌++◌, All, map, slice_index, Option, Some, None, IfSome}
 use Rattle.number_sets.specs.Sets.{has_number}
 use Rattle.clue_rules.specs.Views.{view_cell}
 use Rattle.trail_solver.specs.Candidates.{CandidatesValue}
 use Rattle.trail_solver.specs.Pairs.{pairs_of}
 use Rattle.clue_rules.specs.Left.{IsLeft}
-use Rattle.named_steps.specs.Chains.{StepValue, left_by}
+use Rattle.clue_rules.specs.Chains.{StepValue, left_by}
 use Rattle.clue_rules.specs.declared.reason.Reason.{Reason}
 use Rattle.clue_rules.specs.declared.reason.Reason.TheVariants.{Given, Peer, Place, Bound, Stand, Clue, Sign, Set}
 use Rattle.step_chains.specs.ChainValues.{steps_of}

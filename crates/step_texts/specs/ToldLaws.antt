@@ -2,7 +2,7 @@
 use Rattle.std.specs.Prelude.{◌≡◌, ℕ, List}
 use Rattle.trail_solver.specs.Candidates.{CandidatesValue}
 use Rattle.trail_solver.specs.Puzzles.{Puzzle}
-use Rattle.named_steps.specs.Chains.{IsChain}
+use Rattle.clue_rules.specs.Chains.{IsChain}
 use Rattle.step_chains.specs.ChainValues.{AreLive, steps_of}
 use Rattle.step_chains.specs.declared.chain.Step.{Step}
 use Rattle.step_texts.specs.declared.told.ToldStep.{ToldStep}

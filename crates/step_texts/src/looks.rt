@@ -4,7 +4,7 @@ ghost use Rattle.number_sets.specs.Sets.{has_number};
 ghost use Rattle.trail_solver.specs.Pairs.{IsPair, has_pair};
 ghost use Rattle.trail_solver.specs.Candidates.{may_be};
 ghost use Rattle.clue_rules.specs.Left.{AreAlike};
-ghost use Rattle.named_steps.specs.Chains.{left_by};
+ghost use Rattle.clue_rules.specs.Chains.{left_by};
 ghost use Rattle.clue_rules.specs.Takes.{Takes};
 ghost use Rattle.step_chains.specs.ChainValues.{step_value, steps_of};
 ghost use Rattle.step_texts.specs.Looks.{HoldsAt, IsJoinable, AreJoined, HasNoMore};

@@ -1,7 +1,7 @@
 //! What a game adds for its steps to be told.
 ghost use Rattle.std.specs.Prelude.{◌≡◌, ◌*◌, ◌<◌, ℕ, Bool, List};
 ghost use Rattle.trail_solver.specs.Candidates.{CandidatesValue};
-ghost use Rattle.named_steps.specs.declared.grade.Grade.{Grade};
+ghost use Rattle.clue_rules.specs.declared.grade.Grade.{Grade};
 ghost use Rattle.clue_rules.specs.declared.reason.Reason.{Reason};
 ghost use Rattle.shown_counts.specs.Shown.{IsShownBy};
 ghost use Rattle.step_texts.specs.Told.{reason_clue, IsInView};

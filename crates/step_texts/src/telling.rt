@@ -18,7 +18,7 @@ use trail_solver::{Candidates, Rules};
 
 /// The steps of a chain from candidates on, as they are told: those side by side that have one reason, hold at once and are in reading order
 /// are one.
-// What is known of rows is in this frame alone, so that it isn't on the stack of those who search for chains before they tell them.
+// `known` is in this frame alone, so that it isn't on the stack of those who search for chains before they tell them.
 #[inline(never)]
 pub fn told_steps<P: StepNames>(
     alloc: Global,

@@ -7,7 +7,7 @@ use Rattle.std.proofs.lemmas.Simd.{bit_mask_l}
 use Rattle.number_sets.specs.Sets.{has_number}
 use Rattle.number_sets.proofs.Members.{has_number-none}
 use Rattle.tower_lines.specs.LineFillings.{IsFilling, IsSupported}
-use Rattle.tower_lines.specs.Inner.FiveLines.{IsWithin, IsKept}
+use Rattle.tower_lines.specs.Inner.FiveLines.{HasCandidateAtEach, IsKept}
 use Rattle.tower_lines.specs.declared.five_squares.TheConstants.{HAVING}
 use Rattle.tower_lines.proofs.SeenLemmas.{seen_most, seen_some}
 use Rattle.tower_lines.proofs.FiveLines.{five_values, going_on, five_lines, value_at, all_sets, five_lines_are, five_lines_have}
@@ -114,7 +114,7 @@ line_of {sets} {clue} line five filling =
 
 -- of the lines that are within the sets, those values are kept that are supported
 pub kept_supported : {sets : List ℕ} {clue : ℕ} (lines place value : ℕ) → length sets ≡ 5 → 1 ≤ clue → clue ≤ 5 → place < 5
-    → ((line : ℕ) → line < 64 → (has_number lines line ≡ true) ↔ IsWithin (get_or HAVING (clue - 1) []) sets 5 line)
+    → ((line : ℕ) → line < 64 → (has_number lines line ≡ true) ↔ HasCandidateAtEach (get_or HAVING (clue - 1) []) sets 5 line)
     → IsKept (get_or (get_or HAVING (clue - 1) []) place []) lines 5 value ↔ IsSupported sets clue place value
 kept_supported {sets} {clue} lines place value five low high inside told =
     let few = few_lines clue low high in (

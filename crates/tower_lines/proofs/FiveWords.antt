@@ -8,7 +8,7 @@ use Rattle.std.proofs.lemmas.Nat.{and_le_l}
 use Rattle.std.proofs.lemmas.Nat.Bits.{bit_at-trailing_zeros}
 use Rattle.number_sets.specs.Sets.{has_number, IsShared}
 use Rattle.number_sets.proofs.Members.{has_number-none, has_number-or, has_number-and, has_number-below, number-from_bit}
-use Rattle.tower_lines.specs.Inner.FiveLines.{HasCandidate, IsWithin, IsKept}
+use Rattle.tower_lines.specs.Inner.FiveLines.{HasCandidate, HasCandidateAtEach, IsKept}
 
 -- what either word has
 or_has : (a b line : ℕ) → (has_number (bit_or a b) line ≡ true) ↔ ((has_number a line ≡ true) ⊎ (has_number b line ≡ true))
@@ -69,14 +69,14 @@ kept_none k word lines more is apart v =
     (λ e. absurd (both_ways (has_number more v) (ap (λ n. has_number n v) is ∙ has_number-none v) e), λ h. absurd (apart h.1))
 
 -- all lines are within no places
-pub within_none : (having : List (List ℕ)) (sets : List ℕ) (line : ℕ) → line < 64 → (has_number 18446744073709551615 line ≡ true) ↔ IsWithin having sets 0 line
+pub within_none : (having : List (List ℕ)) (sets : List ℕ) (line : ℕ) → line < 64 → (has_number 18446744073709551615 line ≡ true) ↔ HasCandidateAtEach having sets 0 line
 within_none having sets line small = (λ e place l. absurd (omega arith), λ h. has_number-below 64 line ∙ lt-ltb line 64 small)
 
 -- the lines within one place more
 pub within_more : (having : List (List ℕ)) (sets : List ℕ) (place lines word line : ℕ)
-    → ((has_number lines line ≡ true) ↔ IsWithin having sets place line)
+    → ((has_number lines line ≡ true) ↔ HasCandidateAtEach having sets place line)
     → ((has_number word line ≡ true) ↔ HasCandidate (get_or having place []) (get_or sets place 0) 5 line)
-    → (has_number (bit_and lines word) line ≡ true) ↔ IsWithin having sets (place + 1) line
+    → (has_number (bit_and lines word) line ≡ true) ↔ HasCandidateAtEach having sets (place + 1) line
 within_more having sets place lines word line before here =
     let both = has_number-and lines word line in (
       λ e p l. let (old, new) = and_parts _ _ (sym both ∙ e) in

@@ -9,7 +9,7 @@ use Rattle.tower_lines.specs.TowersSeen.{seen, seen_after}
 use Rattle.number_sets.specs.Sets.{has_number}
 use Rattle.tower_lines.specs.LineFillings.{IsStart, IsFilling}
 use Rattle.tower_lines.specs.Inner.LineMasks.{is_in}
-use Rattle.tower_lines.specs.Inner.Levels.{LacksLeast, Within, Hidden, Shown, First, Later, IsLowMask, IsAtLevel, IsStep, Greatest, Least, Between}
+use Rattle.tower_lines.specs.Inner.Levels.{LacksLeast, Within, Hidden, Shown, First, Later, IsLowMask, IsAtLevel, IsLevelStep, Greatest, Least, Between}
 use Rattle.number_sets.proofs.Members.{has_number-below}
 use Rattle.tower_lines.proofs.LowMaskLemmas.{low_mask_of, low_unique, low_bit, low_more, low_same, whole_of, whole_half, tower_half, least_tells, least_told, rest_low, rest_last}
 use Rattle.tower_lines.proofs.MaskLemmas.{is_in-push, is_in-push_same, tower_is, tower, seen-more}
@@ -94,7 +94,7 @@ shown_first p x none =
     let all : list_all (λ y. ltb y x) p ≡ true = ap (list_all (λ y. ltb y x)) (nil_from_length p none) in
     seen-push p x ∙ rw all refl
 
--- and else hidden
+-- and otherwise hidden
 shown_later : {sets : List ℕ} (p : List ℕ) (k : ℕ) → k ≡ 0 → IsStart sets p → 0 < length p → seen (p ++ (k + 1) ∷ []) ≡ seen p
 shown_later {sets} p k zero start some =
     let low = (start.values 0 some).0 in
@@ -114,7 +114,7 @@ greatest_in_push p n k low = is_in-push p (k + 1) n ∙ ap (λ b. is_in n p || b
 pub at_last : {sets : List ℕ} {clue level mask : ℕ} (p : List ℕ) → IsAtLevel sets clue level mask p → is_in (length sets) p ≡ true → level ≡ clue
 at_last {sets} {clue} {level} p at has = eqb-true level clue (sym at.last ∙ has)
 
--- and before it else
+-- and before it otherwise
 at_low : {sets : List ℕ} {clue level mask : ℕ} (p : List ℕ) → IsAtLevel sets clue level mask p → is_in (length sets) p ≡ false → level < clue
 at_low {sets} {clue} {level} p at lacks =
     let apart : level ≢ clue = eqb-false level clue (sym at.last ∙ lacks) in
@@ -158,7 +158,7 @@ record IsNew (sets : List ℕ) (k mask_then : ℕ) (p : List ℕ) : Type 0 where
 
 -- such is the value of a step, with the mask that it leads to
 step_new : {sets : List ℕ} {clue k level mask level_then mask_then : ℕ} (p : List ℕ) → IsAtLevel sets clue level mask p
-    → IsStep (length p) (length sets) clue k level mask level_then mask_then → IsNew sets k mask_then p
+    → IsLevelStep (length p) (length sets) clue k level mask level_then mask_then → IsNew sets k mask_then p
 step_new {sets} {clue} {k} {level} {mask} {level_then} {mask_then} p at (Greatest s) =
     let is = s.value in
     let lacks = at_low_lacks p at (omega (arith, s.before)) in
@@ -175,7 +175,7 @@ step_new {sets} {clue} {k} {level} {mask} {level_then} {mask_then} p at (Between
     record { high = omega (arith, s.value); fresh = fresh; used = rw s.more (low_more p k bit is at.used s.value s.fresh) }
 
 pub step_from : {sets : List ℕ} {clue k level mask level_then mask_then : ℕ} (p : List ℕ) → IsAtLevel sets clue level mask p → length p < length sets
-    → has_number (get_or sets (length p) 0) (k + 1) ≡ true → IsStep (length p) (length sets) clue k level mask level_then mask_then
+    → has_number (get_or sets (length p) 0) (k + 1) ≡ true → IsLevelStep (length p) (length sets) clue k level mask level_then mask_then
     → IsAtLevel sets clue level_then mask_then (p ++ (k + 1) ∷ [])
 step_from {sets} {clue} {k} {level} {mask} {level_then} {mask_then} p at room candidate s =
     let new = step_new p at s in
@@ -224,7 +224,7 @@ front_of {sets} {clue} p start used all few =
 pub record IsStepped (sets : List ℕ) (clue k level mask : ℕ) (p : List ℕ) : Type 0 where
   pub mask_before : ℕ
   pub front : IsAtLevel sets clue (seen p) mask_before p
-  pub step : IsStep (length p) (length sets) clue k (seen p) mask_before level mask
+  pub step : IsLevelStep (length p) (length sets) clue k (seen p) mask_before level mask
 
 -- a start's front is at the level of the towers that it shows
 front_at : {sets : List ℕ} {clue level mask front : ℕ} (p : List ℕ) (k : ℕ) → IsAtLevel sets clue level mask (p ++ (k + 1) ∷ [])
@@ -246,7 +246,7 @@ front_at {sets} {clue} {level} p k at used =
 
 -- the greatest value after the front
 step_greatest : {sets : List ℕ} {clue level mask front : ℕ} (p : List ℕ) (k : ℕ) → k + 1 ≡ length sets → IsAtLevel sets clue level mask (p ++ (k + 1) ∷ [])
-    → IsAtLevel sets clue (seen p) front p → IsStep (length p) (length sets) clue k (seen p) front level mask
+    → IsAtLevel sets clue (seen p) front p → IsLevelStep (length p) (length sets) clue k (seen p) front level mask
 step_greatest {sets} p k greatest at from =
     let lacks : is_in (length sets) p ≡ false = ap (λ v. is_in v p) (sym greatest) ∙ (start_next p (k + 1) [] at.start).fresh in
     let last = at_last (p ++ (k + 1) ∷ []) at (is_in-push_same p (k + 1) (length sets) greatest) in
@@ -259,7 +259,7 @@ step_greatest {sets} p k greatest at from =
 
 -- the least
 step_least : {sets : List ℕ} {clue level mask front : ℕ} (p : List ℕ) (k : ℕ) → k ≡ 0 → k + 1 < length sets → IsAtLevel sets clue level mask (p ++ (k + 1) ∷ [])
-    → IsAtLevel sets clue (seen p) front p → IsStep (length p) (length sets) clue k (seen p) front level mask
+    → IsAtLevel sets clue (seen p) front p → IsLevelStep (length p) (length sets) clue k (seen p) front level mask
 step_least {sets} {clue} {level} {mask} {front} p k least value at from =
     let one : 1 ≡ k + 1 = omega arith in
     let fresh : is_in 1 p ≡ false = ap (λ v. is_in v p) one ∙ (start_next p (k + 1) [] at.start).fresh in
@@ -283,7 +283,7 @@ step_least {sets} {clue} {level} {mask} {front} p k least value at from =
 
 -- a value between them
 step_between : {sets : List ℕ} {clue level mask front : ℕ} (p : List ℕ) (k : ℕ) → 0 < k → k + 1 < length sets → IsAtLevel sets clue level mask (p ++ (k + 1) ∷ [])
-    → IsAtLevel sets clue (seen p) front p → IsStep (length p) (length sets) clue k (seen p) front level mask
+    → IsAtLevel sets clue (seen p) front p → IsLevelStep (length p) (length sets) clue k (seen p) front level mask
 step_between {sets} {clue} {level} {mask} {front} p k some value at from =
     let bit = k - 1 in
     let is : k ≡ bit + 1 = omega arith in

@@ -8,24 +8,24 @@ use Rattle.number_sets.specs.Sets.{has_number}
 use Rattle.number_sets.proofs.Members.{power_most}
 use Rattle.number_sets.proofs.OneMore.{added_with, added_without, added_lacks, added_has}
 use Rattle.tower_lines.specs.Inner.MaskSets.{has_mask, has_at}
-use Rattle.tower_lines.specs.Inner.Levels.{IsMove, Within, Hidden, Shown, LacksLeast, First, Later, IsLastStep, IsLeastStep, IsLowStep, IsStep, Greatest, Least, Between, AreFew, IsCommon, IsLinked, IsReachedBy, LeadsTo, IsPassing}
+use Rattle.tower_lines.specs.Inner.Levels.{IsMove, Within, Hidden, Shown, LacksLeast, First, Later, IsLastStep, IsLeastStep, IsLowStep, IsLevelStep, Greatest, Least, Between, AreFew, IsCommon, IsLinked, IsReachedBy, LeadsToLevels, IsPassing}
 
 -- ---- of which kind a step is
 
 -- of the greatest value
-pub only_greatest : {place width clue k level mask level_then mask_then : ℕ} → k + 1 ≡ width → IsStep place width clue k level mask level_then mask_then
+pub only_greatest : {place width clue k level mask level_then mask_then : ℕ} → k + 1 ≡ width → IsLevelStep place width clue k level mask level_then mask_then
     → IsLastStep width clue k level mask level_then mask_then
 only_greatest top (Greatest s) = s
 only_greatest top (Least s) = absurd (omega (arith, s.value, s.more))
 only_greatest top (Between bit is s) = absurd (omega (arith, s.value))
 
-only_least : {place width clue k level mask level_then mask_then : ℕ} → k ≡ 0 → 1 < width → IsStep place width clue k level mask level_then mask_then
+only_least : {place width clue k level mask level_then mask_then : ℕ} → k ≡ 0 → 1 < width → IsLevelStep place width clue k level mask level_then mask_then
     → IsLeastStep place width clue k level mask level_then mask_then
 only_least least more (Greatest s) = absurd (omega (arith, s.value))
 only_least least more (Least s) = s
 only_least least more (Between bit is s) = absurd (omega arith)
 
-only_between : {place width clue k level mask level_then mask_then : ℕ} → k + 2 < width → IsStep place width clue (k + 1) level mask level_then mask_then
+only_between : {place width clue k level mask level_then mask_then : ℕ} → k + 2 < width → IsLevelStep place width clue (k + 1) level mask level_then mask_then
     → IsLowStep width clue k level mask level_then mask_then
 only_between less (Greatest s) = absurd (omega (arith, s.value))
 only_between less (Least s) = absurd (omega (arith, s.value))
@@ -81,15 +81,15 @@ linked_none Link levels set mask empty none = (
 pub greatest_reached : (place width clue k : ℕ) (levels : List (List ℕ)) (set : List ℕ) → k + 1 ≡ width → 0 < clue → set ≡ get_or levels (clue - 1) []
     → (mask : ℕ) → (has_mask set mask ≡ true) ↔ IsReachedBy place width clue k levels clue mask
 greatest_reached place width clue k levels set top some is mask =
-    linked_one (λ l x. IsStep place width clue k l x clue mask) levels (clue - 1) mask true (has_mask set mask) (ap (λ (s : List ℕ). has_mask s mask) is)
+    linked_one (λ l x. IsLevelStep place width clue k l x clue mask) levels (clue - 1) mask true (has_mask set mask) (ap (λ (s : List ℕ). has_mask s mask) is)
     (λ _. Greatest record { value = top; before = omega arith; after = refl; same = refl })
     (λ l x s. let g = only_greatest top s in record { level_is = omega (arith, g.before); mask_is = sym g.same; passes = refl })
 
 -- and from the level before the last to the masks of the last
 pub greatest_leads : (place width clue k : ℕ) (after : List (List ℕ)) (set : List ℕ) → k + 1 ≡ width → 0 < clue → set ≡ get_or after clue []
-    → (mask : ℕ) → (has_mask set mask ≡ true) ↔ LeadsTo place width clue k after (clue - 1) mask
+    → (mask : ℕ) → (has_mask set mask ≡ true) ↔ LeadsToLevels place width clue k after (clue - 1) mask
 greatest_leads place width clue k after set top some is mask =
-    linked_one (λ l x. IsStep place width clue k (clue - 1) mask l x) after clue mask true (has_mask set mask) (ap (λ (s : List ℕ). has_mask s mask) is)
+    linked_one (λ l x. IsLevelStep place width clue k (clue - 1) mask l x) after clue mask true (has_mask set mask) (ap (λ (s : List ℕ). has_mask s mask) is)
     (λ _. Greatest record { value = top; before = omega arith; after = refl; same = refl })
     (λ l x s. let g = only_greatest top s in record { level_is = g.after; mask_is = g.same; passes = refl })
 
@@ -101,7 +101,7 @@ pub least_reached : (place clue count level : ℕ) (levels : List (List ℕ)) (s
     → ((mask : ℕ) → (count_ones mask ≡ count) ↔ LacksLeast place clue level mask)
     → (width mask : ℕ) → 1 < width → (has_mask set mask ≡ true) ↔ IsReachedBy place width clue 0 levels level mask
 least_reached place clue count level levels set some counted told width mask more =
-    linked_one (λ l x. IsStep place width clue 0 l x level mask) levels level mask (eqb (count_ones mask) count) (has_mask set mask)
+    linked_one (λ l x. IsLevelStep place width clue 0 l x level mask) levels level mask (eqb (count_ones mask) count) (has_mask set mask)
     (counted mask ∙ and_comm (has_at levels level mask) _)
     (λ e. Least record { value = refl; more = more; same = refl; moves = Later some refl ((told mask).0 (eqb-true _ _ e)) })
     (λ l x s. let b = only_least refl more s in elim b.moves [
@@ -115,9 +115,9 @@ least_reached place clue count level levels set some counted told width mask mor
 pub least_leads : (place clue count level : ℕ) (after : List (List ℕ)) (set : List ℕ) → 0 < place
     → ((mask : ℕ) → has_mask set mask ≡ (has_at after level mask && eqb (count_ones mask) count))
     → ((mask : ℕ) → (count_ones mask ≡ count) ↔ LacksLeast place clue level mask)
-    → (width mask : ℕ) → 1 < width → (has_mask set mask ≡ true) ↔ LeadsTo place width clue 0 after level mask
+    → (width mask : ℕ) → 1 < width → (has_mask set mask ≡ true) ↔ LeadsToLevels place width clue 0 after level mask
 least_leads place clue count level after set some counted told width mask more =
-    linked_one (λ l x. IsStep place width clue 0 level mask l x) after level mask (eqb (count_ones mask) count) (has_mask set mask)
+    linked_one (λ l x. IsLevelStep place width clue 0 level mask l x) after level mask (eqb (count_ones mask) count) (has_mask set mask)
     (counted mask ∙ and_comm (has_at after level mask) _)
     (λ e. Least record { value = refl; more = more; same = refl; moves = Later some refl ((told mask).0 (eqb-true _ _ e)) })
     (λ l x s. let b = only_least refl more s in elim b.moves [
@@ -130,7 +130,7 @@ pub least_first_reached : (place clue level : ℕ) (levels : List (List ℕ)) (s
     → set ≡ get_or levels (level - 1) []
     → (width mask : ℕ) → 1 < width → (has_mask set mask ≡ true) ↔ IsReachedBy place width clue 0 levels level mask
 least_first_reached place clue level levels set none some early is width mask more =
-    linked_one (λ l x. IsStep place width clue 0 l x level mask) levels (level - 1) mask true (has_mask set mask) (ap (λ (s : List ℕ). has_mask s mask) is)
+    linked_one (λ l x. IsLevelStep place width clue 0 l x level mask) levels (level - 1) mask true (has_mask set mask) (ap (λ (s : List ℕ). has_mask s mask) is)
     (λ _. Least record { value = refl; more = more; same = refl; moves = First none (omega arith) early })
     (λ l x s. let b = only_least refl more s in elim b.moves [
       | First _ next low ↦ record { level_is = omega arith; mask_is = sym b.same; passes = refl }
@@ -139,9 +139,9 @@ least_first_reached place clue level levels set none some early is width mask mo
 
 pub least_first_leads : (place clue level : ℕ) (after : List (List ℕ)) (set : List ℕ) → place ≡ 0 → level + 1 < clue
     → set ≡ get_or after (level + 1) []
-    → (width mask : ℕ) → 1 < width → (has_mask set mask ≡ true) ↔ LeadsTo place width clue 0 after level mask
+    → (width mask : ℕ) → 1 < width → (has_mask set mask ≡ true) ↔ LeadsToLevels place width clue 0 after level mask
 least_first_leads place clue level after set none early is width mask more =
-    linked_one (λ l x. IsStep place width clue 0 level mask l x) after (level + 1) mask true (has_mask set mask) (ap (λ (s : List ℕ). has_mask s mask) is)
+    linked_one (λ l x. IsLevelStep place width clue 0 level mask l x) after (level + 1) mask true (has_mask set mask) (ap (λ (s : List ℕ). has_mask s mask) is)
     (λ _. Least record { value = refl; more = more; same = refl; moves = First none refl early })
     (λ l x s. let b = only_least refl more s in elim b.moves [
       | First _ next low ↦ record { level_is = next; mask_is = b.same; passes = refl }
@@ -150,7 +150,7 @@ least_first_leads place clue level after set none early is width mask more =
 
 -- as the first it doesn't lead to the last level
 pub least_first_late : {place width clue level mask level_then mask_then : ℕ} → 1 < width → place ≡ 0 → clue ≤ level_then ⊎ clue ≤ level + 1
-    → IsStep place width clue 0 level mask level_then mask_then → ⊥
+    → IsLevelStep place width clue 0 level mask level_then mask_then → ⊥
 least_first_late more none late s =
     elim (only_least refl more s).moves [
       | First _ next low ↦ elim late [ inl to ↦ omega arith | inr from ↦ omega arith ]
@@ -161,7 +161,7 @@ least_first_late more none late s =
 
 -- it leads to a mask that has it from that mask without it
 put_in : {place width clue k level level_then mask : ℕ} → k + 2 < width → has_number mask k ≡ true → IsMove clue k level (mask - 2 ^ k) level_then
-    → IsStep place width clue (k + 1) level (mask - 2 ^ k) level_then mask
+    → IsLevelStep place width clue (k + 1) level (mask - 2 ^ k) level_then mask
 put_in {k = k} {mask = mask} less has moves =
     let most = power_most mask k has in
     let back : mask - 2 ^ k + 2 ^ k ≡ mask = omega arith in
@@ -169,7 +169,7 @@ put_in {k = k} {mask = mask} less has moves =
 
 -- and from a mask that lacks it to that mask with it
 put_to : {place width clue k level level_then mask : ℕ} → k + 2 < width → not (has_number mask k) ≡ true → IsMove clue k level mask level_then
-    → IsStep place width clue (k + 1) level mask level_then (mask + 2 ^ k)
+    → IsLevelStep place width clue (k + 1) level mask level_then (mask + 2 ^ k)
 put_to {k = k} less lacks moves = Between k refl record { value = less; fresh = not-true _ lacks; more = refl; moves = moves }
 
 -- to the last level
@@ -177,7 +177,7 @@ pub between_reached_last : (clue k : ℕ) (levels : List (List ℕ)) (from set :
     → ((m : ℕ) → has_mask set m ≡ (has_number m k && has_mask from (m - 2 ^ k)))
     → (place width mask : ℕ) → k + 2 < width → (has_mask set mask ≡ true) ↔ IsReachedBy place width clue (k + 1) levels clue mask
 between_reached_last clue k levels from set is with place width mask less =
-    linked_one (λ l x. IsStep place width clue (k + 1) l x clue mask) levels clue (mask - 2 ^ k) (has_number mask k) (has_mask set mask)
+    linked_one (λ l x. IsLevelStep place width clue (k + 1) l x clue mask) levels clue (mask - 2 ^ k) (has_number mask k) (has_mask set mask)
     (with mask ∙ ap (λ (s : List ℕ). has_number mask k && has_mask s (mask - 2 ^ k)) is)
     (λ has. put_in less has (Within refl refl))
     (λ l x s. let b = only_between less s in
@@ -189,9 +189,9 @@ between_reached_last clue k levels from set is with place width mask less =
 
 pub between_leads_last : (clue k : ℕ) (after : List (List ℕ)) (from set : List ℕ) → from ≡ get_or after clue []
     → ((m : ℕ) → has_mask set m ≡ (not (has_number m k) && has_mask from (m + 2 ^ k)))
-    → (place width mask : ℕ) → k + 2 < width → (has_mask set mask ≡ true) ↔ LeadsTo place width clue (k + 1) after clue mask
+    → (place width mask : ℕ) → k + 2 < width → (has_mask set mask ≡ true) ↔ LeadsToLevels place width clue (k + 1) after clue mask
 between_leads_last clue k after from set is without place width mask less =
-    linked_one (λ l x. IsStep place width clue (k + 1) clue mask l x) after clue (mask + 2 ^ k) (not (has_number mask k)) (has_mask set mask)
+    linked_one (λ l x. IsLevelStep place width clue (k + 1) clue mask l x) after clue (mask + 2 ^ k) (not (has_number mask k)) (has_mask set mask)
     (without mask ∙ ap (λ (s : List ℕ). not (has_number mask k) && has_mask s (mask + 2 ^ k)) is)
     (λ lacks. put_to less lacks (Within refl refl))
     (λ l x s. let b = only_between less s in
@@ -217,7 +217,7 @@ between_reached clue k level levels from lower hiding showing either set some ea
     let x = mask - 2 ^ k in
     let far = leb (2 ^ k) x in
     let near = ltb x (2 ^ k) in
-    linked_two (λ l y. IsStep place width clue (k + 1) l y level mask) levels level (level - 1) x (has_number mask k && far) (has_number mask k && near)
+    linked_two (λ l y. IsLevelStep place width clue (k + 1) l y level mask) levels level (level - 1) x (has_number mask k && far) (has_number mask k && near)
     (has_mask set mask)
     (rw (← is, ← lower_is) (with mask ∙ ap (λ b. has_number mask k && b) (are x ∙ rw (hides x, shows x) refl) ∙ test_each _ _ far _ near))
     (λ p. let (has, large) = and_parts _ _ p in put_in less has (Hidden early (leb-true (2 ^ k) x large) refl))
@@ -241,20 +241,20 @@ abbrev is_shown : ℕ → ℕ → Bool
 is_shown k mask = not (has_number mask k) && ltb (mask + 2 ^ k) (2 ^ (k + 1))
 
 hidden_step : {place width clue level : ℕ} (k mask : ℕ) → k + 2 < width → level < clue → is_hidden k mask ≡ true
-    → IsStep place width clue (k + 1) level mask level (mask + 2 ^ k)
+    → IsLevelStep place width clue (k + 1) level mask level (mask + 2 ^ k)
 hidden_step k mask less early p =
     let (lacks, size) = and_parts _ _ p in
     let large = leb-true (2 ^ (k + 1)) (mask + 2 ^ k) size in
     put_to less lacks (Hidden early (omega (arith, pow_more 2 k)) refl)
 
 shown_step : {place width clue level : ℕ} (k mask : ℕ) → k + 2 < width → level + 1 < clue → is_shown k mask ≡ true
-    → IsStep place width clue (k + 1) level mask (level + 1) (mask + 2 ^ k)
+    → IsLevelStep place width clue (k + 1) level mask (level + 1) (mask + 2 ^ k)
 shown_step k mask less early p =
     let (lacks, size) = and_parts _ _ p in
     let small = ltb-true (mask + 2 ^ k) (2 ^ (k + 1)) size in
     put_to less lacks (Shown (omega (arith, pow_more 2 k)) refl early)
 
-step_from_low : {place width clue level : ℕ} (k mask : ℕ) → k + 2 < width → level < clue → (l y : ℕ) → IsStep place width clue (k + 1) level mask l y
+step_from_low : {place width clue level : ℕ} (k mask : ℕ) → k + 2 < width → level < clue → (l y : ℕ) → IsLevelStep place width clue (k + 1) level mask l y
     → IsAt level (mask + 2 ^ k) (is_hidden k mask) l y ⊎ (IsAt (level + 1) (mask + 2 ^ k) (is_shown k mask) l y × (level + 1 < clue))
 step_from_low k mask less early l y s =
     let b = only_between less s in
@@ -272,11 +272,11 @@ pub between_leads : (clue k level : ℕ) (after : List (List ℕ)) (same_level n
     → ((m : ℕ) → has_mask hidden m ≡ (has_mask same_level m && leb (2 ^ (k + 1)) m)) → ((m : ℕ) → has_mask shown m ≡ (has_mask next m && ltb m (2 ^ (k + 1))))
     → ((m : ℕ) → has_mask either m ≡ (has_mask hidden m || has_mask shown m))
     → ((m : ℕ) → has_mask set m ≡ (not (has_number m k) && has_mask either (m + 2 ^ k)))
-    → (place width mask : ℕ) → k + 2 < width → (has_mask set mask ≡ true) ↔ LeadsTo place width clue (k + 1) after level mask
+    → (place width mask : ℕ) → k + 2 < width → (has_mask set mask ≡ true) ↔ LeadsToLevels place width clue (k + 1) after level mask
 between_leads clue k level after same_level next hidden shown either set early is next_is hides shows are without place width mask less =
     let x = mask + 2 ^ k in
     let lacks = not (has_number mask k) in
-    linked_two (λ l y. IsStep place width clue (k + 1) level mask l y) after level (level + 1) x (is_hidden k mask) (is_shown k mask) (has_mask set mask)
+    linked_two (λ l y. IsLevelStep place width clue (k + 1) level mask l y) after level (level + 1) x (is_hidden k mask) (is_shown k mask) (has_mask set mask)
     (rw (← is, ← next_is) (without mask ∙ ap (λ b. lacks && b) (are x ∙ rw (hides x, shows x) refl) ∙ test_each lacks _ _ _ _))
     (hidden_step k mask less (omega arith)) (shown_step k mask less early)
     (λ l y s. elim (step_from_low k mask less (omega arith) l y s) [ inl h ↦ inl h | inr n ↦ inr n.0 ])
@@ -285,11 +285,11 @@ between_leads clue k level after same_level next hidden shown either set early i
 pub between_leads_hidden : (clue k level : ℕ) (after : List (List ℕ)) (same_level hidden set : List ℕ) → level < clue → clue ≤ level + 1
     → same_level ≡ get_or after level [] → ((m : ℕ) → has_mask hidden m ≡ (has_mask same_level m && leb (2 ^ (k + 1)) m))
     → ((m : ℕ) → has_mask set m ≡ (not (has_number m k) && has_mask hidden (m + 2 ^ k)))
-    → (place width mask : ℕ) → k + 2 < width → (has_mask set mask ≡ true) ↔ LeadsTo place width clue (k + 1) after level mask
+    → (place width mask : ℕ) → k + 2 < width → (has_mask set mask ≡ true) ↔ LeadsToLevels place width clue (k + 1) after level mask
 between_leads_hidden clue k level after same_level hidden set early late is hides without place width mask less =
     let x = mask + 2 ^ k in
     let lacks = not (has_number mask k) in
-    linked_one (λ l y. IsStep place width clue (k + 1) level mask l y) after level x (is_hidden k mask) (has_mask set mask)
+    linked_one (λ l y. IsLevelStep place width clue (k + 1) level mask l y) after level x (is_hidden k mask) (has_mask set mask)
     (rw (← is) (without mask ∙ ap (λ b. lacks && b) (hides x ∙ and_comm (has_mask same_level x) _) ∙ sym (and_assoc lacks _ _)))
     (hidden_step k mask less early)
     (λ l y s. elim (step_from_low k mask less early l y s) [ inl h ↦ h | inr n ↦ absurd (omega (arith, n.1)) ])
@@ -298,7 +298,7 @@ between_leads_hidden clue k level after same_level hidden set early late is hide
 
 -- those of a level that are in the set of the masks from which it leads on
 pub shared_passing : (place width clue k level : ℕ) (fronts after : List (List ℕ)) (set : List ℕ) → level ≤ clue
-    → ((m : ℕ) → (has_mask set m ≡ true) ↔ LeadsTo place width clue k after level m)
+    → ((m : ℕ) → (has_mask set m ≡ true) ↔ LeadsToLevels place width clue k after level m)
     → (mask : ℕ) → IsPassing place width clue k fronts after level mask ↔ IsCommon fronts set level mask
 shared_passing place width clue k level fronts after set low leads mask = (
   λ p. record { here = p.here; there = (leads mask).1 p.leads },

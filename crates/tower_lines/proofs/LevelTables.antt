@@ -7,7 +7,7 @@ use Rattle.number_sets.specs.Sets.{has_number}
 use Rattle.tower_lines.specs.TowersSeen.{seen}
 use Rattle.tower_lines.specs.LineFillings.{IsStart, IsFilling, IsSupported}
 use Rattle.tower_lines.specs.Inner.MaskSets.{has_at}
-use Rattle.tower_lines.specs.Inner.Levels.{IsAtLevel, IsStep, LeadsTo, IsPassing, AreReached, AreContinued, AreFew, IsReachedFrom, IsPassed, IsKeptBy}
+use Rattle.tower_lines.specs.Inner.Levels.{IsAtLevel, IsLevelStep, LeadsToLevels, IsPassing, AreReached, AreContinued, AreFew, IsReachedFrom, IsPassed, IsKeptBy}
 use Rattle.number_sets.proofs.Members.{has_number-none, none_from_numbers}
 use Rattle.tower_lines.proofs.LevelLemmas.{has_greatest, at_last, step_from, stepped, front_level}
 use Rattle.tower_lines.proofs.LowMaskLemmas.{low_unique}
@@ -72,8 +72,8 @@ parted {sets} place line inside start =
     }
 
 -- the step from a start of so many values
-step_at : {place place' width clue k level mask level_then mask_then : ℕ} → place ≡ place' → IsStep place width clue k level mask level_then mask_then
-    → IsStep place' width clue k level mask level_then mask_then
+step_at : {place place' width clue k level mask level_then mask_then : ℕ} → place ≡ place' → IsLevelStep place width clue k level mask level_then mask_then
+    → IsLevelStep place' width clue k level mask level_then mask_then
 step_at same s = rw same at s
 
 -- one value more
@@ -154,7 +154,7 @@ last_continued {sets} {clue} {levels} some reached = record {
 
 -- a value that leads from a start to levels of which each start is continued: so is this start, with the value
 continued_step : {sets : List ℕ} {after : List (List ℕ)} {clue place k level mask : ℕ} (p : List ℕ) → place < length sets → AreContinued sets clue (place + 1) after
-    → length p ≡ place → has_number (get_or sets place 0) (k + 1) ≡ true → IsAtLevel sets clue level mask p → LeadsTo place (length sets) clue k after level mask
+    → length p ≡ place → has_number (get_or sets place 0) (k + 1) ≡ true → IsAtLevel sets clue level mask p → LeadsToLevels place (length sets) clue k after level mask
     → (rest : List ℕ) × IsFilling sets clue (p ++ (k + 1) ∷ rest)
 continued_step {sets} {after} {clue} {place} {k} {level} {mask} p inside continued long candidate at leads =
     let then = step_from p at (omega arith) (rw long candidate) (step_at (sym long) leads.link) in

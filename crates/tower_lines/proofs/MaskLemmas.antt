@@ -106,7 +106,7 @@ tower_is {mask} p k h =
       ])
     ]
 
--- 1 where the value is greater than all of the mask, and else 0
+-- 1 where the value is greater than all of the mask, and otherwise 0
 abbrev pub tower : ℕ → ℕ → ℕ
 tower mask k = cond (ltb mask (2 ^ k)) 1 0
 

@@ -41,18 +41,22 @@ seen-push p x = seen-append p (x ∷ []) ∙ omega arith
 pub record IsLeastSeen (p : List ℕ) (least : ℕ) : Type 0 where
   pub taller : (x : ℕ) → list_all (λ y. ltb y x) p ≡ leb least x
 
+-- after a height that is seen, the heights above it are seen
 pub least_seen_more : (p : List ℕ) (least height : ℕ) → IsLeastSeen p least → least ≤ height → IsLeastSeen (p ++ height ∷ []) (height + 1)
 least_seen_more p least height h l = record {
   taller = λ x. list_all-append (λ y. ltb y x) p (height ∷ []) ∙ rw (h.taller x) (grind (arith, nat_tests));
 }
 
+-- after one that is hidden, the same heights are
 pub least_seen_same : (p : List ℕ) (least height : ℕ) → IsLeastSeen p least → height < least → IsLeastSeen (p ++ height ∷ []) least
 least_seen_same p least height h l = record {
   taller = λ x. list_all-append (λ y. ltb y x) p (height ∷ []) ∙ rw (h.taller x) (grind (arith, nat_tests));
 }
 
+-- a height that is seen is one tower more
 pub seen-more_seen : (p : List ℕ) (least height : ℕ) → IsLeastSeen p least → least ≤ height → seen (p ++ height ∷ []) ≡ seen p + 1
 seen-more_seen p least height h l = seen-push p height ∙ rw (h.taller height) (rw (le-leb least height l) refl)
 
+-- and one that is hidden is none
 pub seen-more_hidden : (p : List ℕ) (least height : ℕ) → IsLeastSeen p least → height < least → seen (p ++ height ∷ []) ≡ seen p
 seen-more_hidden p least height h l = seen-push p height ∙ rw (h.taller height) (rw (lt-leb least height l) (omega arith))

@@ -7,7 +7,7 @@ ghost use Rattle.std.specs.Prelude.{◌≡◌, ℕ, ◌<◌, ◌↔◌, true, le
 ghost use Rattle.std.specs.Bool.{MatchBool};
 ghost use Rattle.number_sets.specs.Sets.{has_number, IsShared};
 ghost use Rattle.tower_lines.specs.LineFillings.{IsSupported};
-ghost use Rattle.tower_lines.specs.Inner.FiveLines.{HasCandidate, IsWithin, IsKept};
+ghost use Rattle.tower_lines.specs.Inner.FiveLines.{HasCandidate, HasCandidateAtEach, IsKept};
 
 use number_sets::NumberSet;
 
@@ -73,7 +73,7 @@ pub fn supported_in_five(sets: &[NumberSet], clue: u8) -> [NumberSet; 9]
 fn lines_within(having: &[[u64; 5]; 5], sets: &[NumberSet]) -> u64
     requires { length sets.now ≡ 5 }
     ensures { (line : ℕ) → line < 64
-        → (has_number result line ≡ true) ↔ IsWithin having.now sets.now 5 line }
+        → (has_number result line ≡ true) ↔ HasCandidateAtEach having.now sets.now 5 line }
 {
     let mut lines = u64::MAX;
     for place in 0..5 {

@@ -9,7 +9,7 @@ ghost use Rattle.std.specs.Prelude.{IsTrue};
 ghost use Rattle.number_sets.specs.Sets.{has_number};
 ghost use Rattle.tower_lines.specs.Inner.MaskSets.{has_mask, has_at};
 ghost use Rattle.tower_lines.specs.Inner.Levels.{AreAdded, AreNoted, AreFew, IsCommon, IsReachedBy, IsReachedFrom};
-ghost use Rattle.tower_lines.specs.Inner.Levels.{LacksLeast, LeadsTo, IsPassing, IsPassed, IsKeptBy};
+ghost use Rattle.tower_lines.specs.Inner.Levels.{LacksLeast, LeadsToLevels, IsPassing, IsPassed, IsKeptBy};
 
 use crate::mask_sets::MaskSet;
 use number_sets::NumberSet;
@@ -65,8 +65,8 @@ fn count_without_least(place: usize, last: usize, level: usize) -> usize
     if level == last { place - 1 } else { place }
 }
 
-/// The masks at a level to which a value below the greatest leads from the levels. The least is seen where it is the first, and else hidden;
-/// another comes before the last level to the masks of the level that hide it, and to those of the level before that don't.
+/// The masks at a level to which a value below the greatest leads from the levels. The least is seen where it is the first, and otherwise
+/// hidden; another comes before the last level to the masks of the level that hide it, and to those of the level before that don't.
 fn reached<const W: usize>(
     levels: &Levels<W>,
     place: usize,
@@ -116,7 +116,7 @@ fn leading<const W: usize>(
     requires level { level ≤ last }
     requires small { W ≤ 2 }
     ensures { (width mask : ℕ) → value < width
-        → (has_mask result mask ≡ true) ↔ LeadsTo place width last (value - 1) after.now level mask }
+        → (has_mask result mask ≡ true) ↔ LeadsToLevels place width last (value - 1) after.now level mask }
 {
     if value == 1 {
         return if place > 0 {

@@ -36,7 +36,7 @@ pub fn supported(sets: &[NumberSet], clue: u8) -> [NumberSet; 9]
 
 /// Whether a line has a filling: as for `supported`, which would keep some value in each square.
 ///
-/// A likely line tells it at once where it is a filling, and else the first pass does.
+/// A likely line tells it at once where it is a filling, and otherwise the first pass does.
 pub fn has_filling(sets: &[NumberSet], clue: u8) -> bool
     requires short { length sets.now ≤ 9 }
     requires clue { clue ≤ 9 }
@@ -89,6 +89,11 @@ fn supported_by<const W: usize>(sets: &[NumberSet], clue: usize) -> [NumberSet; 
     let width = sets.len() as u8;
     let mut starts = [no_levels(); 10];
     add_starts::<W>(sets, clue, &mut starts);
+    let whole = &starts[sets.len()];
+    // Where there is no filling, there is nothing to go back from.
+    if whole[clue].is_empty() {
+        return no_values();
+    }
     let mut after = starts[sets.len()];
     let mut kept = no_values();
     for place in (0..sets.len()).rev() {

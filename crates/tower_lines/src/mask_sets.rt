@@ -92,7 +92,7 @@ impl<const W: usize> MaskSet<W> {
     pub fn intersection(&self, other: &Self) -> Self
         ensures { (m : ℕ) → has_mask result m ≡ (has_mask self.now m && has_mask other.now m) }
     {
-        self.common(&other.words)
+        Self::common(&self.words, &other.words)
     }
 
     /// Whether the set has no mask.
@@ -131,8 +131,7 @@ impl<const W: usize> MaskSet<W> {
         requires small { W ≤ 2 }
         ensures { (m : ℕ) → has_mask result m ≡ (has_mask self.now m && (count_ones m == count)) }
     {
-        let _words = &self.words;
-        self.common(&WITH_COUNT[count])
+        Self::common(&self.words, &WITH_COUNT[count])
     }
 
     /// The masks whose values are all lower than that of the bit.
@@ -141,8 +140,7 @@ impl<const W: usize> MaskSet<W> {
         requires small { W ≤ 2 }
         ensures { (m : ℕ) → has_mask result m ≡ (has_mask self.now m && nat_lt m (2 ^ bit)) }
     {
-        let _words = &self.words;
-        self.common(&BELOW_BIT[usize::from(bit)])
+        Self::common(&self.words, &BELOW_BIT[usize::from(bit)])
     }
 
     /// The masks that have a value no lower than that of the bit.
@@ -151,32 +149,31 @@ impl<const W: usize> MaskSet<W> {
         requires small { W ≤ 2 }
         ensures { (m : ℕ) → has_mask result m ≡ (has_mask self.now m && nat_le (2 ^ bit) m) }
     {
-        let _words = &self.words;
-        self.apart(&BELOW_BIT[usize::from(bit)])
+        Self::apart(&self.words, &BELOW_BIT[usize::from(bit)])
     }
 
-    // The masks that are in the other words, too.
-    fn common(&self, others: &[u64]) -> Self
+    // The masks of the words that are in the others, too.
+    fn common(words: &[u64; W], others: &[u64]) -> Self
         requires { W ≤ length others.now }
-        ensures { (m : ℕ) → has_mask result m ≡ (has_mask self.now m && has_mask others.now m) }
+        ensures { (m : ℕ) → has_mask result m ≡ (has_mask words.now m && has_mask others.now m) }
     {
-        let mut words = [0; W];
+        let mut both = [0; W];
         for i in 0..W {
-            words[i] = self.words[i] & others[i];
+            both[i] = words[i] & others[i];
         }
-        MaskSet { words }
+        MaskSet { words: both }
     }
 
-    // The masks that are not in the other words.
-    fn apart(&self, others: &[u64]) -> Self
+    // The masks of the words that are not in the others.
+    fn apart(words: &[u64; W], others: &[u64]) -> Self
         requires { W ≤ length others.now }
-        ensures { (m : ℕ) → has_mask result m ≡ (has_mask self.now m && not (has_mask others.now m)) }
+        ensures { (m : ℕ) → has_mask result m ≡ (has_mask words.now m && not (has_mask others.now m)) }
     {
-        let mut words = [0; W];
+        let mut left = [0; W];
         for i in 0..W {
-            words[i] = self.words[i] & !others[i];
+            left[i] = words[i] & !others[i];
         }
-        MaskSet { words }
+        MaskSet { words: left }
     }
 
     /// The masks that lack the bit, with it.

@@ -9,7 +9,6 @@ pub mod SquareSets
 pub mod Earlier
 pub mod SolutionTests
 pub mod OneKept
-pub mod Fronts
 pub mod FilledGrids
 pub mod GridCandidates
 pub mod AmongCandidates

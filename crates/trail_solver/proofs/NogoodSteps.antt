@@ -11,7 +11,7 @@ use Rattle.trail_solver.specs.Candidates.{CandidatesValue, AreCandidates, IsCand
 use Rattle.trail_solver.specs.Puzzles.{Puzzle, Solves}
 use Rattle.trail_solver.specs.Inner.Among.{IsAmong}
 use Rattle.trail_solver.specs.Inner.Searches.{SearchValue, IsFurther, AreSame, NarrowsSearch}
-use Rattle.trail_solver.specs.Inner.Nogoods.{AreShut, Breaks, IsLearned, IsNogood, IsShut, KeepsBreaking, KeepsLacking, Lacks}
+use Rattle.trail_solver.specs.Inner.Nogoods.{AreShut, Breaks, IsLearned, IsNogood, IsShut, KeepsBreaking, KeepsLacking, LacksValues}
 use Rattle.trail_solver.specs.declared.nogood.Nogood.{Nogood}
 use Rattle.trail_solver.specs.declared.nogood.TheConstants.{ITEMS}
 use Rattle.trail_solver.proofs.AmongCandidates.{among_earlier}
@@ -22,7 +22,7 @@ use Rattle.trail_solver.proofs.StruckSets.{RemovesAll, missing_strikes, rest_str
 
 -- a solution among the candidates has none of the values of a square that is shut
 pub shut_lacks : (p : Puzzle) (c : CandidatesValue) (n : Nogood) (k : ℕ) (g : GridValue) → c.size ≡ p.size → IsShut c n k → IsAmong p c g
-    → Lacks g (slice_index n.cells k) (slice_index n.sets k)
+    → LacksValues g (slice_index n.cells k) (slice_index n.sets k)
 shut_lacks p c n k g size s m =
     s.lacks (number_at g (slice_index n.cells k)) (solution_pair p g c.size (slice_index n.cells k) m.0 size s.inside)
     (m.1.each (slice_index n.cells k) s.inside)
@@ -34,10 +34,10 @@ shut_none p c n size good shut g m = good.none g m.0 (λ k less. shut_lacks p c 
 
 -- where all squares but one are, a solution has one of the values there
 pub shut_but_one : (p : Puzzle) (c : CandidatesValue) (n : Nogood) (i : ℕ) → c.size ≡ p.size → IsNogood p n → AreShut c n 0 i
-    → AreShut c n (i + 1) ITEMS → (g : GridValue) → IsAmong p c g → Lacks g (slice_index n.cells i) (slice_index n.sets i) → ⊥
+    → AreShut c n (i + 1) ITEMS → (g : GridValue) → IsAmong p c g → LacksValues g (slice_index n.cells i) (slice_index n.sets i) → ⊥
 shut_but_one p c n i size good before after g m lacks =
     good.none g m.0 (λ k less.
-    ⊎_elim (λ (e : k ≡ i). let P : ℕ → Type 0 = λ j. Lacks g (slice_index n.cells j) (slice_index n.sets j) in subst P (sym e) lacks)
+    ⊎_elim (λ (e : k ≡ i). let P : ℕ → Type 0 = λ j. LacksValues g (slice_index n.cells j) (slice_index n.sets j) in subst P (sym e) lacks)
     (λ other. ⊎_elim (λ low. shut_lacks p c n k g size (before k (omega arith) low) m)
     (λ high. shut_lacks p c n k g size (after k (omega (arith, high, other)) less) m) (cases_lt k i))
     (cases_eq k i))
@@ -46,7 +46,7 @@ shut_but_one p c n i size good before after g m lacks =
 
 -- a grid that lacks the values is still within
 pub within_struck : (old new : CandidatesValue) (cell values set struck : ℕ) (g : GridValue) → RemovesAll old new cell struck
-    → ((v : ℕ) → has_number struck v ≡ (has_number values v && has_number set v)) → Lacks g cell set → IsWithin old g → IsWithin new g
+    → ((v : ℕ) → has_number struck v ≡ (has_number values v && has_number set v)) → LacksValues g cell set → IsWithin old g → IsWithin new g
 within_struck old new cell values set struck g s is lacks w = record {
   each = λ c inside.
       let inside' : c < old.size * old.size = subst (λ (n : ℕ). c < n * n) s.size inside in
@@ -110,14 +110,14 @@ pub struck_refutes : (p : Puzzle) (old next : CandidatesValue) (cell values set 
     → ((v : ℕ) → has_number struck v ≡ (has_number values v && has_number set v))
     → next.size ≡ old.size → next.trail ≡ old.trail ++ pairs_of cell struck
     → ((g : GridValue) → IsAmong p next g → ⊥)
-    → (g : GridValue) → IsAmong p old g → Lacks g cell set → ⊥
+    → (g : GridValue) → IsAmong p old g → LacksValues g cell set → ⊥
 struck_refutes p old next cell values set struck valid is shared size trail none g m lacks =
     let s = missing_strikes old next cell struck valid (shared_are old cell values set struck is shared) size trail in
     none g (m.0, within_struck old next cell values set struck g s shared lacks m.1)
 
 -- none breaks the nogood where none lacks the values of one square more
 pub breaking_none : {P : Type 0} (puzzle : P → Puzzle) (a b : SearchValue P) (n : Nogood) (k : ℕ) → k < ITEMS → KeepsBreaking puzzle a b n
-    → ((g : GridValue) → IsAmong (puzzle b.rules) b.candidates g → Lacks g (slice_index n.cells k) (slice_index n.sets k) → ⊥)
+    → ((g : GridValue) → IsAmong (puzzle b.rules) b.candidates g → LacksValues g (slice_index n.cells k) (slice_index n.sets k) → ⊥)
     → (g : GridValue) → IsAmong (puzzle a.rules) a.candidates g → Breaks n g → ⊥
 breaking_none puzzle a b n k less u none g m breaks = none g (u.keeps g m breaks) (breaks k less)
 
@@ -133,7 +133,7 @@ among_further {P} puzzle a b f g m =
 -- a solution with a value of the set has none of the other candidates
 pub others_lacked : (p : Puzzle) (c : CandidatesValue) (cell values set others : ℕ)
     → ((v : ℕ) → has_number others v ≡ (has_number values v && not (has_number set v)))
-    → (g : GridValue) → (Lacks g cell set → ⊥) → Lacks g cell others
+    → (g : GridValue) → (LacksValues g cell set → ⊥) → LacksValues g cell others
 others_lacked p c cell values set others is g has =
     elim (cases_Bool (has_number set (number_at g cell))) [
       | inl there ↦ is (number_at g cell) ∙ ap (λ b. has_number values (number_at g cell) && not b) there ∙ and_false (has_number values (number_at g cell))
@@ -146,10 +146,10 @@ others_lacked p c cell values set others is g has =
 
 -- where each solution has a value of the set, striking the others loses none
 pub kept_narrows : {P : Type 0} (puzzle : P → Puzzle) (old new : SearchValue P) (cell set others : ℕ) (result : Bool)
-    → ((g : GridValue) → IsAmong (puzzle old.rules) old.candidates g → Lacks g cell set → ⊥)
-    → ((g : GridValue) → IsAmong (puzzle old.rules) old.candidates g → (Lacks g cell set → ⊥) → Lacks g cell others)
+    → ((g : GridValue) → IsAmong (puzzle old.rules) old.candidates g → LacksValues g cell set → ⊥)
+    → ((g : GridValue) → IsAmong (puzzle old.rules) old.candidates g → (LacksValues g cell set → ⊥) → LacksValues g cell others)
     → KeepsLacking puzzle old new cell others
-    → OnFalse result ((g : GridValue) → IsAmong (puzzle old.rules) old.candidates g → Lacks g cell others → ⊥)
+    → OnFalse result ((g : GridValue) → IsAmong (puzzle old.rules) old.candidates g → LacksValues g cell others → ⊥)
     → NarrowsSearch puzzle old new result
 kept_narrows puzzle old new cell set others true has lack l refutes = record {
   further = l.further;

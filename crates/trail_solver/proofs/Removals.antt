@@ -3,7 +3,7 @@ use Rattle.std.proofs.Common.{◌≡◌, ◌≢◌, ℕ, suc, ◌+◌, ◌-◌, 
 use Rattle.std.specs.Prelude.{All}
 use Rattle.std.proofs.lemmas.Bool.{and_from, both_ways, cases_Bool, eq-eqb, false_from_ne_true, not-true, or_left, or_right}
 use Rattle.std.proofs.lemmas.List.Elements.{All-cons, All-head, All-tail, All-push, All-nil}
-use Rattle.std.proofs.lemmas.List.Folds.{length-flat_map-take, list_any-append}
+use Rattle.std.proofs.lemmas.List.Folds.{list_any-append}
 use Rattle.std.proofs.lemmas.Option.{get_or_from_slice_get, slice_get_within}
 use Rattle.std.proofs.lemmas.Grind.{flat_map-append}
 use Rattle.std.proofs.lemmas.Nat.{zero_from_ones}
@@ -230,12 +230,3 @@ none_stay w old new rs pairs cell set part rest kept k p f few more none =
     }
 
 -- ---- the removals are listed, one after another
-
-pub trail_room : (w : ℕ) (sets : List ℕ) (rs items : List Removal) (now : List (ℕ × ℕ)) (pairs k : ℕ) (r : Removal) → AreFields w sets rs pairs
-    → items ≡ rs → k < length items → r ≡ get_or items k r → now ≡ trail_of (take k items)
-    → length now + length (pairs_of r.cell r.values) ≤ PAIRS
-trail_room w sets rs items now pairs k r h same within at is =
-    let fits = length-flat_map-take (λ (q : Removal). pairs_of q.cell q.values) items k r within in
-    let here : length (pairs_of r.cell r.values) ≡ length (pairs_of (get_or items k r).cell (get_or items k r).values) = ap (λ (q : Removal). length (pairs_of q.cell q.values)) at in
-    let whole : length (trail_of items) ≡ pairs = ap (λ (qs : List Removal). length (trail_of qs)) same ∙ sym h.count in
-    omega (arith, fits, here, whole, fields_fit w sets rs pairs h, ap length is)

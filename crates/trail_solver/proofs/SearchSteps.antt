@@ -3,7 +3,7 @@ use Rattle.std.proofs.Common.{◌≡◌, ◌≢◌, ℕ, ◌*◌, ◌<◌, ◌�
 use Rattle.std.proofs.lemmas.Bool.{both_ways, cases_eq}
 use Rattle.latin_board.specs.Squares.{GridValue, number_at}
 use Rattle.trail_solver.specs.Candidates.{CandidatesValue, IsWithin, may_be}
-use Rattle.trail_solver.specs.Inner.Squares.{IsDead, IsFilled}
+use Rattle.trail_solver.specs.Inner.Squares.{HasNoCandidate, IsFilled}
 use Rattle.trail_solver.specs.Puzzles.{Puzzle, Solves}
 use Rattle.trail_solver.specs.Inner.Among.{IsAmong, IsAmongAt}
 use Rattle.trail_solver.specs.Inner.Searches.{SearchValue, IsFurther, AreSame}
@@ -73,7 +73,7 @@ pub rest_none : (Whole : GridValue → Type 0) (first : Answer) (Part : GridValu
 rest_none Whole first Part found l n = l.joins found (adds_nothing Part found n)
 
 -- a square without candidates
-pub dead_none : (p : Puzzle) (c : CandidatesValue) (cell : ℕ) → c.size ≡ p.size → IsDead c cell → (h : GridValue) → IsAmong p c h → ⊥
+pub dead_none : (p : Puzzle) (c : CandidatesValue) (cell : ℕ) → c.size ≡ p.size → HasNoCandidate c cell → (h : GridValue) → IsAmong p c h → ⊥
 dead_none p c cell size dead h s =
     both_ways (may_be c cell (number_at h cell)) (dead.none (number_at h cell) (solution_pair p h c.size cell s.0 size dead.inside)) (s.1.each cell dead.inside)
 

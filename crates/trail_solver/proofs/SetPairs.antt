@@ -1,5 +1,5 @@
 -- The pairs of a cell and a set's numbers, as a list.
-use Rattle.std.proofs.Common.{◌≡◌, ℕ, zero, suc, ◌+◌, ◌-◌, ◌^◌, ◌<◌, ◌≤◌, eqb, cond, Bool, true, false, not, ◌&&◌, ◌||◌, List, [], ◌∷◌, ◌++◌, length, map, count_ones, refl, sym, ap, ◌∙◌, subst, inl, inr, ⊎_elim, arith, append_assoc, append-nil, length-append}
+use Rattle.std.proofs.Common.{◌≡◌, ℕ, zero, suc, ◌+◌, ◌-◌, ◌^◌, ◌<◌, eqb, cond, Bool, true, false, not, ◌&&◌, ◌||◌, List, [], ◌∷◌, ◌++◌, length, map, count_ones, refl, sym, ap, ◌∙◌, subst, inl, inr, ⊎_elim, arith, append_assoc, append-nil, length-append}
 use Rattle.std.specs.List.{filter, range_with_len}
 use Rattle.std.proofs.lemmas.Bool.{cases_eq, cases_Bool, both_ways, false_from_ne_true, and_parts, and_from, eqb-true, eq-eqb, ne_eqb, or_cases, or_left, or_right, or_from}
 use Rattle.std.proofs.lemmas.List.Folds.{list_any-append}
@@ -8,7 +8,6 @@ use Rattle.std.proofs.lemmas.Nat.{ones_le_self}
 use Rattle.number_sets.specs.Sets.{has_number, IsEmpty}
 use Rattle.number_sets.proofs.Members.{below_from_number, below_from_numbers, has_number-above, none_from_numbers, power_most}
 use Rattle.number_sets.proofs.OneMore.{added_without, added_ones, added_other}
-use Rattle.trail_solver.specs.declared.trail.TheConstants.{PAIRS}
 use Rattle.trail_solver.specs.Pairs.{AreApart, has_pair, pairs_of, with_pair}
 use Rattle.trail_solver.specs.Inner.Fields.{IsUpperPart}
 use Rattle.trail_solver.proofs.Trails.{same_pair, pair_from_test, test_from_pair, has_pair-push, apart_push}
@@ -253,24 +252,6 @@ ones_of_one set value low is =
     let small : set < 2 ^ 16 = below_from_numbers set 16 (λ v above. is v ∙ ne_eqb v value (λ e. absurd (omega (arith, e, above, low)))) in
     sym (length-pairs_of 0 set small) ∙ ap length (pairs_of_one 0 value set low is)
 
-to_grows : (cell set n m : ℕ) → length (pairs_to cell set n) ≤ length (pairs_to cell set (n + m))
-to_grows cell set n zero = let e : n + 0 ≡ n = omega arith in omega (arith, ap (λ k. length (pairs_to cell set k)) e)
-to_grows cell set n (suc m) =
-    let e : n + suc m ≡ n + m + 1 = omega arith in
-    let before = to_grows cell set n m in
-    let next : length (pairs_to cell set (n + suc m)) ≡ length (pairs_to cell set (n + m + 1)) = ap (λ k. length (pairs_to cell set k)) e in
-    elim (cases_Bool (has_number set (n + m))) [
-      | inl has ↦ omega (arith, before, next, ap length (to_with cell set (n + m) has), length-append (pairs_to cell set (n + m)) ((cell, n + m) ∷ []))
-      | inr lacks ↦ omega (arith, before, next, ap length (to_without cell set (n + m) lacks))
-    ]
-
--- a set has more pairs than those of its numbers below one that it has
-pub to_less : (cell set n : ℕ) → n < 16 → has_number set n ≡ true → length (pairs_to cell set n) < length (pairs_of cell set)
-to_less cell set n low has =
-    let e : n + 1 + (15 - n) ≡ 16 = omega (arith, low) in
-    let most : length (pairs_to cell set (n + 1 + (15 - n))) ≡ length (pairs_of cell set) = ap (λ k. length (pairs_to cell set k)) e ∙ ap length (sym (pairs_whole cell set)) in
-    omega (arith, most, to_grows cell set (n + 1) (15 - n), ap length (to_with cell set n has), length-append (pairs_to cell set n) ((cell, n) ∷ []))
-
 -- a pair that a list lacks, at its end
 pub pairs_with_one : (ps : List (ℕ × ℕ)) (cell value set : ℕ) → has_pair ps cell value ≡ false → value < 16
     → ((k : ℕ) → has_number set k ≡ eqb k value) → ps ++ pairs_of cell set ≡ with_pair ps cell value
@@ -279,20 +260,3 @@ pairs_with_one ps cell value set fresh low is =
     ∙ sym (ap (λ (b : Bool). cond b ps (ps ++ (cell, value) ∷ [])) fresh)
 
 -- ---- a list to which they are appended, one after another
-
-pub listed_with : (ps now next : List (ℕ × ℕ)) (cell set k : ℕ) → now ≡ ps ++ pairs_to cell set k → has_number set k ≡ true
-    → next ≡ now ++ (cell, k) ∷ [] → next ≡ ps ++ pairs_to cell set (k + 1)
-listed_with ps now next cell set k is has more =
-    more
-    ∙ ap (λ (qs : List (ℕ × ℕ)). qs ++ (cell, k) ∷ []) is
-    ∙ append_assoc ps (pairs_to cell set k) ((cell, k) ∷ [])
-    ∙ ap (λ (qs : List (ℕ × ℕ)). ps ++ qs) (sym (to_with cell set k has))
-
-pub listed_without : (ps now : List (ℕ × ℕ)) (cell set k : ℕ) → now ≡ ps ++ pairs_to cell set k → has_number set k ≡ false
-    → now ≡ ps ++ pairs_to cell set (k + 1)
-listed_without ps now cell set k is lacks = is ∙ ap (λ (qs : List (ℕ × ℕ)). ps ++ qs) (sym (to_without cell set k lacks))
-
-pub listed_room : (ps now : List (ℕ × ℕ)) (cell set k : ℕ) → length ps + length (pairs_of cell set) ≤ PAIRS → now ≡ ps ++ pairs_to cell set k
-    → k < 16 → has_number set k ≡ true → length now < PAIRS
-listed_room ps now cell set k room is low has =
-    omega (arith, room, ap length is, length-append ps (pairs_to cell set k), to_less cell set k low has)

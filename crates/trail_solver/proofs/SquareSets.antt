@@ -4,7 +4,7 @@ use Rattle.std.specs.Prelude.{MatchOption}
 use Rattle.std.proofs.lemmas.Bool.{both_ways, false_from_ne_true}
 use Rattle.number_sets.specs.Sets.{has_number, IsEmpty, IsLeast, IsSingle}
 use Rattle.trail_solver.specs.Candidates.{CandidatesValue, IsSetOf, IsOnly, may_be}
-use Rattle.trail_solver.specs.Inner.Squares.{IsBranch, IsDead, IsOpen}
+use Rattle.trail_solver.specs.Inner.Squares.{HasNoCandidate, IsBranch, IsOpenSquare}
 
 only_from_single : (c : CandidatesValue) (cell set value : ℕ) → cell < c.size * c.size → IsSetOf c cell set → IsSingle set value
     → IsOnly c cell value
@@ -31,8 +31,8 @@ only_by_single c cell set (Some v) inside h single = only_from_single c cell set
 only_by_single c cell set None inside h none = λ v only. none v (single_from_only c cell set v inside h only)
 
 -- a number of an open square's set is a branch, and where the set is empty there is no candidate
-pub lowest_by_least : (c : CandidatesValue) (cell set : ℕ) (found : Option ℕ) → IsOpen c cell → IsSetOf c cell set
-    → MatchOption found (IsEmpty set) (IsLeast set) → MatchOption found (IsDead c cell) (IsBranch c cell)
+pub lowest_by_least : (c : CandidatesValue) (cell set : ℕ) (found : Option ℕ) → IsOpenSquare c cell → IsSetOf c cell set
+    → MatchOption found (IsEmpty set) (IsLeast set) → MatchOption found (HasNoCandidate c cell) (IsBranch c cell)
 lowest_by_least c cell set (Some v) unsettled h least =
     let here = (h v).0 least.has in record { pair = here.0; left = here.1; unsettled = unsettled }
 lowest_by_least c cell set None unsettled h empty = record {

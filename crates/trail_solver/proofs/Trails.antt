@@ -45,14 +45,6 @@ apart_push (q ∷ qs) p a n =
     let parts = or_parts (same_pair p.0 p.1 q) (has_pair qs p.0 p.1) n in
     (has_pair-push qs p q.0 q.1 ∙ or_from (has_pair qs q.0 q.1) (same_pair q.0 q.1 p) a.0 (no_pair_turned p.0 q.0 p.1 q.1 parts.0), apart_push qs p a.1 parts.1)
 
--- the last pair of a list without repeats isn't in front of itself
-pub apart_front : (ps : List (ℕ × ℕ)) (p : ℕ × ℕ) → AreApart (ps ++ p ∷ []) → AreApart ps × (has_pair ps p.0 p.1 ≡ false)
-apart_front [] p a = (tt, refl)
-apart_front (q ∷ qs) p a =
-    let rest = apart_front qs p a.1 in
-    let parts = or_parts (has_pair qs q.0 q.1) (same_pair q.0 q.1 p) (sym (has_pair-push qs p q.0 q.1) ∙ a.0) in
-    ((parts.0, rest.0), or_from (same_pair p.0 p.1 q) (has_pair qs p.0 p.1) (no_pair_turned q.0 p.0 q.1 p.1 parts.1) rest.1)
-
 -- a front of a list without repeats has none
 pub apart_append : (ps qs : List (ℕ × ℕ)) → AreApart (ps ++ qs) → AreApart ps
 apart_append [] qs a = tt

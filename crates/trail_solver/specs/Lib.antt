@@ -5,7 +5,6 @@ pub mod Puzzles
 pub mod Solutions
 pub mod Answers
 pub mod Completions
-pub mod Replays
 pub mod Listings
 -- words that the contracts of private functions alone use
 pub mod Inner

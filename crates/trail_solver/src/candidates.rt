@@ -4,10 +4,9 @@ ghost use Rattle.latin_board.specs.declared.grid.TheConstants.{CELLS};
 ghost use Rattle.trail_solver.specs.Pairs.{IsPair, pairs_of, with_pair};
 ghost use Rattle.trail_solver.specs.Candidates.{CandidatesValue, AreCandidates, IsCandidates, IsSetOf, IsOnly};
 ghost use Rattle.trail_solver.specs.Candidates.{IsEarlier, may_be};
-ghost use Rattle.trail_solver.specs.Replays.{IsNext};
 ghost use Rattle.trail_solver.specs.Inner.Fields.{FlipsSet, GivesBack, IsUpperPart};
 
-use crate::trail::{PAIRS, Removal, Trail, list};
+use crate::trail::{PAIRS, Removal};
 use arrayvec::ArrayVec;
 use latin_board::{CELLS, Size};
 use number_sets::NumberSet;
@@ -191,32 +190,6 @@ impl Candidates {
         }
     }
 
-    /// The pairs that were removed, one by one.
-    pub fn trail(&self) -> Trail
-        ensures { result ≡ self.now }
-    {
-        let mut pairs = ArrayVec::new();
-        for removal in self.removals.as_slice() {
-            list(&mut pairs, removal.cell, removal.values);
-        }
-        Trail {
-            size: self.size,
-            pairs,
-        }
-    }
-
-    /// Removes the pair that the later candidates lost next, and tells its square; `None` where they lost no more. These
-    /// candidates are as the later ones once were.
-    pub fn follow(&mut self, later: &Trail) -> Option<usize>
-        requires { IsEarlier self.old later.now }
-        ensures { MatchOption result ((self.old ≡ later.now) × (self.new ≡ later.now))
-            (IsNext later.now self.old self.new) }
-    {
-        let (cell, value) = *later.pairs.get(self.trail_len())?;
-        self.remove(cell as usize, value);
-        Some(cell as usize)
-    }
-
     // Gives back what a square lost last, or the greatest value of it alone where more than that is to stay removed.
     fn undo(&mut self, kept: usize)
         requires { kept < length self.old.trail }
@@ -239,7 +212,7 @@ impl Candidates {
     }
 }
 
-// The whole set, where it has at most so many values, and else the greatest alone.
+// The whole set, where it has at most so many values, and otherwise the greatest alone.
 fn upper_part(values: NumberSet, most: usize) -> NumberSet
     requires { 0 < most }
     ensures part { IsUpperPart values result }

@@ -2,12 +2,12 @@
 
 ghost use Rattle.std.specs.Prelude.{MatchOption};
 ghost use Rattle.std.specs.Bool.{OnTrue};
-ghost use Rattle.trail_solver.specs.Inner.Squares.{AreSettled, IsBranch, IsChoice, IsDead, IsFirstOpen, IsOpen};
+ghost use Rattle.trail_solver.specs.Inner.Squares.{AreSettled, HasNoCandidate, IsBranch, IsChoice, IsFirstOpen, IsOpenSquare};
 
-use crate::activity::Activity;
 use crate::candidates::Candidates;
-use crate::failures::Failures;
-use crate::proposal::best_proposal;
+use crate::guessing::activity::Activity;
+use crate::guessing::failures::Failures;
+use crate::guessing::proposal::best_proposal;
 
 /// What is left to do for a search.
 #[derive(Clone, Copy)]
@@ -64,7 +64,7 @@ pub(crate) fn is_branch(candidates: &Candidates, cell: usize, value: u8) -> bool
 
 // The branch at an open square that takes its lowest candidate first.
 fn lowest_at(candidates: &Candidates, cell: usize) -> Choice
-    requires { IsOpen candidates.now cell }
+    requires { IsOpenSquare candidates.now cell }
     ensures { IsChoice candidates.now result }
 {
     match lowest(candidates, cell) {
@@ -76,8 +76,8 @@ fn lowest_at(candidates: &Candidates, cell: usize) -> Choice
 // The lowest candidate of an open square, if it has any.
 #[tactic(auto, using(crate::proofs::SquareSets::lowest_by_least))]
 fn lowest(candidates: &Candidates, cell: usize) -> Option<u8>
-    requires { IsOpen candidates.now cell }
-    ensures { MatchOption result (IsDead candidates.now cell)
+    requires { IsOpenSquare candidates.now cell }
+    ensures { MatchOption result (HasNoCandidate candidates.now cell)
         (IsBranch candidates.now cell) }
 {
     candidates.values(cell).least()

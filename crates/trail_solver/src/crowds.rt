@@ -9,9 +9,9 @@ ghost use Rattle.trail_solver.specs.Candidates.{IsEarlier, IsWithin};
 ghost use Rattle.trail_solver.specs.Inner.Pairings.{Covers, IsPairing, LacksRights, NarrowsLatin, OthersLack};
 
 use crate::candidates::Candidates;
-use crate::losses::Losses;
-use crate::matching::{Sides, crowds};
-use crate::pairing::Pairing;
+use crate::guessing::losses::Losses;
+use crate::guessing::matching::crowds;
+use crate::pairing::{Pairing, Sides};
 use number_sets::NumberSet;
 
 /// Takes away what no Latin square of the candidates has by one of the pairings; false where one shows that there is none.

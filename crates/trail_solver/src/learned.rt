@@ -7,13 +7,13 @@ ghost use Rattle.latin_board.specs.Squares.{GridValue};
 ghost use Rattle.trail_solver.specs.Puzzles.{Puzzle};
 ghost use Rattle.trail_solver.specs.Inner.Among.{IsAmong};
 ghost use Rattle.trail_solver.specs.Inner.Searches.{NarrowsSearch};
-ghost use Rattle.trail_solver.specs.Inner.Nogoods.{Breaks, IsLeft, IsNogood, KeepsBreaking, KeepsLacking, Lacks};
+ghost use Rattle.trail_solver.specs.Inner.Nogoods.{Breaks, IsLeftToSolutions, IsNogood, KeepsBreaking, KeepsLacking, LacksValues};
 
-use crate::activity::Activity;
-use crate::analysis::{Analysis, Sets};
 use crate::candidates::Candidates;
+use crate::guessing::activity::Activity;
+use crate::guessing::analysis::{Analysis, Sets};
 use crate::nogood::{ITEMS, Nogood};
-use crate::rules::{Reason, Rules};
+use crate::rules::{LackedValues, Rules};
 use crate::search::Search;
 use arrayvec::ArrayVec;
 use number_sets::NumberSet;
@@ -83,7 +83,7 @@ impl<P: Rules> Learned<P> {
     }
 
     /// For a value in a square what the puzzle's rules give as the reason against it, if these candidates show one.
-    pub fn reason(&self, values: &Sets, cell: usize, value: u8) -> Option<Reason> {
+    pub fn reason(&self, values: &Sets, cell: usize, value: u8) -> Option<LackedValues> {
         self.root.rules.reason(values, cell, value)
     }
 
@@ -219,7 +219,7 @@ impl<P: Rules> Search<P> {
     fn strike(&mut self, cell: usize, values: NumberSet) -> bool
         ensures keeps { KeepsLacking P.puzzle self.old self.new cell values }
         ensures refutes { OnFalse result ((g : GridValue)
-            → IsAmong (P.puzzle self.old.rules) self.old.candidates g → Lacks g cell values → ⊥) }
+            → IsAmong (P.puzzle self.old.rules) self.old.candidates g → LacksValues g cell values → ⊥) }
     {
         let width = self.candidates.size().get() as usize;
         if cell >= width * width {
@@ -266,7 +266,7 @@ impl<P: Rules> Search<P> {
     #[tactic(auto, using(crate::proofs::NogoodSteps::shut_none, crate::proofs::NogoodSteps::shut_but_one))]
     fn left_by(&self, nogood: &Nogood) -> Left
         requires { IsNogood (P.puzzle self.now.rules) nogood.now }
-        ensures { IsLeft (IsAmong (P.puzzle self.now.rules) self.now.candidates) result }
+        ensures { IsLeftToSolutions (IsAmong (P.puzzle self.now.rules) self.now.candidates) result }
     {
         let Some(only) = nogood.next_open(&self.candidates, 0) else {
             return Left::Nothing;
@@ -284,7 +284,7 @@ impl<P: Rules> Search<P> {
     #[tactic(auto, using(crate::proofs::ShavingSteps::shaves_nothing, crate::proofs::NogoodSteps::kept_narrows))]
     fn keep_in(&mut self, cell: usize, values: NumberSet) -> bool
         requires { (g : GridValue) → IsAmong (P.puzzle self.old.rules) self.old.candidates g
-            → Lacks g cell values → ⊥ }
+            → LacksValues g cell values → ⊥ }
         ensures { NarrowsSearch P.puzzle self.old self.new result }
     {
         match self.others(cell, values) {
@@ -298,7 +298,7 @@ impl<P: Rules> Search<P> {
     fn others(&self, cell: usize, values: NumberSet) -> Option<NumberSet>
         ensures { IfSome result (λ others. (g : GridValue)
             → IsAmong (P.puzzle self.now.rules) self.now.candidates g
-            → (Lacks g cell values → ⊥) → Lacks g cell others) }
+            → (LacksValues g cell values → ⊥) → LacksValues g cell others) }
     {
         let width = self.candidates.size().get() as usize;
         if cell >= width * width {

@@ -11,7 +11,7 @@ ghost use Rattle.trail_solver.specs.Inner.Added.{Adds};
 
 use crate::answer::Answer;
 use crate::choice::{Choice, choose_active};
-use crate::failures::Side;
+use crate::guessing::failures::Side;
 use crate::learned::Learned;
 use crate::rules::Rules;
 use crate::search::Search;
@@ -100,7 +100,7 @@ impl<P: Rules> Search<P> {
             limit result found.old found.new }
     {
         loop {
-            if self.failures.reach(limit) {
+            if self.has_reached(limit) {
                 return false;
             }
             match choose_active(&self.candidates, &self.failures, learned.activity()) {

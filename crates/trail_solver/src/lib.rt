@@ -15,24 +15,18 @@
 //! ```
 #![tactic(auto)]
 
-mod activity;
-mod analysis;
 mod answer;
 mod candidates;
 mod choice;
 mod completions;
 mod crowds;
-mod failures;
+mod guessing;
 mod learned;
 mod learning;
 mod listing;
-mod losses;
-mod matching;
 mod narrowing;
 mod nogood;
 mod pairing;
-mod place_counts;
-mod proposal;
 mod rules;
 mod search;
 mod shaving;
@@ -44,6 +38,5 @@ pub use answer::Answer;
 pub use candidates::{Candidates, Mark};
 pub use completions::{completion, grid_candidates};
 pub use listing::{MOST_LISTED, solutions};
-pub use rules::{Reason, Rules, solves};
+pub use rules::{LackedValues, Rules, solves};
 pub use solver::{has_other, solve};
-pub use trail::Trail;

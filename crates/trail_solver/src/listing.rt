@@ -2,7 +2,7 @@
 ghost use Rattle.std.specs.Prelude.{◌≡◌, ◌<◌, ◌≤◌, length, IfOk, OnOk};
 ghost use Rattle.std.specs.Bool.{OnTrue, OnFalse};
 ghost use Rattle.trail_solver.specs.Pairs.{IsPair};
-ghost use Rattle.trail_solver.specs.Inner.Squares.{AreSettled, IsFirstOpen, IsOpen};
+ghost use Rattle.trail_solver.specs.Inner.Squares.{AreSettled, IsFirstOpen, IsOpenSquare};
 ghost use Rattle.trail_solver.specs.Inner.Among.{IsAmong, IsAmongAt};
 ghost use Rattle.trail_solver.specs.Puzzles.{Solves};
 ghost use Rattle.trail_solver.specs.Inner.Searches.{IsFurther};
@@ -117,7 +117,7 @@ impl<P: Rules> Listing<P> {
     #[cycle(listing)]
     #[tactic(auto, using(crate::proofs::ListingSteps::full_lists, crate::proofs::ListingSteps::guess_lists_none))]
     fn list_guess(&mut self, cell: usize, value: u8) -> Result<(), OutOfMemory>
-        requires open_cell { IsOpen self.old.search.candidates cell }
+        requires open_cell { IsOpenSquare self.old.search.candidates cell }
         requires pair { IsPair self.old.search.candidates.size cell value }
         requires few { length self.old.listed.items ≤ self.old.limit }
         ensures same { self.new.search ≡ self.old.search }

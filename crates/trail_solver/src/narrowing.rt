@@ -7,8 +7,8 @@ ghost use Rattle.trail_solver.specs.Solutions.{HasNoSolutionWithin, KeepsSolutio
 
 use crate::candidates::Candidates;
 use crate::crowds::narrow_by_pairings;
-use crate::failures::Failures;
-use crate::losses::Losses;
+use crate::guessing::failures::Failures;
+use crate::guessing::losses::Losses;
 use crate::rules::Rules;
 
 /// Removes candidates by the rules, where the cell alone lost some since that was done last; after some failures by the
@@ -61,7 +61,6 @@ fn pair_off<P: Rules>(p: &P, candidates: &mut Candidates, since: usize) -> bool
     ensures keeps { KeepsSolutions (P.puzzle p.now) candidates.old candidates.new }
     ensures refutes { OnFalse result (HasNoSolutionWithin (P.puzzle p.now) candidates.old) }
 {
-    let _p = p;
     let losses = Losses::since(candidates, since);
     narrow_by_pairings(candidates, &losses)
 }

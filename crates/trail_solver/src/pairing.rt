@@ -6,9 +6,14 @@ ghost use Rattle.trail_solver.specs.Candidates.{may_be};
 ghost use Rattle.latin_board.specs.Lines.{line_cell};
 
 use crate::candidates::Candidates;
-use crate::matching::{SIDES, Sides};
 use latin_board::{Size, line_cell};
 use number_sets::NumberSet;
+
+/// The most lefts, and rights: both are numbers below it.
+pub(crate) const SIDES: usize = 16;
+
+/// Which rights each left may have.
+pub(crate) type Sides = [NumberSet; SIDES];
 
 /// What is paired off: as many lefts and rights as the width, each numbered from 0. A Latin square gives each left a right
 /// of its own.

@@ -12,7 +12,7 @@ use number_sets::NumberSet;
 
 /// Values that a square lacks, as the reason why another one lacks a value.
 #[derive(Clone, Copy)]
-pub struct Reason {
+pub struct LackedValues {
     pub cell: usize,
     pub values: NumberSet,
 }
@@ -76,7 +76,6 @@ pub trait Rules: Copy {
         ensures refutes { OnFalse result (HasNoSolutionWithin (puzzle self.now) candidates.old) }
     {
         // All squares are looked at, whichever of them lost a candidate.
-        let _cell = cell;
         self.narrow(candidates)
     }
 
@@ -87,9 +86,7 @@ pub trait Rules: Copy {
 
     /// Why the clues or signs let a value not stand in a square, if the candidates of the squares show it: another square, and values
     /// that it lacks. It is a hint, and no answer rests on it.
-    fn reason(&self, sets: &[NumberSet; CELLS], cell: usize, value: u8) -> Option<Reason> {
-        let _sets = sets;
-        let _pair = (cell, value);
+    fn reason(&self, sets: &[NumberSet; CELLS], cell: usize, value: u8) -> Option<LackedValues> {
         None
     }
 
@@ -120,7 +117,6 @@ pub trait Rules: Copy {
             (puzzle result) candidates.old candidates.new }
     {
         // Nothing is denied, whatever the item asks.
-        let _candidates = candidates;
         let _size = self.size();
         let mut fewer = *self;
         fewer.drop_item(i);

@@ -1,6 +1,6 @@
 //! A search: the rules of a puzzle, the candidates that are left, and where it failed.
 ghost use Rattle.std.specs.Prelude.{◌≡◌, ◌≢◌, ◌*◌, ◌<◌, ◌≤◌, length, None, MatchOption};
-ghost use Rattle.std.specs.Bool.{OnFalse};
+ghost use Rattle.std.specs.Bool.{OnFalse, OnTrue};
 ghost use Rattle.latin_board.specs.Squares.{GridValue};
 ghost use Rattle.trail_solver.specs.declared.trail.TheConstants.{PAIRS};
 ghost use Rattle.trail_solver.specs.Inner.Squares.{AreSettled, IsBranch};
@@ -14,7 +14,7 @@ ghost use Rattle.trail_solver.specs.Answers.{Fits};
 use crate::answer::{Answer, added};
 use crate::candidates::{Candidates, Mark};
 use crate::choice::{Choice, choose};
-use crate::failures::{Failures, Side};
+use crate::guessing::failures::{Failures, Side};
 use crate::narrowing::narrow_after;
 use crate::rules::{Rules, solves};
 use crate::squares::{filled, keep_only, take_away};
@@ -83,6 +83,16 @@ impl<P: Rules> Search<P> {
         self.rules.narrow(&mut self.candidates)
     }
 
+    /// Whether a run has a limit, and the failures reach it.
+    pub fn has_reached(&self, limit: Option<u32>) -> bool
+        ensures { OnTrue result (limit ≢ None) }
+    {
+        match limit {
+            Some(most) => self.failures.are_at_least(most),
+            None => false,
+        }
+    }
+
     // Adds the solutions among the candidates to those that were found, or leaves off where the failures reach the limit. It
     // tells whether all were added. What was found isn't handed on by value, as there are calls within calls: their frames are
     // to be small.
@@ -94,7 +104,7 @@ impl<P: Rules> Search<P> {
             limit result found.old found.new }
     {
         loop {
-            if self.failures.reach(limit) {
+            if self.has_reached(limit) {
                 return false;
             }
             match choose(&self.candidates, &self.failures) {

@@ -1,6 +1,5 @@
 -- The laws of what Towers demands: it stands along the lines of the grid's edge places, and is all that the clues ask.
-use Rattle.std.proofs.Common.{◌≡◌, ◌↔◌, ℕ, ◌*◌, ◌<◌, nat_lt, Some, length, map, refl, sym, ap, ◌∙◌, subst, inl, inr}
-use Rattle.std.proofs.Common.{arith}
+use Rattle.std.proofs.Common.{◌≡◌, ◌↔◌, ℕ, ◌*◌, ◌<◌, nat_lt, Some, length, map, refl, sym, ap, ◌∙◌, subst, inl, inr, arith}
 use Rattle.std.specs.Bool.{IsTrue}
 use Rattle.std.specs.List.{range_with_len}
 use Rattle.std.proofs.lemmas.Bool.{cases_lt, ltb-true, lt-ltb, eqb-true, eq-eqb}
@@ -15,8 +14,8 @@ use Rattle.clue_rules.specs.Towers.{TowersValue, IsTowers, clue_of, holds_clues}
 use Rattle.clue_rules.specs.Views.{view_of, view_cell, view_line, view_index}
 use Rattle.clue_rules.specs.Laws.TowersItems.{clues_decide, length-view_of}
 use Rattle.clue_rules.specs.Laws.Edges.{view_line_low, view_index_low}
-use Rattle.clue_rules.proofs.LineSquares.{view_index_apart, view_inside}
-use Rattle.clue_rules.proofs.ViewSteps.{view_number}
+use Rattle.clue_rules.specs.Laws.LineSquares.{view_index_apart, view_inside}
+use Rattle.clue_rules.specs.Laws.ViewLines.{view_number}
 use Rattle.board_checks.specs.declared.spot.Spot.{Spot}
 use Rattle.board_checks.specs.declared.spot.Spot.TheVariants.{Edge, RightOf, Below}
 use Rattle.board_checks.specs.Demands.{Demand, IsOfPeers, numbers_of}

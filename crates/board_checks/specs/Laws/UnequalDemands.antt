@@ -12,7 +12,7 @@ use Rattle.clue_rules.specs.Unequal.{UnequalValue, IsUnequal, HoldsSigns, sign_b
 use Rattle.clue_rules.specs.Unequal.{is_present}
 use Rattle.clue_rules.specs.Laws.Neighbours.{IsNext, right_of, below_of, next_line, next_inside}
 use Rattle.clue_rules.specs.Laws.Signs.{IsSaid, right_between, below_between, said_next, greater_next}
-use Rattle.clue_rules.proofs.SignLemmas.{signs_held, held_signs}
+use Rattle.clue_rules.specs.Laws.SignLemmas.{signs_held, held_signs}
 use Rattle.board_checks.specs.declared.spot.Spot.{Spot}
 use Rattle.board_checks.specs.declared.spot.Spot.TheVariants.{Edge, RightOf, Below}
 use Rattle.board_checks.specs.Demands.{Demand, IsOfPeers, numbers_of}

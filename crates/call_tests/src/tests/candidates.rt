@@ -195,7 +195,7 @@ fn values_struck_together(rt: HostRuntime) {
     let mut candidates = Candidates::all(size);
     candidates.remove_all(0, candidates.values(0).difference(NumberSet::one(3)));
     let struck = told_of_3(&candidates);
-    let is_of_size = candidates.trail().size() == size;
+    let is_of_size = candidates.size() == size;
     // Back to a mark between the two: the lesser one stays struck.
     let mark = first.mark();
     assert!(rt; mark.len() <= candidates.trail_len());

@@ -6,12 +6,14 @@ use number_sets::NumberSet;
 use trail_solver::{Candidates, Rules};
 
 impl Steps for Latin {
-    ghost use Rattle.client.specs.LatinSteps.{IsLatinStruckBy};
     ghost use Rattle.client.specs.LatinSteps as steps;
+    ghost use Rattle.clue_rules.specs.Laws.Sound.{givens_sound};
+    ghost use Rattle.clue_rules.specs.Laws.GivensAlone as alone;
+    ghost use Rattle.clue_rules.specs.Reasons.{IsGivensStruckBy};
 
     type Known = ();
 
-    ghost struck_by = { IsLatinStruckBy };
+    ghost struck_by = { IsGivensStruckBy };
 
     fn strikes(
         &self,
@@ -34,15 +36,15 @@ impl Steps for Latin {
 
     ghost given_struck = { λ p c at cell value. (λ h. h, λ h. h) };
 
-    ghost line_struck = { steps.lines };
+    ghost line_struck = { alone.givens_lines };
 
-    ghost looks_along = { steps.looks };
+    ghost looks_along = { alone.givens_look };
 
     ghost stands_along = { λ p c reason cell value valid. steps.stands p c reason cell value };
 
-    ghost struck_less = { steps.less };
+    ghost struck_less = { alone.givens_less };
 
-    ghost struck_sound = { steps.sound };
+    ghost struck_sound = { λ p c reason cell value g valid. givens_sound p c reason cell value g };
 
     ghost struck_cut = { steps.whole };
 }

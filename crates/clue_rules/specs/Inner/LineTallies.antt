@@ -4,7 +4,7 @@ use Rattle.number_sets.specs.Sets.{has_number, IsSingle}
 use Rattle.latin_board.specs.Lines.{line_cell}
 use Rattle.trail_solver.specs.Candidates.{CandidatesValue}
 use Rattle.clue_rules.specs.Left.{IsLeft}
-use Rattle.clue_rules.specs.LineStrikes.{IsAlone, IsByRest, IsClash, IsVoid}
+use Rattle.clue_rules.specs.Inner.LineStrikes.{IsAlone, IsClash, IsVoid}
 use Rattle.clue_rules.specs.declared.lines.latin.LineTally.{LineTally}
 
 -- the tally of the first n squares of a line: which values are left of one of them, of two, and alone in one; something
@@ -83,10 +83,3 @@ Goes t set v =
 pub record IsKeptOf (t : LineTally) (set kept : ℕ) : Type 0 where
   pub only : (v : ℕ) → has_number kept v ≡ true → (has_number set v ≡ true) × (Goes t set v → ⊥)
   pub rest : (v : ℕ) → has_number set v ≡ true → has_number kept v ≡ false → Goes t set v
-
--- the pairs that the squares of one row or column strike in one another
-pub record IsLineStruck (line : ℕ) (c : CandidatesValue) (cell value : ℕ) : Type 0 where
-  pub index : ℕ
-  pub inside : index < c.size
-  pub here : line_cell c.size line index ≡ cell
-  pub why : IsByRest c line index value

@@ -14,7 +14,7 @@ use Rattle.clue_rules.specs.declared.id_fault.IdFault.TheVariants.{BadClue, BadS
 use Rattle.clue_rules.specs.declared.unequal.direction.Direction.{Direction}
 use Rattle.clue_rules.specs.Unequal.{UnequalValue, IsUnequal, neighbour}
 use Rattle.clue_rules.specs.UnequalText.{Piece, letter_of, piece_text, without_empty_last, pieces_of, number_in}
-use Rattle.clue_rules.specs.UnequalText.{has_number, direction_of, has_letters, is_inside, points_inside, sign_said}
+use Rattle.clue_rules.specs.UnequalText.{begins_with_number, direction_of, has_letters, is_inside, points_inside, sign_said}
 use Rattle.clue_rules.specs.UnequalText.{contradicts, grid_in, puzzle_in, puzzle_at, ArePiecesOf}
 use Rattle.clue_rules.specs.Laws.Pieces.{comma_pieces, join-push, dropped_last, drop-push, pieces-push}
 use Rattle.clue_rules.specs.Laws.Letters.{direction_of-letter, contains_here, contains_there, contains_cases}
@@ -27,7 +27,7 @@ use Rattle.clue_rules.specs.Laws.Signs.{signed_valid}
 
 -- pieces in which there is no fault
 pub record AreGood (w : ℕ) (pieces : List (List ℕ)) : Type 0 where
-  pub numbers : list_all (has_number w) pieces ≡ true
+  pub numbers : list_all (begins_with_number w) pieces ≡ true
   pub letters : list_all has_letters pieces ≡ true
   pub inside : list_all (points_inside w pieces) (range_with_len 0 (w * w)) ≡ true
   pub agree : contradicts w pieces ≡ false
@@ -35,7 +35,7 @@ pub record AreGood (w : ℕ) (pieces : List (List ℕ)) : Type 0 where
 pub good_taken : (w : ℕ) (pieces : List (List ℕ)) (v : UnequalValue) → puzzle_at w pieces ≡ Ok v
     → AreGood w pieces × (puzzle_in w pieces ≡ v)
 good_taken w pieces v h =
-    let numbers = refused_then (not (list_all (has_number w) pieces)) BadSquares _ v h in
+    let numbers = refused_then (not (list_all (begins_with_number w) pieces)) BadSquares _ v h in
     let letters = refused_then (not (list_all has_letters pieces)) BadClue _ v numbers.1 in
     let inside =
     refused_then (not (list_all (points_inside w pieces) (range_with_len 0 (w * w)))) OffGrid _ v letters.1 in
@@ -54,12 +54,12 @@ pub good_again : (w : ℕ) (pieces : List (List ℕ)) → AreGood w pieces → p
 good_again w pieces h = rw (h.numbers, h.letters, h.inside, h.agree) refl
 
 -- the pieces that were read, written again
-pub read_pieces : (w : ℕ) (bytes : List (List ℕ)) → list_all (has_number w) bytes ≡ true
+pub read_pieces : (w : ℕ) (bytes : List (List ℕ)) → list_all (begins_with_number w) bytes ≡ true
     → list_all has_letters bytes ≡ true
     → map piece_text (map (read_piece w) bytes) ≡ bytes
 read_pieces w [] numbers letters = refl
 read_pieces w (p ∷ ps) numbers letters =
-    let number = and_parts (has_number w p) (list_all (has_number w) ps) numbers in
+    let number = and_parts (begins_with_number w p) (list_all (begins_with_number w) ps) numbers in
     let letter = and_parts (has_letters p) (list_all has_letters ps) letters in
     rw (read_piece_written w p number.0 letter.0, read_pieces w ps number.1 letter.1) refl
 
@@ -151,10 +151,10 @@ pub square_some : (w : ℕ) → 3 ≤ w → 0 < w * w
 square_some w small = grind arith
 
 pub good_numbers : (w : ℕ) (pieces : List Piece) → AllByRecursion (λ n. n ≤ w) (map (λ p. p.number) pieces)
-    → list_all (has_number w) (map piece_text pieces) ≡ true
+    → list_all (begins_with_number w) (map piece_text pieces) ≡ true
 good_numbers w [] h = refl
 good_numbers w (p ∷ pieces) h =
-    let first : has_number w (piece_text p) ≡ true = ap is_some (number_in-piece w p h.0) in
+    let first : begins_with_number w (piece_text p) ≡ true = ap is_some (number_in-piece w p h.0) in
     rw (first, good_numbers w pieces h.1) refl
 
 pub good_letters : (pieces : List Piece) → list_all has_letters (map piece_text pieces) ≡ true

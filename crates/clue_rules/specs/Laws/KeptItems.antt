@@ -22,7 +22,7 @@ same_either : {X : Type 0} (b : Bool) (x : X) → x ≡ (if b then x else x)
 same_either true x = refl
 same_either false x = refl
 
--- an entry stays where its item is kept, and is empty else
+-- an entry stays where its item is kept, and is empty otherwise
 pub entry-kept : {X : Type 0} (empty : X) (keep : ℕ → Bool) (i : ℕ) (xs : List X) (k j : ℕ) → i + k ≡ j
     → slice_index_or (kept_items empty keep i xs) k empty ≡ (if keep j then slice_index_or xs k empty else empty)
 entry-kept empty keep i [] k j e = same_either (keep j) empty
@@ -124,8 +124,8 @@ none_asked i xs k number = rw (entry-kept zero (λ j. false) i xs k (i + k) refl
 -- ---- a puzzle's items
 
 -- whether it has one, where n are entries of one list, of which some say nothing, and the others are givens
-abbrev pub has_item : {X : Type 0} → (X → Bool) → X → ℕ → List X → List ℕ → ℕ → Bool
-has_item present empty n xs givens i =
+abbrev pub has_entry : {X : Type 0} → (X → Bool) → X → ℕ → List X → List ℕ → ℕ → Bool
+has_entry present empty n xs givens i =
     if nat_lt i n then present (slice_index_or xs i empty) else nat_lt 0 (slice_index givens (i - n))
 
 -- an item is there where it was there and is kept
@@ -134,11 +134,11 @@ pub present_kept : {X : Type 0} (present : X → Bool) (empty : X) → present e
 present_kept present empty none true x = elim (present x) as (λ t. t ≡ (t && true)) [ true ↦ refl | false ↦ refl ]
 present_kept present empty none false x = none ∙ sym (and_right (present x) false refl)
 
-pub has_item-kept : {X : Type 0} (present : X → Bool) (empty : X) → present empty ≡ false
+pub has_entry-kept : {X : Type 0} (present : X → Bool) (empty : X) → present empty ≡ false
     → (n : ℕ) (xs : List X) (givens : List ℕ) (keep : ℕ → Bool) (i : ℕ)
-    → has_item present empty n (kept_items empty keep 0 xs) (kept_items zero keep n givens) i
-    ≡ (has_item present empty n xs givens i && keep i)
-has_item-kept present empty none n xs givens keep i =
+    → has_entry present empty n (kept_items empty keep 0 xs) (kept_items zero keep n givens) i
+    ≡ (has_entry present empty n xs givens i && keep i)
+has_entry-kept present empty none n xs givens keep i =
     elim (cases_lt i n) [
       | inl low ↦
           rw (lt-ltb i n low, entry-kept empty keep 0 xs i i (omega arith))
@@ -156,7 +156,7 @@ not_positive (suc n) h = cc (lt-ltb 0 (suc n) (omega arith))
 -- only the items that a puzzle has matter to what is kept of it
 pub items_agree : {X : Type 0} (present : X → Bool) (empty : X) → ((x : X) → present x ≡ false → x ≡ empty)
     → (n : ℕ) (xs : List X) (givens : List ℕ) (a b : ℕ → Bool) → length xs ≡ n
-    → ((i : ℕ) → i < n + length givens → has_item present empty n xs givens i ≡ true → a i ≡ b i)
+    → ((i : ℕ) → i < n + length givens → has_entry present empty n xs givens i ≡ true → a i ≡ b i)
     → (kept_items empty a 0 xs ≡ kept_items empty b 0 xs) × (kept_items zero a n givens ≡ kept_items zero b n givens)
 items_agree present empty gone n xs givens a b count same = (
   kept-same empty present gone a b xs (λ k inside here. same k (omega arith) (rw (lt-ltb k n (omega arith)) here)),
@@ -166,11 +166,11 @@ items_agree present empty gone n xs givens a b count same = (
 )
 
 -- a puzzle has every item that gives each number of a Latin square
-pub has_item-full : {X : Type 0} (present : X → Bool) (empty : X) (n : ℕ) (xs : List X) (g : GridValue) (i : ℕ)
+pub has_entry-full : {X : Type 0} (present : X → Bool) (empty : X) (n : ℕ) (xs : List X) (g : GridValue) (i : ℕ)
     → IsLatin g
     → (i < n → present (slice_index_or xs i empty) ≡ true) → i < n + g.size * g.size
-    → has_item present empty n xs g.numbers i ≡ true
-has_item-full present empty n xs g i latin here inside =
+    → has_entry present empty n xs g.numbers i ≡ true
+has_entry-full present empty n xs g i latin here inside =
     elim (cases_lt i n) [
       | inl low ↦ rw (lt-ltb i n low) (here low)
       | inr high ↦ rw (le-ltb i n high)

@@ -11,7 +11,7 @@ use Rattle.byte_text.specs.Decimals.{begins_digit}
 use Rattle.byte_text.specs.Bytes.{capital_u, capital_r, capital_d, capital_l, comma, digit_zero}
 use Rattle.clue_rules.specs.declared.unequal.direction.Direction.{Direction}
 use Rattle.clue_rules.specs.declared.unequal.direction.Direction.TheVariants.{Up, Right, Down, Left}
-use Rattle.clue_rules.specs.UnequalText.{Piece, letter_of, piece_text, directions_at, number_in, has_number}
+use Rattle.clue_rules.specs.UnequalText.{Piece, letter_of, piece_text, directions_at, number_in, begins_with_number}
 use Rattle.clue_rules.specs.UnequalText.{direction_of, has_letters, piece_at, says}
 use Rattle.clue_rules.specs.Laws.RangeTests.{some_if}
 
@@ -185,7 +185,7 @@ letters_written (b ∷ bs) e =
     go rest None none parts = absurd (false≢true (sym (ap is_some none) ∙ parts.0))
     go rest (Some d) some parts = rw (some, letter_of-direction b d some, rest parts.1) refl
 
-number_written : (w b : ℕ) (bs : List ℕ) → has_number w (b ∷ bs) ≡ true
+number_written : (w b : ℕ) (bs : List ℕ) → begins_with_number w (b ∷ bs) ≡ true
     → digit_zero + unwrap_or (number_in w (b ∷ bs)) 0 ≡ b
 number_written w b bs e = go (nat_le digit_zero b && nat_le b (digit_zero + w) && not (begins_digit bs)) refl e
   where
@@ -199,7 +199,7 @@ number_written w b bs e = go (nat_le digit_zero b && nat_le b (digit_zero + w) &
         let more : digit_zero ≤ b = grind (arith, nat_tests, low.0) in
         omega arith
 
-pub read_piece_written : (w : ℕ) (bytes : List ℕ) → has_number w bytes ≡ true → has_letters bytes ≡ true
+pub read_piece_written : (w : ℕ) (bytes : List ℕ) → begins_with_number w bytes ≡ true → has_letters bytes ≡ true
     → piece_text (read_piece w bytes) ≡ bytes
 read_piece_written w [] number letters = absurd (false≢true number)
 read_piece_written w (b ∷ bs) number letters = rw (number_written w b bs number, letters_written bs letters) refl

@@ -11,7 +11,7 @@ use Rattle.clue_rules.specs.declared.id_fault.IdFault.TheVariants.{Contradiction
 use Rattle.clue_rules.specs.IdFaults.{NotForMemory, exactly}
 use Rattle.clue_rules.specs.TowersText.{fields, is_clue_field, clues_in, clues_at, is_square_part, squares_of}
 use Rattle.clue_rules.specs.TowersText.{givens_at, givens_behind, towers_at}
-use Rattle.clue_rules.specs.UnequalText.{pieces_of, has_number, has_letters, points_inside, contradicts, puzzle_in}
+use Rattle.clue_rules.specs.UnequalText.{pieces_of, begins_with_number, has_letters, points_inside, contradicts, puzzle_in}
 use Rattle.clue_rules.specs.UnequalText.{puzzle_at, unequal_at}
 
 -- where neither of two readings is refused for want of memory, both in turn aren't
@@ -60,7 +60,7 @@ unfolding unequal_at
 unequal_not_for_memory w text =
     not_for_memory-then (exactly (w * w) (pieces_of text)) (puzzle_at w)
     (exactly_not_for_memory (w * w) (pieces_of text))
-    (λ pieces. not_for_memory-if (not (list_all (has_number w) pieces)) (Err BadSquares) _ (λ e. cc)
+    (λ pieces. not_for_memory-if (not (list_all (begins_with_number w) pieces)) (Err BadSquares) _ (λ e. cc)
     (not_for_memory-if (not (list_all has_letters pieces)) (Err BadClue) _ (λ e. cc)
     (not_for_memory-if (not (list_all (points_inside w pieces) (range_with_len 0 (w * w)))) (Err OffGrid) _ (λ e. cc)
     (not_for_memory-if (contradicts w pieces) (Err Contradiction) (Ok (puzzle_in w pieces)) (λ e. cc) tt))))

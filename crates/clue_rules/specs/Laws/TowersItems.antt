@@ -20,7 +20,7 @@ use Rattle.clue_rules.specs.Towers.{TowersValue, IsTowers, clue_of, HoldsClues, 
 use Rattle.clue_rules.specs.Towers.{towers_items, has_towers, cut_towers, full_towers, towers_given_grid}
 use Rattle.clue_rules.specs.Views.{view_of}
 use Rattle.clue_rules.specs.Laws.KeptItems.{length-kept, kept-all, kept-kept, All-kept, still_asked, none_asked}
-use Rattle.clue_rules.specs.Laws.KeptItems.{has_item-kept, items_agree, has_item-full, not_positive, small_widths}
+use Rattle.clue_rules.specs.Laws.KeptItems.{has_entry-kept, items_agree, has_entry-full, not_positive, small_widths}
 use Rattle.clue_rules.specs.Laws.KeptItems.{IsGrid-kept}
 use Rattle.clue_rules.specs.Laws.Edges.{edge_cases}
 
@@ -69,7 +69,7 @@ cut_valid v keep h = record {
 -- a cut has the items that were there and are in the set
 pub cut_has : (v : TowersValue) (keep : ℕ → Bool) (i : ℕ)
     → has_towers (cut_towers v keep) i ≡ (has_towers v i && keep i)
-cut_has v keep i = has_item-kept (nat_lt 0) zero refl (4 * v.size) v.clues v.givens keep i
+cut_has v keep i = has_entry-kept (nat_lt 0) zero refl (4 * v.size) v.clues v.givens keep i
 
 -- to keep every item changes nothing
 pub cut_all : (v : TowersValue) → cut_towers v (λ i. true) ≡ v
@@ -160,7 +160,7 @@ full_valid g h = record {
 pub full_has : (g : GridValue) (i : ℕ) → IsGrid g → IsLatin g → i < towers_items g.size
     → has_towers (full_towers g) i ≡ true
 full_has g i is_grid latin inside =
-    has_item-full (nat_lt 0) zero (4 * g.size) (full_towers g).clues g i latin
+    has_entry-full (nat_lt 0) zero (4 * g.size) (full_towers g).clues g i latin
     (λ low. rw (full_clue g i low)
     (lt-ltb 0 (seen (view_of g i)) (seen_some (view_of g i) (omega (arith, length-view_of g i, is_grid.smallest)))))
     inside

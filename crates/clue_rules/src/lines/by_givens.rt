@@ -5,42 +5,55 @@ ghost use Rattle.std.specs.Bool.{OnFalse, OnTrue};
 ghost use Rattle.trail_solver.specs.Candidates.{IsEarlier};
 ghost use Rattle.trail_solver.specs.Solutions.{HasNoSolutionWithin, KeepsSolutions};
 ghost use Rattle.clue_rules.specs.Givens.{given_puzzle};
+ghost use Rattle.clue_rules.specs.Left.{IsLive};
 ghost use Rattle.clue_rules.specs.Struck.{IsGivensStruck, NoneLeft};
 
-use crate::lines::changed::ChangedLines;
-use crate::lines::given_squares::keep_givens;
-use crate::lines::narrowing::{LineRules, narrow_by_lines};
-use latin_board::{Grid, Size};
+use crate::lines::line_pass::LinePass;
+use crate::lines::settling::settle_lines;
+use latin_board::Grid;
+use number_sets::NumberSet;
 use trail_solver::Candidates;
 
-// Rows and columns alone: a rule that strikes nothing along any line.
+// Givens, rows and columns alone: no clue and no sign strikes.
 #[derive(Clone, Copy)]
-struct NoRule {
-    size: Size,
+struct GivensAlone<'a> {
+    givens: &'a Grid,
 }
 
-impl LineRules for NoRule {
-    ghost use Rattle.clue_rules.specs.Inner.Narrowing.{IsSquare, NoneStruck};
+impl<'a> LinePass for GivensAlone<'a> {
+    ghost use Rattle.clue_rules.specs.Givens.{given_puzzle};
+    ghost use Rattle.clue_rules.specs.Laws.GivensAlone as alone;
+    ghost use Rattle.clue_rules.specs.Reasons.{IsGivensStruckBy};
+    ghost use Rattle.clue_rules.specs.declared.grade.Grade.TheVariants.{Latin};
 
-    ghost width = { λ rule. rule.size };
+    type Known = ();
 
-    ghost sought = { λ _ g. IsSquare g };
+    ghost puzzle = { λ s. given_puzzle s.givens.now };
 
-    ghost rules_out = { λ _ _. NoneStruck };
+    ghost struck_by = { λ s. IsGivensStruckBy s.givens.now };
 
-    #[tactic(auto, using(crate::proofs::GivensNarrowed::idle_narrows, crate::proofs::GivensNarrowed::idle_notes, crate::proofs::GivensNarrowed::idle_strikes))]
-    fn strike_along(
+    ghost grade = { λ _. Latin };
+
+    fn given_at(&self, cell: usize) -> u8 {
+        self.givens.get(cell)
+    }
+
+    fn strike_by_clues(
         &self,
         _candidates: &mut Candidates,
         _line: u8,
-        _changed: &mut ChangedLines,
-    ) -> bool {
-        true
+        _known: &mut (),
+    ) -> NumberSet {
+        NumberSet::empty()
     }
 
-    ghost squares = { λ _ g s. s };
+    ghost given_struck = { λ s c at cell value. (λ h. h, λ h. h) };
 
-    ghost own_line = { λ _ line a b size same cell value none. none };
+    ghost line_struck = { λ s. alone.givens_lines s.givens.now };
+
+    ghost looks_along = { λ s. alone.givens_look s.givens.now };
+
+    ghost struck_less = { λ s. alone.givens_less s.givens.now };
 }
 
 /// Takes away what the givens rule out, and then what rows and columns do, until they say no more. False only where no
@@ -48,8 +61,7 @@ impl LineRules for NoRule {
 ///
 /// It loses no Latin square with these givens that was within the candidates, so no solution of a puzzle that has them.
 /// Where it answers true, no pair is left that a given rules out, or a row or column by the candidates at first or by those
-/// that are left.
-#[tactic(auto, using(crate::proofs::GivensNarrowed::givens_keep, crate::proofs::GivensNarrowed::givens_refute, crate::proofs::GivensNarrowed::givens_struck, crate::proofs::GivensNarrowed::givens_settled))]
+/// that are left; and something is left of each square, and of each number in each row and column.
 pub fn narrow_by_givens(candidates: &mut Candidates, givens: &Grid) -> bool
     requires { givens.now.size ≡ candidates.old.size }
     ensures less { IsEarlier candidates.old candidates.new }
@@ -60,8 +72,7 @@ pub fn narrow_by_givens(candidates: &mut Candidates, givens: &Grid) -> bool
         (NoneLeft (IsGivensStruck givens.now) candidates.old candidates.new) }
     ensures settled { OnTrue result
         (NoneLeft (IsGivensStruck givens.now) candidates.new candidates.new) }
+    ensures live { OnTrue result (IsLive candidates.new) }
 {
-    keep_givens(candidates, givens);
-    let size = candidates.size();
-    narrow_by_lines(&NoRule { size }, candidates)
+    settle_lines(&GivensAlone { givens }, candidates, &mut ())
 }

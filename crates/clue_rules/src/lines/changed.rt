@@ -1,12 +1,12 @@
 //! Which rows and columns have to be looked at again.
 
-ghost use Rattle.clue_rules.specs.ChangedLines.{GainsLine, GainsBoth, GainsAcross, HasNoneBelow, IsOneBelow, IsTaken};
-ghost use Rattle.clue_rules.specs.ChangedLines.{LosesLine};
+ghost use Rattle.clue_rules.specs.Inner.ChangedLines.{GainsLine, HasNoneBelow, IsOneBelow, IsTaken};
+ghost use Rattle.clue_rules.specs.Inner.ChangedLines.{LosesLine};
 ghost use Rattle.clue_rules.specs.Takes.{is_crossing};
 ghost use Rattle.std.specs.Prelude.{◌≡◌, ℕ, ◌+◌, ◌*◌, ◌<◌, ◌≤◌, ◌==◌, ◌||◌, nat_lt, true, IfNone, MatchOption};
 ghost use Rattle.number_sets.specs.Sets.{has_number, no_numbers};
 
-use crate::lines::views::Square;
+use crate::lines::views::{column_of, row_of};
 use latin_board::Size;
 use number_sets::NumberSet;
 use std::marker::Model;
@@ -14,7 +14,7 @@ use std::marker::Model;
 /// A set of lines, the rows from the top and then the columns from the left. Contracts see it as a number of which
 /// `has_number` tells the members.
 #[derive(Clone, Copy, Debug)]
-pub struct Lines {
+pub(crate) struct Lines {
     bits: u32,
 }
 
@@ -43,11 +43,14 @@ impl Lines {
         }
     }
 
-    fn has(self, line: u8) -> bool
-        requires { line < 32 }
-        ensures { result ≡ has_number self line }
+    /// The row and the column of a square.
+    pub(crate) fn of_cell(size: Size, cell: usize) -> Lines
+        requires { cell < size * size }
     {
-        self.bits >> line & 1 == 1
+        let mut lines = Lines::none();
+        lines.insert(row_of(size, cell));
+        lines.insert(size.get() + column_of(size, cell));
+        lines
     }
 
     fn insert(&mut self, line: u8)
@@ -66,7 +69,7 @@ impl Lines {
         self.bits ^= 1 << line;
     }
 
-    // One of the first lines that is in the set, if any is: the next from a line on, or else the least.
+    // One of the first lines that is in the set, if any is: the next from a line on, or otherwise the least.
     fn next(self, from: u8, count: u8) -> Option<u8>
         requires from { from < 32 }
         requires count { count < 32 }
@@ -101,7 +104,7 @@ impl Lines {
         self.bits |= more.bits;
     }
 
-    /// Takes one of the first lines out of the set, if any is in it: the next from a line on, or else the least.
+    /// Takes one of the first lines out of the set, if any is in it: the next from a line on, or otherwise the least.
     pub fn take_next(&mut self, from: u8, count: u8) -> Option<u8>
         requires from { from < 32 }
         requires count { count < 32 }
@@ -127,98 +130,5 @@ fn bits_across(line: u8, places: NumberSet, width: u8) -> u32
         u32::from(places.bits()) << width
     } else {
         u32::from(places.at_most(width - 1).bits())
-    }
-}
-
-/// The lines that lost candidates since they were looked at: by what rows and columns say, and by what the game's own
-/// rule says.
-#[derive(Clone, Copy)]
-pub(crate) struct ChangedLines {
-    latin: Lines,
-    rule: Lines,
-}
-
-impl ChangedLines {
-    pub fn none() -> ChangedLines
-        ensures latin { result.latin ≡ no_numbers }
-        ensures rule { result.rule ≡ no_numbers }
-    {
-        ChangedLines {
-            latin: Lines::none(),
-            rule: Lines::none(),
-        }
-    }
-
-    /// Every line of a grid of the size.
-    pub fn all(size: Size) -> ChangedLines
-        ensures latin { (k : ℕ) → has_number result.latin k ≡ nat_lt k (2 * size) }
-        ensures rule { (k : ℕ) → has_number result.rule k ≡ nat_lt k (2 * size) }
-    {
-        let count = 2 * size.get();
-        ChangedLines {
-            latin: Lines::first(count),
-            rule: Lines::first(count),
-        }
-    }
-
-    /// Notes that a square lost candidates.
-    pub fn note(&mut self, square: Square)
-        requires line { square.line < 32 }
-        requires crossing { square.crossing < 32 }
-        ensures latin { GainsBoth square.line square.crossing self.old.latin self.new.latin }
-        ensures rule { GainsBoth square.line square.crossing self.old.rule self.new.rule }
-    {
-        self.latin.insert(square.line);
-        self.latin.insert(square.crossing);
-        self.rule.insert(square.line);
-        self.rule.insert(square.crossing);
-    }
-
-    /// Notes that the squares of a line at some places lost candidates.
-    pub fn note_across(&mut self, line: u8, places: NumberSet, width: u8)
-        requires width { width ≤ 9 }
-        requires line { line < 2 * width }
-        ensures latin { GainsAcross width line places self.old.latin self.new.latin }
-        ensures rule { GainsAcross width line places self.old.rule self.new.rule }
-    {
-        let across = Lines::across(line, places, width);
-        self.latin.add(across);
-        self.rule.add(across);
-    }
-
-    /// A line among the first that is to be looked at again for what it says as a row or column, if any is: the next from
-    /// a line on, or else the least. From now on it isn't.
-    pub fn take_latin(&mut self, from: u8, count: u8) -> Option<u8>
-        requires from { from < 32 }
-        requires count { count < 32 }
-        ensures line { MatchOption result (HasNoneBelow count self.old.latin)
-            (IsTaken count self.old.latin self.new.latin) }
-        ensures same { IfNone result (self.new.latin ≡ self.old.latin) }
-        ensures rule { self.new.rule ≡ self.old.rule }
-    {
-        self.latin.take_next(from, count)
-    }
-
-    /// A line among the first that is to be looked at again for the game's own rule, if any is, in the same way.
-    pub fn take_rule(&mut self, from: u8, count: u8) -> Option<u8>
-        requires from { from < 32 }
-        requires count { count < 32 }
-        ensures line { MatchOption result (HasNoneBelow count self.old.rule)
-            (IsTaken count self.old.rule self.new.rule) }
-        ensures same { IfNone result (self.new.rule ≡ self.old.rule) }
-        ensures latin { self.new.latin ≡ self.old.latin }
-    {
-        self.rule.take_next(from, count)
-    }
-
-    /// Notes that the line isn't to be looked at again for the game's own rule.
-    pub fn leave_rule_out(&mut self, line: u8)
-        requires { line < 32 }
-        ensures rest { LosesLine line self.old.rule self.new.rule }
-        ensures latin { self.new.latin ≡ self.old.latin }
-    {
-        if self.rule.has(line) {
-            self.rule.remove(line);
-        }
     }
 }

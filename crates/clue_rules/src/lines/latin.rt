@@ -1,7 +1,7 @@
 //! What the squares of a row or column strike in one another.
 
 ghost use Rattle.std.specs.Prelude.{◌≡◌, ◌*◌, ◌<◌, IfErr, IfOk, OnErr};
-ghost use Rattle.clue_rules.specs.LineStrikes.{IsDead, StrikesRest};
+ghost use Rattle.clue_rules.specs.Inner.LineStrikes.{IsDead, IsLiveLine, StrikesRest};
 ghost use Rattle.clue_rules.specs.Inner.LineTallies.{IsStuckAt, IsTallyOf, IsSinglesOf};
 
 use crate::lines::views::Along;
@@ -22,9 +22,10 @@ pub enum DeadLine {
 /// place of a value in it. Where the line can't hold its numbers nothing is taken.
 // Searches spend most of their time here.
 #[inline(always)]
-pub fn strike_line(candidates: &mut Candidates, line: u8) -> Result<NumberSet, DeadLine>
+pub(crate) fn strike_line(candidates: &mut Candidates, line: u8) -> Result<NumberSet, DeadLine>
     requires { line < 2 * candidates.old.size }
     ensures ok { IfOk result (λ places. StrikesRest line places candidates.old candidates.new) }
+    ensures live { IfOk result (λ places. IsLiveLine line candidates.old) }
     ensures err { IfErr result (IsDead line candidates.old) }
     ensures same { OnErr result (candidates.new ≡ candidates.old) }
 {
@@ -106,7 +107,7 @@ fn single_of(set: NumberSet) -> NumberSet
 impl LineTally {
     ghost use Rattle.std.specs.Prelude.{◌≡◌, ◌*◌, ◌<◌, MatchOption};
     ghost use Rattle.std.specs.Bool.{OnTrue};
-    ghost use Rattle.clue_rules.specs.LineStrikes.{StrikesRest};
+    ghost use Rattle.clue_rules.specs.Inner.LineStrikes.{StrikesRest};
     ghost use Rattle.clue_rules.specs.Inner.LineTallies.{IsCounted, IsClashing, IsForced, IsFree, IsKeptOf};
     ghost use Rattle.clue_rules.specs.Inner.LineTallies.{IsQuietTally, IsTallyOf};
 

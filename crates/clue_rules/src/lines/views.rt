@@ -1,9 +1,9 @@
 //! The squares along a row or column, as they are met from the edge places at its ends.
 
-ghost use Rattle.std.specs.Prelude.{◌≡◌, ℕ, ◌+◌, ◌*◌, ◌/◌, ◌%◌, ◌<◌};
+ghost use Rattle.std.specs.Prelude.{◌≡◌, ◌+◌, ◌*◌, ◌/◌, ◌%◌, ◌<◌};
 ghost use Rattle.latin_board.specs.Lines.{line_cell};
 ghost use Rattle.clue_rules.specs.Views.{view_cell, front_place};
-ghost use Rattle.clue_rules.specs.Inner.ViewSquares.{IsCrossed, LeadAlong, LeadOn};
+ghost use Rattle.clue_rules.specs.Inner.ViewSquares.{LeadAlong, LeadOn};
 
 use latin_board::Size;
 
@@ -23,7 +23,7 @@ pub fn view_cell(size: Size, place: u8, k: usize) -> usize
     View::from(size, place).cell(k)
 }
 
-/// The squares from an edge place, as the first of them and the way from each to the next: who walks along them asks
+/// The squares from an edge place, as the first of them and the way from each to the next: so it is asked
 /// only once at which edge the place is.
 #[derive(Clone, Copy)]
 pub(crate) struct View {
@@ -80,7 +80,7 @@ impl View {
     }
 }
 
-/// The edge place before the first square of a line.
+/// The edge place before the first square of a line; that after its last one is as many further on as the width.
 pub(crate) fn front_place(size: Size, line: u8) -> u8
     requires { line < 2 * size }
     ensures value { result ≡ front_place size line }
@@ -94,34 +94,12 @@ pub(crate) fn front_place(size: Size, line: u8) -> u8
     }
 }
 
-/// A square of the grid, with one of its lines and the one that crosses it there.
-#[derive(Clone, Copy)]
-pub(crate) struct Square {
-    pub cell: usize,
-    pub line: u8,
-    pub crossing: u8,
-}
-
-impl Square {
-    /// A square by its number, with its row and the column that crosses it.
-    #[tactic(auto, using(crate::proofs::LineSquares::by_row))]
-    pub fn at(size: Size, cell: usize) -> Square
-        requires { cell < size * size }
-        ensures cell { result.cell ≡ cell }
-        ensures lines { IsCrossed size result.cell result.line result.crossing }
-    {
-        Square {
-            cell,
-            line: row_of(size, cell),
-            crossing: size.get() + column_of(size, cell),
-        }
-    }
-}
-
-// The row of a square: a division by a number that is known beforehand takes far less time.
-fn row_of(size: Size, cell: usize) -> u8
+/// The row of a square: a division by a number that is known beforehand takes far less time.
+#[tactic(auto, using(crate::specs::Laws::LineSquares::row_low))]
+pub(crate) fn row_of(size: Size, cell: usize) -> u8
     requires { cell < size * size }
-    ensures { result ≡ cell / size }
+    ensures value { result ≡ cell / size }
+    ensures inside { result < size }
 {
     let cell = cell as u8;
     match size.get() {
@@ -135,10 +113,12 @@ fn row_of(size: Size, cell: usize) -> u8
     }
 }
 
-// The column of a square, in the same way.
-fn column_of(size: Size, cell: usize) -> u8
+/// The column of a square, in the same way.
+#[tactic(auto, using(crate::specs::Laws::LineSquares::column_low))]
+pub(crate) fn column_of(size: Size, cell: usize) -> u8
     requires { cell < size * size }
-    ensures { result ≡ cell % size }
+    ensures value { result ≡ cell % size }
+    ensures inside { result < size }
 {
     let cell = cell as u8;
     match size.get() {
@@ -159,9 +139,7 @@ pub(crate) struct Along {
     line: u8,
     first: usize,
     step: usize,
-    // The line that crosses it at its first square: the lines that cross it follow one another.
-    crossing: u8,
-    ghost leads: { LeadOn size line first step crossing },
+    ghost leads: { LeadOn size line first step },
 }
 
 impl Along {
@@ -178,7 +156,6 @@ impl Along {
                 line,
                 first: (line * width) as usize,
                 step: 1,
-                crossing: width,
             }
         } else {
             Along {
@@ -186,7 +163,6 @@ impl Along {
                 line,
                 first: (line - width) as usize,
                 step: width as usize,
-                crossing: 0,
             }
         }
     }
@@ -198,18 +174,5 @@ impl Along {
         ensures inside { result < self.now.size * self.now.size }
     {
         self.first + k * self.step
-    }
-
-    /// The k-th of the squares with its lines.
-    pub fn square(&self, k: usize) -> Square
-        requires { k < self.now.size }
-        ensures cell { result.cell ≡ line_cell self.now.size self.now.line k }
-        ensures lines { IsCrossed self.now.size result.cell result.line result.crossing }
-    {
-        Square {
-            cell: self.cell(k),
-            line: self.line,
-            crossing: self.crossing + k as u8,
-        }
     }
 }

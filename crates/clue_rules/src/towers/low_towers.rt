@@ -4,13 +4,11 @@
 //! from 1, no more towers are seen than k and one for each value that is greater than the square's.
 
 ghost use Rattle.std.specs.Prelude.{◌≡◌, ◌+◌, ◌*◌, ◌<◌, ◌≤◌};
-ghost use Rattle.trail_solver.specs.Candidates.{IsEarlier};
-ghost use Rattle.trail_solver.specs.Solutions.{KeepsSolutions};
-ghost use Rattle.clue_rules.specs.Inner.Narrowing.{KeepsEach};
-ghost use Rattle.clue_rules.specs.Inner.TowersLines.{MeetsClue};
-ghost use Rattle.clue_rules.specs.Towers.{towers_puzzle};
+ghost use Rattle.clue_rules.specs.Chains.{LeadsTo};
+ghost use Rattle.clue_rules.specs.Reasons.{IsTowersStruckBy};
+ghost use Rattle.clue_rules.specs.declared.grade.Grade.TheVariants.{Easy};
 
-use crate::lines::view_candidates::strike_missing;
+use crate::lines::striking::strike;
 use crate::lines::views::View;
 use crate::towers::Towers;
 use latin_board::Size;
@@ -22,28 +20,32 @@ impl Towers {
     /// them too, but that is far dearer, and is then looked at less often.
     pub(crate) fn keep_low_towers(&self, candidates: &mut Candidates)
         requires { candidates.old.size ≡ self.now.size }
-        ensures less { IsEarlier candidates.old candidates.new }
-        ensures keeps { KeepsSolutions (towers_puzzle self.now) candidates.old candidates.new }
+        ensures { LeadsTo (IsTowersStruckBy self.now) Easy candidates.old candidates.new }
     {
         let width = candidates.size().get();
         for place in 0..4 * width {
-            keep_low_from(candidates, place, self.clue(place));
+            self.keep_low_from(candidates, place);
         }
     }
-}
 
-// Takes from the squares near a place the values that are too great for its clue, if there is one.
-fn keep_low_from(candidates: &mut Candidates, place: u8, clue: u8)
-    requires place { place < 4 * candidates.old.size }
-    requires clue { clue ≤ candidates.old.size }
-    ensures less { IsEarlier candidates.old candidates.new }
-    ensures keeps { KeepsEach (MeetsClue candidates.old.size place clue) candidates.old candidates.new }
-{
-    let size = candidates.size();
-    let view = View::from(size, place);
-    for k in 1..clue {
-        let low = NumberSet::up_to(greatest_at(size, clue, k));
-        let _struck = strike_missing(candidates, view.cell(usize::from(k - 1)), low);
+    // Takes from the squares near a place the values that are too great for its clue, if there is one.
+    fn keep_low_from(&self, candidates: &mut Candidates, place: u8)
+        requires size { candidates.old.size ≡ self.now.size }
+        requires place { place < 4 * candidates.old.size }
+        ensures { LeadsTo (IsTowersStruckBy self.now) Easy candidates.old candidates.new }
+    {
+        let size = candidates.size();
+        let view = View::from(size, place);
+        let clue = self.clue(place);
+        let all = NumberSet::up_to(size.get());
+        for k in 1..clue {
+            let low = NumberSet::up_to(greatest_at(size, clue, k));
+            strike(
+                candidates,
+                view.cell(usize::from(k - 1)),
+                all.difference(low),
+            );
+        }
     }
 }
 

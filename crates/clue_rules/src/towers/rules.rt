@@ -10,11 +10,16 @@ ghost use Rattle.trail_solver.specs.Solutions.{HasNoSolutionWithin, KeepsSolutio
 ghost use Rattle.clue_rules.specs.Towers.{IsTowers, holds_clue, holds_clues, HoldsClues, towers_puzzle, towers_items};
 ghost use Rattle.clue_rules.specs.Towers.{has_towers, cut_towers, full_towers};
 ghost use Rattle.clue_rules.specs.Inner.Narrowing.{KeepsEach};
+ghost use Rattle.clue_rules.specs.Left.{IsEmptied, IsLive};
+ghost use Rattle.clue_rules.specs.Chains.{LeadsTo};
+ghost use Rattle.clue_rules.specs.Reasons.{IsTowersStruckBy};
 ghost use Rattle.clue_rules.specs.Struck.{IsTowersStruck, NoneLeft};
+ghost use Rattle.clue_rules.specs.declared.grade.Grade.TheVariants.{Hard};
 
-use crate::lines::given_squares::{deny_given, keep_givens};
-use crate::lines::narrowing::{narrow_by_lines, narrow_by_lines_of};
+use crate::lines::given_squares::deny_given;
+use crate::lines::settling::{settle_from, settle_lines};
 use crate::lines::views::{LINE, View};
+use crate::towers::row_fillings::EachRow;
 use crate::towers::{PLACES, Towers};
 use latin_board::{Grid, Size};
 use tower_lines::seen;
@@ -120,14 +125,20 @@ impl Rules for Towers {
             (NoneLeft (IsTowersStruck self.now) candidates.old candidates.new) }
         ensures settled { OnTrue result
             (NoneLeft (IsTowersStruck self.now) candidates.new candidates.new) }
+        // Something is left of each square then, and of each number in each row and column.
+        ensures live { OnTrue result (IsLive candidates.new) }
+        // It goes by steps of the highest grade, and where it answers false they leave a square nothing.
+        ensures leads { LeadsTo (IsTowersStruckBy self.now) Hard candidates.old candidates.new }
+        ensures emptied { OnFalse result (IsEmptied candidates.new) }
     {
-        keep_givens(candidates, self.givens());
+        let _valid = self.size();
         self.keep_low_towers(candidates);
-        narrow_by_lines(self, candidates)
+        settle_lines(self, candidates, &mut EachRow)
     }
 
     fn narrow_from(&self, candidates: &mut Candidates, cell: usize) -> bool {
-        narrow_by_lines_of(self, candidates, cell)
+        let _valid = self.size();
+        settle_from(self, candidates, cell, &mut EachRow)
     }
 
     fn item_count(size: Size) -> usize {

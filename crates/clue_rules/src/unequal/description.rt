@@ -8,7 +8,7 @@ ghost use Rattle.std.specs.Prelude.{IfOk, IfErr, OnOk, Ok, if◌then◌else◌};
 ghost use Rattle.std.specs.List.{list_all, list_any, range_with_len};
 ghost use Rattle.clue_rules.specs.Unequal.{sign_towards};
 ghost use Rattle.clue_rules.specs.Inner.UnequalFields.{HoldsSignsOf};
-ghost use Rattle.clue_rules.specs.UnequalText.{letter_of, is_greater_towards, piece_written, unequal_text, has_number};
+ghost use Rattle.clue_rules.specs.UnequalText.{letter_of, is_greater_towards, piece_written, unequal_text, begins_with_number};
 ghost use Rattle.clue_rules.specs.UnequalText.{grid_in, has_letters, points_inside, piece_at, says_greater, sign_said};
 ghost use Rattle.clue_rules.specs.UnequalText.{contradicts, puzzle_at, unequal_at};
 ghost use Rattle.clue_rules.specs.Inner.UnequalPieces.{texts_of, contradicts_towards};
@@ -67,7 +67,7 @@ fn puzzle_in(size: Size, pieces: &[&[u8]]) -> Result<Unequal, IdFault>
 // The grid of the pieces' numbers, or `None` where some piece begins with none.
 fn givens_in(size: Size, pieces: &[&[u8]]) -> Option<Grid>
     requires { length pieces.now ≡ size * size }
-    ensures { result ≡ (if list_all (has_number size) (texts_of pieces.now)
+    ensures { result ≡ (if list_all (begins_with_number size) (texts_of pieces.now)
         then Some (grid_in size (texts_of pieces.now)) else None) }
 {
     let mut givens = Grid::blank(size);

@@ -1,142 +1,154 @@
-//! What the signs of Unequal rule out along a line.
+//! What the signs of Unequal strike along a line.
 
-ghost use Rattle.std.specs.Prelude.{◌≡◌, ◌+◌, ◌*◌, ◌<◌, MatchOption};
-ghost use Rattle.trail_solver.specs.Puzzles.{Solves};
-ghost use Rattle.clue_rules.specs.declared.unequal.sign.Sign.TheVariants.{Absent};
-ghost use Rattle.clue_rules.specs.Inner.Narrowing.{Narrows};
-ghost use Rattle.clue_rules.specs.Inner.QuietLines.{Notes};
-ghost use Rattle.clue_rules.specs.Unequal.{IsUnequal, sign_between, unequal_puzzle};
-ghost use Rattle.clue_rules.specs.Inner.UnequalLines.{AreEndsOf, IsStruckAt};
-ghost use Rattle.clue_rules.specs.Inner.ViewSquares.{IsCrossed};
+ghost use Rattle.std.specs.Prelude.{◌≡◌, ℕ, ◌+◌, ◌*◌, ◌<◌, ◌≤◌};
+ghost use Rattle.latin_board.specs.Lines.{line_cell};
+ghost use Rattle.clue_rules.specs.Inner.ClueLooks.{IsSignQuiet, AreSignsQuiet};
+ghost use Rattle.clue_rules.specs.Inner.SignEnds.{IsEnd};
+ghost use Rattle.clue_rules.specs.Chains.{LeadsTo};
+ghost use Rattle.clue_rules.specs.Along.{LosesAt, StaysOn};
+ghost use Rattle.clue_rules.specs.Reasons.{IsUnequalStruckBy};
+ghost use Rattle.clue_rules.specs.Unequal.{IsGreater};
+ghost use Rattle.clue_rules.specs.declared.grade.Grade.TheVariants.{Easy};
 
-use crate::lines::changed::ChangedLines;
-use crate::lines::narrowing::LineRules;
-use crate::lines::view_candidates::keep_in_square;
-use crate::lines::views::{Along, Square};
+use crate::lines::line_pass::LinePass;
+use crate::lines::line_passes::take_at;
 use crate::unequal::Unequal;
-use crate::unequal::sign::Sign;
-use trail_solver::Candidates;
+use crate::unequal::sign_bounds::{from_greatest, up_to_least};
+use latin_board::{Size, line_cell};
+use number_sets::NumberSet;
+use std::cmp::Ordering;
+use trail_solver::{Candidates, Rules};
 
-impl LineRules for Unequal {
-    ghost use Rattle.trail_solver.specs.Puzzles.{Solves};
+impl LinePass for Unequal {
+    ghost use Rattle.clue_rules.specs.Laws.Along as along;
+    ghost use Rattle.clue_rules.specs.Laws.Less as less;
+    ghost use Rattle.clue_rules.specs.Laws.Shared as shared;
+    ghost use Rattle.clue_rules.specs.Reasons.{IsUnequalStruckBy};
     ghost use Rattle.clue_rules.specs.Unequal.{unequal_puzzle};
-    ghost use Rattle.clue_rules.specs.Inner.UnequalLines.{IsStruckAlong};
-    ghost use Rattle.clue_rules.specs.Laws.OwnLines.{signs_own};
+    ghost use Rattle.clue_rules.specs.declared.grade.Grade.TheVariants.{Hard};
 
-    ghost width = { λ v. v.size };
+    type Known = ();
 
-    ghost sought = { λ v g. Solves (unequal_puzzle v) g };
+    ghost puzzle = { unequal_puzzle };
 
-    ghost rules_out = { IsStruckAlong };
+    ghost struck_by = { IsUnequalStruckBy };
 
-    fn strike_along(
-        &self,
-        candidates: &mut Candidates,
-        line: u8,
-        changed: &mut ChangedLines,
-    ) -> bool {
-        let size = candidates.size();
-        let squares = Along::line(size, line);
-        for k in 0..size.get() as usize - 1 {
-            let first = squares.square(k);
-            let second = squares.square(k + 1);
-            if !self.strike_sign(candidates, first, second, changed) {
-                return false;
-            }
-        }
-        true
+    ghost grade = { λ _. Hard };
+
+    fn given_at(&self, cell: usize) -> u8 {
+        self.givens.get(cell)
     }
 
-    ghost squares = { λ v g s. record { is_grid = s.is_grid; latin = s.latin } };
+    fn strike_by_clues(&self, candidates: &mut Candidates, line: u8, _known: &mut ()) -> NumberSet {
+        strike_signs(self, candidates, line)
+    }
 
-    ghost own_line = { signs_own };
+    ghost given_struck = { shared.unequal_givens };
+
+    ghost line_struck = { shared.unequal_lines };
+
+    ghost looks_along = { along.unequal_look };
+
+    ghost struck_less = { less.unequal_less };
 }
 
-impl Unequal {
-    // Takes away what the sign between two squares rules out, if there is one.
-    fn strike_sign(
-        &self,
-        candidates: &mut Candidates,
-        first: Square,
-        second: Square,
-        changed: &mut ChangedLines,
-    ) -> bool
-        requires size { candidates.old.size ≡ self.now.size }
-        requires first { IsCrossed self.now.size first.cell first.line first.crossing }
-        requires second { IsCrossed self.now.size second.cell second.line second.crossing }
-        ensures narrows { Narrows (Solves (unequal_puzzle self.now))
-            (IsStruckAt self.now first.cell second.cell) candidates.old candidates.new result }
-        ensures notes { Notes candidates.old candidates.new changed.old changed.new }
-    {
-        match self.ends(first, second) {
-            Some(ends) => ends.strike(candidates, changed),
-            None => true,
-        }
-    }
-
-    // Two squares as the ends of the sign between them, or none where there is no sign.
-    fn ends(&self, first: Square, second: Square) -> Option<SignSquares>
-        requires first { IsCrossed self.now.size first.cell first.line first.crossing }
-        requires second { IsCrossed self.now.size second.cell second.line second.crossing }
-        ensures ends { MatchOption result (sign_between self.now first.cell second.cell ≡ Absent)
-            (AreEndsOf self.now first.cell second.cell) }
-        ensures valid { IsUnequal self.now }
-    {
-        match self.sign_between(first.cell, second.cell) {
-            Sign::Absent => None,
-            Sign::FirstGreater => Some(SignSquares {
-                greater: first,
-                lesser: second,
-            }),
-            Sign::SecondGreater => Some(SignSquares {
-                greater: second,
-                lesser: first,
-            }),
-        }
-    }
-}
-
-// The squares on both sides of a sign: the one that holds the greater number, and the other.
+// An end of a sign: its place on a line, and its square.
 #[derive(Clone, Copy)]
-struct SignSquares {
-    greater: Square,
-    lesser: Square,
+struct End {
+    place: u8,
+    cell: usize,
 }
 
-impl SignSquares {
-    ghost use Rattle.clue_rules.specs.Inner.UnequalLines.{AreCrossed, IsLesserStruck, IsGreaterStruck, IsEndStruck};
-    ghost use Rattle.clue_rules.specs.Inner.UnequalLines.{HoldsGreater, ends_of};
-
-    // Takes away what doesn't let the greater end hold the greater number.
-    fn strike(self, candidates: &mut Candidates, changed: &mut ChangedLines) -> bool
-        requires { AreCrossed candidates.old.size self }
-        ensures narrows { Narrows (HoldsGreater (ends_of self)) (IsEndStruck (ends_of self))
-            candidates.old candidates.new result }
-        ensures notes { Notes candidates.old candidates.new changed.old changed.new }
-    {
-        self.strike_lesser(candidates, changed) && self.strike_greater(candidates, changed)
+/// Takes away what the signs along a row or column strike, and gives the places of the squares of which something went. The sizes are
+/// equal, and the line is one of the grid's.
+pub(crate) fn strike_signs(p: &Unequal, candidates: &mut Candidates, line: u8) -> NumberSet
+    requires size { candidates.old.size ≡ p.now.size }
+    requires line { line < 2 * candidates.old.size }
+    ensures leads { LeadsTo (IsUnequalStruckBy p.now) Easy candidates.old candidates.new }
+    ensures loses { LosesAt line result candidates.old candidates.new }
+    ensures quiet { StaysOn line candidates.old candidates.new
+        → AreSignsQuiet p.now line candidates.new }
+{
+    let size = candidates.size();
+    let step = line_step(size, line);
+    let mut cell = line_cell(size, line, 0);
+    let mut changed = NumberSet::empty();
+    for k in 0..size.get() - 1 {
+        let first = End { place: k, cell };
+        let second = End {
+            place: k + 1,
+            cell: cell + step,
+        };
+        changed = changed.union(strike_between(p, candidates, line, first, second));
+        cell = second.cell;
     }
+    changed
+}
 
-    // Keeps in the lesser end what is below some candidate of the greater one.
-    fn strike_lesser(self, candidates: &mut Candidates, changed: &mut ChangedLines) -> bool
-        requires { AreCrossed candidates.old.size self }
-        ensures narrows { Narrows (HoldsGreater (ends_of self)) (IsLesserStruck (ends_of self))
-            candidates.old candidates.new result }
-        ensures notes { Notes candidates.old candidates.new changed.old changed.new }
-    {
-        let kept = candidates.values(self.greater.cell).below_greatest();
-        keep_in_square(candidates, self.lesser, kept, changed)
+// The same of the sign between a square of the line and the next.
+#[tactic(auto, using(crate::proofs::SignPasses::end_inside))]
+fn strike_between(
+    p: &Unequal,
+    candidates: &mut Candidates,
+    line: u8,
+    first: End,
+    second: End,
+) -> NumberSet
+    requires size { candidates.old.size ≡ p.now.size }
+    requires line { line < 2 * candidates.old.size }
+    requires first { IsEnd candidates.old.size line first }
+    requires second { IsEnd candidates.old.size line second }
+    requires next { second.place ≡ first.place + 1 }
+    ensures leads { LeadsTo (IsUnequalStruckBy p.now) Easy candidates.old candidates.new }
+    ensures loses { LosesAt line result candidates.old candidates.new }
+    ensures quiet { StaysOn line candidates.old candidates.new
+        → IsSignQuiet p.now first.cell second.cell candidates.new }
+{
+    match p.order(first.cell, second.cell) {
+        Some(Ordering::Greater) => strike_sign(p, candidates, line, first, second),
+        Some(Ordering::Less) => strike_sign(p, candidates, line, second, first),
+        _ => NumberSet::empty(),
     }
+}
 
-    // Keeps in the greater end what is above some candidate of the lesser one.
-    fn strike_greater(self, candidates: &mut Candidates, changed: &mut ChangedLines) -> bool
-        requires { AreCrossed candidates.old.size self }
-        ensures narrows { Narrows (HoldsGreater (ends_of self)) (IsGreaterStruck (ends_of self))
-            candidates.old candidates.new result }
-        ensures notes { Notes candidates.old candidates.new changed.old changed.new }
-    {
-        let _size = candidates.size();
-        let kept = candidates.values(self.lesser.cell).above_least();
-        keep_in_square(candidates, self.greater, kept, changed)
+// Takes away what a sign strikes at both its ends, and gives the places of those of which something went.
+#[tactic(auto, using(crate::proofs::SignPasses::end_inside))]
+fn strike_sign(
+    p: &Unequal,
+    candidates: &mut Candidates,
+    line: u8,
+    greater: End,
+    lesser: End,
+) -> NumberSet
+    requires size { candidates.old.size ≡ p.now.size }
+    requires line { line < 2 * candidates.old.size }
+    requires greater { IsEnd candidates.old.size line greater }
+    requires lesser { IsEnd candidates.old.size line lesser }
+    requires sign { IsGreater p.now greater.cell lesser.cell }
+    ensures leads { LeadsTo (IsUnequalStruckBy p.now) Easy candidates.old candidates.new }
+    ensures loses { LosesAt line result candidates.old candidates.new }
+    ensures quiet { StaysOn line candidates.old candidates.new
+        → IsSignQuiet p.now greater.cell lesser.cell candidates.new }
+{
+    let _valid = p.size();
+    let _size = candidates.size();
+    let above = candidates.values(greater.cell);
+    let below = candidates.values(lesser.cell);
+    let too_low = above.intersection(up_to_least(below));
+    let too_high = below.intersection(from_greatest(above));
+    let at_greater = take_at(candidates, greater.place, greater.cell, too_low);
+    let at_lesser = take_at(candidates, lesser.place, lesser.cell, too_high);
+    at_greater.union(at_lesser)
+}
+
+// How far the next square of a line is.
+fn line_step(size: Size, line: u8) -> usize
+    ensures value { (place : ℕ) → line_cell size line (place + 1) ≡ line_cell size line place + result }
+    ensures bound { result ≤ size }
+{
+    if line < size.get() {
+        1
+    } else {
+        size.get() as usize
     }
 }

@@ -5,7 +5,7 @@ ghost use Rattle.std.specs.Prelude.{◌*◌, ◌<◌};
 use crate::unequal::{Unequal, square_count};
 use latin_board::CELLS;
 use number_sets::NumberSet;
-use trail_solver::Reason;
+use trail_solver::LackedValues;
 
 impl Unequal {
     /// A neighbour whose set of candidates, by the sign between them, let the value not stand in the cell, if there is one.
@@ -14,7 +14,7 @@ impl Unequal {
         sets: &[NumberSet; CELLS],
         cell: usize,
         value: u8,
-    ) -> Option<Reason> {
+    ) -> Option<LackedValues> {
         let size = self.givens.size();
         let width = size.get() as usize;
         if cell >= square_count(size) {
@@ -40,7 +40,7 @@ impl Unequal {
         other: usize,
         cell: usize,
         value: u8,
-    ) -> Option<Reason>
+    ) -> Option<LackedValues>
         requires { cell < self.now.size * self.now.size }
     {
         let size = self.givens.size();
@@ -58,7 +58,7 @@ impl Unequal {
         if !sets[other].is_disjoint(values) {
             return None;
         }
-        Some(Reason {
+        Some(LackedValues {
             cell: other,
             values,
         })

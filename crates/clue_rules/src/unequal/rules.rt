@@ -9,17 +9,21 @@ ghost use Rattle.clue_rules.specs.Unequal.{IsUnequal, IsGreater, AreNeighbours, 
 ghost use Rattle.clue_rules.specs.Unequal.{unequal_puzzle, sign_towards, sign_in_grid, full_unequal};
 ghost use Rattle.clue_rules.specs.Inner.UnequalFields.{HoldsSignsOf};
 ghost use Rattle.clue_rules.specs.Inner.UnequalItems.{denied_item, item_cell, without_item};
+ghost use Rattle.clue_rules.specs.Left.{IsEmptied, IsLive};
+ghost use Rattle.clue_rules.specs.Chains.{LeadsTo};
+ghost use Rattle.clue_rules.specs.Reasons.{IsUnequalStruckBy};
 ghost use Rattle.clue_rules.specs.Struck.{IsUnequalStruck, NoneLeft};
+ghost use Rattle.clue_rules.specs.declared.grade.Grade.TheVariants.{Hard};
 
-use crate::lines::given_squares::{deny_given, keep_givens};
-use crate::lines::narrowing::{narrow_by_lines, narrow_by_lines_of};
+use crate::lines::given_squares::deny_given;
+use crate::lines::settling::{settle_from, settle_lines};
 use crate::unequal::direction::Direction;
 use crate::unequal::item::{Item, item_at, item_count};
 use crate::unequal::sign::Sign;
 use crate::unequal::{Unequal, square_count};
 use latin_board::{CELLS, Grid, Size};
 use number_sets::NumberSet;
-use trail_solver::{Candidates, Reason, Rules};
+use trail_solver::{Candidates, LackedValues, Rules};
 
 impl Unequal {
     // A function of its own, so that `holds` need only prove that the test decides the rule.
@@ -165,7 +169,7 @@ impl Rules for Unequal {
         self.givens.get(cell)
     }
 
-    #[tactic(auto, using(crate::proofs::SignLemmas::holds_tested))]
+    #[tactic(auto, using(crate::specs::Laws::SignLemmas::holds_tested))]
     fn holds(&self, grid: &Grid) -> bool
         requires size { grid.now.size ≡ self.now.size }
         requires full { IsFull grid.now }
@@ -188,20 +192,26 @@ impl Rules for Unequal {
             (NoneLeft (IsUnequalStruck self.now) candidates.old candidates.new) }
         ensures settled { OnTrue result
             (NoneLeft (IsUnequalStruck self.now) candidates.new candidates.new) }
+        // Something is left of each square then, and of each number in each row and column.
+        ensures live { OnTrue result (IsLive candidates.new) }
+        // It goes by steps of the highest grade, and where it answers false they leave a square nothing.
+        ensures leads { LeadsTo (IsUnequalStruckBy self.now) Hard candidates.old candidates.new }
+        ensures emptied { OnFalse result (IsEmptied candidates.new) }
     {
-        keep_givens(candidates, self.givens());
-        narrow_by_lines(self, candidates)
+        let _valid = self.size();
+        settle_lines(self, candidates, &mut ())
     }
 
     fn narrow_from(&self, candidates: &mut Candidates, cell: usize) -> bool {
-        narrow_by_lines_of(self, candidates, cell)
+        let _valid = self.size();
+        settle_from(self, candidates, cell, &mut ())
     }
 
     fn learns(&self) -> bool {
         true
     }
 
-    fn reason(&self, sets: &[NumberSet; CELLS], cell: usize, value: u8) -> Option<Reason> {
+    fn reason(&self, sets: &[NumberSet; CELLS], cell: usize, value: u8) -> Option<LackedValues> {
         self.reason_against(sets, cell, value)
     }
 

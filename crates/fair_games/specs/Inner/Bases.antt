@@ -3,8 +3,8 @@ use Rattle.std.specs.Prelude.{◌≡◌, List}
 use Rattle.latin_board.specs.Squares.{GridValue}
 use Rattle.trail_solver.specs.Candidates.{CandidatesValue, IsWithin}
 use Rattle.clue_rules.specs.Left.{IsFewer, all_of}
-use Rattle.named_steps.specs.Chains.{StepValue, IsChain, AreOfGrade, left_by}
-use Rattle.named_steps.specs.declared.grade.Grade.{Grade}
+use Rattle.clue_rules.specs.Chains.{StepValue, IsChain, AreOfGrade, left_by}
+use Rattle.clue_rules.specs.declared.grade.Grade.{Grade}
 use Rattle.clue_rules.specs.Reasons.{Striking}
 
 -- a chain of the grade's steps from all pairs leaves no more, and the square's numbers are left

@@ -14,10 +14,10 @@ effect_on p b (Mark cell n) = with_mark_flipped b cell n
 effect_on p b (Whole next) = next
 
 -- the square and the number are the board's, and so is the size
-abbrev pub IsWithin : BoardValue → Effect → Type 0
-IsWithin b (Number cell n) = (cell < b.size * b.size) × (n ≤ b.size)
-IsWithin b (Mark cell n) = (cell < b.size * b.size) × (1 ≤ n) × (n ≤ b.size)
-IsWithin b (Whole next) = next.size ≡ b.size
+abbrev pub IsOfBoard : BoardValue → Effect → Type 0
+IsOfBoard b (Number cell n) = (cell < b.size * b.size) × (n ≤ b.size)
+IsOfBoard b (Mark cell n) = (cell < b.size * b.size) × (1 ≤ n) × (n ≤ b.size)
+IsOfBoard b (Whole next) = next.size ≡ b.size
 
 -- one square alone
 abbrev pub IsOfSquare : Effect → Type 0
@@ -28,5 +28,5 @@ IsOfSquare _ = Unit {0}
 pub record IsEffect (p : Puzzle) (b : BoardValue) (m : Move) (effect : Effect) : Type 0 where
   pub allowed : refusal_of p b m ≡ None
   pub made : effect_on p b effect ≡ moved p b m
-  pub within : IsWithin b effect
+  pub within : IsOfBoard b effect
   pub of_square : takes_memory m ≡ false → IsOfSquare effect

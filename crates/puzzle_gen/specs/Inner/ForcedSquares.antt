@@ -15,5 +15,5 @@ pub record StandsAtPeer (found : GridValue) (cell value : ℕ) : Type 0 where
   pub stands : number_at found peer ≡ value
 
 -- each other number does
-pub record IsForced (found : GridValue) (cell value : ℕ) : Type 0 where
+pub record IsForcedNumber (found : GridValue) (cell value : ℕ) : Type 0 where
   pub others : (v : ℕ) → 1 ≤ v → v ≤ found.size → v ≢ value → StandsAtPeer found cell v

@@ -1,16 +1,16 @@
 -- Goals that candidates show in a grid.
-use Rattle.std.specs.Prelude.{◌≡◌, ℕ}
+use Rattle.std.specs.Prelude.{◌≡◌}
 use Rattle.latin_board.specs.Squares.{GridValue, number_at}
 use Rattle.trail_solver.specs.Candidates.{CandidatesValue}
 use Rattle.named_steps.specs.Chains.{IsGoalOf, IsShown, IsView, goal_cell}
-use Rattle.named_steps.specs.Following.{IsClosure}
-use Rattle.named_steps.specs.declared.grade.Grade.{Grade}
+use Rattle.clue_rules.specs.Settled.{IsClosure}
+use Rattle.clue_rules.specs.declared.grade.Grade.{Grade}
 use Rattle.named_steps.specs.declared.goal.Goal.{Goal}
 use Rattle.clue_rules.specs.Reasons.{Striking}
 
 -- the goal speaks of an empty square of the grid
-abbrev pub IsOpen : GridValue → Goal → Type 0
-IsOpen g goal = IsGoalOf g.size goal × (number_at g (goal_cell g.size goal) ≡ 0)
+abbrev pub IsOfEmptySquare : GridValue → Goal → Type 0
+IsOfEmptySquare g goal = IsGoalOf g.size goal × (number_at g (goal_cell g.size goal) ≡ 0)
 
 -- and the candidates show it
 pub record IsOpenShown (g : GridValue) (c : CandidatesValue) (goal : Goal) : Type 0 where

@@ -3,9 +3,9 @@ use Rattle.std.specs.Prelude.{◌≡◌, ℕ, ◌<◌, true, false, Option, IfSo
 use Rattle.number_sets.specs.Sets.{has_number}
 use Rattle.trail_solver.specs.Pairs.{IsPair}
 use Rattle.trail_solver.specs.Candidates.{CandidatesValue, AreCandidates, may_be}
-use Rattle.named_steps.specs.Grades.{has_reason}
+use Rattle.clue_rules.specs.Grades.{has_reason}
 use Rattle.clue_rules.specs.declared.reason.Reason.{Reason}
-use Rattle.named_steps.specs.declared.grade.Grade.{Grade}
+use Rattle.clue_rules.specs.declared.grade.Grade.{Grade}
 use Rattle.step_chains.specs.declared.chain.Step.{Step}
 use Rattle.step_chains.specs.ChainValues.{step_value}
 use Rattle.step_chains.specs.Inner.Replays.{IsGradeStep}

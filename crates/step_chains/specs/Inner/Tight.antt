@@ -1,13 +1,15 @@
 -- Chains of which none of the last steps, or of their numbers, can be left out.
-use Rattle.std.specs.Prelude.{◌≡◌, ◌≢◌, ◌↔◌, ℕ, ◌+◌, ◌<◌, ◌≤◌, true, List, ◌∷◌, ◌++◌, length}
+use Rattle.std.specs.Prelude.{◌≡◌, ◌≢◌, ◌↔◌, ℕ, ◌+◌, ◌<◌, ◌≤◌, true, List, ◌∷◌, ◌++◌, take, length}
 use Rattle.number_sets.specs.Sets.{has_number}
 use Rattle.trail_solver.specs.Pairs.{has_pair}
 use Rattle.trail_solver.specs.Candidates.{CandidatesValue}
-use Rattle.named_steps.specs.Chains.{StepValue, Shows}
-use Rattle.named_steps.specs.declared.grade.Grade.{Grade}
+use Rattle.named_steps.specs.Chains.{Shows}
+use Rattle.clue_rules.specs.Chains.{StepValue}
+use Rattle.clue_rules.specs.declared.grade.Grade.{Grade}
 use Rattle.named_steps.specs.declared.goal.Goal.{Goal}
 use Rattle.step_chains.specs.declared.chain.Step.{Step}
-use Rattle.step_chains.specs.ChainValues.{StrikesLess, step_value, steps_of}
+use Rattle.step_chains.specs.ChainValues.{StrikesLess, AreLive, step_value, steps_of}
+use Rattle.step_chains.specs.Inner.Replays.{Leads}
 use Rattle.clue_rules.specs.Reasons.{Striking}
 
 -- no step from a place on can be left out
@@ -40,7 +42,7 @@ IsNeededAt place Struck grade c steps goal =
     → length front ≡ place → StrikesLess cell v less step → Shows Struck grade c (front ++ less ∷ back) goal → ⊥
 
 -- the second step has all values of the first but this one
-pub record Lacks (value : ℕ) (step less : Step) : Type 0 where
+pub record IsStepWithout (value : ℕ) (step less : Step) : Type 0 where
   pub reason : less.reason ≡ step.reason
   pub cell : less.cell ≡ step.cell
   pub values : (n : ℕ) → (has_number less.values n ≡ true) ↔ ((has_number step.values n ≡ true) × (n ≢ value))
@@ -62,11 +64,16 @@ pub record IsLeftOut (Struck : Striking) (grade : Grade)
       → Shows Struck grade c (steps_of front ++ less ∷ steps_of back) goal → ⊥
 
 -- what is so of the steps while the numbers of one are left out
-pub record IsNarrowed (Struck : Striking) (grade : Grade)
+pub record IsNarrowedBelow (Struck : Striking) (grade : Grade)
     (c : CandidatesValue) (place value : ℕ) (steps : List Step) (goal : Goal) : Type 0 where
   pub tight : IsTightFrom (place + 1) Struck grade c (steps_of steps) goal
   pub needed : IsNeededFrom (place + 1) Struck grade c (steps_of steps) goal
   pub here : IsNeededBelow value place Struck grade c (steps_of steps) goal
+
+-- so of each of the candidates from which the steps before a place lead to these
+abbrev pub FromEach : Striking → Grade → ℕ → List Step → CandidatesValue → (CandidatesValue → Type 0) → Type 0
+FromEach Struck grade place steps here So =
+    (c : CandidatesValue) → Leads Struck grade c (steps_of (take place steps)) here → So c
 
 -- what is so of the steps once those from a place on are done
 pub record IsDoneFrom (Struck : Striking) (grade : Grade)
@@ -75,3 +82,16 @@ pub record IsDoneFrom (Struck : Striking) (grade : Grade)
   pub shows : Shows Struck grade c (steps_of steps) goal
   pub tight : IsTightFrom place Struck grade c (steps_of steps) goal
   pub needed : IsNeededFrom place Struck grade c (steps_of steps) goal
+
+-- the second steps are the first with those from a place on done; they strike only what is left, if the first did
+pub record IsDoneTo (Struck : Striking) (grade : Grade)
+    (c : CandidatesValue) (place : ℕ) (old new : List Step) (goal : Goal) : Type 0 where
+  pub done : IsDoneFrom Struck grade c place new goal
+  pub live : AreLive c (steps_of old) → AreLive c (steps_of new)
+
+-- so with those after it done, and the step at the place striking nothing that it can do without
+pub record IsNarrowedTo (Struck : Striking) (grade : Grade)
+    (c : CandidatesValue) (place : ℕ) (old new : List Step) (goal : Goal) : Type 0 where
+  pub done : IsDoneFrom Struck grade c (place + 1) new goal
+  pub here : IsNeededAt place Struck grade c (steps_of new) goal
+  pub live : AreLive c (steps_of old) → AreLive c (steps_of new)

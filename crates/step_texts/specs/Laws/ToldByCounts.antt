@@ -2,7 +2,7 @@
 use Rattle.std.proofs.Common.{◌≡◌, ◌<◌, ℕ, zero, slice_index, sym, ap, ◌∙◌, subst, arith}
 use Rattle.clue_rules.specs.Towers.{TowersValue, clue_of}
 use Rattle.clue_rules.specs.Unequal.{UnequalValue}
-use Rattle.clue_rules.proofs.LineSquares.{view_cell_once}
+use Rattle.clue_rules.specs.Laws.LineSquares.{view_cell_once}
 use Rattle.trail_solver.specs.Candidates.{CandidatesValue}
 use Rattle.clue_rules.specs.Left.{IsLeft}
 use Rattle.clue_rules.specs.Fillings.{Anything, Standing, IsUnfilled}

@@ -11,8 +11,8 @@ pub record HasCandidate (having : List ℕ) (set count line : ℕ) : Type 0 wher
   pub here : has_number (slice_index having k) line ≡ true
 
 -- at each of so many places the line has a candidate
-abbrev pub IsWithin : List (List ℕ) → List ℕ → ℕ → ℕ → Type 0
-IsWithin having sets count line =
+abbrev pub HasCandidateAtEach : List (List ℕ) → List ℕ → ℕ → ℕ → Type 0
+HasCandidateAtEach having sets count line =
     (place : ℕ) → place < count → HasCandidate (slice_index_or having place []) (slice_index sets place) 5 line
 
 -- at the place of these words one of the lines has the value, one of so many

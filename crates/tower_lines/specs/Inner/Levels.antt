@@ -36,7 +36,7 @@ LacksLeast place clue level mask =
     ((level < clue) × (count_ones mask ≡ place)) ⊎ ((level ≡ clue) × (count_ones mask + 1 ≡ place))
 
 -- how the least value leads from a level of starts with so many values that lack it to another: it is seen where it is
--- the first, and else hidden
+-- the first, and otherwise hidden
 pub data IsLeastMove (place clue level mask level_then : ℕ) : Type 0 where
   First : place ≡ 0 → level_then ≡ level + 1 → level_then < clue → IsLeastMove place clue level mask level_then
   Later : 0 < place → level_then ≡ level → LacksLeast place clue level mask
@@ -64,13 +64,13 @@ pub record IsLowStep (width clue bit level mask level_then mask_then : ℕ) : Ty
   pub moves : IsMove clue bit level mask level_then
 
 -- the value k + 1 leads from a level and mask of starts with so many values to others
-pub data IsStep (place width clue k level mask level_then mask_then : ℕ) : Type 0 where
+pub data IsLevelStep (place width clue k level mask level_then mask_then : ℕ) : Type 0 where
   Greatest : IsLastStep width clue k level mask level_then mask_then
-      → IsStep place width clue k level mask level_then mask_then
+      → IsLevelStep place width clue k level mask level_then mask_then
   Least : IsLeastStep place width clue k level mask level_then mask_then
-      → IsStep place width clue k level mask level_then mask_then
+      → IsLevelStep place width clue k level mask level_then mask_then
   Between : (bit : ℕ) → k ≡ bit + 1 → IsLowStep width clue bit level mask level_then mask_then
-      → IsStep place width clue k level mask level_then mask_then
+      → IsLevelStep place width clue k level mask level_then mask_then
 
 -- the levels have the masks of all starts with so many values, and no other
 abbrev pub AreReached : List ℕ → ℕ → ℕ → List (List ℕ) → Type 0
@@ -93,12 +93,12 @@ pub record IsLinked (Link : ℕ → ℕ → Type 0) (levels : List (List ℕ)) :
 -- the value leads from the levels to the mask at the level
 abbrev pub IsReachedBy : ℕ → ℕ → ℕ → ℕ → List (List ℕ) → ℕ → ℕ → Type 0
 IsReachedBy place width clue k levels level_then mask_then =
-    IsLinked (λ level mask. IsStep place width clue k level mask level_then mask_then) levels
+    IsLinked (λ level mask. IsLevelStep place width clue k level mask level_then mask_then) levels
 
 -- the value leads from the mask at the level to the levels
-abbrev pub LeadsTo : ℕ → ℕ → ℕ → ℕ → List (List ℕ) → ℕ → ℕ → Type 0
-LeadsTo place width clue k levels level mask =
-    IsLinked (λ level_then mask_then. IsStep place width clue k level mask level_then mask_then) levels
+abbrev pub LeadsToLevels : ℕ → ℕ → ℕ → ℕ → List (List ℕ) → ℕ → ℕ → Type 0
+LeadsToLevels place width clue k levels level mask =
+    IsLinked (λ level_then mask_then. IsLevelStep place width clue k level mask level_then mask_then) levels
 
 -- a mask of the level that is in the set too
 pub record IsCommon (levels : List (List ℕ)) (set : List ℕ) (level mask : ℕ) : Type 0 where
@@ -137,7 +137,7 @@ pub record IsReachedFrom (place width clue values : ℕ) (levels : List (List �
 pub record IsPassing (place width clue k : ℕ) (fronts after : List (List ℕ)) (level mask : ℕ) : Type 0 where
   pub low : level ≤ clue
   pub here : has_at fronts level mask ≡ true
-  pub leads : LeadsTo place width clue k after level mask
+  pub leads : LeadsToLevels place width clue k after level mask
 
 -- the same, from which some candidate leads there
 pub record IsPassed (place width clue values : ℕ) (fronts after : List (List ℕ)) (level mask : ℕ) : Type 0 where

@@ -14,12 +14,12 @@ use Rattle.trail_solver.specs.declared.learned.Left.{Left}
 use Rattle.trail_solver.specs.declared.learned.Left.TheVariants.{Nothing, One, Several}
 
 -- the grid's number at the cell is none of the set's
-abbrev pub Lacks : GridValue → ℕ → ℕ → Type 0
-Lacks g cell set = has_number set (number_at g cell) ≡ false
+abbrev pub LacksValues : GridValue → ℕ → ℕ → Type 0
+LacksValues g cell set = has_number set (number_at g cell) ≡ false
 
 -- the grid has none of the nogood's values in its squares
 abbrev pub Breaks : Nogood → GridValue → Type 0
-Breaks n g = (k : ℕ) → k < ITEMS → Lacks g (slice_index n.cells k) (slice_index n.sets k)
+Breaks n g = (k : ℕ) → k < ITEMS → LacksValues g (slice_index n.cells k) (slice_index n.sets k)
 
 -- each solution has one of them
 pub record IsNogood (p : Puzzle) (n : Nogood) : Type 0 where
@@ -43,7 +43,7 @@ pub record IsLearned (p : Puzzle) (root : CandidatesValue) (kept : List Nogood) 
 -- pairs went, but no solution that lacks the values in the cell
 pub record KeepsLacking {P : Type 0} (puzzle : P → Puzzle) (old new : SearchValue P) (cell set : ℕ) : Type 0 where
   pub further : IsFurther old new
-  pub keeps : (g : GridValue) → IsAmong (puzzle old.rules) old.candidates g → Lacks g cell set
+  pub keeps : (g : GridValue) → IsAmong (puzzle old.rules) old.candidates g → LacksValues g cell set
       → IsAmong (puzzle new.rules) new.candidates g
 
 -- pairs went, but no solution that breaks the nogood
@@ -53,7 +53,7 @@ pub record KeepsBreaking {P : Type 0} (puzzle : P → Puzzle) (old new : SearchV
       → IsAmong (puzzle new.rules) new.candidates g
 
 -- what the solutions are told to have: none of them, or a value of the set in the cell, where nothing else is told
-abbrev pub IsLeft : (GridValue → Type 0) → Left → Type 0
-IsLeft Solution Nothing = (g : GridValue) → Solution g → ⊥
-IsLeft Solution (One cell set) = (g : GridValue) → Solution g → Lacks g cell set → ⊥
-IsLeft Solution Several = Unit {0}
+abbrev pub IsLeftToSolutions : (GridValue → Type 0) → Left → Type 0
+IsLeftToSolutions Solution Nothing = (g : GridValue) → Solution g → ⊥
+IsLeftToSolutions Solution (One cell set) = (g : GridValue) → Solution g → LacksValues g cell set → ⊥
+IsLeftToSolutions Solution Several = Unit {0}

@@ -7,13 +7,13 @@ use Rattle.trail_solver.specs.declared.choice.Choice.{Choice}
 use Rattle.trail_solver.specs.declared.choice.Choice.TheVariants.{Settled, Dead, Branch}
 
 -- a square that hasn't just one candidate
-pub record IsOpen (c : CandidatesValue) (cell : ℕ) : Type 0 where
+pub record IsOpenSquare (c : CandidatesValue) (cell : ℕ) : Type 0 where
   pub inside : cell < c.size * c.size
   pub unsettled : (v : ℕ) → IsOnly c cell v → ⊥
 
 -- the first square in reading order that hasn't just one candidate
 pub record IsFirstOpen (c : CandidatesValue) (cell : ℕ) : Type 0 where
-  pub is_open : IsOpen c cell
+  pub is_open : IsOpenSquare c cell
   pub before : (k : ℕ) → k < cell → (v : ℕ) × IsOnly c k v
 
 -- each square has just one candidate
@@ -24,17 +24,17 @@ pub record AreSettled (c : CandidatesValue) : Type 0 where
 pub record IsBranch (c : CandidatesValue) (cell value : ℕ) : Type 0 where
   pub pair : IsPair c.size cell value
   pub left : may_be c cell value ≡ true
-  pub unsettled : IsOpen c cell
+  pub unsettled : IsOpenSquare c cell
 
 -- a square that has no candidate
-pub record IsDead (c : CandidatesValue) (cell : ℕ) : Type 0 where
+pub record HasNoCandidate (c : CandidatesValue) (cell : ℕ) : Type 0 where
   pub inside : cell < c.size * c.size
   pub none : (v : ℕ) → IsPair c.size cell v → may_be c cell v ≡ false
 
 -- what a choice says of the squares
 abbrev pub IsChoice : CandidatesValue → Choice → Type 0
 IsChoice c Settled = AreSettled c
-IsChoice c Dead = (cell : ℕ) × IsDead c cell
+IsChoice c Dead = (cell : ℕ) × HasNoCandidate c cell
 IsChoice c (Branch cell value) = IsBranch c cell value
 
 -- each number of the grid is the only candidate of its square

@@ -1,5 +1,5 @@
 use Rattle.std.proofs.Common.{refl}
-use Rattle.named_steps.specs.declared.grade.Grade.TheVariants.{Latin, Easy, Hard}
+use Rattle.clue_rules.specs.declared.grade.Grade.TheVariants.{Latin, Easy, Hard}
 use Rattle.named_steps.proofs.Solutions.{graded_lowest}
 use Rattle.fair_games.proofs.FairSteps.{graded_tested, is_graded}
 use Rattle.fair_games.proofs.games.is_of_grade.Goals as goal

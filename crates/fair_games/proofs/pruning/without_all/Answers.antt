@@ -5,8 +5,8 @@ use Rattle.named_steps.specs.Following.{Follows}
 use Rattle.fair_games.specs.Inner.PrunedTo.{IsPrunedTo}
 use Rattle.fair_games.specs.Fair.{FailsBy}
 use Rattle.fair_games.proofs.PruneSteps.{HasSteps, left_without, solves_without, without_holds}
-use Rattle.named_steps.proofs.Leads.{leads_earlier, leads_size}
-use Rattle.named_steps.proofs.Rounds.{closure_reached}
+use Rattle.clue_rules.proofs.Leads.{leads_earlier, leads_size}
+use Rattle.clue_rules.proofs.Rounds.{closure_reached}
 use Rattle.fair_games.proofs.pruning.without_all.Goals as goal
 use Rattle.fair_games.proofs.pruning.without_all.Given.{Over}
 

@@ -1,9 +1,9 @@
 use Rattle.std.proofs.Common.{◌∙◌}
 use Rattle.std.proofs.lemmas.Bool.{both_ways}
-use Rattle.named_steps.proofs.Kept.{IsSoundFor}
+use Rattle.clue_rules.proofs.KeptSolutions.{IsSoundFor}
 use Rattle.named_steps.proofs.Solutions.{emptied_none, found_follows, open_none, filled_none}
-use Rattle.named_steps.proofs.Leads.{leads_size}
-use Rattle.named_steps.proofs.Rounds.{closure_reached}
+use Rattle.clue_rules.proofs.Leads.{leads_size}
+use Rattle.clue_rules.proofs.Rounds.{closure_reached}
 use Rattle.named_steps.proofs.following.solution_knowing.Goals as goal
 
 pub returns-then-not-settle : goal.returns-then-not-settle

@@ -5,7 +5,7 @@ use Rattle.step_texts.proofs.looks.strike.Goals as goal
 pub returns-then-cell-width : goal.returns-then-cell-width
 returns-then-cell-width c =
     let low : c.args.step.now.values < 2 ^ 16 = subst (λ (n : ℕ). n < 2 ^ 16) c.bits-bits.ensures (omega arith) in
-    takes_outside c.args.candidates.now c.args.step.now low
+    takes_outside c.args.candidates.now c.args.step.now.cell c.args.step.now.values low
     (λ inside. let width : c.get-width.result ≡ c.args.candidates.now.size = c.get-width.ensures.value ∙ c.size.ensures.value in
     let there : c.args.step.now.cell < c.get-width.result * c.get-width.result =
     subst (λ (w : ℕ). c.args.step.now.cell < w * w) (sym width) inside in
@@ -14,4 +14,4 @@ returns-then-cell-width c =
 pub returns : goal.returns
 returns c =
     let low : c.args.step.now.values < 2 ^ 16 = subst (λ (n : ℕ). n < 2 ^ 16) c.bits-bits.ensures (omega arith) in
-    takes_inside c.args.candidates.now c.strike.new.candidates c.args.step.now low c.strike.ensures
+    takes_inside c.args.candidates.now c.strike.new.candidates c.args.step.now.cell c.args.step.now.values low c.strike.ensures

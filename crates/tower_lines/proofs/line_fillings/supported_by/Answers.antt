@@ -1,13 +1,14 @@
 -- One place after another, from the last, has the starts that a filling begins with, and its values.
-use Rattle.std.proofs.Common.{◌≡◌, ℕ, ◌+◌, ◌-◌, ◌<◌, ◌↔◌, inl, inr, true, false, List, [], length, get_or, replicate, ap, ◌∙◌, arith, rules, length-set}
-use Rattle.std.proofs.lemmas.Bool.{cases_lt, both_ways}
-use Rattle.std.proofs.lemmas.List.{get_or-replicate, get_or_past, length-replicate}
+use Rattle.std.proofs.Common.{◌≡◌, ℕ, ◌+◌, ◌-◌, ◌<◌, ◌↔◌, inl, inr, true, false, not, List, [], length, get_or, replicate, ap, sym, ◌∙◌, arith, rules, length-set}
+use Rattle.std.proofs.lemmas.Bool.{cases_lt, both_ways, false≢true}
+use Rattle.std.proofs.lemmas.List.{get_or-replicate, get_or_default, get_or_past, length-replicate}
 use Rattle.std.proofs.lemmas.Grind.{get_or_default_zero}
 use Rattle.number_sets.specs.Sets.{has_number}
 use Rattle.number_sets.proofs.Members.{has_number-none}
 use Rattle.tower_lines.specs.LineFillings.{IsSupported}
 use Rattle.tower_lines.specs.Inner.Levels.{AreContinued}
-use Rattle.tower_lines.proofs.LevelTables.{reached_few, last_continued, before_continued, kept_supported, set_each}
+use Rattle.tower_lines.proofs.MaskSetLemmas.{not_empty}
+use Rattle.tower_lines.proofs.LevelTables.{reached_few, reached_filling, last_continued, before_continued, kept_supported, set_each}
 use Rattle.tower_lines.proofs.line_fillings.supported_by.Goals as goal
 
 -- an empty table has no value
@@ -18,6 +19,20 @@ none_kept kept is place value =
       | inr past ↦ get_or_past (replicate 9 0) place 0 (omega (arith, length-replicate {A = ℕ} 9 0))
     ] in
     ap (λ (k : List ℕ). has_number (get_or k place 0) value) is ∙ ap (λ (n : ℕ). has_number n value) none ∙ has_number-none value
+
+-- where the last level of the whole starts is empty, no value is in a filling
+pub returns-then-is_empty : goal.returns-then-is_empty
+returns-then-is_empty g c =
+    let sets = c.args.sets.now in
+    let whole = get_or c.add_starts.new.starts (length sets) [] in
+    let same : get_or whole c.args.clue c.index-whole-clue.result ≡ get_or whole c.args.clue [] =
+    get_or_default whole c.args.clue c.index-whole-clue.result [] (search rules) in
+    let some = not_empty (get_or whole c.args.clue []) c.is_empty.result (rw (← same) c.is_empty.ensures) in
+    let fillings = reached_filling {sets = sets} {clue = c.args.clue} whole c.requires.some (c.add_starts.ensures (length sets) (search rules)) in
+    λ place value. (
+      λ e. absurd (both_ways (has_number (get_or c.no_values.result place 0) value) (none_kept c.no_values.result c.no_values.ensures place value) e),
+      λ s. absurd (false≢true (sym (ap not c.if-is_empty.true) ∙ some.1 (fillings.1 (s.line, s.filling)))),
+    )
 
 pub loop-place-init : goal.loop-place-init
 loop-place-init g c =

@@ -1,12 +1,18 @@
-use Rattle.std.proofs.Common.{◌*◌, ◌<◌, arith}
-use Rattle.clue_rules.proofs.LowTowers.{keeps_towers_more}
+use Rattle.std.proofs.Common.{◌∙◌, arith}
+use Rattle.clue_rules.specs.Reasons.{IsTowersStruckBy}
+use Rattle.clue_rules.proofs.Leads.{leads_on, leads_size}
+use Rattle.clue_rules.specs.declared.grade.Grade.TheVariants.{Easy}
 use Rattle.clue_rules.proofs.towers.Towers.keep_low_towers.Goals as goal
+
+pub keep_low_from-requires : goal.keep_low_from-requires
+keep_low_from-requires c =
+    let same = leads_size (IsTowersStruckBy c.args.self.now) Easy c.args.candidates.now c.loop-place.candidates c.loop-place.invariant in
+    record {
+      size = same ∙ c.requires;
+      place = omega (arith, same, c.loop-place-test.true, c.get-width.ensures.value, c.size.ensures.value);
+    }
 
 pub loop-place-preserved : goal.loop-place-preserved
 loop-place-preserved c =
-    let size = c.get-width.ensures.value in
-    let same = c.size.ensures.value in
-    let inside : c.loop-place.place < 4 * c.args.self.now.size = omega (arith, c.loop-place-test.true, c.loop-place.auto.place-end, size, same, c.requires) in
-    keeps_towers_more c.args.self.now c.loop-place.place c.clue.result c.args.candidates.now c.loop-place.candidates
-    c.keep_low_from.new.candidates c.requires inside c.clue.ensures.value c.loop-place.invariant c.keep_low_from.ensures.less
-    c.keep_low_from.ensures.keeps
+    leads_on (IsTowersStruckBy c.args.self.now) Easy c.args.candidates.now c.loop-place.candidates c.keep_low_from.new.candidates
+    c.loop-place.invariant c.keep_low_from.ensures

@@ -1,7 +1,7 @@
 use Rattle.std.proofs.Common.{◌≡◌, ◌∙◌, ap, sym, take, arith}
 use Rattle.latin_board.specs.Squares.{number_at}
 use Rattle.tower_lines.specs.TowersSeen.{seen}
-use Rattle.clue_rules.proofs.ViewLines.{numbers_from, view_of-numbers}
+use Rattle.clue_rules.specs.Laws.ViewLines.{numbers_from, view_of-numbers}
 use Rattle.clue_rules.proofs.FilledLemmas.{filled_more}
 use Rattle.clue_rules.proofs.towers.rules.seen_from.Goals as goal
 

@@ -1,7 +1,12 @@
 use Rattle.std.proofs.Common.{◌≡◌, take, ap, arith}
 use Rattle.std.proofs.lemmas.List.{length-take}
-use Rattle.shown_counts.proofs.CountLemmas.{all_counts}
+use Rattle.shown_counts.proofs.CountLemmas.{all_counts, counts_more}
 use Rattle.shown_counts.proofs.clue_counts.ClueCounts.counts.Goals as goal
+
+pub loop-count-preserved : goal.loop-count-preserved
+loop-count-preserved c =
+    counts_more (take c.args.self.now.size c.args.self.now.row) c.args.index c.args.value c.loop-count.count c.loop-count.counts c.with_count-counts.result
+    c.is_one_shown-is_shown.result c.loop-count.invariant c.with_count-counts.ensures c.is_one_shown-is_shown.ensures
 
 pub returns : goal.returns
 returns c =

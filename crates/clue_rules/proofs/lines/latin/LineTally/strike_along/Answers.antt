@@ -5,9 +5,9 @@ use Rattle.latin_board.specs.Lines.{line_cell}
 use Rattle.trail_solver.specs.Pairs.{pairs_of}
 use Rattle.trail_solver.specs.Candidates.{CandidatesValue, IsSetOf}
 use Rattle.trail_solver.proofs.SetPairs.{pairs_of_none}
-use Rattle.clue_rules.specs.LineStrikes.{IsLeftByRest}
+use Rattle.clue_rules.specs.Inner.LineStrikes.{IsLeftByRest}
 use Rattle.clue_rules.specs.Takes.{Takes, AreChanged}
-use Rattle.clue_rules.proofs.LineSteps.{square_struck}
+use Rattle.clue_rules.proofs.LineTallying.{square_struck}
 use Rattle.clue_rules.proofs.TakenLines.{changed_none, changed_next}
 use Rattle.clue_rules.proofs.Takes.{takes_none, takes_length, struck_moved}
 use Rattle.clue_rules.proofs.lines.latin.LineTally.strike_along.Goals as goal

@@ -1,7 +1,7 @@
 use Rattle.std.proofs.Common.{◌≡◌, ℕ, ◌<◌}
 use Rattle.latin_board.specs.Lines.{line_cell}
 use Rattle.clue_rules.specs.Takes.{Takes, AreChanged}
-use Rattle.clue_rules.specs.LineStrikes.{IsLeftByRest}
+use Rattle.clue_rules.specs.Inner.LineStrikes.{IsLeftByRest}
 use Rattle.clue_rules.proofs.lines.latin.LineTally.strike_along.Given as goal
 
 abbrev pub invariant-loop-k : goal.invariant-loop-k

@@ -1,41 +1,59 @@
-use Rattle.std.proofs.Common.{sym, ◌∙◌}
-use Rattle.std.specs.Bool.{OnTrue}
-use Rattle.trail_solver.specs.Candidates.{CandidatesValue, IsEarlier}
-use Rattle.trail_solver.proofs.Earlier.{earlier_refl, earlier_trans}
-use Rattle.clue_rules.proofs.LowTowers.{none_left_later}
-use Rattle.clue_rules.specs.Inner.Narrowing.{IsGivenStruck, IsStruckByLines}
-use Rattle.clue_rules.specs.Inner.TowersLines.{IsStruckAlong}
-use Rattle.clue_rules.proofs.Narrowings.{on_true, struck_gone}
-use Rattle.clue_rules.specs.Struck.{IsTowersStruck, NoneLeft}
-use Rattle.clue_rules.specs.Towers.{towers_given_grid}
-use Rattle.clue_rules.proofs.ViewSteps.{towers_by_lines}
+use Rattle.std.proofs.Common.{◌∙◌, arith}
+use Rattle.clue_rules.specs.Laws.Along.{towers_stand}
+use Rattle.clue_rules.specs.Laws.Less.{towers_less}
+use Rattle.clue_rules.specs.Laws.Shared.{towers_givens, towers_lines}
+use Rattle.clue_rules.specs.Laws.Sound.{towers_sound}
+use Rattle.clue_rules.specs.Chains.{LeadsTo}
+use Rattle.clue_rules.specs.Reasons.{IsTowersStruckBy}
+use Rattle.clue_rules.specs.Towers.{towers_puzzle}
+use Rattle.clue_rules.proofs.Chains.{higher_has}
+use Rattle.clue_rules.proofs.Leads.{leads_on, leads_size, leads_wider}
+use Rattle.clue_rules.proofs.Narrowed.{NarrowsBy, narrows_by}
+use Rattle.clue_rules.specs.declared.grade.Grade.TheVariants.{Easy, Hard}
 use Rattle.clue_rules.proofs.towers.rules.TowersRules.narrow.Goals as goal
-use Rattle.clue_rules.proofs.towers.rules.TowersRules.narrow.Goals.{After-narrow_by_lines}
+use Rattle.clue_rules.proofs.towers.rules.TowersRules.narrow.Goals.{After-settle_lines}
 
--- what the candidates that are left strike, or any before them, is gone
-gone_by : (c : After-narrow_by_lines) (k : CandidatesValue) → IsEarlier k c.narrow_by_lines.new.candidates
-    → OnTrue c.narrow_by_lines.result (NoneLeft (IsTowersStruck c.args.self.now) k c.narrow_by_lines.new.candidates)
-gone_by c k e =
-    let v = c.args.self.now in
+pub settle_lines-requires : goal.settle_lines-requires
+settle_lines-requires c =
+    leads_size (IsTowersStruckBy c.args.self.now) Easy c.args.candidates.now c.keep_low_towers.new.candidates c.keep_low_towers.ensures ∙ c.requires
+
+lead : (c : After-settle_lines) → LeadsTo (IsTowersStruckBy c.args.self.now) Hard c.args.candidates.now c.settle_lines.new.candidates
+lead c =
+    let Struck = IsTowersStruckBy c.args.self.now in
     let old = c.args.candidates.now in
-    let given = c.keep_givens.new.candidates in
     let low = c.keep_low_towers.new.candidates in
-    let done = c.narrow_by_lines.ensures in
-    let gone = none_left_later (λ k. IsGivenStruck (towers_given_grid v)) old given low (rw c.givens.ensures at c.keep_givens.ensures.struck)
-    c.keep_low_towers.ensures.less in
-    let size = sym e.size ∙ done.narrows.less.size ∙ c.keep_low_towers.ensures.less.size ∙ c.keep_givens.ensures.less.size ∙ c.requires in
-    on_true c.narrow_by_lines.result (λ lost cell value pair s. lost cell value pair (towers_by_lines v k cell value size s))
-    (struck_gone (IsStruckByLines (IsStruckAlong v)) c.narrow_by_lines.result old low c.narrow_by_lines.new.candidates k gone
-    (earlier_trans old given low c.keep_givens.ensures.less c.keep_low_towers.ensures.less) done.narrows.less e done.quiet)
+    leads_on Struck Hard old low c.settle_lines.new.candidates
+    (leads_wider Struck Struck Easy Hard (λ d reason cell value h. h) (higher_has Easy Hard (omega arith)) old low c.keep_low_towers.ensures)
+    c.settle_lines.ensures.leads
+
+narrowed : (c : After-settle_lines) → NarrowsBy (towers_puzzle c.args.self.now) (IsTowersStruckBy c.args.self.now) c.args.candidates.now
+    c.settle_lines.new.candidates c.settle_lines.result
+narrowed c =
+    let v = c.args.self.now in
+    let valid = c.size-valid.ensures.valid in
+    let done = c.settle_lines.ensures in
+    narrows_by (towers_puzzle v) (IsTowersStruckBy v) (record { given = towers_givens v; line = towers_lines v }) (towers_less v)
+    (λ d reason cell value g size solved within inside h. towers_sound v d reason cell value g valid size solved within inside h)
+    (λ d reason cell value is h. towers_stand v d reason cell value valid is h) c.args.candidates.now c.settle_lines.new.candidates c.settle_lines.result
+    c.requires (lead c) done.givens done.quiet done.emptied
+
+pub returns-clause-less : goal.returns-clause-less
+returns-clause-less c = (narrowed c).less
+
+pub returns-clause-keeps : goal.returns-clause-keeps
+returns-clause-keeps c = (narrowed c).keeps
+
+pub returns-clause-refutes : goal.returns-clause-refutes
+returns-clause-refutes c = (narrowed c).refutes
 
 pub returns-clause-struck : goal.returns-clause-struck
-returns-clause-struck c =
-    let old = c.args.candidates.now in
-    let given = c.keep_givens.new.candidates in
-    let low = c.keep_low_towers.new.candidates in
-    let new = c.narrow_by_lines.new.candidates in
-    let first = earlier_trans old given low c.keep_givens.ensures.less c.keep_low_towers.ensures.less in
-    gone_by c old (earlier_trans old low new first c.narrow_by_lines.ensures.narrows.less)
+returns-clause-struck c = (narrowed c).struck
 
 pub returns-clause-settled : goal.returns-clause-settled
-returns-clause-settled c = gone_by c c.narrow_by_lines.new.candidates (earlier_refl c.narrow_by_lines.new.candidates)
+returns-clause-settled c = (narrowed c).settled
+
+pub returns-clause-live : goal.returns-clause-live
+returns-clause-live c = (narrowed c).live
+
+pub returns-clause-leads : goal.returns-clause-leads
+returns-clause-leads c = lead c

@@ -1,34 +1,38 @@
-use Rattle.std.proofs.Common.{sym, ◌∙◌}
-use Rattle.std.specs.Bool.{OnTrue}
-use Rattle.trail_solver.specs.Candidates.{CandidatesValue, IsEarlier}
-use Rattle.clue_rules.specs.Struck.{IsUnequalStruck, NoneLeft}
-use Rattle.trail_solver.proofs.Earlier.{earlier_refl, earlier_trans}
-use Rattle.clue_rules.specs.Inner.Narrowing.{IsStruckByLines}
-use Rattle.clue_rules.specs.Inner.UnequalLines.{IsStruckAlong}
-use Rattle.clue_rules.proofs.Narrowings.{on_true, struck_gone}
-use Rattle.clue_rules.proofs.SignSteps.{unequal_by_lines}
+use Rattle.clue_rules.specs.Laws.Along.{unequal_stand}
+use Rattle.clue_rules.specs.Laws.Less.{unequal_less}
+use Rattle.clue_rules.specs.Laws.Shared.{unequal_givens, unequal_lines}
+use Rattle.clue_rules.specs.Laws.Sound.{unequal_sound}
+use Rattle.clue_rules.specs.Reasons.{IsUnequalStruckBy}
+use Rattle.clue_rules.specs.Unequal.{unequal_puzzle}
+use Rattle.clue_rules.proofs.Narrowed.{NarrowsBy, narrows_by}
 use Rattle.clue_rules.proofs.unequal.rules.UnequalRules.narrow.Goals as goal
-use Rattle.clue_rules.proofs.unequal.rules.UnequalRules.narrow.Goals.{After-narrow_by_lines}
+use Rattle.clue_rules.proofs.unequal.rules.UnequalRules.narrow.Goals.{After-settle_lines}
 
--- what the candidates that are left strike, or any before them, is gone
-gone_by : (c : After-narrow_by_lines) (k : CandidatesValue) → IsEarlier k c.narrow_by_lines.new.candidates
-    → OnTrue c.narrow_by_lines.result (NoneLeft (IsUnequalStruck c.args.self.now) k c.narrow_by_lines.new.candidates)
-gone_by c k e =
+narrowed : (c : After-settle_lines) → NarrowsBy (unequal_puzzle c.args.self.now) (IsUnequalStruckBy c.args.self.now) c.args.candidates.now
+    c.settle_lines.new.candidates c.settle_lines.result
+narrowed c =
     let v = c.args.self.now in
-    let given = c.keep_givens.new.candidates in
-    let done = c.narrow_by_lines.ensures in
-    let size = sym e.size ∙ done.narrows.less.size ∙ c.keep_givens.ensures.less.size ∙ c.requires in
-    on_true c.narrow_by_lines.result
-    (λ gone cell value pair s. gone cell value pair (unequal_by_lines v k cell value c.givens.ensures.valid size s))
-    (struck_gone (IsStruckByLines (IsStruckAlong v)) c.narrow_by_lines.result c.args.candidates.now given c.narrow_by_lines.new.candidates k
-    (rw c.givens.ensures.value at c.keep_givens.ensures.struck) c.keep_givens.ensures.less done.narrows.less e done.quiet)
+    let valid = c.size-valid.ensures.valid in
+    let done = c.settle_lines.ensures in
+    narrows_by (unequal_puzzle v) (IsUnequalStruckBy v) (record { given = unequal_givens v; line = unequal_lines v }) (unequal_less v)
+    (λ d reason cell value g size solved within inside h. unequal_sound v d reason cell value g valid size solved within inside h)
+    (λ d reason cell value is h. unequal_stand v d reason cell value valid is h) c.args.candidates.now c.settle_lines.new.candidates c.settle_lines.result
+    c.requires done.leads done.givens done.quiet done.emptied
+
+pub returns-clause-less : goal.returns-clause-less
+returns-clause-less c = (narrowed c).less
+
+pub returns-clause-keeps : goal.returns-clause-keeps
+returns-clause-keeps c = (narrowed c).keeps
+
+pub returns-clause-refutes : goal.returns-clause-refutes
+returns-clause-refutes c = (narrowed c).refutes
 
 pub returns-clause-struck : goal.returns-clause-struck
-returns-clause-struck c =
-    let given = c.keep_givens.new.candidates in
-    let new = c.narrow_by_lines.new.candidates in
-    gone_by c c.args.candidates.now
-    (earlier_trans c.args.candidates.now given new c.keep_givens.ensures.less c.narrow_by_lines.ensures.narrows.less)
+returns-clause-struck c = (narrowed c).struck
 
 pub returns-clause-settled : goal.returns-clause-settled
-returns-clause-settled c = gone_by c c.narrow_by_lines.new.candidates (earlier_refl c.narrow_by_lines.new.candidates)
+returns-clause-settled c = (narrowed c).settled
+
+pub returns-clause-live : goal.returns-clause-live
+returns-clause-live c = (narrowed c).live

@@ -1,0 +1,18 @@
+//! Rows of sets.
+
+ghost use Rattle.std.specs.Bool.{MatchBool};
+ghost use Rattle.clue_rules.specs.Inner.RowSets.{AreWithin};
+
+use number_sets::NumberSet;
+
+/// Whether each set of a row is within that of another row. The sets are compared without a branch, so that a processor takes several at
+/// once.
+pub(crate) fn are_within(some: &[NumberSet; 9], all: &[NumberSet; 9]) -> bool
+    ensures { MatchBool result (AreWithin some.now all.now) (AreWithin some.now all.now → ⊥) }
+{
+    let mut beyond = NumberSet::empty();
+    for k in 0..9 {
+        beyond = beyond.union(some[k].difference(all[k]));
+    }
+    beyond.is_empty()
+}

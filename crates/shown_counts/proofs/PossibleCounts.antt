@@ -1,0 +1,110 @@
+-- Starts that grow by one number, and the counts that they show.
+use Rattle.std.proofs.Common.{◌≡◌, ℕ, ◌+◌, ◌<◌, ◌≤◌, true, List, [], ◌∷◌, ◌++◌, length, take, set, slice_index, sym, ap, ◌∙◌, subst, arith, inl, inr}
+use Rattle.std.proofs.lemmas.Bool.{cases_lt, cases_eq, le-leb}
+use Rattle.std.proofs.lemmas.List.{take_more, take_all, length-take-le, length-set, get_or-set_same, get_or-set_other}
+use Rattle.number_sets.specs.Sets.{has_number}
+use Rattle.tower_lines.specs.LineFillings.{IsFilling}
+use Rattle.tower_lines.specs.TowersSeen.{seen}
+use Rattle.tower_lines.proofs.SeenLemmas.{IsLeastSeen, seen_most, least_seen_more, least_seen_same, seen-more_seen, seen-more_hidden}
+use Rattle.shown_counts.specs.Inner.Possible.{IsOneLonger, IsLongerBelow}
+
+-- the count that the line shows is among those of its height
+pub record HasStart (starts line : List ℕ) : Type 0 where
+  pub least : ℕ
+  pub high : least ≤ 10
+  pub seen_from : IsLeastSeen line least
+  pub has : has_number (slice_index starts least) (seen line) ≡ true
+
+-- no number at all
+pub none_started : (starts : List ℕ) → has_number (slice_index starts 0) 0 ≡ true → HasStart starts []
+none_started starts has = record {
+  least = 0;
+  high = omega arith;
+  seen_from = record { taller = λ x. sym (le-leb 0 x (omega arith)) };
+  has = has;
+}
+
+-- one number more of a filling
+pub started_more : (sets starts longer line : List ℕ) (clue k : ℕ) → length sets ≤ 9 → k < length sets → IsFilling sets clue line
+    → IsOneLonger (slice_index sets k) starts longer → HasStart starts (take k line) → HasStart longer (take (k + 1) line)
+started_more sets starts longer line clue k small inside f one h =
+    let x = slice_index line k in
+    let low : k < length line = omega (arith, f.whole, inside) in
+    let more : take (k + 1) line ≡ take k line ++ x ∷ [] = take_more line k 0 low in
+    let few : seen (take k line) < 15 = omega (arith, seen_most [] (take k line), length-take-le k line (omega (arith, low)), inside, small) in
+    let has : has_number (slice_index sets k) x ≡ true = f.start.candidates k low in
+    let high : x ≤ 9 = omega (arith, (f.start.values k low).1, small) in
+    subst (HasStart longer) (sym more) (elim (cases_lt x h.least) [
+      | inl below ↦ record {
+        least = h.least;
+        high = h.high;
+        seen_from = least_seen_same (take k line) h.least x h.seen_from below;
+        has = ap (has_number (slice_index longer h.least)) (seen-more_hidden (take k line) h.least x h.seen_from below)
+            ∙ one.hidden h.least (seen (take k line)) x h.high below has h.has;
+      }
+      | inr above ↦ record {
+        least = x + 1;
+        high = omega (arith, high);
+        seen_from = least_seen_more (take k line) h.least x h.seen_from above;
+        has = ap (has_number (slice_index longer (x + 1))) (seen-more_seen (take k line) h.least x h.seen_from above)
+            ∙ one.seen h.least (seen (take k line)) x above high few has h.has;
+      }
+    ])
+
+-- the whole line
+pub started_whole : (sets starts line : List ℕ) (clue k : ℕ) → length sets ≤ k → IsFilling sets clue line → HasStart starts (take k line)
+    → (h : ℕ) × (h < 11) × (has_number (slice_index starts h) clue ≡ true)
+started_whole sets starts line clue k all f h =
+    let same : take k line ≡ line = take_all k line (omega (arith, all, f.whole)) in
+    (h.least, omega (arith, h.high), subst (λ (n : ℕ). has_number (slice_index starts h.least) n ≡ true) (ap seen same ∙ f.shown) h.has)
+
+-- ---- one height after another
+
+pub longer_init : (set_of : ℕ) (starts : List ℕ) (lower : ℕ) (longer : List ℕ) → length longer ≡ 11 → IsLongerBelow 0 set_of starts lower longer
+longer_init set_of starts lower longer room = record {
+  room = room;
+  below = λ least count below has. absurd (omega (arith, below));
+  hidden = λ least count height low below has is. absurd (omega (arith, low, below));
+  seen = λ least count height above below small has is. absurd (omega (arith, below));
+}
+
+-- all of them
+pub longer_all : (n set_of lower : ℕ) (starts longer : List ℕ) → 10 ≤ n → IsLongerBelow n set_of starts lower longer → IsOneLonger set_of starts longer
+longer_all n set_of lower starts longer all h = record {
+  room = h.room;
+  hidden = λ least count height low below has is. h.hidden least count height (omega (arith, low, all)) below has is;
+  seen = λ least count height above high small has is. h.seen least count height above (omega (arith, high, all)) small has is;
+}
+
+-- the next one
+pub longer_more : (n set_of lower more counts : ℕ) (starts longer : List ℕ) → n < 10 → IsLongerBelow n set_of starts lower longer
+    → ((count : ℕ) → has_number lower count ≡ true → has_number more count ≡ true)
+    → ((count : ℕ) → has_number (slice_index starts n) count ≡ true → has_number more count ≡ true)
+    → ((k count : ℕ) → k ≤ n → has_number set_of k ≡ true → has_number (slice_index starts (n + 1)) count ≡ true → has_number counts count ≡ true)
+    → ((count : ℕ) → count < 15 → has_number set_of n ≡ true → has_number more count ≡ true → has_number counts (count + 1) ≡ true)
+    → IsLongerBelow (n + 1) set_of starts more (set longer (n + 1) counts)
+longer_more n set_of lower more counts starts longer inside h kept new hidden seen_now =
+    let here : slice_index (set longer (n + 1) counts) (n + 1) ≡ counts = get_or-set_same longer (n + 1) counts 0 (omega (arith, inside, h.room)) in
+    let stays : (k : ℕ) → (k ≡ n + 1 → ⊥) → slice_index (set longer (n + 1) counts) k ≡ slice_index longer k = λ k other. get_or-set_other longer (n + 1) k counts 0 other in
+    let among : (least count : ℕ) → least < n + 1 → has_number (slice_index starts least) count ≡ true → has_number more count ≡ true =
+    λ least count below is. elim (cases_eq least n) [
+      | inl same ↦ new count (subst (λ (k : ℕ). has_number (slice_index starts k) count ≡ true) same is)
+      | inr other ↦ kept count (h.below least count (omega (arith, below, other)) is)
+    ] in
+    record {
+      room = length-set longer (n + 1) counts ∙ h.room;
+      below = among;
+      hidden = λ least count height low below has is. elim (cases_eq least (n + 1)) [
+        | inl same ↦ subst (λ (k : ℕ). has_number (slice_index (set longer (n + 1) counts) k) count ≡ true) (sym same)
+            (ap (λ (s : ℕ). has_number s count) here
+            ∙ hidden height count (omega (arith, below, same)) has (subst (λ (k : ℕ). has_number (slice_index starts k) count ≡ true) same is))
+        | inr other ↦ ap (λ (s : ℕ). has_number s count) (stays least other) ∙ h.hidden least count height (omega (arith, low, other)) below has is
+      ];
+      seen = λ least count height above below small has is. elim (cases_eq height n) [
+        | inl same ↦ subst (λ (k : ℕ). has_number (slice_index (set longer (n + 1) counts) (k + 1)) (count + 1) ≡ true) (sym same)
+            (ap (λ (s : ℕ). has_number s (count + 1)) here
+            ∙ seen_now count small (subst (λ (k : ℕ). has_number set_of k ≡ true) same has) (among least count (omega (arith, above, same)) is))
+        | inr other ↦ ap (λ (s : ℕ). has_number s (count + 1)) (stays (height + 1) (λ e. other (omega (arith, e))))
+            ∙ h.seen least count height above (omega (arith, below, other)) small has is
+      ];
+    }

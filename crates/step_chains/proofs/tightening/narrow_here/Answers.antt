@@ -1,0 +1,66 @@
+use Rattle.std.proofs.Common.{◌≤◌, List, take, refl, ◌∙◌, sym, subst, arith}
+use Rattle.trail_solver.specs.Candidates.{CandidatesValue}
+use Rattle.step_chains.specs.declared.chain.Step.{Step}
+use Rattle.step_chains.specs.ChainValues.{steps_of}
+use Rattle.step_chains.specs.Inner.Aims.{aim_goal}
+use Rattle.step_chains.specs.Inner.Replays.{Leads}
+use Rattle.step_chains.proofs.Spare.{left_out_live, narrowed_on, needed_all, needed_none}
+use Rattle.step_chains.proofs.tightening.narrow_here.Goals as goal
+
+pub loop-value-init : goal.loop-value-init
+loop-value-init g c = (
+  refl,
+  refl,
+  refl,
+  λ start first done. (
+    done.shows,
+    record {
+      tight = done.tight;
+      needed = done.needed;
+      here = needed_none (g.P.Steps.struck_by c.args.p.now) c.args.grade start c.args.place (steps_of c.args.steps.now.items) (aim_goal c.args.aim) done.shows;
+    },
+    λ live. live,
+  ),
+)
+
+pub loop-value-preserved : goal.loop-value-preserved
+loop-value-preserved g c =
+    let Struck = g.P.Steps.struck_by c.args.p.now in
+    let place = c.args.place in
+    let value = c.loop-value.value in
+    let before = c.loop-value.invariant in
+    let old = c.loop-value.steps.items in
+    let new = c.leave_out.new.steps.items in
+    let aim = aim_goal c.args.aim in (
+      c.leave_out.ensures.same ∙ before.0,
+      c.leave_out.ensures.length ∙ before.1,
+      c.leave_out.ensures.front ∙ before.2,
+      λ start first done.
+          let here : Leads Struck c.args.grade start (steps_of (take place old)) c.loop-value.candidates =
+          subst (λ (d : CandidatesValue). Leads Struck c.args.grade start (steps_of (take place old)) d) (sym before.0)
+          (subst (λ (xs : List Step). Leads Struck c.args.grade start (steps_of xs) c.args.candidates.now) (sym before.2) first) in
+          let was = before.3 start first done in
+          let out = c.leave_out.ensures.left start here was.0 in (
+            out.0,
+            narrowed_on Struck (g.met.P.Steps.struck_less c.args.p.now) c.args.grade start place value old new aim was.0 out.1 was.1,
+            λ live. left_out_live Struck c.args.grade start place value old new aim out.1 (was.2 live),
+          ),
+    )
+
+pub returns-clause-narrowed : goal.returns-clause-narrowed
+returns-clause-narrowed g c = λ start first done.
+    let Struck = g.P.Steps.struck_by c.args.p.now in
+    let steps = c.loop-value.steps.items in
+    let aim = aim_goal c.args.aim in
+    let was = c.loop-value.invariant.3 start first done in
+    let small : start.size ≤ 9 = omega (arith, c.size-size.ensures.valid.largest, first.size) in
+    record {
+      done = record {
+        inside = omega (arith, done.inside, c.loop-value.invariant.1);
+        shows = was.0;
+        tight = was.1.tight;
+        needed = was.1.needed;
+      };
+      here = needed_all Struck c.args.grade start c.args.place c.loop-value.value (steps_of steps) aim small (omega (arith, c.loop-value-test.false)) was.0 was.1.here;
+      live = was.2;
+    }

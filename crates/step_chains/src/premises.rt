@@ -1,0 +1,159 @@
+//! What a step needs of what is gone before it.
+//! Nothing here ensures anything: `short_chain` follows what comes of it step by step, and tells it only where it is a chain.
+
+use crate::chain::Step;
+use crate::clue_premises::few_of_clue;
+use crate::needs::{Squares, Values, looked_at, needed_in, single};
+use crate::replays::{struck, take_values};
+use arrayvec::ArrayVec;
+use latin_board::Size;
+use named_steps::{Reason, Steps};
+use number_sets::NumberSet;
+use trail_solver::{Candidates, Rules};
+
+/// Few of the values that are gone before a step, of the squares where its reason looks, by which it still strikes its own: those of
+/// the latest steps are left out first, and what is needed anyhow stays.
+#[inline(never)]
+pub(crate) fn few_premises<P: Steps>(
+    p: &P,
+    candidates: &mut Candidates,
+    before: &[Step],
+    gone: &Values,
+    needs: &Values,
+    step: &Step,
+    known: &mut P::Known,
+) -> Values {
+    match step.reason {
+        Reason::Peer { .. } | Reason::Place { .. } | Reason::Set { .. } => {
+            all_premises(candidates.size(), gone, step)
+        }
+        Reason::Clue { place } => few_of_clue(
+            p, candidates, before, gone, needs, step, place, known,
+        ),
+        Reason::Given { .. } | Reason::Bound { .. } | Reason::Stand { .. } | Reason::Sign { .. } =>
+            few_by_trial(p, candidates, before, gone, needs, step, known),
+    }
+}
+
+// What a step by rows and columns needs, which no trial has to tell: where it looks, all is gone but what may be left there.
+fn all_premises(size: Size, gone: &Values, step: &Step) -> Values {
+    let mut premises = Values::none();
+    for cell in looked_at(size, &step.reason) {
+        let cell = cell as usize;
+        premises.add(cell, gone.of(cell).difference(may_be_left(step)));
+    }
+    premises
+}
+
+// What may be left where a step by rows and columns looks.
+fn may_be_left(step: &Step) -> NumberSet {
+    match step.reason {
+        Reason::Place { value, .. } => NumberSet::up_to(9).difference(single(value)),
+        Reason::Set { values, .. } => values,
+        _ => step.values,
+    }
+}
+
+// Few of them for any step: it is asked what it strikes without each.
+fn few_by_trial<P: Steps>(
+    p: &P,
+    candidates: &mut Candidates,
+    before: &[Step],
+    gone: &Values,
+    needs: &Values,
+    step: &Step,
+    known: &mut P::Known,
+) -> Values {
+    let cells = looked_at(candidates.size(), &step.reason);
+    let mut rest = needed_in(&cells, gone, needs);
+    if strikes_by(p, candidates, &cells, &rest, step, known) {
+        return rest;
+    }
+    rest = *gone;
+    let looked = Squares::of(&cells);
+    for i in 0..before.len() {
+        let made = &before[before.len() - 1 - i];
+        if looked.has(made.cell) {
+            leave_out(p, candidates, &cells, &mut rest, needs, step, made, known);
+        }
+    }
+    rest
+}
+
+// Leaves out what one step made, or otherwise each of its values that can be left out.
+fn leave_out<P: Steps>(
+    p: &P,
+    candidates: &mut Candidates,
+    cells: &ArrayVec<u8, 9>,
+    rest: &mut Values,
+    needs: &Values,
+    step: &Step,
+    made: &Step,
+    known: &mut P::Known,
+) {
+    let cell = made.cell as usize;
+    let spare = made.values.difference(needs.of(cell));
+    if spare.is_empty() || leave_out_values(p, candidates, cells, rest, step, cell, spare, known) {
+        return;
+    }
+    if spare.is_single() {
+        return;
+    }
+    for value in 1..10 {
+        if spare.has(value) {
+            leave_out_values(
+                p,
+                candidates,
+                cells,
+                rest,
+                step,
+                cell,
+                NumberSet::one(value),
+                known,
+            );
+        }
+    }
+}
+
+// Leaves the values out, where the step still strikes what it strikes.
+fn leave_out_values<P: Steps>(
+    p: &P,
+    candidates: &mut Candidates,
+    cells: &ArrayVec<u8, 9>,
+    rest: &mut Values,
+    step: &Step,
+    cell: usize,
+    values: NumberSet,
+    known: &mut P::Known,
+) -> bool {
+    rest.remove(cell, values);
+    if strikes_by(p, candidates, cells, rest, step, known) {
+        return true;
+    }
+    rest.add(cell, values);
+    false
+}
+
+// Whether a step strikes its values where these are gone of the squares at which its reason looks.
+fn strikes_by<P: Steps>(
+    p: &P,
+    candidates: &mut Candidates,
+    cells: &ArrayVec<u8, 9>,
+    gone: &Values,
+    step: &Step,
+    known: &mut P::Known,
+) -> bool {
+    let mark = candidates.mark();
+    take_values(candidates, cells, gone);
+    let strikes = step.values.is_subset(struck(
+        p,
+        candidates,
+        &step.reason,
+        step.cell as usize,
+        known,
+    ));
+    if mark.len() <= candidates.trail_len() {
+        candidates.give_back(mark);
+    }
+    strikes
+}
