@@ -5,6 +5,8 @@ import {kindOfName} from './games.js';
 
 /** @typedef {import('./kept.js').Kept} Kept */
 /** @typedef {Pick<Storage, 'length' | 'key' | 'getItem' | 'setItem' | 'removeItem'>} Store */
+/** What the browser keeps for all tabs, and for this one alone; nothing where it refuses it. */
+/** @typedef {{all: Store | null, tab: Store | null}} Stores */
 /** A game that was solved without the program's help: its class, when, in how many seconds (0 where that wasn't counted), with how many hints, and its number if it has one. */
 /** @typedef {{kind: string, when: number, seconds: number, hints: number, number: string}} Solved */
 /** @typedef {{tidy: boolean, equal: boolean, lanes: boolean, time: boolean, kind: string, daily: string}} Settings */
@@ -18,16 +20,19 @@ const FIRST = {tidy: false, equal: true, lanes: true, time: true, kind: 'towers-
 /** @typedef {'' | 'refused' | 'full'} Trouble */
 
 export class Keeping {
-  /** @param {Store | null} store  nothing where the browser refuses it @param {Store | null} tab  what this tab alone keeps */
-  constructor(store, tab) {
-    this.store = store;
-    this.tab = tab;
+  /** @param {() => Stores} open  asked at the first use */
+  constructor(open) {
+    this.open = open;
+    /** @type {Stores | null} */
+    this.opened = null;
     // What couldn't be kept: it lasts as long as the page.
     /** @type {Map<string, string>} */
     this.unkept = new Map();
     /** @type {Trouble} */
-    this.trouble = store ? '' : 'refused';
+    this.trouble = '';
   }
+
+  get stores() { return this.opened ??= this.open(); }
 
   // --- games ---
 
@@ -38,8 +43,8 @@ export class Keeping {
 
   /** All of them, the last ones first. */
   games() {
-    const {store} = this, names = new Set(this.unkept.keys());
-    for (let at = 0; store && at < store.length; at++) names.add(store.key(at) ?? '');
+    const {all} = this.stores, names = new Set(this.unkept.keys());
+    for (let at = 0; all && at < all.length; at++) names.add(all.key(at) ?? '');
     const games = [...names].filter((name) => name.startsWith(GAME)).map((name) => keptIn(this.get(name)));
     return /** @type {Kept[]} */ (games.filter(Boolean)).sort((one, other) => other.when - one.when);
   }
@@ -62,18 +67,18 @@ export class Keeping {
   /** @param {string} key */
   delete(key) {
     this.unkept.delete(GAME + key);
-    this.store?.removeItem(GAME + key);
+    this.stores.all?.removeItem(GAME + key);
   }
 
   /** The key of the game that this tab shows, or of the one that any tab showed last. */
   get now() {
-    return this.tab?.getItem(NOW) ?? this.get(NOW) ?? '';
+    return this.stores.tab?.getItem(NOW) ?? this.get(NOW) ?? '';
   }
 
   set now(key) {
     this.put(NOW, key);
     try {
-      this.tab?.setItem(NOW, key);
+      this.stores.tab?.setItem(NOW, key);
     } catch {
       // The last game of any tab goes on then.
     }
@@ -118,15 +123,15 @@ export class Keeping {
 
   /** @param {string} name */
   get(name) {
-    return this.unkept.get(name) ?? this.store?.getItem(name) ?? null;
+    return this.unkept.get(name) ?? this.stores.all?.getItem(name) ?? null;
   }
 
   /** @param {string} name @param {string} text */
   put(name, text) {
     try {
-      this.store?.setItem(name, text);
+      this.stores.all?.setItem(name, text);
       this.unkept.delete(name);
-      this.trouble = this.store ? '' : 'refused';
+      this.trouble = this.stores.all ? '' : 'refused';
     } catch (fault) {
       this.trouble = fault instanceof DOMException && /quota/i.test(fault.name) ? 'full' : 'refused';
     }
@@ -146,9 +151,13 @@ export class Keeping {
 /** @param {any} one @returns {one is Solved} */
 export const isSolvedGame = (one) => Boolean(one) && [one.when, one.seconds, one.hints].every(Number.isFinite) && [one.kind, one.number].every((text) => typeof text === 'string');
 
-// The browser's store; nothing where it refuses it.
+// Not to be asked for before the page's worker has answered: while the browser doesn't know yet that the page is there, Chromium may give it a store of
+// its own, which is empty and lost with the page.
+/** @returns {Stores} */
+export const storesHere = () => ({all: storeOf('localStorage'), tab: storeOf('sessionStorage')});
+
 /** @param {'localStorage' | 'sessionStorage'} name */
-export function storeOf(name) {
+function storeOf(name) {
   try {
     const store = window[name];
     store.getItem(NOW);

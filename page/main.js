@@ -10,14 +10,14 @@ import {Messages} from './messages.js';
 import {Moves} from './moves.js';
 import {Present} from './present.js';
 import {Screen} from './screen.js';
-import {Keeping, storeOf} from './keeping.js';
+import {Keeping, storesHere} from './keeping.js';
 import {AT_WORK, DELETED_ELSEWHERE, NO_SUCH_LINK, STOP, WELCOME, unableText} from './texts.js';
 import {Turns} from './turns.js';
 import {Walk} from './walk.js';
 
 /** @typedef {import('./objects.js').Board} Board */
 
-const messages = new Messages(), keeping = new Keeping(storeOf('localStorage'), storeOf('sessionStorage'));
+const messages = new Messages(), keeping = new Keeping(storesHere);
 const turns = new Turns(part('module').textContent ?? '', part('worker').textContent ?? '');
 const walk = new Walk((text) => messages.say(text));
 
@@ -52,7 +52,7 @@ const beginning = new Beginning(present), moves = new Moves(present, confirmed);
 const actions = new Actions({present, moves, beginning, screen, walk, messages, keeping, turns});
 const rest = () => screen.rest(() => actions.act('next'));
 
-/** The game of the address, the one that was shown last, or a first one. */
+/** The game of the address, the one that was shown last, or a first one. The stores are asked for here first, after the worker has answered. */
 async function start() {
   const {hash} = location, link = named(hash), kind = kindOfName(keeping.settings.kind);
   forgetLink();

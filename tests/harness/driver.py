@@ -87,7 +87,7 @@ class Driver:
 
     def text(self) -> str:
         """All that can be read on the page."""
-        return str(self.value('document.body.innerText'))
+        return str(self.value('document.body?.innerText'))
 
     def _holds(self, condition: str) -> bool:
         try:

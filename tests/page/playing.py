@@ -102,23 +102,18 @@ class Player(Seen):
 
     def load(self, link: str = '') -> None:
         """Opens the page, as on the next day."""
-        # With a link alone it is left for another one in between, without which its address would only change: a browser that has much else to do
-        # may tell a new process a moment later what was kept.
-        if link:
-            self.driver.go('about:blank')
-        else:
-            self.driver.value('window.isLeft = true')
+        self.driver.go('about:blank')
         self.driver.go(self.address + (f'#{link}' if link else ''))
         self.there()
 
     def there(self) -> None:
-        self.driver.wait_for('!window.isLeft && document.readyState === "complete" && document.querySelector("[data-place]")')
+        self.driver.wait_for('document.readyState === "complete" && document.querySelector("[data-place]")')
 
     def forget(self) -> None:
-        """The browser keeps nothing any more, whatever the page is still about to keep, and no other page sees what it kept."""
+        """The browser keeps nothing any more, whatever the page and tabs that were closed are still about to keep."""
         self.driver.value('(Storage.prototype.setItem = () => undefined, [localStorage.clear(), sessionStorage.clear()])')
         self.driver.go(BESIDE)
-        self.driver.wait_for('localStorage.length + sessionStorage.length === 0')
+        self.driver.wait_for('localStorage.length + sessionStorage.length === 0 || (localStorage.clear(), sessionStorage.clear())')
 
     def press(self, *keys: str) -> None:
         self.driver.press(*keys)

@@ -16,20 +16,22 @@ class Store {
   }
 }
 
+const keepingIn = (all) => new Keeping(() => ({all, tab: null}));
+
 const game = {key: 'a', turn: 1, game: 'towers', save: 'SAVEFILE', id: '3:///////////', fair: null, begun: 1, when: 2, seconds: 3, hints: 0, joined: [[4, 2]], solved: 0,
   numbers: Array(9).fill(0), givens: Array(9).fill(0), state: 'playing'};
 
 test('a game comes back as it was kept', () => {
-  const store = new Store(), keeping = new Keeping(store, null);
+  const store = new Store(), keeping = keepingIn(store);
   equal(keeping.keep(game), true);
-  deepEqual(new Keeping(store, null).game('a'), game);
+  deepEqual(keepingIn(store).game('a'), game);
   deepEqual(keeping.games(), [game]);
   keeping.delete('a');
   equal(keeping.game('a'), null);
 });
 
 test('a change that another tab has made is not written over', () => {
-  const store = new Store(), one = new Keeping(store, null), other = new Keeping(store, null);
+  const store = new Store(), one = keepingIn(store), other = keepingIn(store);
   one.keep(game);
   equal(other.keep({...game, turn: 2, save: 'other'}), true);
   equal(one.keep({...game, turn: 2, save: 'one'}), false);
@@ -39,7 +41,7 @@ test('a change that another tab has made is not written over', () => {
 });
 
 test('a full store is said, and the page goes on', () => {
-  const keeping = new Keeping(new Store(40), null);
+  const keeping = keepingIn(new Store(40));
   equal(keeping.keep(game), true);
   equal(keeping.trouble, 'full');
   deepEqual(keeping.game('a'), game);
@@ -47,11 +49,19 @@ test('a full store is said, and the page goes on', () => {
 });
 
 test('no store', () => {
-  const keeping = new Keeping(null, null);
+  const keeping = keepingIn(null);
   keeping.now = 'a';
   keeping.keep(game);
   equal(keeping.trouble, 'refused');
   deepEqual([keeping.now, keeping.game('a')], ['a', game]);
+});
+
+test('the stores are asked for once, at the first use', () => {
+  let asked = 0;
+  const keeping = new Keeping(() => ({all: new Store(), tab: null, asked: ++asked}));
+  equal(asked, 0);
+  keeping.keep(game);
+  deepEqual([keeping.game('a'), asked], [game, 1]);
 });
 
 test('what is no game of ours is none', () => {
@@ -64,14 +74,14 @@ test('what is no game of ours is none', () => {
 });
 
 test('solved games are noted once', () => {
-  const keeping = new Keeping(new Store(), null), one = {kind: 'towers-5-easy', number: '7', when: 5, seconds: 60, hints: 0};
+  const keeping = keepingIn(new Store()), one = {kind: 'towers-5-easy', number: '7', when: 5, seconds: 60, hints: 0};
   keeping.addSolved([one]);
   keeping.addSolved([one, {...one, when: 6}]);
   equal(keeping.solved().length, 2);
 });
 
 test('settings', () => {
-  const store = new Store(), keeping = new Keeping(store, null);
+  const store = new Store(), keeping = keepingIn(store);
   equal(keeping.settings.time, true);
   keeping.set({time: false, kind: 'unequal-6-tricky'});
   deepEqual([keeping.settings.time, keeping.settings.kind], [false, 'unequal-6-tricky']);
