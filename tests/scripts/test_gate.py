@@ -167,11 +167,12 @@ def test_both_fail(place: Place, scripts: List[str]) -> None:
     expect(place, Gate('the tests fail, and then the gate', counts=(6, 12, 0), status=1), len(scripts), ['.ci/run'])
 
 
-def test_logged(place: Place, scripts: List[str]) -> None:
-    """The log begins with the commit and the prover, and has the sums of the programs and all that was said."""
-    place.run(['tools/gate'], env={'RT_SAYS': PROVED, **ANEW})
+@pytest.mark.parametrize(('help_text', 'asked'), [('rt ci [--anew]', 'ci --anew'), ('rt ci', 'ci')], ids=['a kit with the word', 'one without'])
+def test_logged(place: Place, scripts: List[str], help_text: str, asked: str) -> None:
+    """The log begins with the commit and the prover, and has the sums of the programs and all that was said. All is proved anew by a word that the kit knows."""
+    place.run(['tools/gate'], env={'RT_SAYS': PROVED, 'RT_HELP': help_text, **ANEW})
     log = place.file('build/gate.log').decode()
-    for text in (r'\Acommit unknown\nprover a kit that proves nothing\n== ', r'^asked for ci --anew in checkout$',
+    for text in (r'\Acommit unknown\nprover a kit that proves nothing\n== ', rf'^asked for {asked} in checkout$',
                  r'^[0-9a-f]{64}  crates/puzzles/out/puzzles$', r'^[0-9]+ passed, 0 failed, 0 skipped\n\Z'):
         assert re.search(text, log, re.MULTILINE), log
 

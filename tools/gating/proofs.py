@@ -7,6 +7,7 @@ import hashlib
 import json
 import os
 import shutil
+import subprocess
 import time
 from base64 import b64decode, b64encode
 from pathlib import Path
@@ -25,6 +26,10 @@ UNREAD = ['out', WRONG_BODIES]
 #: an earlier run has kept come back with the dates of then.
 LIBRARIES = 'crates/*/out/rlib'
 NOTE = Path('build', 'libraries')
+
+#: A kit that takes what an earlier run has kept beside it, and then leaves no library of a crate where it finds all of them, does all anew by this
+#: word. Others don't know it, and always do.
+ALL_ANEW = '--anew'
 
 #: How many results are kept.
 MOST = 4
@@ -48,8 +53,7 @@ def prove(turns: Turns, name: str, rt: str, prover: str, programs: Sequence[str]
         NOTE.unlink()
     for library in Path().glob(LIBRARIES):
         shutil.rmtree(library)
-    # Without the word it takes what an earlier run has kept beside the kit, and leaves no library of a crate where it finds all of them.
-    said = turns.part(name, [rt, 'ci', *(['--anew'] if is_anew else [])])
+    said = turns.part(name, [rt, 'ci', *([ALL_ANEW] if is_anew and ALL_ANEW in help_of(rt) else [])])
     counts, odd = counted(*said)
     has_passed = said.status == 0 and not odd and counts.passed > 0 and counts.failed == counts.skipped == 0
     built = {program: Path(program).read_bytes() for program in programs if os.path.isfile(program)}
@@ -58,6 +62,16 @@ def prove(turns: Turns, name: str, rt: str, prover: str, programs: Sequence[str]
         NOTE.write_text(key, encoding='ascii')
         now = time.strftime('%Y-%m-%d %H:%M UTC', time.gmtime())
         store.keep(key, packed({SAID: said.text, WHEN: now.encode(), **built}))
+
+
+def help_of(rt: str) -> str:
+    """What the command says of itself; nothing where it isn't there."""
+    try:
+        return subprocess.run(
+            [rt, 'help'], stdin=subprocess.DEVNULL, stdout=subprocess.PIPE, stderr=subprocess.STDOUT, encoding='utf-8', errors='replace', check=False
+        ).stdout
+    except OSError:
+        return ''
 
 
 def from_kept(turns: Turns, name: str, found: Dict[str, bytes], programs: Sequence[str]) -> None:
