@@ -151,8 +151,8 @@ export class Keeping {
 /** @param {any} one @returns {one is Solved} */
 export const isSolvedGame = (one) => Boolean(one) && [one.when, one.seconds, one.hints].every(Number.isFinite) && [one.kind, one.number].every((text) => typeof text === 'string');
 
-// Not to be asked for before the page's worker has answered: while the browser doesn't know yet that the page is there, Chromium may give it a store of
-// its own, which is empty and lost with the page.
+// Not to be asked for before the page's worker has answered: on a busy machine Chromium may give an empty store to a page that asks at once. As far as
+// we can tell the browser doesn't know yet that the page is there.
 /** @returns {Stores} */
 export const storesHere = () => ({all: storeOf('localStorage'), tab: storeOf('sessionStorage')});
 

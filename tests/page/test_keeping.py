@@ -134,7 +134,7 @@ window.Worker = class extends Plain {
 
 @pytest.mark.gate
 def test_worker_comes_first(piped: Player) -> None:
-    """The store is asked for after the worker has answered: while Chromium doesn't know yet that the page is there, it may give it an empty one."""
+    """The store is asked for after the worker has answered: to a page that asks at once a busy Chromium may give an empty one."""
     browser = piped.driver.browser  # type: ignore[attr-defined]
     known = browser.ask('Page.addScriptToEvaluateOnNewDocument', source=ORDERED)['identifier']
     try:
