@@ -52,3 +52,8 @@ pub(crate) fn is_of_use(kind: Kind, sought: Sought, grade: Grade) -> bool {
 pub(crate) fn is_done(kind: Kind) -> bool {
     matches!(kind, Kind::Given | Kind::Bound)
 }
+
+/// Whether the steps of a kind take long to look for.
+pub(crate) fn is_dear(kind: Kind) -> bool {
+    matches!(kind, Kind::Clue | Kind::Set)
+}

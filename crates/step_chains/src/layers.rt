@@ -5,7 +5,7 @@ ghost use Rattle.std.specs.Prelude.{◌≡◌};
 use crate::aims::first_empty;
 use crate::chain::Step;
 use crate::goals::shown_goal;
-use crate::kinds::{KINDS, Kind, Sought, is_done, is_of_use};
+use crate::kinds::{KINDS, Kind, Sought, is_dear, is_done, is_of_use};
 use crate::needs::{Values, left, line_from, single, squares_from, squares_of};
 use crate::reasons::{Part, group};
 use crate::replays::{struck, take};
@@ -23,6 +23,10 @@ use trail_solver::{Candidates, Mark, Rules};
 // No more rounds than pairs that can be struck.
 const ROUNDS: usize = 729;
 
+// A contradiction that isn't found after so many steps is a long one. From then on clues and groups are looked at only where nothing
+// cheaper strikes: it is found sooner, and has somewhat more steps.
+const MANY: usize = 60;
+
 /// Rounds of steps: the candidates at the beginning of a round, what its steps have struck by now, and all steps so far.
 #[derive(Drop)]
 pub(crate) struct Rounds<'a, P: Steps> {
@@ -35,8 +39,12 @@ pub(crate) struct Rounds<'a, P: Steps> {
     open: Option<usize>,
     // The squares of which one value is left and that were looked at: what they strike is listed.
     peers: Values,
+    // Whether the steps of a round leave a square nothing.
+    has_emptied: bool,
     // Whether there are signs, which strike something whatever is left.
     has_signs: bool,
+    // From which places a clue strikes something by itself: from the others there is none.
+    has_clue: [bool; PLACES],
     // Which rows and columns lost something since they were looked at: only their rows can be others.
     losses: Losses,
     places: Seen<LINES>,
@@ -62,7 +70,9 @@ impl<'a, P: Steps> Rounds<'a, P> {
             sought,
             open: None,
             peers: Values::none(),
+            has_emptied: false,
             has_signs: true,
+            has_clue: [false; PLACES],
             losses: Losses::new(),
             places: Seen::nothing(),
             stands: Seen::nothing(),
@@ -98,12 +108,12 @@ impl<'a, P: Steps> Rounds<'a, P> {
 
     // Rounds with the kinds up to one, while they strike anything and what is sought isn't found.
     fn go_on(&mut self, p: &P, grid: &Grid, grade: Grade, last: usize) -> Result<(), OutOfMemory> {
-        for _round in 0..ROUNDS {
+        for round in 0..ROUNDS {
             if self.now.size() != grid.size() || self.has_found(grid) {
                 return Ok(());
             }
             let before = self.steps.len();
-            self.round(p, grade, last)?;
+            self.round(p, grade, last, round == 0)?;
             if self.steps.len() == before {
                 return Ok(());
             }
@@ -129,20 +139,40 @@ impl<'a, P: Steps> Rounds<'a, P> {
         found
     }
 
-    // One round with the kinds up to one; its steps all look at the same candidates.
-    fn round(&mut self, p: &P, grade: Grade, last: usize) -> Result<(), OutOfMemory> {
+    // One round with the kinds up to one, which is new in the first of these rounds. Its steps all look at the same candidates.
+    fn round(
+        &mut self,
+        p: &P,
+        grade: Grade,
+        last: usize,
+        is_first: bool,
+    ) -> Result<(), OutOfMemory> {
         let before = self.steps.len();
         for kind in 0..KINDS.len() {
-            if kind <= last
-                && is_of_use(KINDS[kind], self.sought, grade)
-                && (kind == last || !is_done(KINDS[kind]))
-            {
+            let is_new = kind == last && is_first;
+            if kind <= last && self.is_due(KINDS[kind], grade, is_new, before) {
                 self.look(p, grade, KINDS[kind])?;
             }
         }
         self.catch_up(before);
         self.gone = Values::none();
         Ok(())
+    }
+
+    // Whether a kind is looked at in a round that began with so many steps. Where a square is left nothing already, none is.
+    fn is_due(&self, kind: Kind, grade: Grade, is_new: bool, before: usize) -> bool {
+        if !is_of_use(kind, self.sought, grade) || (is_done(kind) && !is_new) {
+            return false;
+        }
+        match self.sought {
+            Sought::NumberShown => true,
+            Sought::SquareEmptied => !self.has_emptied && !self.has_to_wait(kind, before),
+        }
+    }
+
+    // Whether a dear kind waits, as a cheaper one has struck something in the round, and there are many steps.
+    fn has_to_wait(&self, kind: Kind, before: usize) -> bool {
+        before >= MANY && before < self.steps.len() && is_dear(kind)
     }
 
     // Takes away what the steps from a place on list.
@@ -190,22 +220,37 @@ impl<'a, P: Steps> Rounds<'a, P> {
             match kind {
                 Kind::Stand => self.look_at_standing(p, grade, place)?,
                 Kind::Clue => self.look_at_marks(p, grade, place)?,
-                _ => self.look_from(p, grade, &Reason::Bound { place }, place)?,
+                _ => self.look_at_bound(p, grade, place)?,
             }
         }
         Ok(())
     }
 
+    // The steps of one clue by itself.
+    fn look_at_bound(&mut self, p: &P, grade: Grade, place: usize) -> Result<(), OutOfMemory> {
+        let strikes = self.look_from(p, grade, &Reason::Bound { place }, place)?;
+        if place < PLACES {
+            self.has_clue[place] = strikes;
+        }
+        Ok(())
+    }
+
+    // Whether there is a clue at a place of the edge. It is known once the clues have been looked at by themselves, which comes first.
+    fn is_clued(&self, place: usize) -> bool {
+        place < PLACES && self.has_clue[place]
+    }
+
     // The steps of one clue by the numbers that stand in its line.
     fn look_at_standing(&mut self, p: &P, grade: Grade, place: usize) -> Result<(), OutOfMemory> {
         let size = self.now.size();
-        if self
-            .stands
-            .may_be_new(place, line_from(size, place), &self.losses)
+        if self.is_clued(place)
+            && self
+                .stands
+                .may_be_new(place, line_from(size, place), &self.losses)
         {
             let row = row_of(&self.now, &squares_from(size, place));
             if self.stands.is_new(place, &standing(&row)) {
-                self.look_from(p, grade, &Reason::Stand { place }, place)?;
+                let _strikes = self.look_from(p, grade, &Reason::Stand { place }, place)?;
             }
         }
         Ok(())
@@ -214,13 +259,14 @@ impl<'a, P: Steps> Rounds<'a, P> {
     // The steps of one clue by all that is left in its line.
     fn look_at_marks(&mut self, p: &P, grade: Grade, place: usize) -> Result<(), OutOfMemory> {
         let size = self.now.size();
-        if self
-            .clues
-            .may_be_new(place, line_from(size, place), &self.losses)
+        if self.is_clued(place)
+            && self
+                .clues
+                .may_be_new(place, line_from(size, place), &self.losses)
         {
             let row = row_of(&self.now, &squares_from(size, place));
             if self.clues.is_new(place, &row) {
-                self.look_from(p, grade, &Reason::Clue { place }, place)?;
+                let _strikes = self.look_from(p, grade, &Reason::Clue { place }, place)?;
             }
         }
         Ok(())
@@ -329,22 +375,24 @@ impl<'a, P: Steps> Rounds<'a, P> {
         Ok(())
     }
 
-    // What a clue strikes in the squares from its place, all found at once.
+    // What a clue strikes in the squares from its place, all found at once; and whether that is anything.
     fn look_from(
         &mut self,
         p: &P,
         grade: Grade,
         reason: &Reason,
         place: usize,
-    ) -> Result<(), OutOfMemory> {
+    ) -> Result<bool, OutOfMemory> {
         let cells = squares_from(self.now.size(), place);
         let row = struck_along(p, &self.now, reason, place, &cells, self.known);
+        let mut strikes = false;
         for k in 0..cells.len() {
             if k < 9 {
+                strikes |= !row[k].is_empty();
                 self.list(grade, reason, cells[k] as usize, row[k])?;
             }
         }
-        Ok(())
+        Ok(strikes)
     }
 
     // What a reason strikes in some squares.
@@ -393,6 +441,7 @@ impl<'a, P: Steps> Rounds<'a, P> {
             values,
         };
         self.gone.add(cell, values);
+        self.has_emptied |= left(&self.now, cell).is_subset(self.gone.of(cell));
         self.steps.push(step)?;
         Ok(())
     }

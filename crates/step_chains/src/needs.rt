@@ -39,6 +39,14 @@ impl Values {
         }
     }
 
+    /// With these values of some squares, too.
+    pub(crate) fn add_all(&mut self, cells: &ArrayVec<u8, 9>, more: &Values) {
+        for cell in cells.as_slice() {
+            let cell = *cell as usize;
+            self.add(cell, more.of(cell));
+        }
+    }
+
     /// Without these values of a square.
     pub(crate) fn remove(&mut self, cell: usize, values: NumberSet) {
         if cell < CELLS {

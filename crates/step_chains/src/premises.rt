@@ -3,7 +3,7 @@
 
 use crate::chain::Step;
 use crate::clue_premises::few_of_clue;
-use crate::needs::{Squares, Values, looked_at, needed_in, single};
+use crate::needs::{Squares, Values, left, looked_at, needed_in, single};
 use crate::replays::{struck, take_values};
 use arrayvec::ArrayVec;
 use latin_board::Size;
@@ -30,8 +30,9 @@ pub(crate) fn few_premises<P: Steps>(
         Reason::Clue { place } => few_of_clue(
             p, candidates, before, gone, needs, step, place, known,
         ),
-        Reason::Given { .. } | Reason::Bound { .. } | Reason::Stand { .. } | Reason::Sign { .. } =>
-            few_by_trial(p, candidates, before, gone, needs, step, known),
+        Reason::Stand { .. } => few_standing(p, candidates, before, gone, needs, step, known),
+        Reason::Given { .. } | Reason::Bound { .. } => Values::none(),
+        Reason::Sign { .. } => few_by_trial(p, candidates, before, gone, needs, step, known),
     }
 }
 
@@ -78,6 +79,51 @@ fn few_by_trial<P: Steps>(
         }
     }
     rest
+}
+
+// Few of them for a clue by the numbers that stand in its line: all that is gone of a square that has one number left, or only what is needed
+// anyhow, and nothing more of the others, of which nothing is seen. Squares that lost something latest are left out first.
+fn few_standing<P: Steps>(
+    p: &P,
+    candidates: &mut Candidates,
+    before: &[Step],
+    gone: &Values,
+    needs: &Values,
+    step: &Step,
+    known: &mut P::Known,
+) -> Values {
+    let cells = looked_at(candidates.size(), &step.reason);
+    let mut rest = needed_in(&cells, gone, needs);
+    if strikes_by(p, candidates, &cells, &rest, step, known) {
+        return rest;
+    }
+    let mut open = gone_where_one_stands(candidates, &cells, gone);
+    rest.add_all(&cells, &open);
+    for i in 0..before.len() {
+        let cell = before[before.len() - 1 - i].cell as usize;
+        let spare = open.of(cell).difference(needs.of(cell));
+        if !spare.is_empty() {
+            leave_out_values(p, candidates, &cells, &mut rest, step, cell, spare, known);
+            open.remove(cell, spare);
+        }
+    }
+    rest
+}
+
+// What is gone of those of the squares that have one number left, or none.
+fn gone_where_one_stands(
+    candidates: &Candidates,
+    cells: &ArrayVec<u8, 9>,
+    gone: &Values,
+) -> Values {
+    let mut found = Values::none();
+    for cell in cells.as_slice() {
+        let cell = *cell as usize;
+        if left(candidates, cell).difference(gone.of(cell)).len() <= 1 {
+            found.add(cell, gone.of(cell));
+        }
+    }
+    found
 }
 
 // Leaves out what one step made, or otherwise each of its values that can be left out.

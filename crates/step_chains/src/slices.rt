@@ -63,12 +63,13 @@ pub(crate) fn gathered<P: Steps>(
 ) -> Result<Vec<Step>, OutOfMemory> {
     let mark = candidates.mark();
     let mut found = Vec::new(alloc);
-    for step in steps {
+    for place in 0..steps.len() {
+        let step = &steps[place];
         let is_gone = step
             .values
             .is_disjoint(left(candidates, step.cell as usize));
         if !is_gone {
-            gather(p, candidates, steps, &step.reason, &mut found, known)?;
+            gather(p, candidates, &steps[place..], &mut found, known)?;
         }
     }
     if mark.len() <= candidates.trail_len() {
@@ -77,15 +78,19 @@ pub(crate) fn gathered<P: Steps>(
     Ok(found)
 }
 
-// Lists all that a reason is to strike in the steps, as far as it strikes it by what is left now, and takes it away.
+// Lists all that the reason of the first of the steps is to strike in any of them, as far as it strikes it by what is left now, and takes it
+// away.
 fn gather<P: Steps>(
     p: &P,
     candidates: &mut Candidates,
     steps: &[Step],
-    reason: &Reason,
     found: &mut Vec<Step>,
     known: &mut P::Known,
 ) -> Result<(), OutOfMemory> {
+    let Some(first) = steps.first() else {
+        return Ok(());
+    };
+    let reason = &first.reason;
     let now = struck_now(p, candidates, steps, reason, known);
     for cell in 0..CELLS {
         let values = now.of(cell);

@@ -111,8 +111,6 @@ impl Writing {
     }
 
     fn put(&mut self, bytes: &[u8]) {
-        for byte in bytes {
-            let _fits = self.line.try_push(*byte);
-        }
+        let _fits = self.line.try_extend_from_slice(bytes);
     }
 }
