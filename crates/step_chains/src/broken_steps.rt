@@ -127,47 +127,55 @@ fn breaks_clue<P: Steps>(
 }
 
 // Whether a step looks in this way where a number is spared, and may need that it isn't. Nothing is ensured of it, as nothing stands on it but
-// time.
+// time. It is asked most often of all.
+#[inline(always)]
 fn looks_at(size: Size, step: &Step, spared: Spared, looks: Looks) -> bool {
+    match looks {
+        Looks::AtSquares => looks_at_squares(size, step, spared),
+        Looks::AtClues => looks_from_clue(size, step, spared),
+    }
+}
+
+// The same of a step by rows, columns and signs.
+#[inline(always)]
+fn looks_at_squares(size: Size, step: &Step, spared: Spared) -> bool {
     let Spared { cell, value } = spared;
     match step.reason {
-        Reason::Given { .. } | Reason::Bound { .. } => false,
-        Reason::Peer { cell: from } => {
-            looks == Looks::AtSquares && from == cell as usize && !has(step.values, value)
-        }
-        Reason::Sign { from, .. } => looks == Looks::AtSquares && from == cell as usize,
+        Reason::Peer { cell: from } => from == cell as usize && !has(step.values, value),
+        Reason::Sign { from, .. } => from == cell as usize,
         Reason::Place {
             line,
             value: own,
             ..
-        } => {
-            looks == Looks::AtSquares
-                && own == value
-                && step.cell != cell
-                && is_on(size, line, cell)
-        }
+        } => own == value && step.cell != cell && is_on(size, line, cell),
         Reason::Set {
             line,
             squares,
             values,
         } => {
-            looks == Looks::AtSquares
-                && !has(values, value)
+            !has(values, value)
                 && is_on(size, line, cell)
                 && has(squares, place_on(size, line, cell))
         }
-        Reason::Stand { place } => {
-            looks == Looks::AtClues
-                && step.cell != cell
-                && is_on(size, line_from(size, place), cell)
-        }
-        Reason::Clue { place } => {
-            looks == Looks::AtClues
-                && step.cell != cell
-                && step.values != single(value)
-                && is_on(size, line_from(size, place), cell)
-        }
+        _ => false,
     }
+}
+
+// The same of a step by a clue.
+#[inline(always)]
+fn looks_from_clue(size: Size, step: &Step, spared: Spared) -> bool {
+    let place = match step.reason {
+        Reason::Stand { place } | Reason::Clue { place } => place,
+        _ => return false,
+    };
+    step.cell != spared.cell
+        && is_on(size, line_from(size, place), spared.cell)
+        && !strikes_alone(step, spared.value)
+}
+
+// Whether a step strikes this number and no other by all that is left in a clue's line, which the number spared elsewhere can't change.
+fn strikes_alone(step: &Step, value: u8) -> bool {
+    matches!(step.reason, Reason::Clue { .. }) && step.values == single(value)
 }
 
 fn has(set: NumberSet, number: u8) -> bool {
