@@ -1,14 +1,13 @@
 -- A filling of a row with a value alone at a place is one of the row with the value there.
-use Rattle.std.proofs.Common.{◌≡◌, ◌↔◌, ℕ, ◌+◌, ◌<◌, ◌≤◌, true, ◌&&◌, ◌||◌, Bool, false, eqb, List, [], length, take, set, slice_index, slice_index_or, sym, ap, ◌∙◌, subst, arith, inl, inr}
-use Rattle.std.proofs.lemmas.Bool.{both_ways, cases_eq, cases_lt, eqb-true, eq-eqb, or_cases, or_left, or_right, and_parts, and_from}
+use Rattle.std.proofs.Common.{◌≡◌, ◌↔◌, ℕ, ◌+◌, ◌<◌, ◌≤◌, true, false, List, [], length, take, set, slice_index, slice_index_or, sym, ap, ◌∙◌, subst, arith, inl, inr}
+use Rattle.std.proofs.lemmas.Bool.{both_ways, cases_eq, cases_lt, eqb-true, eq-eqb}
 use Rattle.std.proofs.lemmas.List.{get_or-take, length-take-le, get_or-set_same, get_or-set_other, get_or_past}
-use Rattle.std.specs.Bool.{IsTrue}
 use Rattle.number_sets.specs.Sets.{has_number}
 use Rattle.number_sets.proofs.Members.{has_number-none}
 use Rattle.tower_lines.specs.LineFillings.{IsFilling, IsSupported}
 use Rattle.tower_lines.specs.TowersSeen.{seen}
 use Rattle.tower_lines.proofs.SeenLemmas.{seen_most, seen_some}
-use Rattle.shown_counts.specs.Inner.Counted.{HasAlone, AreCounts, AreCountsBelow, AreCountsOf, AreKeptBelow}
+use Rattle.shown_counts.specs.Inner.Counted.{IsFilled, HasAlone, AreCounts, AreCountsBelow, AreCountsOf, AreKeptBelow}
 
 -- a line of some squares shows one tower at least, and no more than it has squares
 pub supported_range : (sets : List ℕ) (clue place value : ℕ) → IsSupported sets clue place value → (1 ≤ clue) × (clue ≤ length sets)
@@ -17,91 +16,73 @@ supported_range sets clue place value s =
     let most : seen s.line ≤ length s.line = seen_most _ s.line in
     (omega (arith, some, s.filling.shown), omega (arith, most, s.filling.shown, s.filling.whole))
 
--- the candidates of a filling, from one row to another of the same length
-pub filling_by : (sets others : List ℕ) (clue : ℕ) (line : List ℕ) → length sets ≡ length others
-    → ((j : ℕ) → j < length line → has_number (slice_index others j) (slice_index line j) ≡ true) → IsFilling sets clue line → IsFilling others clue line
-filling_by sets others clue line same candidates f = record {
-  start = record {
-    room = omega (arith, same, f.start.room);
-    values = λ j low. ((f.start.values j low).0, omega (arith, same, (f.start.values j low).1));
-    candidates = candidates;
-    apart = f.start.apart;
-  };
-  whole = f.whole ∙ same;
-  shown = f.shown;
-}
+-- a filling's value is a candidate
+pub filled_has : (w : ℕ) (row : List ℕ) (clue : ℕ) (line : List ℕ) (k : ℕ) → w ≤ length row → k < w → IsFilling (take w row) clue line
+    → has_number (slice_index row k) (slice_index line k) ≡ true
+filled_has w row clue line k inside low f =
+    ap (λ (set : ℕ). has_number set (slice_index line k)) (sym (get_or-take w row k 0 low))
+    ∙ f.start.candidates k (omega (arith, f.whole, length-take-le w row inside, low))
+
+-- a filling by one row is one by another row that has its values, too
+pub filling_by : (w : ℕ) (row other : List ℕ) (clue : ℕ) (line : List ℕ) → w ≤ length row → w ≤ length other
+    → ((k : ℕ) → k < w → has_number (slice_index row k) (slice_index line k) ≡ true → has_number (slice_index other k) (slice_index line k) ≡ true)
+    → IsFilling (take w row) clue line → IsFilling (take w other) clue line
+filling_by w row other clue line inside other_inside has f =
+    let long : length (take w row) ≡ w = length-take-le w row inside in
+    let same : length (take w other) ≡ w = length-take-le w other other_inside in
+    record {
+      start = record {
+        room = omega (arith, long, same, f.start.room);
+        values = λ k low. ((f.start.values k low).0, omega (arith, long, same, (f.start.values k low).1));
+        candidates = λ k low.
+            let under : k < w = omega (arith, long, f.whole, low) in
+            ap (λ (set : ℕ). has_number set (slice_index line k)) (get_or-take w other k 0 under) ∙ has k under (filled_has w row clue line k inside under f);
+        apart = f.start.apart;
+      };
+      whole = f.whole ∙ long ∙ sym same;
+      shown = f.shown;
+    }
 
 -- with the value alone at the place a row has a filling exactly where the value is supported there
 pub alone_supported : (row alone : List ℕ) (w place value clue : ℕ) → w ≤ 9 → place < w → has_number (slice_index row place) value ≡ true
-    → HasAlone row place value alone → ((line : List ℕ) × IsFilling (take w alone) clue line) ↔ IsSupported (take w row) clue place value
+    → HasAlone row place value alone → IsFilled (take w alone) clue ↔ IsSupported (take w row) clue place value
 alone_supported row alone w place value clue small low has a =
-    let long : length (take w row) ≡ w = length-take-le w row (omega (arith, a.before)) in
-    let long_alone : length (take w alone) ≡ w = length-take-le w alone (omega (arith, a.count)) in
-    let at : (j : ℕ) → j < w → slice_index (take w row) j ≡ slice_index row j = λ j inside. get_or-take w row j 0 inside in
-    let at_alone : (j : ℕ) → j < w → slice_index (take w alone) j ≡ slice_index alone j = λ j inside. get_or-take w alone j 0 inside in (
+    let inside : w ≤ length row = omega (arith, small, a.before) in
+    let alone_inside : w ≤ length alone = omega (arith, small, a.count) in (
       λ h.
-          let f = h.1 in
           let line = h.0 in
-          let whole : length line ≡ w = f.whole ∙ long_alone in
-          let among : (j : ℕ) → j < w → has_number (slice_index alone j) (slice_index line j) ≡ true = λ j inside.
-          ap (λ (set : ℕ). has_number set (slice_index line j)) (sym (at_alone j inside)) ∙ f.start.candidates j (omega (arith, whole, inside)) in
-          let here : slice_index line place ≡ value = eqb-true (slice_index line place) value (sym (a.here (slice_index line place)) ∙ among place low) in
+          let here : slice_index line place ≡ value =
+          eqb-true (slice_index line place) value (sym (a.here (slice_index line place)) ∙ filled_has w alone clue line place alone_inside low h.1) in
           record {
             line = line;
-            filling = filling_by (take w alone) (take w row) clue line (long_alone ∙ sym long)
-                (λ j under.
-                let inside : j < w = omega (arith, whole, under) in
-                ap (λ (set : ℕ). has_number set (slice_index line j)) (at j inside)
-                ∙ elim (cases_eq j place) [
-                  | inl same ↦ ap (λ (k : ℕ). has_number (slice_index row k) (slice_index line k)) same ∙ ap (λ (v : ℕ). has_number (slice_index row place) v) here ∙ has
-                  | inr other ↦ ap (λ (set : ℕ). has_number set (slice_index line j)) (sym (a.others j other)) ∙ among j inside
-                ]) f;
-            inside = omega (arith, low, long);
+            filling = filling_by w alone row clue line alone_inside inside
+                (λ k under among. elim (cases_eq k place) [
+                  | inl same ↦ ap (λ (j : ℕ). has_number (slice_index row j) (slice_index line j)) same ∙ ap (λ (v : ℕ). has_number (slice_index row place) v) here ∙ has
+                  | inr other ↦ ap (λ (set : ℕ). has_number set (slice_index line k)) (sym (a.others k other)) ∙ among
+                ]) h.1;
+            inside = omega (arith, low, length-take-le w row inside);
             here = here;
           },
-      λ s.
-          let f = s.filling in
-          let whole : length s.line ≡ w = f.whole ∙ long in
-          let among : (j : ℕ) → j < w → has_number (slice_index row j) (slice_index s.line j) ≡ true = λ j inside.
-          ap (λ (set : ℕ). has_number set (slice_index s.line j)) (sym (at j inside)) ∙ f.start.candidates j (omega (arith, whole, inside)) in (
-            s.line,
-            filling_by (take w row) (take w alone) clue s.line (long ∙ sym long_alone)
-                (λ j under.
-                let inside : j < w = omega (arith, whole, under) in
-                ap (λ (set : ℕ). has_number set (slice_index s.line j)) (at_alone j inside)
-                ∙ elim (cases_eq j place) [
-                  | inl same ↦ ap (λ (k : ℕ). has_number (slice_index alone k) (slice_index s.line k)) same ∙ a.here (slice_index s.line place) ∙ eq-eqb _ _ s.here
-                  | inr other ↦ ap (λ (set : ℕ). has_number set (slice_index s.line j)) (a.others j other) ∙ among j inside
-                ]) f,
-          ),
+      λ s. (
+        s.line,
+        filling_by w row alone clue s.line inside alone_inside
+            (λ k under among. elim (cases_eq k place) [
+              | inl same ↦ ap (λ (j : ℕ). has_number (slice_index alone j) (slice_index s.line j)) same ∙ a.here (slice_index s.line place) ∙ eq-eqb _ _ s.here
+              | inr other ↦ ap (λ (set : ℕ). has_number set (slice_index s.line k)) (a.others k other) ∙ among
+            ]) s.filling,
+      ),
     )
 
--- one count more
-pub counts_more : (sets : List ℕ) (place value n counts more : ℕ) (b : Bool) → AreCounts sets place value n counts
-    → ((k : ℕ) → has_number more k ≡ (has_number counts k || (b && eqb k n))) → IsTrue b ↔ IsSupported sets n place value
-    → AreCounts sets place value (n + 1) more
-counts_more sets place value n counts more b are new is = λ count. (
-  λ has. elim (or_cases (has_number counts count) (b && eqb count n) (sym (new count) ∙ has)) [
-    | inl old ↦ let was = (are count).0 old in (omega (arith, was.0), was.1)
-    | inr now ↦
-        let both = and_parts b (eqb count n) now in
-        let same : count ≡ n = eqb-true count n both.1 in
-        (omega (arith, same), subst (λ (k : ℕ). IsSupported sets k place value) (sym same) (is.0 both.0))
-  ],
-  λ h. elim (cases_eq count n) [
-    | inl same ↦ new count
-        ∙ or_right (has_number counts count) _
-        (and_from b (eqb count n) (is.1 (subst (λ (k : ℕ). IsSupported sets k place value) same h.1)) (eq-eqb count n same))
-    | inr other ↦ new count ∙ or_left (has_number counts count) _ ((are count).1 (omega (arith, h.0, other), h.1))
-  ],
-)
-
 -- all of them, below a number past the length
-pub all_counts : (sets : List ℕ) (place value n counts : ℕ) → length sets < n → AreCounts sets place value n counts
-    → (clue : ℕ) → (has_number counts clue ≡ true) ↔ IsSupported sets clue place value
-all_counts sets place value n counts past are = λ clue. (
-  λ has. ((are clue).0 has).1,
-  λ s. (are clue).1 (omega (arith, past, (supported_range sets clue place value s).1), s),
+pub all_counts : (IsSo : ℕ → Type 0) (sets : List ℕ) (place value n counts : ℕ) → length sets < n → AreCounts IsSo n counts
+    → ((count : ℕ) → 1 ≤ count → count < n → IsSo count ↔ IsSupported sets count place value)
+    → (count : ℕ) → (has_number counts count ≡ true) ↔ IsSupported sets count place value
+all_counts IsSo sets place value n counts past are is = λ count. (
+  λ has. let was = (are count).0 has in (is count was.0 was.1).0 was.2,
+  λ s.
+      let range = supported_range sets count place value s in
+      let below : count < n = omega (arith, past, range.1) in
+      (are count).1 (range.0, below, (is count range.0 below).1 s),
 )
 
 -- ---- the values kept for each count
@@ -119,6 +100,26 @@ kept_more sets n rows kept inside are new = λ count place value some below. eli
       let stays : slice_index_or (set rows n kept) count [] ≡ slice_index_or rows count [] = get_or-set_other rows n count kept [] other in
       rw stays (are count place value some (omega (arith, below, other)))
 ]
+
+supported_by : (sets others : List ℕ) (clue place value : ℕ) → length sets ≡ length others
+    → ((line : List ℕ) → IsFilling sets clue line → IsFilling others clue line) → IsSupported sets clue place value → IsSupported others clue place value
+supported_by sets others clue place value same has s = record {
+  line = s.line;
+  filling = has s.line s.filling;
+  inside = omega (arith, same, s.inside);
+  here = s.here;
+}
+
+-- those of a row that has the same fillings
+pub kept_same : (w : ℕ) (row rest : List ℕ) (n : ℕ) (rows : List (List ℕ)) → w ≤ length row → w ≤ length rest
+    → ((line : List ℕ) (count : ℕ) → IsFilling (take w row) count line ↔ IsFilling (take w rest) count line) → AreKeptBelow (take w rest) n rows
+    → AreKeptBelow (take w row) n rows
+kept_same w row rest n rows inside rest_inside same are = λ count place value some below.
+    let long : length (take w row) ≡ length (take w rest) = length-take-le w row inside ∙ sym (length-take-le w rest rest_inside) in
+    let is = are count place value some below in (
+      λ has. supported_by (take w rest) (take w row) count place value (sym long) (λ line f. (same line count).1 f) (is.0 has),
+      λ s. is.1 (supported_by (take w row) (take w rest) count place value long (λ line f. (same line count).0 f) s),
+    )
 
 -- ---- the counts of each value
 

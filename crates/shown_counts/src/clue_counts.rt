@@ -1,6 +1,6 @@
 //! The counts of a clue's line, by what a reason knows of its squares.
 ghost use Rattle.std.specs.Prelude.{◌≡◌, ◌≢◌, ◌↔◌, ℕ, ◌+◌, ◌*◌, ◌<◌, ◌≤◌, true, false, List, take, slice_index, ◌==◌};
-ghost use Rattle.std.specs.Prelude.{◌||◌, ◌&&◌, IsTrue, MatchOption};
+ghost use Rattle.std.specs.Prelude.{◌||◌, ◌&&◌, IsTrue, MatchOption, slice_index_or, []};
 ghost use Rattle.number_sets.specs.Sets.{has_number};
 ghost use Rattle.tower_lines.specs.LineFillings.{IsFilling, IsSupported};
 ghost use Rattle.clue_rules.specs.Views.{view_cell};
@@ -8,8 +8,9 @@ ghost use Rattle.trail_solver.specs.Candidates.{CandidatesValue};
 ghost use Rattle.clue_rules.specs.declared.reason.Reason.{Reason};
 ghost use Rattle.clue_rules.specs.Rows.{May};
 ghost use Rattle.shown_counts.specs.Shown.{AreShown, IsRowFrom, IsRowOf, IsLineOf};
-ghost use Rattle.shown_counts.specs.Inner.Counted.{HasAlone, AreCountsOf, AreKeptBelow};
+ghost use Rattle.shown_counts.specs.Inner.Counted.{IsFilled, HasAlone, AreCounts, AreCountsOf, AreKeptBelow};
 
+use crate::lone_numbers::without_lone;
 use crate::possible_counts::possible_counts;
 use clue_rules::view_cell;
 use latin_board::Size;
@@ -102,58 +103,10 @@ impl ClueCounts {
         ensures { (count : ℕ)
             → (has_number result count ≡ true) ↔ IsSupported (take self.now.size self.now.row) count index value }
     {
-        let possible = self.possible(index, value);
-        let mut counts = NumberSet::empty();
-        for count in 1..self.size.get() + 1 {
-            let is_shown = self.is_one_shown(possible, index, value, count);
-            counts = with_count(counts, count, is_shown);
-        }
-        counts
-    }
-
-    // Counts that may be shown with the value there, and no others: all, where they were found for each count.
-    fn possible(&self, index: u8, value: u8) -> NumberSet
-        requires index { index < self.now.size }
-        requires value { value < 16 }
-        ensures { (count : ℕ) → IsSupported (take self.now.size self.now.row) count index value
-            → has_number result count ≡ true }
-    {
-        let width = self.size.get();
-        if self.kept.is_some() {
-            return NumberSet::up_to(width);
-        }
-        possible_counts(&with_alone(&self.row, index, value), width)
-    }
-
-    // Whether a filling of the row has the value there and shows this count, which isn't asked where the count can't be shown.
-    fn is_one_shown(&self, possible: NumberSet, index: u8, value: u8, count: u8) -> bool
-        requires index { index < self.now.size }
-        requires value { value < 16 }
-        requires some { 1 ≤ count }
-        requires most { count ≤ self.now.size }
-        requires possible { (count : ℕ) → IsSupported (take self.now.size self.now.row) count index value
-            → has_number possible count ≡ true }
-        ensures { IsTrue result ↔ IsSupported (take self.now.size self.now.row) count index value }
-    {
-        let _size = self.size.get();
-        if !possible.has(count) {
-            return false;
-        }
-        self.is_shown(index, value, count)
-    }
-
-    // Whether a filling of the row has the value there and shows this count.
-    fn is_shown(&self, index: u8, value: u8, count: u8) -> bool
-        requires index { index < self.now.size }
-        requires value { value < 16 }
-        requires some { 1 ≤ count }
-        requires most { count ≤ self.now.size }
-        ensures { IsTrue result ↔ IsSupported (take self.now.size self.now.row) count index value }
-    {
         let width = self.size.get();
         match &self.kept {
-            Some(rows) => rows[count as usize][index as usize].has(value),
-            None => has_alone(&self.row, width, index, value, count),
+            Some(rows) => kept_counts(rows, width, index, value),
+            None => alone_counts(&self.row, width, index, value),
         }
     }
 }
@@ -201,10 +154,11 @@ fn kept_rows(row: &[NumberSet; 9], width: u8) -> [[NumberSet; 9]; 10]
     requires { width ≤ 9 }
     ensures { AreKeptBelow (take width row.now) (width + 1) result }
 {
-    let possible = possible_counts(row, width);
+    let rest = without_lone(row, width);
+    let possible = possible_counts(&rest, width);
     let mut rows = [[NumberSet::empty(); 9]; 10];
     for count in 1..width + 1 {
-        rows[count as usize] = kept_row(row, width, possible, count);
+        rows[count as usize] = kept_row(&rest, width, possible, count);
     }
     rows
 }
@@ -224,19 +178,63 @@ fn kept_row(row: &[NumberSet; 9], width: u8, possible: NumberSet, count: u8) -> 
     supported(&row[..width as usize], count)
 }
 
-// Whether a filling of the row has the value at the index and shows this count: one of the row with the value alone there.
-fn has_alone(row: &[NumberSet; 9], width: u8, index: u8, value: u8, count: u8) -> bool
+// The counts for which the value was kept at the index.
+fn kept_counts(rows: &[[NumberSet; 9]; 10], width: u8, index: u8, value: u8) -> NumberSet
+    requires width { width ≤ 9 }
+    requires index { index < 9 }
+    requires value { value < 16 }
+    ensures { AreCounts (λ count. has_number (slice_index (slice_index_or rows.now count []) index) value ≡ true)
+        (width + 1) result }
+{
+    let mut counts = NumberSet::empty();
+    for count in 1..width + 1 {
+        let is_kept = rows[count as usize][index as usize].has(value);
+        counts = with_count(counts, count, is_kept);
+    }
+    counts
+}
+
+// The counts of the row's fillings that have the value at the index: those of the row with the value alone there.
+fn alone_counts(row: &[NumberSet; 9], width: u8, index: u8, value: u8) -> NumberSet
     requires width { width ≤ 9 }
     requires index { index < width }
     requires value { value < 16 }
-    requires count { count ≤ width }
-    ensures { IsTrue result ↔ IsSupported (take width row.now) count index value }
+    ensures { (count : ℕ)
+        → (has_number result count ≡ true) ↔ IsSupported (take width row.now) count index value }
 {
     if !row[index as usize].has(value) {
-        return false;
+        return NumberSet::empty();
     }
     let alone = with_alone(row, index, value);
-    has_filling(&alone[..width as usize], count)
+    filled_counts(&without_lone(&alone, width), width)
+}
+
+// The counts that fillings of the row show.
+fn filled_counts(row: &[NumberSet; 9], width: u8) -> NumberSet
+    requires { width ≤ 9 }
+    ensures { AreCounts (IsFilled (take width row.now)) (width + 1) result }
+{
+    let possible = possible_counts(row, width);
+    let mut counts = NumberSet::empty();
+    for count in 1..width + 1 {
+        let is_shown = is_filled(row, width, possible, count);
+        counts = with_count(counts, count, is_shown);
+    }
+    counts
+}
+
+// Whether a filling of the row shows this count, which isn't asked where the count can't be shown.
+fn is_filled(row: &[NumberSet; 9], width: u8, possible: NumberSet, count: u8) -> bool
+    requires width { width ≤ 9 }
+    requires count { count ≤ width }
+    requires possible { (line : List ℕ) (count : ℕ) → IsFilling (take width row.now) count line
+        → has_number possible count ≡ true }
+    ensures { IsTrue result ↔ IsFilled (take width row.now) count }
+{
+    if !possible.has(count) {
+        return false;
+    }
+    has_filling(&row[..width as usize], count)
 }
 
 // The row with the value alone at the index.

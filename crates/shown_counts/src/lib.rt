@@ -12,6 +12,7 @@
 #![tactic(auto)]
 
 mod clue_counts;
+mod lone_numbers;
 mod possible_counts;
 
 pub use clue_counts::ClueCounts;

@@ -17,19 +17,21 @@ pub(crate) fn possible_counts(row: &[NumberSet; 9], width: u8) -> NumberSet
 {
     let mut starts = [NumberSet::empty(); 11];
     starts[0] = NumberSet::one(0);
-    for place in 0..width as usize {
-        starts = one_longer(&starts, row[place]);
+    for place in 0..width {
+        // No filling has a number twice, so the tallest of its first towers is as tall as they are many, or taller.
+        starts = one_longer(&starts, row[place as usize], place + 1);
     }
-    union_of(&starts)
+    union_of(&starts, 11)
 }
 
-// The starts with a number of the set more.
-fn one_longer(starts: &Starts, set: NumberSet) -> Starts
-    ensures { IsOneLonger set starts.now result }
+// The starts with a number of the set more, as far as their tallest tower then has this height at least.
+fn one_longer(starts: &Starts, set: NumberSet, low: u8) -> Starts
+    requires { low ≤ 9 }
+    ensures { IsOneLonger low set starts.now result }
 {
     let mut longer = [NumberSet::empty(); 11];
-    let mut lower = NumberSet::empty();
-    for height in 0..10 {
+    let mut lower = union_of(starts, low as usize);
+    for height in low..10 {
         lower = lower.union(starts[height as usize]);
         let hidden = hidden_by(starts[height as usize + 1], set, height);
         longer[height as usize + 1] = hidden.union(seen_after(lower, set, height));
@@ -61,12 +63,14 @@ fn seen_after(counts: NumberSet, set: NumberSet, height: u8) -> NumberSet
     counts.raised()
 }
 
-fn union_of(starts: &Starts) -> NumberSet
-    ensures { (k count : ℕ) → k < 11 → has_number (slice_index starts.now k) count ≡ true
+// The counts of the first so many entries.
+fn union_of(starts: &Starts, end: usize) -> NumberSet
+    requires { end ≤ 11 }
+    ensures { (k count : ℕ) → k < end → has_number (slice_index starts.now k) count ≡ true
         → has_number result count ≡ true }
 {
     let mut counts = NumberSet::empty();
-    for k in 0..11 {
+    for k in 0..end {
         counts = counts.union(starts[k]);
     }
     counts

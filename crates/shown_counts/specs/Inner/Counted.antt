@@ -2,7 +2,7 @@
 use Rattle.std.specs.Prelude.{◌≡◌, ◌≢◌, ◌↔◌, ℕ, ◌<◌, ◌≤◌, ◌+◌, ◌*◌, true, [], List, length, slice_index, slice_index_or}
 use Rattle.std.specs.Prelude.{take, ◌==◌, Option, Some, None}
 use Rattle.number_sets.specs.Sets.{has_number}
-use Rattle.tower_lines.specs.LineFillings.{IsSupported}
+use Rattle.tower_lines.specs.LineFillings.{IsFilling, IsSupported}
 
 -- the second row is the first with the value alone at the place
 pub record HasAlone (row : List ℕ) (place value : ℕ) (alone : List ℕ) : Type 0 where
@@ -11,10 +11,14 @@ pub record HasAlone (row : List ℕ) (place value : ℕ) (alone : List ℕ) : Ty
   pub here : (v : ℕ) → has_number (slice_index alone place) v ≡ (v == value)
   pub others : (k : ℕ) → k ≢ place → slice_index alone k ≡ slice_index row k
 
--- the set has the counts below a number that fillings with the value at the place show
-abbrev pub AreCounts : List ℕ → ℕ → ℕ → ℕ → ℕ → Type 0
-AreCounts sets place value n counts =
-    (count : ℕ) → (has_number counts count ≡ true) ↔ ((count < n) × IsSupported sets count place value)
+-- some filling shows the count
+abbrev pub IsFilled : List ℕ → ℕ → Type 0
+IsFilled sets count = (line : List ℕ) × IsFilling sets count line
+
+-- the set has the counts from 1 on and below a number that are so
+abbrev pub AreCounts : (ℕ → Type 0) → ℕ → ℕ → Type 0
+AreCounts IsSo n counts =
+    (count : ℕ) → (has_number counts count ≡ true) ↔ ((1 ≤ count) × (count < n) × IsSo count)
 
 -- for each of these values below a number at a place, at its own index, the counts of the fillings with it there
 abbrev pub AreCountsBelow : List ℕ → ℕ → ℕ → ℕ → List ℕ → Type 0

@@ -2,22 +2,27 @@
 use Rattle.std.specs.Prelude.{◌≡◌, ℕ, ◌+◌, ◌<◌, ◌≤◌, true, List, length, slice_index}
 use Rattle.number_sets.specs.Sets.{has_number}
 
--- the second starts are those of the first with a number of the set more: it is hidden, or seen and counted
-pub record IsOneLonger (set : ℕ) (starts longer : List ℕ) : Type 0 where
+-- the second starts are those of the first with a number of the set more, which is hidden, or seen and counted,
+-- as far as their tallest tower then has this height at least
+pub record IsOneLonger (low set : ℕ) (starts longer : List ℕ) : Type 0 where
   pub room : length longer ≡ 11
-  pub hidden : (least count height : ℕ) → least ≤ 10 → height < least → has_number set height ≡ true
+  pub hidden : (least count height : ℕ) → low < least → least ≤ 10 → height < least
+      → has_number set height ≡ true
       → has_number (slice_index starts least) count ≡ true → has_number (slice_index longer least) count ≡ true
-  pub seen : (least count height : ℕ) → least ≤ height → height ≤ 9 → count < 15 → has_number set height ≡ true
+  pub seen : (least count height : ℕ) → least ≤ height → low ≤ height → height ≤ 9 → count < 15
+      → has_number set height ≡ true
       → has_number (slice_index starts least) count ≡ true
       → has_number (slice_index longer (height + 1)) (count + 1) ≡ true
 
 -- so for the heights below a number, where the starts below it have no other counts than these
-pub record IsLongerBelow (n set : ℕ) (starts : List ℕ) (counts : ℕ) (longer : List ℕ) : Type 0 where
+pub record IsLongerBelow (n low set : ℕ) (starts : List ℕ) (counts : ℕ) (longer : List ℕ) : Type 0 where
   pub room : length longer ≡ 11
   pub below : (least count : ℕ) → least < n → has_number (slice_index starts least) count ≡ true
       → has_number counts count ≡ true
-  pub hidden : (least count height : ℕ) → least ≤ n → height < least → has_number set height ≡ true
+  pub hidden : (least count height : ℕ) → low < least → least ≤ n → height < least
+      → has_number set height ≡ true
       → has_number (slice_index starts least) count ≡ true → has_number (slice_index longer least) count ≡ true
-  pub seen : (least count height : ℕ) → least ≤ height → height < n → count < 15 → has_number set height ≡ true
+  pub seen : (least count height : ℕ) → least ≤ height → low ≤ height → height < n → count < 15
+      → has_number set height ≡ true
       → has_number (slice_index starts least) count ≡ true
       → has_number (slice_index longer (height + 1)) (count + 1) ≡ true

@@ -6,7 +6,7 @@ use Rattle.shown_counts.proofs.PossibleCounts.{longer_init, longer_all, longer_m
 use Rattle.shown_counts.proofs.possible_counts.one_longer.Goals as goal
 
 pub loop-height-init : goal.loop-height-init
-loop-height-init c = longer_init c.args.set c.args.starts.now c.empty-lower.result _ refl
+loop-height-init c = longer_init c.args.low c.args.set c.args.starts.now c.union_of-lower.result _ refl c.union_of-lower.ensures
 
 pub loop-height-preserved : goal.loop-height-preserved
 loop-height-preserved c =
@@ -19,7 +19,7 @@ loop-height-preserved c =
     let next : slice_index starts (n + 1) ≡ c.index-starts-height-in-loop-height.result =
     sym (get_or_default_zero starts (n + 1) c.index-starts-height-in-loop-height.result (omega (arith, c.loop-height-test.true, c.type_inv.starts)))
     ∙ sym c.index-starts-height-in-loop-height.is in
-    longer_more n c.args.set old c.union-lower.result c.union.result starts c.loop-height.longer c.loop-height-test.true c.loop-height.invariant
+    longer_more n c.args.low c.args.set old c.union-lower.result c.union.result starts c.loop-height.longer c.loop-height-test.true c.loop-height.invariant
     (λ count has. c.union-lower.ensures.members count ∙ or_left (has_number old count) _ has)
     (λ count has. c.union-lower.ensures.members count
     ∙ or_right (has_number old count) _ (ap (λ (s : ℕ). has_number s count) (sym c.index-starts-height.is ∙ sym here) ∙ has))
@@ -30,4 +30,4 @@ loop-height-preserved c =
     ∙ or_right (has_number c.hidden_by-hidden.result (count + 1)) _ (c.seen_after.ensures count small has is))
 
 pub returns : goal.returns
-returns c = longer_all c.loop-height.height c.args.set c.loop-height.lower c.args.starts.now c.loop-height.longer c.loop-height-test.false c.loop-height.invariant
+returns c = longer_all c.loop-height.height c.args.low c.args.set c.loop-height.lower c.args.starts.now c.loop-height.longer c.loop-height-test.false c.loop-height.invariant

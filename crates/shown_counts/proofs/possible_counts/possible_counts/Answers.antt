@@ -1,4 +1,4 @@
-use Rattle.std.proofs.Common.{ℕ, ◌≡◌, take, length, slice_index, sym, ◌∙◌, subst, arith}
+use Rattle.std.proofs.Common.{ℕ, ◌≡◌, ◌+◌, take, length, slice_index, sym, ◌∙◌, subst, arith}
 use Rattle.std.proofs.lemmas.List.{get_or-take, length-take-le}
 use Rattle.std.proofs.lemmas.Grind.{get_or_default_zero}
 use Rattle.shown_counts.specs.Inner.Possible.{IsOneLonger}
@@ -20,7 +20,7 @@ loop-place-preserved c = λ line count filling.
     ∙ sym (get_or_default_zero row k c.index-row-place.result (omega (arith, inside, c.requires, c.type_inv.row)))
     ∙ sym c.index-row-place.is in
     started_more (take w row) c.loop-place.starts c.one_longer-starts.result line count k (omega (arith, long, c.requires)) (omega (arith, long, inside)) filling
-    (subst (λ (set : ℕ). IsOneLonger set c.loop-place.starts c.one_longer-starts.result) (sym c.index-row-place.is ∙ sym at) c.one_longer-starts.ensures)
+    (subst (λ (set : ℕ). IsOneLonger (k + 1) set c.loop-place.starts c.one_longer-starts.result) (sym c.index-row-place.is ∙ sym at) c.one_longer-starts.ensures)
     (c.loop-place.invariant line count filling)
 
 pub returns : goal.returns
