@@ -230,6 +230,7 @@ object_fits said steps text seen fit f h i =
       flat = omega arith;
     }
 
+-- all that is told of a hint
 pub hint_value_fits : (w : ℕ) (letter : Grade → List ℕ) (clue : ℕ → ℕ) (is_over : ℕ → ℕ → Bool) (Struck : Striking)
     (g : GridValue) (hint : NextHint) (value : Data) → IsHintValue w letter clue is_over Struck g hint value → IsShallow 7 value
 hint_value_fits w letter clue is_over Struck g hint value told =

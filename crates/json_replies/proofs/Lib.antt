@@ -1,5 +1,7 @@
 pub mod ReplyLines
 pub mod ObjectTexts
+pub mod WrittenData
+pub mod ViewsAlike
 pub mod Spellings
 pub mod HintSpellings
 pub mod ToldReplies

@@ -22,7 +22,7 @@ use Rattle.json_replies.specs.Texts.{text_data, lines_of, lines_data}
 use Rattle.json_replies.specs.FurtherLines.{further_key}
 use Rattle.json_replies.specs.Replies.{name_data, reply_members, reply_data}
 use Rattle.json_replies.specs.ObjectLines.{IsShallow, IsSpelled, IsLineOfData}
-use Rattle.json_replies.specs.Inner.ObjectTexts.{key_text, AddsMember, IsPlain}
+use Rattle.json_replies.specs.Inner.ObjectTexts.{key_text, AddsMember, IsPlain, IsPlainText}
 use Rattle.json_replies.specs.Laws.Spellings.{spelled_reply}
 use Rattle.json_replies.proofs.ReplyLines.{lines_of-front, lines_of-none}
 
@@ -61,6 +61,11 @@ adds_member later key d text keyed new first second rest =
     ap (λ l. l ++ members_text true rest) (second ∙ ap (λ l. l ++ compact_text d) first)
     ∙ grouped text (key_text later key) (compact_text d) (members_text true rest)
     ∙ ap (λ l. text ++ l) (grouped_inside (comma_if later) (quoted key) (58 ∷ []) (compact_text d ++ members_text true rest))
+
+-- the same of the text of a value
+pub adds_value : (later : Bool) (key : List ℕ) (d : Data) (text keyed new value : List ℕ) → keyed ≡ text ++ key_text later key
+    → IsPlainText d value → new ≡ keyed ++ value → AddsMember later key d text new
+adds_value later key d text keyed new value first plain second = adds_member later key d text keyed new first (second ∙ ap (λ l. keyed ++ l) plain.text)
 
 -- all that an object of a reply has, its end and LF
 pub members_added : (later : Bool) (refused : Option (List ℕ)) (reply : List ℕ) (name session : Data) (line one two three four five new : List ℕ)
@@ -127,13 +132,22 @@ value-outline : (d : Data) (text : List ℕ) → tokens text ≡ json_tokens (ou
 value-outline d text same flat =
     ap (json.value max_depth) (same ∙ sym (append-nil (json_tokens (outline d)))) ∙ value-json_tokens (outline d) max_depth [] (shallow d flat)
 
+-- tokens of a value that reads as itself
+pub tokens_are_plain : (d : Data) (text : List ℕ) → tokens text ≡ json_tokens (outline d) → depth d ≤ max_depth → of_json (outline d) ≡ Some d → IsPlain d
+tokens_are_plain d text same flat reads = record {
+  numbers = value-HasNumbers max_depth (tokens text) [] (outline d) (ArePrintableOrBad-tokens text) (value-outline d text same flat);
+  reads = reads;
+}
+
 -- the text of a value that was written reads as that value
-pub written_is_plain : (d : Data) (text : List ℕ) → IsSpelled d → IsInOrder text d → read text ≡ Some d → IsPlain d
-written_is_plain d text spelled order reads =
-    let value = value-outline d text (tokens_from_order text d order spelled.whole) spelled.flat in
+pub written_is_plain : (d : Data) (text : List ℕ) → IsSpelled d → text ≡ compact_text d → IsInOrder text d → read text ≡ Some d → IsPlainText d text
+written_is_plain d text spelled is order reads =
+    let same = tokens_from_order text d order spelled.whole in
+    let value = value-outline d text same spelled.flat in
     record {
-      numbers = value-HasNumbers max_depth (tokens text) [] (outline d) (ArePrintableOrBad-tokens text) value;
-      reads = sym (ap (λ v. option_and_then of_json (option_and_then (λ p. json.if_last p.0 p.1) v)) value) ∙ reads;
+      text = is;
+      plain = tokens_are_plain d text same spelled.flat
+          (sym (ap (λ v. option_and_then of_json (option_and_then (λ p. json.if_last p.0 p.1) v)) value) ∙ reads);
     }
 
 -- and so does the text that such a value has
@@ -219,12 +233,13 @@ answer_flat which answer session told fits =
     let b = fits.flat in
     omega arith
 
-pub answer_is_line : (which : FurtherLine) (key : List ℕ) (answer session : Data) (start line one new : List ℕ) → key ≡ further_key which
-    → IsShallow 7 answer → IsShallow 1 session → start ≡ [] → line ≡ start ++ 123 ∷ [] → AddsMember false key answer line one → IsPlain answer
-    → new ≡ (one ++ members_text true (reply_members None [] session)) ++ 10 ∷ [] → IsPlain session
-    → IsLineOfData (object (member (further_key which) answer (reply_members None [] session))) new
-answer_is_line which key answer session start line one new keyed told fits empty opened add told_plain whole plain =
+pub answer_is_line : (which : FurtherLine) (key : List ℕ) (d session : Data) (start line keyed answer one new : List ℕ) → key ≡ further_key which
+    → IsShallow 7 d → IsShallow 1 session → start ≡ [] → line ≡ start ++ 123 ∷ [] → keyed ≡ line ++ key_text false key → one ≡ keyed ++ answer
+    → IsPlainText d answer → new ≡ (one ++ members_text true (reply_members None [] session)) ++ 10 ∷ [] → IsPlain session
+    → IsLineOfData (object (member (further_key which) d (reply_members None [] session))) new
+answer_is_line which key d session start line keyed answer one new is told fits empty opened follows whole_answer plain_text whole plain =
     let rest = reply_members None [] session in
-    line_is (answer_data which answer session) (one ++ members_text true rest) new (plain_answer which answer session told_plain plain)
-    (answer_flat which answer session told fits)
-    (add rest ∙ ap₂ (λ (l k : List ℕ). l ++ members_text false (member k answer rest)) (opened ∙ ap (λ (l : List ℕ). l ++ 123 ∷ []) empty) keyed) whole
+    let add = adds_value false key d line keyed one answer follows plain_text whole_answer in
+    line_is (answer_data which d session) (one ++ members_text true rest) new (plain_answer which d session plain_text.plain plain)
+    (answer_flat which d session told fits)
+    (add rest ∙ ap₂ (λ (l k : List ℕ). l ++ members_text false (member k d rest)) (opened ∙ ap (λ (l : List ℕ). l ++ 123 ∷ []) empty) is) whole

@@ -1,6 +1,8 @@
 -- The lines of a reply, cut off its front one by one, and texts byte by byte.
-use Rattle.std.proofs.Common.{◌≡◌, ◌≢◌, ℕ, suc, ◌+◌, ◌-◌, ◌<◌, ◌≤◌, ◌==◌, true, false, if◌then◌else◌, List, [], ◌∷◌, ◌++◌, length, take, get_or, encode_utf8, sym, ap, refl, ◌∙◌, append_assoc, append-nil, arith}
+use Rattle.std.proofs.Common.{◌≡◌, ◌≢◌, ℕ, suc, ◌+◌, ◌-◌, ◌<◌, ◌≤◌, ◌==◌, true, false, if◌then◌else◌, List, [], ◌∷◌, ◌++◌, length, take, get_or, encode_utf8, sym, ap, ap₂, refl, ◌∙◌, append_assoc, append-nil, arith}
+use Rattle.std.specs.Prelude.{IsAscii}
 use Rattle.std.proofs.lemmas.List.{take_more}
+use Rattle.std.proofs.lemmas.Str.{encode_ascii}
 use Rattle.std.proofs.lemmas.Bool.Decides.{nat_tests}
 use Rattle.byte_text.specs.Cuts.{Lacks}
 use Rattle.puzzle_cli.specs.Lines.{onto, segments}
@@ -51,3 +53,8 @@ latin-push (x ∷ xs) b =
 pub one_more_byte : (bytes : List ℕ) (i : ℕ) → i < length bytes
     → latin_text (take (i + 1) bytes) ≡ latin_text (take i bytes) ++ encode_utf8 (get_or bytes i 0)
 one_more_byte bytes i inside = ap latin_text (take_more bytes i 0 inside) ∙ latin-push (take i bytes) (get_or bytes i 0)
+
+-- ASCII bytes are the text that they spell
+pub latin_ascii : (bytes : List ℕ) → IsAscii bytes → latin_text bytes ≡ bytes
+latin_ascii [] ascii = refl
+latin_ascii (b ∷ bytes) ascii = ap₂ (λ (xs ys : List ℕ). xs ++ ys) (encode_ascii b (ascii 0)) (latin_ascii bytes (λ i. ascii (suc i)))

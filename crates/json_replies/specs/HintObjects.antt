@@ -11,11 +11,9 @@ use Rattle.clue_rules.specs.declared.grade.Grade.{Grade}
 use Rattle.step_chains.specs.declared.chain.Step.{Step}
 use Rattle.step_chains.specs.declared.hints.NextHint.{NextHint}
 use Rattle.step_chains.specs.declared.hints.NextHint.TheVariants.{Follows, Refuted, Nothing}
-use Rattle.serde_json.specs.View.{view}
 use Rattle.step_texts.specs.declared.told.ToldStep.{ToldStep}
 use Rattle.step_texts.specs.Lines.{AreShort}
 use Rattle.step_texts.specs.Told.{AreTold}
-use Rattle.json_replies.specs.declared.hint_value.Said.{Said}
 use Rattle.json_replies.specs.Boards.{listed_data, when, squares}
 use Rattle.json_replies.specs.Counts.{count_data}
 use Rattle.json_replies.specs.Texts.{text_data, list_data}
@@ -32,18 +30,6 @@ pub record SaidData : Type 0 where
   pub kind : List ℕ
   pub line : Data
   pub number : Data
-
--- the same of a value of the code
-abbrev pub said_data : Said → SaidData
-said_data s =
-    record {
-      by = view s.by;
-      cell = view s.cell;
-      grade = view s.grade;
-      kind = s.kind.now;
-      line = view s.line;
-      number = view s.number;
-    }
 
 -- by what a goal is shown: the only value left of its square, or the only place in a row or column
 abbrev pub by_word : Goal → List ℕ

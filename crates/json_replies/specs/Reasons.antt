@@ -2,13 +2,12 @@
 use Rattle.std.specs.Prelude.{ℕ, ◌*◌, ◌&&◌, nat_lt, Bool, List, [], ◌∷◌, codes, if◌then◌else◌, Option, Some, None}
 use Rattle.std.specs.List.{range_with_len}
 use Rattle.serde_json.specs.Data.{Data, null, array}
-use Rattle.serde_json.specs.View.{items_of, view}
+use Rattle.serde_json.specs.View.{items_of}
 use Rattle.number_sets.specs.Sets.{has_number}
 use Rattle.latin_board.specs.Lines.{line_cell}
 use Rattle.clue_rules.specs.declared.reason.Reason.{Reason}
 use Rattle.clue_rules.specs.declared.reason.Reason.TheVariants.{Given, Peer, Place, Bound, Stand, Clue, Sign, Set}
 use Rattle.json_replies.specs.declared.reason_parts.Ends.{Ends}
-use Rattle.json_replies.specs.declared.reason_parts.Parts.{Parts}
 use Rattle.json_replies.specs.Boards.{listed_data, when, mark_set_data}
 use Rattle.json_replies.specs.Counts.{count_data}
 
@@ -20,18 +19,6 @@ pub record ReasonParts : Type 0 where
   pub line : Data
   pub cells : Data
   pub numbers : Data
-
--- the same of a value of the code
-abbrev pub parts_data : Parts → ReasonParts
-parts_data p =
-    record {
-      word = p.word.now;
-      edge = p.edge;
-      ends = p.ends;
-      line = view p.line;
-      cells = view p.cells;
-      numbers = view p.numbers;
-    }
 
 -- ---- the four forms of reasons
 

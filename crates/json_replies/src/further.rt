@@ -1,4 +1,4 @@
-//! The answers beside the commands: the board, how many solutions keep its numbers, a hint, the puzzle's grade.
+//! The answers beside the commands, as texts of JSON: the board, how many solutions keep its numbers, a hint, the puzzle's grade.
 
 ghost use Rattle.std.specs.Prelude.{◌≡◌, Option, Some, IfOk};
 ghost use Rattle.serde_json.specs.View.{view};
@@ -6,24 +6,26 @@ ghost use Rattle.trail_solver.specs.Answers.{Fits};
 ghost use Rattle.trail_solver.specs.Completions.{Completes};
 ghost use Rattle.trail_solver.specs.declared.answer.Answer.{Answer};
 ghost use Rattle.named_steps.specs.Graded.{IsGradeOf};
-ghost use Rattle.clue_rules.specs.declared.grade.Grade.{Grade};
+ghost use Rattle.clue_rules.specs.declared.grade.Grade.{Grade as GradeValue};
 ghost use Rattle.json_replies.specs.FurtherLines.{IsAnswer, IsFurtherLine, IsHintAnswer, answer_data};
 ghost use Rattle.json_replies.specs.HintObjects.{grade_data};
+ghost use Rattle.json_replies.specs.Inner.ObjectTexts.{IsTextWhere};
 
 use crate::board::board_value;
 use crate::further_line::FurtherLine;
-use crate::hint_value::{grade_value, hint_value};
-use crate::object_line::answer_object;
+use crate::hint_text::hint_text;
+use crate::object_line::{answer_object, value_text};
 use crate::session::game_value;
 use crate::shown::{ShownFacts, Shows};
 use board_checks::errors;
 use latin_board::{Grid, OutOfMemory};
-use named_steps::grade_of;
+use named_steps::{Grade, grade_of};
 use play_midend::Session;
 use puzzle_cli::Facts;
 use serde_json::Value;
 use std::alloc::{AllocError, Global};
 use step_chains::next_hint;
+use step_texts::StepNames;
 use trail_solver::{Answer, completion};
 
 /// The line of the object with the answer, beside what each object has.
@@ -37,19 +39,19 @@ pub(crate) fn answer_line<P: Shows>(
     ensures { IfOk result (λ line. IsFurtherLine ⟦<P as Facts>⟧.facts
         ⟦<P as ShownFacts>⟧.board_facts which (Some session.now) line.items) }
 {
-    let answer = answer_value(alloc, session, which)?;
+    let answer = answer_text(alloc, session, which)?;
     let game = game_value(alloc, session)?;
     Ok(answer_object(alloc, which, &answer, &game)?)
 }
 
 // The answer itself.
-fn answer_value<P: Shows>(
+fn answer_text<P: Shows>(
     alloc: Global,
     session: &Session<P>,
     which: FurtherLine,
-) -> Result<Value, OutOfMemory>
-    ensures { IfOk result (λ answer. IsAnswer ⟦<P as Facts>⟧.facts
-        ⟦<P as ShownFacts>⟧.board_facts session.now which (view answer)) }
+) -> Result<Vec<u8>, OutOfMemory>
+    ensures { IfOk result (λ text. IsTextWhere (IsAnswer ⟦<P as Facts>⟧.facts
+        ⟦<P as ShownFacts>⟧.board_facts session.now which) text.items) }
 {
     let puzzle = session.puzzle();
     let board = session.board();
@@ -58,11 +60,18 @@ fn answer_value<P: Shows>(
             let errors = errors(puzzle, board.grid());
             let clues = puzzle.tell_clues(alloc, board, &errors)?;
             let signs = puzzle.tell_signs(alloc, board, &errors)?;
-            Ok(board_value(alloc, puzzle, board, &errors, clues, signs)?)
+            let value = board_value(alloc, puzzle, board, &errors, clues, signs)?;
+            Ok(value_text(alloc, &value)?)
         }
-        FurtherLine::Completable => count_answer(alloc, puzzle, board.grid()),
+        FurtherLine::Completable => {
+            let value = count_answer(alloc, puzzle, board.grid())?;
+            Ok(value_text(alloc, &value)?)
+        }
         FurtherLine::Hint => hint_answer(alloc, puzzle, board.grid()),
-        FurtherLine::Grade => grade_answer(alloc, puzzle),
+        FurtherLine::Grade => {
+            let value = grade_answer(alloc, puzzle)?;
+            Ok(value_text(alloc, &value)?)
+        }
     }
 }
 
@@ -90,20 +99,31 @@ fn count_value(alloc: Global, found: Answer) -> Result<Value, AllocError>
 }
 
 // The hint of a grid of the puzzle's size.
-fn hint_answer<P: Shows>(alloc: Global, puzzle: &P, grid: &Grid) -> Result<Value, OutOfMemory>
+fn hint_answer<P: Shows>(alloc: Global, puzzle: &P, grid: &Grid) -> Result<Vec<u8>, OutOfMemory>
     requires { grid.now.size ≡ (P.puzzle puzzle.now).size }
-    ensures { IfOk result (λ value. IsHintAnswer (P.puzzle puzzle.now) P.grade_letter (P.struck_by puzzle.now)
-        (P.edge_clue_of puzzle.now) (P.says_greater_of puzzle.now) grid.now (view value)) }
+    ensures { IfOk result (λ text. IsTextWhere (IsHintAnswer (P.puzzle puzzle.now) P.grade_letter
+        (P.struck_by puzzle.now) (P.edge_clue_of puzzle.now) (P.says_greater_of puzzle.now) grid.now) text.items) }
 {
     let hint = next_hint(alloc, puzzle, grid)?;
-    Ok(hint_value(alloc, puzzle, grid, &hint)?)
+    let text = hint_text(alloc, puzzle, grid, &hint)?;
+    Ok(text)
 }
 
 // The puzzle's grade, if it has one. What it takes of the stack isn't on it while a hint is looked for.
 #[inline(never)]
 fn grade_answer<P: Shows>(alloc: Global, puzzle: &P) -> Result<Value, OutOfMemory>
-    ensures { IfOk result (λ value. (grade : Option Grade) × IsGradeOf (P.puzzle puzzle.now) (P.struck_by puzzle.now)
+    ensures { IfOk result (λ value. (grade : Option GradeValue) × IsGradeOf (P.puzzle puzzle.now) (P.struck_by puzzle.now)
         grade × (view value ≡ grade_data P.grade_letter grade)) }
 {
     Ok(grade_value::<P>(alloc, grade_of(puzzle))?)
+}
+
+// The letter of a grade, or null.
+fn grade_value<P: StepNames>(alloc: Global, grade: Option<Grade>) -> Result<Value, AllocError>
+    ensures { IfOk result (λ value. view value ≡ grade_data P.grade_letter grade) }
+{
+    match grade {
+        Some(grade) => Value::try_from_str(alloc, P::letter(grade)),
+        None => Ok(Value::from(())),
+    }
 }

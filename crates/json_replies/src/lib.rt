@@ -11,15 +11,16 @@ mod fair_words;
 mod format;
 mod further;
 mod further_line;
-mod hint_value;
+mod hint_text;
 mod lists;
 mod object_line;
 mod reason_parts;
 mod reply_laws;
 mod session;
 mod shown;
-mod step_value;
 mod text;
+mod written;
+mod written_steps;
 
 pub use format::Json;
 pub use reply_laws::laws;

@@ -1,14 +1,13 @@
 //! Lists of values.
 
-ghost use Rattle.std.specs.Prelude.{◌≡◌, ◌*◌, ◌≤◌, ◌∷◌, ◌++◌, [], map, OnOk, IfOk};
+ghost use Rattle.std.specs.Prelude.{◌≡◌, ◌*◌, ◌≤◌, ◌∷◌, ◌++◌, [], map, OnOk};
 ghost use Rattle.serde_json.specs.View.{view};
 ghost use Rattle.json_replies.specs.Counts.{count_data};
-ghost use Rattle.json_replies.specs.Boards.{when, mark_set_data};
+ghost use Rattle.json_replies.specs.Boards.{when};
 
 use latin_board::Size;
-use number_sets::NumberSet;
 use serde_json::Value;
-use std::alloc::{AllocError, Global};
+use std::alloc::AllocError;
 
 /// How many squares a grid has.
 pub(crate) fn square_count(size: Size) -> usize
@@ -37,15 +36,4 @@ pub(crate) fn push_when(list: &mut Vec<Value>, test: bool, n: usize) -> Result<(
         push_value(list, Value::from(n))?;
     }
     Ok(())
-}
-
-/// The numbers of a set from 1 to 9, rising.
-pub(crate) fn number_set_value(alloc: Global, set: NumberSet) -> Result<Value, AllocError>
-    ensures { IfOk result (λ list. view list ≡ mark_set_data set) }
-{
-    let mut list = Vec::new(alloc);
-    for n in 1..10 {
-        push_when(&mut list, set.has(n), usize::from(n))?;
-    }
-    Ok(Value::from(list))
 }

@@ -5,14 +5,14 @@ ghost use Rattle.std.specs.Prelude.{◌≡◌, ◌∷◌, ◌++◌, [], None, If
 ghost use Rattle.std.specs.Option.{option_copied};
 ghost use Rattle.byte_text.specs.Bytes.{line_feed};
 ghost use Rattle.json.specs.Print.{quoted};
-ghost use Rattle.serde_json.specs.Data.{object, member};
+ghost use Rattle.serde_json.specs.Data.{Data, object, member};
 ghost use Rattle.serde_json.specs.View.{view};
 ghost use Rattle.serde_json.specs.Written.{comma_if, compact_text, members_text};
 ghost use Rattle.json_replies.specs.Texts.{text_data, lines_data};
 ghost use Rattle.json_replies.specs.FurtherLines.{further_key};
 ghost use Rattle.json_replies.specs.Replies.{name_data, reply_members, reply_data};
 ghost use Rattle.json_replies.specs.ObjectLines.{IsShallow, IsSpelled, IsLineOfData};
-ghost use Rattle.json_replies.specs.Inner.ObjectTexts.{key_text, AddsMember, IsPlain};
+ghost use Rattle.json_replies.specs.Inner.ObjectTexts.{key_text, AddsMember, IsPlain, IsPlainText};
 
 use crate::further_line::FurtherLine;
 use crate::text::{latin_text, text_value};
@@ -38,21 +38,21 @@ pub(crate) fn reply_object(
     reply_members_after(alloc, line, false, refused, reply, session)
 }
 
-/// The line of the object that answers one of the lines beside the commands: the answer, and what each object has.
+/// The line of the object that answers one of the lines beside the commands: the answer's text, and what each object has.
 pub(crate) fn answer_object(
     alloc: Global,
     which: FurtherLine,
-    answer: &Value,
+    answer: &[u8],
     session: &Value,
 ) -> Result<Vec<u8>, AllocError>
-    requires answer { IsShallow 7 (view answer.now) }
-    requires session { IsShallow 1 (view session.now) }
-    ensures { IfOk result (λ line. IsLineOfData (object (member (further_key which) (view answer.now)
-        (reply_members None [] (view session.now)))) line.items) }
+    requires { IsShallow 1 (view session.now) }
+    ensures { IfOk result (λ line. (d : Data) → IsPlainText d answer.now → IsShallow 7 d → IsLineOfData
+        (object (member (further_key which) d (reply_members None [] (view session.now)))) line.items) }
 {
-    let mut line = Vec::new(alloc);
+    let mut line = Vec::with_capacity(alloc, answer.len())?;
     line.push(b'{')?;
-    let line = member_after(alloc, line, false, which.key(), answer)?;
+    let mut line = key_after(line, false, which.key())?;
+    line.extend_from_slice(answer)?;
     reply_members_after(alloc, line, true, None, b"", session)
 }
 
@@ -92,7 +92,7 @@ fn name_value(alloc: Global, name: Option<&[u8]>) -> Result<Value, AllocError>
 }
 
 // The text with a member.
-#[tactic(auto, using(crate::proofs::ObjectTexts::adds_member, crate::proofs::ObjectTexts::written_is_plain))]
+#[tactic(auto, using(crate::proofs::ObjectTexts::adds_value))]
 fn member_after(
     alloc: Global,
     text: Vec<u8>,
@@ -105,7 +105,17 @@ fn member_after(
     ensures plain { IfOk result (λ _. IsPlain (view value.now)) }
 {
     let mut text = key_after(text, later, key)?;
-    text.extend_from_slice(&value.to_vec(alloc)?)?;
+    text.extend_from_slice(&value_text(alloc, value)?)?;
+    Ok(text)
+}
+
+/// The text of a value.
+#[tactic(auto, using(crate::proofs::ObjectTexts::written_is_plain))]
+pub(crate) fn value_text(alloc: Global, value: &Value) -> Result<Vec<u8>, AllocError>
+    requires { IsSpelled (view value.now) }
+    ensures { IfOk result (λ text. IsPlainText (view value.now) text.items) }
+{
+    let text = value.to_vec(alloc)?;
     Ok(text)
 }
 

@@ -1,17 +1,16 @@
-//! The parts of a reason that the object of a step tells: its word, where it looks from, and what it speaks of.
+//! What the object of a step tells of its reason: its word, where it looks from, and what it speaks of.
 
-ghost use Rattle.std.specs.Prelude.{◌≡◌, ◌*◌, ◌<◌, None, IfOk, IfSome};
-ghost use Rattle.serde_json.specs.View.{view};
-ghost use Rattle.json_replies.specs.Reasons.{edge_at, ends_at, line_cells_data, one_data, parts_data, parts_of};
-ghost use Rattle.json_replies.specs.Reasons.{parts_of_edge, parts_of_line, parts_of_sign, parts_of_square, place_data};
+ghost use Rattle.std.specs.Prelude.{◌≡◌, ◌*◌, ◌<◌, ◌∷◌, [], ℕ, Bool, OnOk, IfSome};
+ghost use Rattle.json_replies.specs.Reasons.{edge_at, ends_at, line_cells_data, one_data, parts_of, place_data};
 ghost use Rattle.json_replies.specs.Reasons.{squares_data};
+ghost use Rattle.json_replies.specs.Inner.WrittenData.{count_or_null, Follow};
 
-use crate::lists::{number_set_value, push_value, push_when};
+use crate::written::{write_null, write_number, write_number_when, write_numbers};
+use json::Writer;
 use latin_board::{Size, line_cell};
 use named_steps::Reason;
 use number_sets::NumberSet;
-use serde_json::Value;
-use std::alloc::{AllocError, Global};
+use std::alloc::AllocError;
 use step_texts::StepNames;
 use trail_solver::Rules;
 
@@ -22,115 +21,83 @@ pub(crate) struct Ends {
     pub(crate) less: usize,
 }
 
-/// What the object of a step tells of its reason, null for what the reason hasn't.
-#[derive(Drop)]
-pub(crate) struct Parts {
-    /// The word for its kind.
-    pub(crate) word: &'static str,
-    /// The place of the clue that it looks from.
-    pub(crate) edge: Option<u8>,
-    /// The squares of the sign that it looks along.
-    pub(crate) ends: Option<Ends>,
-    /// The row or column that it looks at.
-    pub(crate) line: Value,
-    /// The squares that it rests on, but for a clue's line and a sign's squares.
-    pub(crate) cells: Value,
-    /// The numbers that it speaks of.
-    pub(crate) numbers: Value,
-}
-
-/// The parts of a reason of the puzzle's steps.
-pub(crate) fn parts_of<P: StepNames>(
-    alloc: Global,
-    p: &P,
-    reason: Reason,
-) -> Result<Parts, AllocError>
-    ensures parts { IfOk result (λ parts. parts_data parts
-        ≡ parts_of (P.Rules.puzzle p.now).size (P.says_greater_of p.now) reason) }
-    ensures inside { IfOk result (λ parts. IfSome parts.edge (λ place. place < 4 * (P.Rules.puzzle p.now).size)) }
+/// The word for the kind of a reason.
+pub(crate) fn word_of(reason: Reason) -> &'static str
+    ensures { (w : ℕ) (is_over : ℕ → ℕ → Bool) → result.now ≡ (parts_of w is_over reason).word }
 {
-    let size = p.size();
     match reason {
-        Reason::Given { cell } => of_square(alloc, "given", cell),
-        Reason::Peer { cell } => of_square(alloc, "peer", cell),
-        Reason::Place { line, index, value } => {
-            let cells = place_value(alloc, size, line, index)?;
-            let numbers = one_value(alloc, usize::from(value))?;
-            Ok(of_line("place", line, cells, numbers))
-        }
-        Reason::Bound { place } => Ok(of_edge("bound", edge_at(size, place))),
-        Reason::Stand { place } => Ok(of_edge("stand", edge_at(size, place))),
-        Reason::Clue { place } => Ok(of_edge("clue", edge_at(size, place))),
-        Reason::Sign { from, to } => Ok(of_sign("sign", ends_at(p, from, to))),
-        Reason::Set {
-            line,
-            squares,
-            values,
-        } => {
-            let cells = squares_value(alloc, size, line, squares)?;
-            let numbers = number_set_value(alloc, values)?;
-            Ok(of_line("set", line, cells, numbers))
-        }
+        Reason::Given { .. } => "given",
+        Reason::Peer { .. } => "peer",
+        Reason::Place { .. } => "place",
+        Reason::Bound { .. } => "bound",
+        Reason::Stand { .. } => "stand",
+        Reason::Clue { .. } => "clue",
+        Reason::Sign { .. } => "sign",
+        Reason::Set { .. } => "set",
     }
 }
 
-// The parts of a reason that rests on a square.
-fn of_square(alloc: Global, word: &'static str, cell: usize) -> Result<Parts, AllocError>
-    ensures parts { IfOk result (λ parts. parts_data parts ≡ parts_of_square word.now cell) }
-    ensures none { IfOk result (λ parts. parts.edge ≡ None) }
+/// The place of the clue that a reason looks from, if it does.
+pub(crate) fn edge_of(size: Size, reason: Reason) -> Option<u8>
+    ensures value { (is_over : ℕ → ℕ → Bool) → result ≡ (parts_of size is_over reason).edge }
+    ensures inside { IfSome result (λ place. place < 4 * size) }
 {
-    Ok(Parts {
-        word,
-        edge: None,
-        ends: None,
-        line: Value::from(()),
-        cells: one_value(alloc, cell)?,
-        numbers: Value::from(()),
-    })
-}
-
-// The parts of a reason that looks from a clue at the edge.
-fn of_edge(word: &'static str, edge: Option<u8>) -> Parts
-    ensures parts { parts_data result ≡ parts_of_edge word.now edge }
-    ensures same { result.edge ≡ edge }
-{
-    Parts {
-        word,
-        edge,
-        ends: None,
-        line: Value::from(()),
-        cells: Value::from(()),
-        numbers: Value::from(()),
+    match reason {
+        Reason::Bound { place } => edge_at(size, place),
+        Reason::Stand { place } => edge_at(size, place),
+        Reason::Clue { place } => edge_at(size, place),
+        _ => None,
     }
 }
 
-// The parts of a reason that looks along a sign.
-fn of_sign(word: &'static str, ends: Option<Ends>) -> Parts
-    ensures parts { parts_data result ≡ parts_of_sign word.now ends }
-    ensures none { result.edge ≡ None }
+/// The squares of the sign that a reason looks along, if it does.
+pub(crate) fn ends_of<P: StepNames>(p: &P, reason: Reason) -> Option<Ends>
+    ensures { result ≡ (parts_of (P.Rules.puzzle p.now).size (P.says_greater_of p.now) reason).ends }
 {
-    Parts {
-        word,
-        edge: None,
-        ends,
-        line: Value::from(()),
-        cells: Value::from(()),
-        numbers: Value::from(()),
+    match reason {
+        Reason::Sign { from, to } => ends_at(p, from, to),
+        _ => None,
     }
 }
 
-// The parts of a reason that looks at squares and numbers of a row or column.
-fn of_line(word: &'static str, line: usize, cells: Value, numbers: Value) -> Parts
-    ensures parts { parts_data result ≡ parts_of_line word.now line (view cells) (view numbers) }
-    ensures none { result.edge ≡ None }
+/// The row or column that a reason looks at, if it does.
+pub(crate) fn line_of(reason: Reason) -> Option<usize>
+    ensures { (w : ℕ) (is_over : ℕ → ℕ → Bool) → count_or_null result ≡ (parts_of w is_over reason).line }
 {
-    Parts {
-        word,
-        edge: None,
-        ends: None,
-        line: Value::from(line),
-        cells,
-        numbers,
+    match reason {
+        Reason::Place { line, .. } => Some(line),
+        Reason::Set { line, .. } => Some(line),
+        _ => None,
+    }
+}
+
+/// Writes the squares that a reason rests on, but for a clue's line and a sign's squares.
+pub(crate) fn write_cells_of(
+    writer: &mut Writer,
+    size: Size,
+    reason: Reason,
+) -> Result<(), AllocError>
+    ensures { OnOk result ((is_over : ℕ → ℕ → Bool)
+        → Follow ((parts_of size is_over reason).cells ∷ []) writer.old writer.new) }
+{
+    match reason {
+        Reason::Given { cell } => write_one(writer, cell),
+        Reason::Peer { cell } => write_one(writer, cell),
+        Reason::Place { line, index, .. } => write_place(writer, size, line, index),
+        Reason::Set { line, squares, .. } => write_squares(writer, size, line, squares),
+        _ => write_null(writer),
+    }
+}
+
+/// Writes the numbers that a reason speaks of.
+pub(crate) fn write_numbers_of(writer: &mut Writer, reason: Reason) -> Result<(), AllocError>
+    ensures { OnOk result ((w : ℕ) (is_over : ℕ → ℕ → Bool)
+        → Follow ((parts_of w is_over reason).numbers ∷ []) writer.old writer.new) }
+{
+    match reason {
+        Reason::Place { value, .. } => write_one(writer, usize::from(value)),
+        Reason::Set { values, .. } => write_numbers(writer, values),
+        _ => write_null(writer),
     }
 }
 
@@ -169,55 +136,57 @@ fn ends_at<P: StepNames>(p: &P, first: usize, second: usize) -> Option<Ends>
     None
 }
 
-// The list of one number.
-fn one_value(alloc: Global, n: usize) -> Result<Value, AllocError>
-    ensures { IfOk result (λ value. view value ≡ one_data n) }
+// Writes the list of one number.
+fn write_one(writer: &mut Writer, n: usize) -> Result<(), AllocError>
+    ensures { OnOk result (Follow (one_data n ∷ []) writer.old writer.new) }
 {
-    let mut list = Vec::new(alloc);
-    push_value(&mut list, Value::from(n))?;
-    Ok(Value::from(list))
+    writer.begin_array()?;
+    write_number(writer, n)?;
+    writer.end_array()?;
+    Ok(())
 }
 
-// The list of the square at a place of a line, if the grid has it.
-fn place_value(alloc: Global, size: Size, line: usize, index: usize) -> Result<Value, AllocError>
-    ensures { IfOk result (λ value. view value ≡ place_data size line index) }
+// Writes the list of the square at a place of a line, if the grid has it.
+fn write_place(writer: &mut Writer, size: Size, line: usize, index: usize) -> Result<(), AllocError>
+    ensures { OnOk result (Follow (place_data size line index ∷ []) writer.old writer.new) }
 {
     let width = size.get() as usize;
     if line >= 2 * width || index >= width {
-        return Ok(Value::from(()));
+        return write_null(writer);
     }
-    one_value(alloc, line_cell(size, line as u8, index as u8))
+    write_one(writer, line_cell(size, line as u8, index as u8))
 }
 
-// The squares at some places of a line, if the grid has it.
-fn squares_value(
-    alloc: Global,
+// Writes the squares at some places of a line, if the grid has it.
+fn write_squares(
+    writer: &mut Writer,
     size: Size,
     line: usize,
     places: NumberSet,
-) -> Result<Value, AllocError>
-    ensures { IfOk result (λ value. view value ≡ squares_data size line places) }
+) -> Result<(), AllocError>
+    ensures { OnOk result (Follow (squares_data size line places ∷ []) writer.old writer.new) }
 {
     if line >= 2 * size.get() as usize {
-        return Ok(Value::from(()));
+        return write_null(writer);
     }
-    line_cells_value(alloc, size, line as u8, places)
+    write_line_cells(writer, size, line as u8, places)
 }
 
-// The squares at some places of a line of the grid.
-fn line_cells_value(
-    alloc: Global,
+// Writes the squares at some places of a line of the grid.
+fn write_line_cells(
+    writer: &mut Writer,
     size: Size,
     line: u8,
     places: NumberSet,
-) -> Result<Value, AllocError>
+) -> Result<(), AllocError>
     requires { line < 2 * size }
-    ensures { IfOk result (λ value. view value ≡ line_cells_data size line places) }
+    ensures { OnOk result (Follow (line_cells_data size line places ∷ []) writer.old writer.new) }
 {
-    let mut list = Vec::new(alloc);
+    writer.begin_array()?;
     for place in 0..size.get() {
         let cell = line_cell(size, line, place);
-        push_when(&mut list, places.has(place), cell)?;
+        write_number_when(writer, places.has(place), cell)?;
     }
-    Ok(Value::from(list))
+    writer.end_array()?;
+    Ok(())
 }

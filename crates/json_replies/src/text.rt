@@ -2,13 +2,10 @@
 
 ghost use Rattle.std.specs.Prelude.{◌≡◌, IfOk, string_bytes};
 ghost use Rattle.serde_json.specs.View.{view};
-ghost use Rattle.step_texts.specs.Lines.{line_texts};
-ghost use Rattle.json_replies.specs.Texts.{latin_text, list_data, text_data};
+ghost use Rattle.json_replies.specs.Texts.{latin_text, text_data};
 
-use crate::lists::push_value;
 use serde_json::Value;
 use std::alloc::{AllocError, Global};
-use step_texts::Line;
 
 /// The text whose characters have the bytes as their codes.
 #[tactic(auto, using(crate::proofs::ReplyLines::one_more_byte))]
@@ -27,15 +24,4 @@ pub(crate) fn text_value(alloc: Global, bytes: &[u8]) -> Result<Value, AllocErro
     ensures { IfOk result (λ value. view value ≡ text_data bytes.now) }
 {
     Ok(Value::from(latin_text(alloc, bytes)?))
-}
-
-/// Lines, each as a text.
-pub(crate) fn lines_value(alloc: Global, lines: &[Line]) -> Result<Value, AllocError>
-    ensures { IfOk result (λ value. view value ≡ list_data text_data (line_texts lines.now)) }
-{
-    let mut list = Vec::new(alloc);
-    for line in lines {
-        push_value(&mut list, text_value(alloc, line.as_slice())?)?;
-    }
-    Ok(Value::from(list))
 }

@@ -4,7 +4,7 @@ use Rattle.json.specs.Print.{quoted}
 use Rattle.json.specs.Tree.{HasNumbers}
 use Rattle.serde_json.specs.Data.{Data, Members, member}
 use Rattle.serde_json.specs.Read.{of_json}
-use Rattle.serde_json.specs.Written.{outline, comma_if, members_text}
+use Rattle.serde_json.specs.Written.{outline, comma_if, compact_text, members_text}
 
 -- a key and its colon, after a comma where a member stands before
 abbrev pub key_text : Bool → List ℕ → List ℕ
@@ -19,3 +19,12 @@ AddsMember later key d old new =
 pub record IsPlain (d : Data) : Type 0 where
   pub numbers : HasNumbers (outline d)
   pub reads : of_json (outline d) ≡ Some d
+
+-- the bytes are the data's compact text, which reads as the data
+pub record IsPlainText (d : Data) (bytes : List ℕ) : Type 0 where
+  pub text : bytes ≡ compact_text d
+  pub plain : IsPlain d
+
+-- the bytes are such a text of some data of which this holds
+abbrev pub IsTextWhere : (Data → Type 0) → List ℕ → Type 0
+IsTextWhere Holds bytes = (d : Data) × Holds d × IsPlainText d bytes

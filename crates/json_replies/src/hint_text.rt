@@ -1,0 +1,196 @@
+//! The text of the object of a hint.
+
+ghost use Rattle.std.specs.Prelude.{◌≡◌, ◌*◌, ◌<◌, ◌∷◌, [], OnOk, IfOk};
+ghost use Rattle.std.specs.Option.{option_copied};
+ghost use Rattle.step_texts.specs.Lines.{line_texts};
+ghost use Rattle.named_steps.specs.Chains.{IsView};
+ghost use Rattle.trail_solver.specs.Candidates.{CandidatesValue};
+ghost use Rattle.json_replies.specs.HintObjects.{IsGoalTold, IsHintValue, IsTextOf, by_word, goal_line_data};
+ghost use Rattle.json_replies.specs.HintObjects.{left_data, said_of, steps_in, view_data, without_number};
+ghost use Rattle.json_replies.specs.Inner.ObjectTexts.{IsTextWhere};
+ghost use Rattle.json_replies.specs.Inner.WrittenData.{count_or_null, said_data, said_members, word_or_null};
+ghost use Rattle.json_replies.specs.Inner.WrittenData.{Follow, MembersFollow};
+
+use crate::lists::square_count;
+use crate::written::{write_lines, write_number_at, write_number_when, write_word_at};
+use crate::written_steps::write_steps;
+use json::Writer;
+use latin_board::{Grid, Size};
+use named_steps::Goal;
+use std::alloc::{AllocError, Global};
+use step_chains::{NextHint, Step, view_of};
+use step_texts::{Line, StepNames, ToldStep, chain_lines, refutation_lines, told_steps};
+use trail_solver::Candidates;
+
+/// A hint of a grid as an object: what it says, what is in view, and the steps from there, each with its sentence.
+pub(crate) fn hint_text<P: StepNames>(
+    alloc: Global,
+    p: &P,
+    grid: &Grid,
+    hint: &NextHint,
+) -> Result<Vec<u8>, AllocError>
+    requires size { grid.now.size ≡ (P.Rules.puzzle p.now).size }
+    requires goal { IsGoalTold grid.now.size hint.now }
+    ensures { IfOk result (λ text. IsTextWhere (IsHintValue (P.Rules.puzzle p.now).size P.grade_letter
+        (P.edge_clue_of p.now) (P.says_greater_of p.now) (P.Steps.struck_by p.now) grid.now hint.now) text.items) }
+{
+    let told = told_steps(alloc, p, view_of(grid), steps_in(hint))?;
+    let lines = text_of(alloc, grid, told.as_slice(), hint)?;
+    let mut writer = Writer::new(Vec::new(alloc));
+    writer.begin_object()?;
+    write_said(&mut writer, said_of::<P>(grid.size(), hint))?;
+    writer.key("steps")?;
+    write_steps(alloc, &mut writer, p, told.as_slice())?;
+    writer.key("text")?;
+    write_lines(alloc, &mut writer, lines.as_slice())?;
+    writer.key("view")?;
+    write_view(&mut writer, grid)?;
+    writer.end_object()?;
+    Ok(writer.into_inner())
+}
+
+// What a hint says: each a member, null where it says nothing of that.
+#[derive(Drop)]
+struct Said {
+    by: Option<&'static str>,
+    cell: Option<usize>,
+    grade: Option<&'static str>,
+    kind: &'static str,
+    line: Option<usize>,
+    number: Option<usize>,
+}
+
+// What a hint of a grid of a size says.
+fn said_of<P: StepNames>(size: Size, hint: &NextHint) -> Said
+    requires { IsGoalTold size hint.now }
+    ensures { said_data result ≡ said_of size P.grade_letter hint.now }
+{
+    match hint {
+        NextHint::Follows { grade, chain } => Said {
+            by: Some(by_word(chain.goal)),
+            cell: Some(chain.goal.cell(size)),
+            grade: Some(P::letter(*grade)),
+            kind: "follows",
+            line: goal_line(chain.goal),
+            number: Some(usize::from(chain.goal.value())),
+        },
+        NextHint::Refuted { grade, .. } => without_number("contradiction", Some(P::letter(*grade))),
+        NextHint::Nothing => without_number("nothing", None),
+    }
+}
+
+// What a hint says that has no number.
+fn without_number(kind: &'static str, grade: Option<&'static str>) -> Said
+    ensures { said_data result ≡ without_number kind.now (word_or_null (option_copied grade.entry)) }
+{
+    Said {
+        by: None,
+        cell: None,
+        grade,
+        kind,
+        line: None,
+        number: None,
+    }
+}
+
+// By what a goal is shown, as a word.
+fn by_word(goal: Goal) -> &'static str
+    ensures { result.now ≡ by_word goal }
+{
+    match goal {
+        Goal::OnlyValue { .. } => "value",
+        Goal::OnlyPlace { .. } => "line",
+    }
+}
+
+// The row or column in which the number has one place, where it is shown by that.
+fn goal_line(goal: Goal) -> Option<usize>
+    ensures { count_or_null result ≡ goal_line_data goal }
+{
+    match goal {
+        Goal::OnlyValue { .. } => None,
+        Goal::OnlyPlace { line, .. } => Some(line),
+    }
+}
+
+// The steps of a hint.
+fn steps_in(hint: &NextHint) -> &[Step]
+    ensures { result.now ≡ steps_in hint.now }
+{
+    match hint {
+        NextHint::Follows { chain, .. } => chain.steps.as_slice(),
+        NextHint::Refuted { refutation, .. } => refutation.steps.as_slice(),
+        NextHint::Nothing => &[],
+    }
+}
+
+// The sentences of a hint.
+fn text_of(
+    alloc: Global,
+    grid: &Grid,
+    told: &[ToldStep],
+    hint: &NextHint,
+) -> Result<Vec<Line>, AllocError>
+    ensures { IfOk result (λ lines. IsTextOf hint.now (line_texts lines.items)) }
+{
+    match hint {
+        NextHint::Follows { chain, .. } => chain_lines(alloc, grid, told, chain.goal),
+        NextHint::Refuted { refutation, .. } => refutation_lines(
+            alloc,
+            grid,
+            told,
+            refutation.cell,
+        ),
+        NextHint::Nothing => Ok(Vec::new(alloc)),
+    }
+}
+
+// Writes what a hint says.
+fn write_said(writer: &mut Writer, said: Said) -> Result<(), AllocError>
+    ensures { OnOk result (MembersFollow (said_members (said_data said)) writer.old writer.new) }
+{
+    write_word_at(writer, "by", said.by)?;
+    write_number_at(writer, "cell", said.cell)?;
+    write_word_at(writer, "grade", said.grade)?;
+    write_word_at(writer, "kind", Some(said.kind))?;
+    write_number_at(writer, "line", said.line)?;
+    write_number_at(writer, "number", said.number)?;
+    Ok(())
+}
+
+// Writes the numbers that are left of each square in view of a grid.
+// The steps took the candidates that were in view, so they are made again: they aren't on the stack while steps are told.
+#[inline(never)]
+fn write_view(writer: &mut Writer, grid: &Grid) -> Result<(), AllocError>
+    ensures { OnOk result ((view : CandidatesValue) × IsView grid.now view
+        × Follow (view_data view ∷ []) writer.old writer.new) }
+{
+    let candidates = view_of(grid);
+    write_candidates(writer, &candidates)?;
+    Ok(())
+}
+
+// Writes the numbers that are left of each square.
+fn write_candidates(writer: &mut Writer, candidates: &Candidates) -> Result<(), AllocError>
+    ensures { OnOk result (Follow (view_data candidates.now ∷ []) writer.old writer.new) }
+{
+    writer.begin_array()?;
+    for cell in 0..square_count(candidates.size()) {
+        write_left(writer, candidates, cell)?;
+    }
+    writer.end_array()?;
+    Ok(())
+}
+
+// Writes the numbers that are left of a square, rising.
+fn write_left(writer: &mut Writer, candidates: &Candidates, cell: usize) -> Result<(), AllocError>
+    requires { cell < candidates.now.size * candidates.now.size }
+    ensures { OnOk result (Follow (left_data candidates.now cell ∷ []) writer.old writer.new) }
+{
+    writer.begin_array()?;
+    for n in 1..candidates.size().get() + 1 {
+        write_number_when(writer, candidates.may(cell, n), usize::from(n))?;
+    }
+    writer.end_array()?;
+    Ok(())
+}
