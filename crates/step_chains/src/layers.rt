@@ -39,8 +39,6 @@ pub(crate) struct Rounds<'a, P: Steps> {
     open: Option<usize>,
     // The squares of which one value is left and that were looked at: what they strike is listed.
     peers: Values,
-    // Whether the steps of a round leave a square nothing.
-    has_emptied: bool,
     // Whether there are signs, which strike something whatever is left.
     has_signs: bool,
     // From which places a clue strikes something by itself: from the others there is none.
@@ -70,7 +68,6 @@ impl<'a, P: Steps> Rounds<'a, P> {
             sought,
             open: None,
             peers: Values::none(),
-            has_emptied: false,
             has_signs: true,
             has_clue: [false; PLACES],
             losses: Losses::new(),
@@ -159,14 +156,14 @@ impl<'a, P: Steps> Rounds<'a, P> {
         Ok(())
     }
 
-    // Whether a kind is looked at in a round that began with so many steps. Where a square is left nothing already, none is.
+    // Whether a kind is looked at in a round that began with so many steps.
     fn is_due(&self, kind: Kind, grade: Grade, is_new: bool, before: usize) -> bool {
         if !is_of_use(kind, self.sought, grade) || (is_done(kind) && !is_new) {
             return false;
         }
         match self.sought {
             Sought::NumberShown => true,
-            Sought::SquareEmptied => !self.has_emptied && !self.has_to_wait(kind, before),
+            Sought::SquareEmptied => !self.has_to_wait(kind, before),
         }
     }
 
@@ -441,7 +438,6 @@ impl<'a, P: Steps> Rounds<'a, P> {
             values,
         };
         self.gone.add(cell, values);
-        self.has_emptied |= left(&self.now, cell).is_subset(self.gone.of(cell));
         self.steps.push(step)?;
         Ok(())
     }
