@@ -37,7 +37,11 @@ class Asked(NamedTuple):
 
 #: Numbers that a clue strikes with what stands, and only when an earlier one of them is struck: they are steps of their own.
 ONE_BY_ONE = [
-    Asked('towers', ['new 4:////2///////////2,c2b4i'], [{15: [1]}, {13: [4]}]),
+    Asked(
+        'towers',
+        ['new 5de:1/2/3/3/4/4/2/2/2/1/1/2/2/3/4/4/3/2/2/1,e3s', 'move R3,4,4', 'move R2,3,3', 'move R1,1,5'],
+        [{22: [2]}, {2: [1, 2]}],
+    ),
     Asked(
         'towers',
         ['new 7dh:/3///4/2//3///2//3/1/4//5/3///4//3/////,j1g2c4o2j', 'move R3,0,7', 'move R0,1,7', 'move R1,1,5', 'move R0,2,1', 'move R1,2,3', 'move R6,2,6', 'move R0,3,2'],
