@@ -35,8 +35,10 @@ class Asked(NamedTuple):
     ends: List[Dict[int, List[int]]]
 
 
-#: Numbers that a clue strikes with what stands, and only when an earlier one of them is struck: they are steps of their own.
+#: Numbers that a clue strikes with what stands, and only when an earlier one of them is struck: they are steps of their own. Of the first board each step
+#: has to hold, whichever they are.
 ONE_BY_ONE = [
+    Asked('towers', ['new 4:////2///////////2,c2b4i'], []),
     Asked(
         'towers',
         ['new 5de:1/2/3/3/4/4/2/2/2/1/1/2/2/3/4/4/3/2/2/1,e3s', 'move R3,4,4', 'move R2,3,3', 'move R1,1,5'],
