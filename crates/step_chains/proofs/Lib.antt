@@ -1,5 +1,6 @@
 pub mod Unseen
 pub mod Followed
+pub mod Barred
 pub mod Blocks
 pub mod Tight
 pub mod Idle

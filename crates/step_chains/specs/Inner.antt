@@ -2,6 +2,7 @@
 pub mod Views
 pub mod Replays
 pub mod Tight
+pub mod Barred
 pub mod Goals
 pub mod Aims
 pub mod Listed

@@ -1,4 +1,4 @@
-//! Steps that don't hold any more once a number comes back, looked for where they look at its square.
+//! Steps by clues and signs that don't hold any more once a number comes back, looked for where they look at its square.
 ghost use Rattle.std.specs.Prelude.{◌≡◌};
 ghost use Rattle.std.specs.Bool.{OnTrue};
 ghost use Rattle.trail_solver.specs.Candidates.{IsEarlier};
@@ -11,17 +11,7 @@ use crate::replays::{is_step, keep_in, take_all};
 use crate::seen::are_stuck;
 use latin_board::Size;
 use named_steps::{Grade, Reason, Steps};
-use number_sets::NumberSet;
 use trail_solver::{Candidates, Rules};
-
-/// Which steps are looked at.
-#[derive(Clone, Copy, PartialEq, Eq, Debug)]
-pub(crate) enum Looks {
-    /// Those by rows, columns and signs, which take no time.
-    AtSquares,
-    /// Those by clues.
-    AtClues,
-}
 
 /// A number that is left in a square though a step could strike it.
 #[derive(Clone, Copy, Debug)]
@@ -30,15 +20,14 @@ pub(crate) struct Spared {
     pub(crate) value: u8,
 }
 
-/// Whether one of the steps that look in this way where a number is spared isn't one of the grade's. Where none of these is broken, another
-/// may be. The candidates are afterwards what they were, and the sizes are equal. `known` is used and added to.
+/// Whether one of the steps by clues and signs that look where a number is spared isn't one of the grade's. Where none of these is broken,
+/// another may be. The candidates are afterwards what they were, and the sizes are equal. `known` is used and added to.
 pub(crate) fn has_broken<P: Steps>(
     p: &P,
     grade: Grade,
     candidates: &mut Candidates,
     steps: &[Step],
     spared: Spared,
-    looks: Looks,
     known: &mut P::Known,
 ) -> bool
     requires { candidates.old.size ≡ (P.puzzle p.now).size }
@@ -47,7 +36,7 @@ pub(crate) fn has_broken<P: Steps>(
         (IsGradeChain (P.struck_by p.now) grade candidates.old (steps_of steps.now) → ⊥) }
 {
     let mark = candidates.mark();
-    let broken = find_broken(p, grade, candidates, steps, spared, looks, known);
+    let broken = find_broken(p, grade, candidates, steps, spared, known);
     candidates.give_back(mark);
     broken
 }
@@ -59,7 +48,6 @@ fn find_broken<P: Steps>(
     candidates: &mut Candidates,
     steps: &[Step],
     spared: Spared,
-    looks: Looks,
     known: &mut P::Known,
 ) -> bool
     requires { candidates.old.size ≡ (P.puzzle p.now).size }
@@ -70,7 +58,7 @@ fn find_broken<P: Steps>(
     let size = candidates.size();
     let mut taken = 0;
     for place in 0..steps.len() {
-        if looks_at(size, &steps[place], spared, looks) {
+        if looks_at(size, &steps[place], spared) {
             take_all(candidates, &steps[taken..place]);
             taken = place;
             if is_broken(p, grade, candidates, &steps[place], spared, known) {
@@ -126,46 +114,13 @@ fn breaks_clue<P: Steps>(
     !is_step(p, grade, candidates, step, known)
 }
 
-// Whether a step looks in this way where a number is spared, and may need that it isn't. Nothing is ensured of it, as nothing stands on it but
-// time. It is asked most often of all.
+// Whether a step by a clue or a sign looks where a number is spared, and may need that it isn't. Nothing is ensured of it, as nothing stands on it
+// but time. It is asked most often of all.
 #[inline(always)]
-fn looks_at(size: Size, step: &Step, spared: Spared, looks: Looks) -> bool {
-    match looks {
-        Looks::AtSquares => looks_at_squares(size, step, spared),
-        Looks::AtClues => looks_from_clue(size, step, spared),
-    }
-}
-
-// The same of a step by rows, columns and signs.
-#[inline(always)]
-fn looks_at_squares(size: Size, step: &Step, spared: Spared) -> bool {
-    let Spared { cell, value } = spared;
-    match step.reason {
-        Reason::Peer { cell: from } => from == cell as usize && !has(step.values, value),
-        Reason::Sign { from, .. } => from == cell as usize,
-        Reason::Place {
-            line,
-            value: own,
-            ..
-        } => own == value && step.cell != cell && is_on(size, line, cell),
-        Reason::Set {
-            line,
-            squares,
-            values,
-        } => {
-            !has(values, value)
-                && is_on(size, line, cell)
-                && has(squares, place_on(size, line, cell))
-        }
-        _ => false,
-    }
-}
-
-// The same of a step by a clue.
-#[inline(always)]
-fn looks_from_clue(size: Size, step: &Step, spared: Spared) -> bool {
+fn looks_at(size: Size, step: &Step, spared: Spared) -> bool {
     let place = match step.reason {
         Reason::Stand { place } | Reason::Clue { place } => place,
+        Reason::Sign { from, .. } => return from == spared.cell as usize,
         _ => return false,
     };
     step.cell != spared.cell
@@ -178,23 +133,9 @@ fn strikes_alone(step: &Step, value: u8) -> bool {
     matches!(step.reason, Reason::Clue { .. }) && step.values == single(value)
 }
 
-fn has(set: NumberSet, number: u8) -> bool {
-    number < 16 && set.has(number)
-}
-
 // Whether a square is one of a row or column.
 fn is_on(size: Size, line: usize, cell: u8) -> bool {
     let width = size.get() as usize;
     let (row, column) = (cell as usize / width, cell as usize % width);
     line == row || line == width + column
-}
-
-// Which square of its row or column it is.
-fn place_on(size: Size, line: usize, cell: u8) -> u8 {
-    let width = size.get();
-    if line < width as usize {
-        cell % width
-    } else {
-        cell / width
-    }
 }

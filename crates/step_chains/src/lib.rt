@@ -15,6 +15,7 @@
 #![tactic(auto)]
 
 mod aims;
+mod barred_steps;
 mod broken_steps;
 mod chain;
 mod clue_premises;

@@ -3,9 +3,10 @@
 
 use crate::aims::Aim;
 use crate::chain::Step;
-use crate::needs::{Values, left, looked_at, needs_of};
+use crate::needs::{Values, left, looked_at, needs_of, squares_from};
 use crate::premises::few_premises;
 use crate::replays::{struck, take};
+use crate::seen::struck_along;
 use latin_board::{CELLS, OutOfMemory};
 use named_steps::{Reason, Steps};
 use std::alloc::Global;
@@ -115,16 +116,40 @@ fn struck_now<P: Steps>(
     reason: &Reason,
     known: &mut P::Known,
 ) -> Values {
+    let by_clue = struck_by_clue(p, candidates, reason, known);
     let mut now = Values::none();
     for step in steps {
         if step.reason == *reason {
             let cell = step.cell as usize;
-            let values = step
-                .values
-                .intersection(left(candidates, cell))
-                .intersection(struck(p, candidates, reason, cell, known));
-            now.add(cell, values);
+            let strikes = match &by_clue {
+                Some(all) => all.of(cell),
+                None => struck(p, candidates, reason, cell, known),
+            };
+            let values = step.values.intersection(left(candidates, cell));
+            now.add(cell, values.intersection(strikes));
         }
     }
     now
+}
+
+// What a clue strikes in all squares of its line, where the reason is one.
+fn struck_by_clue<P: Steps>(
+    p: &P,
+    candidates: &Candidates,
+    reason: &Reason,
+    known: &mut P::Known,
+) -> Option<Values> {
+    let place = match *reason {
+        Reason::Bound { place } | Reason::Stand { place } | Reason::Clue { place } => place,
+        _ => return None,
+    };
+    let cells = squares_from(candidates.size(), place);
+    let row = struck_along(p, candidates, reason, place, &cells, known);
+    let mut all = Values::none();
+    for k in 0..cells.len() {
+        if k < 9 {
+            all.add(cells[k] as usize, row[k]);
+        }
+    }
+    Some(all)
 }

@@ -8,7 +8,8 @@ ghost use Rattle.step_chains.specs.Inner.Aims.{IsAimOf, aim_goal};
 ghost use Rattle.step_chains.specs.Inner.Tight.{FromEach, IsDoneFrom, IsDoneTo, IsNarrowedTo, IsLeftOut};
 
 use crate::aims::Aim;
-use crate::broken_steps::{Looks, Spared, has_broken};
+use crate::barred_steps::has_barred;
+use crate::broken_steps::{Spared, has_broken};
 use crate::chain::Step;
 use crate::replays::{misses, shows_without, take_all};
 use named_steps::{Goal, Grade, Steps};
@@ -203,8 +204,7 @@ fn leave_out<P: Steps>(
 }
 
 // Whether the steps come to the aim, where what those before a place list is taken away, of a chain of the grade's, and the one at the place
-// spares a value. Mostly the value is in the aim's way, or a step by rows and columns that looks at its square is broken; next a step by a
-// clue.
+// spares a value. Mostly the value is in the aim's way, or bars a step by rows and columns; next it breaks a step by a clue.
 fn shows_on<P: Steps>(
     p: &P,
     grade: Grade,
@@ -218,6 +218,7 @@ fn shows_on<P: Steps>(
     requires size { candidates.old.size ≡ (P.puzzle p.now).size }
     requires aim { IsAimOf candidates.old.size aim }
     requires inside { place < length steps.now }
+    requires value { value < 16 }
     ensures same { candidates.new ≡ candidates.old }
     ensures shows { FromEach (P.struck_by p.now) grade place steps.now candidates.old
         (λ c. IsTrue result ↔ Shows (P.struck_by p.now) grade c (steps_of steps.now) (aim_goal aim)) }
@@ -228,10 +229,10 @@ fn shows_on<P: Steps>(
     if is_spoilt(candidates, rest, aim, spared) {
         return false;
     }
-    if has_broken(p, grade, candidates, rest, spared, Looks::AtSquares, known) {
+    if has_barred(p, candidates, rest, spared) {
         return false;
     }
-    if has_broken(p, grade, candidates, rest, spared, Looks::AtClues, known) {
+    if has_broken(p, grade, candidates, rest, spared, known) {
         return false;
     }
     shows_without(p, grade, candidates, rest, rest.len(), aim, known)

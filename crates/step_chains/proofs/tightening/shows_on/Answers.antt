@@ -15,6 +15,15 @@ returns-then-is_spoilt-clause-shows g c = λ start first.
           c.args.steps.now c.args.place (aim_goal c.args.aim) first c.if-is_spoilt.ensures.spoilt shows),
     )
 
+pub returns-then-has_barred-clause-shows : goal.returns-then-has_barred-clause-shows
+returns-then-has_barred-clause-shows g c = λ start first. (
+  λ e. absurd (false≢true e),
+  λ shows. absurd (broken_shows (g.P.Steps.struck_by c.args.p.now) (g.met.P.Steps.struck_less c.args.p.now) c.args.grade start c.is_spoilt.new.candidates
+      c.args.steps.now c.args.place (aim_goal c.args.aim)
+      (subst (λ (d : CandidatesValue). Leads (g.P.Steps.struck_by c.args.p.now) c.args.grade start (steps_of (take c.args.place c.args.steps.now)) d)
+      (sym c.is_spoilt.ensures.same) first) (c.if-has_barred.ensures c.args.grade) shows),
+)
+
 pub returns-then-has_broken-clause-shows : goal.returns-then-has_broken-clause-shows
 returns-then-has_broken-clause-shows g c = λ start first. (
   λ e. absurd (false≢true e),
@@ -24,18 +33,9 @@ returns-then-has_broken-clause-shows g c = λ start first. (
       (sym c.is_spoilt.ensures.same) first) c.if-has_broken.ensures.broken shows),
 )
 
-pub returns-then-has_broken-2-clause-shows : goal.returns-then-has_broken-2-clause-shows
-returns-then-has_broken-2-clause-shows g c = λ start first. (
-  λ e. absurd (false≢true e),
-  λ shows. absurd (broken_shows (g.P.Steps.struck_by c.args.p.now) (g.met.P.Steps.struck_less c.args.p.now) c.args.grade start c.has_broken.new.candidates
-      c.args.steps.now c.args.place (aim_goal c.args.aim)
-      (subst (λ (d : CandidatesValue). Leads (g.P.Steps.struck_by c.args.p.now) c.args.grade start (steps_of (take c.args.place c.args.steps.now)) d)
-      (sym (c.has_broken.ensures.same ∙ c.is_spoilt.ensures.same)) first) c.if-has_broken-2.ensures.broken shows),
-)
-
 pub returns-clause-shows : goal.returns-clause-shows
 returns-clause-shows g c = λ start first.
-    rest_tested (g.P.Steps.struck_by c.args.p.now) (g.met.P.Steps.struck_less c.args.p.now) c.args.grade start c.has_broken-2.new.candidates
+    rest_tested (g.P.Steps.struck_by c.args.p.now) (g.met.P.Steps.struck_less c.args.p.now) c.args.grade start c.has_broken.new.candidates
     c.args.steps.now c.args.place _ (aim_goal c.args.aim) c.shows_without.result
     (subst (λ (d : CandidatesValue). Leads (g.P.Steps.struck_by c.args.p.now) c.args.grade start (steps_of (take c.args.place c.args.steps.now)) d)
-    (sym (c.has_broken-2.ensures.same ∙ c.has_broken.ensures.same ∙ c.is_spoilt.ensures.same)) first) refl c.shows_without.ensures.shows
+    (sym (c.has_broken.ensures.same ∙ c.is_spoilt.ensures.same)) first) refl c.shows_without.ensures.shows
