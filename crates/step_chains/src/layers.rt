@@ -33,7 +33,7 @@ const VERY_MANY: usize = 150;
 /// Rounds of steps: the candidates at the beginning of a round, what its steps have struck by now, and all steps so far.
 #[derive(Drop)]
 pub(crate) struct Rounds<'a, P: Steps> {
-    pub(crate) now: Candidates,
+    pub(crate) now: &'a mut Candidates,
     start: Mark,
     gone: Values,
     pub(crate) steps: Vec<Step>,
@@ -61,7 +61,7 @@ impl<'a, P: Steps> Rounds<'a, P> {
     /// No round yet, from what is in view.
     pub(crate) fn of(
         alloc: Global,
-        view: Candidates,
+        view: &'a mut Candidates,
         sought: Sought,
         known: &'a mut P::Known,
     ) -> Rounds<'a, P> {
@@ -112,7 +112,7 @@ impl<'a, P: Steps> Rounds<'a, P> {
     // Rounds with the kinds up to one, while they strike anything and what is sought isn't found.
     fn go_on(&mut self, p: &P, grid: &Grid, grade: Grade, last: usize) -> Result<(), OutOfMemory> {
         for round in 0..ROUNDS {
-            if self.now.size() != grid.size() || self.has_found(grid) {
+            if self.has_found(grid) {
                 return Ok(());
             }
             let before = self.steps.len();
@@ -125,16 +125,16 @@ impl<'a, P: Steps> Rounds<'a, P> {
     }
 
     // Whether what is sought is found. Where it isn't, it is looked for again only after more steps.
-    fn has_found(&mut self, grid: &Grid) -> bool
-        requires { self.old.now.size ≡ grid.now.size }
-    {
+    fn has_found(&mut self, grid: &Grid) -> bool {
         let steps = Some(self.steps.len());
         if self.open == steps {
             return false;
         }
         let found = match self.sought {
-            Sought::NumberShown => shown_goal(&self.now, grid).is_some(),
-            Sought::SquareEmptied => first_empty(&self.now).is_some(),
+            Sought::NumberShown => {
+                self.now.size() == grid.size() && shown_goal(self.now, grid).is_some()
+            }
+            Sought::SquareEmptied => first_empty(self.now).is_some(),
         };
         if !found {
             self.open = steps;
@@ -184,7 +184,7 @@ impl<'a, P: Steps> Rounds<'a, P> {
         self.losses.go_on();
         for place in from..self.steps.len() {
             let step = self.steps[place];
-            take(&mut self.now, &step);
+            take(self.now, &step);
             self.losses.note(size, step.cell);
         }
     }
@@ -207,8 +207,8 @@ impl<'a, P: Steps> Rounds<'a, P> {
         for cell in 0..width * width {
             if let Kind::Given = kind {
                 self.look_in(p, grade, &Reason::Given { cell }, cell)?;
-            } else if left(&self.now, cell).is_single() && self.peers.of(cell).is_empty() {
-                self.peers.add(cell, left(&self.now, cell));
+            } else if left(self.now, cell).is_single() && self.peers.of(cell).is_empty() {
+                self.peers.add(cell, left(self.now, cell));
                 let reason = Reason::Peer { cell };
                 self.look_among(p, grade, &reason, &squares_of(size, cell / width))?;
                 self.look_among(p, grade, &reason, &squares_of(size, width + cell % width))?;
@@ -268,7 +268,7 @@ impl<'a, P: Steps> Rounds<'a, P> {
                 .stands
                 .may_be_new(place, line_from(size, place), &self.losses)
         {
-            let row = row_of(&self.now, &squares_from(size, place));
+            let row = row_of(self.now, &squares_from(size, place));
             if self.stands.is_new(place, &standing(&row)) {
                 let _strikes = self.look_from(p, grade, &Reason::Stand { place }, place)?;
             }
@@ -284,7 +284,7 @@ impl<'a, P: Steps> Rounds<'a, P> {
                 .clues
                 .may_be_new(place, line_from(size, place), &self.losses)
         {
-            let row = row_of(&self.now, &squares_from(size, place));
+            let row = row_of(self.now, &squares_from(size, place));
             if self.clues.is_new(place, &row) {
                 let _strikes = self.look_from(p, grade, &Reason::Clue { place }, place)?;
             }
@@ -299,7 +299,7 @@ impl<'a, P: Steps> Rounds<'a, P> {
         for line in 0..2 * size.get() as usize {
             if self.places.may_be_new(line, line, &self.losses) {
                 let cells = squares_of(size, line);
-                let row = row_of(&self.now, &cells);
+                let row = row_of(self.now, &cells);
                 if self.places.is_new(line, &row) {
                     self.look_along(p, grade, line, &cells, &row)?;
                 }
@@ -345,10 +345,10 @@ impl<'a, P: Steps> Rounds<'a, P> {
     fn look_at_signs(&mut self, p: &P, grade: Grade, at_lesser: bool) -> Result<(), OutOfMemory> {
         let greatest = single(self.now.size().get());
         for place in 0..Part::Signs.count(self.now.size()) {
-            if let Some(Reason::Sign { from, to }) = Part::Signs.nth(&self.now, place) {
+            if let Some(Reason::Sign { from, to }) = Part::Signs.nth(self.now, place) {
                 let (from, to) = if at_lesser { (to, from) } else { (from, to) };
                 let reason = Reason::Sign { from, to };
-                let values = struck(p, &self.now, &reason, to, self.known);
+                let values = struck(p, self.now, &reason, to, self.known);
                 self.has_signs |= !values.is_empty();
                 if greatest.is_subset(values) == at_lesser {
                     self.list(grade, &reason, to, values)?;
@@ -365,7 +365,7 @@ impl<'a, P: Steps> Rounds<'a, P> {
         for line in 0..2 * size.get() as usize {
             if self.groups.may_be_new(line, line, &self.losses) {
                 let cells = squares_of(size, line);
-                let row = row_of(&self.now, &cells);
+                let row = row_of(self.now, &cells);
                 if self.groups.is_new(line, &row) {
                     self.look_at_groups_on(p, grade, line, &cells, &row)?;
                 }
@@ -404,7 +404,7 @@ impl<'a, P: Steps> Rounds<'a, P> {
         place: usize,
     ) -> Result<bool, OutOfMemory> {
         let cells = squares_from(self.now.size(), place);
-        let row = struck_along(p, &self.now, reason, place, &cells, self.known);
+        let row = struck_along(p, self.now, reason, place, &cells, self.known);
         let mut strikes = false;
         for k in 0..cells.len() {
             if k < 9 {
@@ -437,7 +437,7 @@ impl<'a, P: Steps> Rounds<'a, P> {
         reason: &Reason,
         cell: usize,
     ) -> Result<(), OutOfMemory> {
-        let values = struck(p, &self.now, reason, cell, self.known);
+        let values = struck(p, self.now, reason, cell, self.known);
         self.list(grade, reason, cell, values)
     }
 
@@ -450,7 +450,7 @@ impl<'a, P: Steps> Rounds<'a, P> {
         struck: NumberSet,
     ) -> Result<(), OutOfMemory> {
         let values = struck
-            .intersection(left(&self.now, cell))
+            .intersection(left(self.now, cell))
             .difference(self.gone.of(cell));
         if values.is_empty() || cell >= CELLS || !grade.has(*reason) {
             return Ok(());
