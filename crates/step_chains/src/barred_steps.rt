@@ -19,6 +19,7 @@ use trail_solver::{Candidates, Rules};
 
 /// Whether a number that is left bars one of the steps before any of them strikes it: then they are no chain of any grade. The sizes are
 /// equal.
+#[inline(never)]
 pub(crate) fn has_barred<P: Steps>(
     p: &P,
     candidates: &Candidates,

@@ -22,6 +22,7 @@ pub(crate) struct Spared {
 
 /// Whether one of the steps by clues and signs that look where a number is spared isn't one of the grade's. Where none of these is broken,
 /// another may be. The candidates are afterwards what they were, and the sizes are equal. `known` is used and added to.
+#[inline(never)]
 pub(crate) fn has_broken<P: Steps>(
     p: &P,
     grade: Grade,

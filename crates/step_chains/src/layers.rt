@@ -10,7 +10,7 @@ use crate::needs::{Values, left, line_from, single, squares_from, squares_of};
 use crate::reasons::{Part, group};
 use crate::replays::{struck, take};
 use crate::seen::{
-    LINES, Losses, PLACES, Seen, last_place, row_of, shared_numbers, sharing, standing,
+    LINES, Looks, Losses, PLACES, Seen, last_place, row_of, shared_numbers, sharing, standing,
     struck_along, union_of,
 };
 use arrayvec::ArrayVec;
@@ -33,7 +33,7 @@ const VERY_MANY: usize = 150;
 /// Rounds of steps: the candidates at the beginning of a round, what its steps have struck by now, and all steps so far.
 #[derive(Drop)]
 pub(crate) struct Rounds<'a, P: Steps> {
-    pub(crate) now: &'a mut Candidates,
+    pub(crate) now: Candidates,
     start: Mark,
     gone: Values,
     pub(crate) steps: Vec<Step>,
@@ -50,10 +50,12 @@ pub(crate) struct Rounds<'a, P: Steps> {
     first_place: usize,
     // Which rows and columns lost something since they were looked at: only their rows can be others.
     losses: Losses,
-    places: Seen<LINES>,
-    stands: Seen<PLACES>,
-    clues: Seen<PLACES>,
-    groups: Seen<LINES>,
+    places: Looks<LINES>,
+    stands: Looks<PLACES>,
+    // What stands in a clue's line may be the same though it lost something.
+    standing: Seen,
+    clues: Looks<PLACES>,
+    groups: Looks<LINES>,
     pub(crate) known: &'a mut P::Known,
 }
 
@@ -61,7 +63,7 @@ impl<'a, P: Steps> Rounds<'a, P> {
     /// No round yet, from what is in view.
     pub(crate) fn of(
         alloc: Global,
-        view: &'a mut Candidates,
+        view: Candidates,
         sought: Sought,
         known: &'a mut P::Known,
     ) -> Rounds<'a, P> {
@@ -77,10 +79,11 @@ impl<'a, P: Steps> Rounds<'a, P> {
             has_clue: [false; PLACES],
             first_place: 0,
             losses: Losses::new(),
-            places: Seen::nothing(),
-            stands: Seen::nothing(),
-            clues: Seen::nothing(),
-            groups: Seen::nothing(),
+            places: Looks::none(),
+            stands: Looks::none(),
+            standing: Seen::nothing(),
+            clues: Looks::none(),
+            groups: Looks::none(),
             known,
         }
     }
@@ -112,7 +115,7 @@ impl<'a, P: Steps> Rounds<'a, P> {
     // Rounds with the kinds up to one, while they strike anything and what is sought isn't found.
     fn go_on(&mut self, p: &P, grid: &Grid, grade: Grade, last: usize) -> Result<(), OutOfMemory> {
         for round in 0..ROUNDS {
-            if self.has_found(grid) {
+            if self.now.size() != grid.size() || self.has_found(grid) {
                 return Ok(());
             }
             let before = self.steps.len();
@@ -125,16 +128,16 @@ impl<'a, P: Steps> Rounds<'a, P> {
     }
 
     // Whether what is sought is found. Where it isn't, it is looked for again only after more steps.
-    fn has_found(&mut self, grid: &Grid) -> bool {
+    fn has_found(&mut self, grid: &Grid) -> bool
+        requires { self.old.now.size ≡ grid.now.size }
+    {
         let steps = Some(self.steps.len());
         if self.open == steps {
             return false;
         }
         let found = match self.sought {
-            Sought::NumberShown => {
-                self.now.size() == grid.size() && shown_goal(self.now, grid).is_some()
-            }
-            Sought::SquareEmptied => first_empty(self.now).is_some(),
+            Sought::NumberShown => shown_goal(&self.now, grid).is_some(),
+            Sought::SquareEmptied => first_empty(&self.now).is_some(),
         };
         if !found {
             self.open = steps;
@@ -184,7 +187,7 @@ impl<'a, P: Steps> Rounds<'a, P> {
         self.losses.go_on();
         for place in from..self.steps.len() {
             let step = self.steps[place];
-            take(self.now, &step);
+            take(&mut self.now, &step);
             self.losses.note(size, step.cell);
         }
     }
@@ -207,8 +210,8 @@ impl<'a, P: Steps> Rounds<'a, P> {
         for cell in 0..width * width {
             if let Kind::Given = kind {
                 self.look_in(p, grade, &Reason::Given { cell }, cell)?;
-            } else if left(self.now, cell).is_single() && self.peers.of(cell).is_empty() {
-                self.peers.add(cell, left(self.now, cell));
+            } else if left(&self.now, cell).is_single() && self.peers.of(cell).is_empty() {
+                self.peers.add(cell, left(&self.now, cell));
                 let reason = Reason::Peer { cell };
                 self.look_among(p, grade, &reason, &squares_of(size, cell / width))?;
                 self.look_among(p, grade, &reason, &squares_of(size, width + cell % width))?;
@@ -266,10 +269,10 @@ impl<'a, P: Steps> Rounds<'a, P> {
         if self.is_clued(place)
             && self
                 .stands
-                .may_be_new(place, line_from(size, place), &self.losses)
+                .is_due(place, line_from(size, place), &self.losses)
         {
-            let row = row_of(self.now, &squares_from(size, place));
-            if self.stands.is_new(place, &standing(&row)) {
+            let row = row_of(&self.now, &squares_from(size, place));
+            if self.standing.is_new(place, &standing(&row)) {
                 let _strikes = self.look_from(p, grade, &Reason::Stand { place }, place)?;
             }
         }
@@ -282,12 +285,9 @@ impl<'a, P: Steps> Rounds<'a, P> {
         if self.is_clued(place)
             && self
                 .clues
-                .may_be_new(place, line_from(size, place), &self.losses)
+                .is_due(place, line_from(size, place), &self.losses)
         {
-            let row = row_of(self.now, &squares_from(size, place));
-            if self.clues.is_new(place, &row) {
-                let _strikes = self.look_from(p, grade, &Reason::Clue { place }, place)?;
-            }
+            let _strikes = self.look_from(p, grade, &Reason::Clue { place }, place)?;
         }
         Ok(())
     }
@@ -297,12 +297,10 @@ impl<'a, P: Steps> Rounds<'a, P> {
     fn look_at_places(&mut self, p: &P, grade: Grade) -> Result<(), OutOfMemory> {
         let size = self.now.size();
         for line in 0..2 * size.get() as usize {
-            if self.places.may_be_new(line, line, &self.losses) {
+            if self.places.is_due(line, line, &self.losses) {
                 let cells = squares_of(size, line);
-                let row = row_of(self.now, &cells);
-                if self.places.is_new(line, &row) {
-                    self.look_along(p, grade, line, &cells, &row)?;
-                }
+                let row = row_of(&self.now, &cells);
+                self.look_along(p, grade, line, &cells, &row)?;
             }
         }
         Ok(())
@@ -345,10 +343,10 @@ impl<'a, P: Steps> Rounds<'a, P> {
     fn look_at_signs(&mut self, p: &P, grade: Grade, at_lesser: bool) -> Result<(), OutOfMemory> {
         let greatest = single(self.now.size().get());
         for place in 0..Part::Signs.count(self.now.size()) {
-            if let Some(Reason::Sign { from, to }) = Part::Signs.nth(self.now, place) {
+            if let Some(Reason::Sign { from, to }) = Part::Signs.nth(&self.now, place) {
                 let (from, to) = if at_lesser { (to, from) } else { (from, to) };
                 let reason = Reason::Sign { from, to };
-                let values = struck(p, self.now, &reason, to, self.known);
+                let values = struck(p, &self.now, &reason, to, self.known);
                 self.has_signs |= !values.is_empty();
                 if greatest.is_subset(values) == at_lesser {
                     self.list(grade, &reason, to, values)?;
@@ -363,12 +361,10 @@ impl<'a, P: Steps> Rounds<'a, P> {
     fn look_at_groups(&mut self, p: &P, grade: Grade) -> Result<(), OutOfMemory> {
         let size = self.now.size();
         for line in 0..2 * size.get() as usize {
-            if self.groups.may_be_new(line, line, &self.losses) {
+            if self.groups.is_due(line, line, &self.losses) {
                 let cells = squares_of(size, line);
-                let row = row_of(self.now, &cells);
-                if self.groups.is_new(line, &row) {
-                    self.look_at_groups_on(p, grade, line, &cells, &row)?;
-                }
+                let row = row_of(&self.now, &cells);
+                self.look_at_groups_on(p, grade, line, &cells, &row)?;
             }
         }
         Ok(())
@@ -404,7 +400,7 @@ impl<'a, P: Steps> Rounds<'a, P> {
         place: usize,
     ) -> Result<bool, OutOfMemory> {
         let cells = squares_from(self.now.size(), place);
-        let row = struck_along(p, self.now, reason, place, &cells, self.known);
+        let row = struck_along(p, &self.now, reason, place, &cells, self.known);
         let mut strikes = false;
         for k in 0..cells.len() {
             if k < 9 {
@@ -437,7 +433,7 @@ impl<'a, P: Steps> Rounds<'a, P> {
         reason: &Reason,
         cell: usize,
     ) -> Result<(), OutOfMemory> {
-        let values = struck(p, self.now, reason, cell, self.known);
+        let values = struck(p, &self.now, reason, cell, self.known);
         self.list(grade, reason, cell, values)
     }
 
@@ -450,7 +446,7 @@ impl<'a, P: Steps> Rounds<'a, P> {
         struck: NumberSet,
     ) -> Result<(), OutOfMemory> {
         let values = struck
-            .intersection(left(self.now, cell))
+            .intersection(left(&self.now, cell))
             .difference(self.gone.of(cell));
         if values.is_empty() || cell >= CELLS || !grade.has(*reason) {
             return Ok(());

@@ -52,35 +52,46 @@ impl Losses {
     }
 }
 
-/// The row that was last looked at from each of some places at the edge, or of each row or column.
+/// When each of some places at the edge, or of the rows and columns, was looked at last.
 #[derive(Clone, Copy, Debug)]
-pub(crate) struct Seen<const COUNT: usize> {
-    rows: [[NumberSet; 9]; COUNT],
-    // when each was looked at, or 0
+pub(crate) struct Looks<const COUNT: usize> {
+    // or 0
     times: [u16; COUNT],
 }
 
-impl<const COUNT: usize> Seen<COUNT> {
-    /// No row yet: 0 is left of no square, so these are like none.
-    pub(crate) fn nothing() -> Seen<COUNT> {
-        Seen {
-            rows: [[NumberSet::one(0); 9]; COUNT],
-            times: [0; COUNT],
-        }
+impl<const COUNT: usize> Looks<COUNT> {
+    /// None was looked at yet.
+    pub(crate) fn none() -> Looks<COUNT> {
+        Looks { times: [0; COUNT] }
     }
 
-    /// Whether the row may be another one than the last from there, as its line lost something since. It is looked at now.
-    pub(crate) fn may_be_new(&mut self, place: usize, line: usize, losses: &Losses) -> bool {
+    /// Whether the row from a place is another one than when it was looked at last: its line lost something since. It is looked at now.
+    pub(crate) fn is_due(&mut self, place: usize, line: usize, losses: &Losses) -> bool {
         if place >= COUNT || self.times[place] >= losses.of(line) {
             return false;
         }
         self.times[place] = losses.now;
         true
     }
+}
+
+/// The row that was last seen from each place at the edge.
+#[derive(Clone, Copy, Debug)]
+pub(crate) struct Seen {
+    rows: [[NumberSet; 9]; PLACES],
+}
+
+impl Seen {
+    /// No row yet: 0 is left of no square, so these are like none.
+    pub(crate) fn nothing() -> Seen {
+        Seen {
+            rows: [[NumberSet::one(0); 9]; PLACES],
+        }
+    }
 
     /// Whether the row is another one than the last from there. It is the last then.
     pub(crate) fn is_new(&mut self, place: usize, row: &[NumberSet; 9]) -> bool {
-        if place >= COUNT || self.rows[place] == *row {
+        if place >= PLACES || self.rows[place] == *row {
             return false;
         }
         self.rows[place] = *row;

@@ -110,13 +110,11 @@ fn least_chain<P: Steps>(
     sought: Sought,
     known: &mut P::Known,
 ) -> Result<Option<Aimed>, OutOfMemory> {
-    // Rounds borrow it, since two of them would take three kilobytes more of the stack.
-    let mut view = view_of(grid);
-    let mut rounds = Rounds::of(alloc, &mut view, sought, known);
+    let mut rounds = Rounds::of(alloc, view_of(grid), sought, known);
     rounds.go_through(p, grid, grade)?;
     let aims = match sought {
-        Sought::NumberShown => numbers_shown(alloc, grid, rounds.now)?,
-        Sought::SquareEmptied => squares_emptied(alloc, rounds.now)?,
+        Sought::NumberShown => numbers_shown(alloc, grid, &rounds.now)?,
+        Sought::SquareEmptied => squares_emptied(alloc, &rounds.now)?,
     };
     rounds.give_back();
     let mut least = Least {
@@ -229,12 +227,12 @@ impl Least {
         let needed = slice(
             alloc,
             p,
-            rounds.now,
+            &mut rounds.now,
             rounds.steps.as_slice(),
             aim,
             rounds.known,
         )?;
-        let steps = gathered(alloc, p, rounds.now, needed.as_slice(), rounds.known)?;
+        let steps = gathered(alloc, p, &mut rounds.now, needed.as_slice(), rounds.known)?;
         let cost = cost_of(steps.as_slice());
         if cost < self.cost {
             self.cost = cost;
