@@ -17,9 +17,9 @@ from tests.second_implementation.grades import LETTERS
 STACK = 64 * 1024
 
 #: So often what takes most of it is tried: a system lets the stack begin up to 8 KB lower, each time elsewhere, and after an environment, here one
-#: as large as on many machines.
+#: as large as the manual allows.
 TIMES = 60
-ENVIRONMENT = {'EVERYTHING_ELSE': 2000 * '.'}
+ENVIRONMENT = {'EVERYTHING_ELSE': 3000 * '.'}
 
 #: Each command, on the puzzle itself and on a board with all its marks, and then on a seeded game.
 COMMANDS = Path(__file__).with_name('commands.txt').read_bytes()

@@ -1,17 +1,16 @@
 -- Steps that strike nothing while a number is left.
-use Rattle.std.proofs.Common.{◌≡◌, ℕ, ◌+◌, ◌^◌, ◌<◌, Bool, true, false, ◌==◌, List, [], ◌∷◌, ◌++◌, take, drop, refl, sym, ap, ◌∙◌, subst, append_assoc}
-use Rattle.std.proofs.lemmas.List.{map-append, take-append-drop}
+use Rattle.std.proofs.Common.{◌≡◌, ℕ, ◌+◌, ◌^◌, ◌<◌, Bool, true, false, ◌==◌, List, [], ◌∷◌, ◌++◌, take, drop, refl, sym, ◌∙◌, subst}
 use Rattle.std.specs.Bool.{OnFalse}
 use Rattle.std.proofs.lemmas.Bool.{and_parts, and_from, eq-eqb, eqb-true, both_ways, false_from_ne_true}
 use Rattle.number_sets.specs.Sets.{has_number}
 use Rattle.trail_solver.specs.Pairs.{has_pair, pairs_of}
 use Rattle.trail_solver.specs.Candidates.{CandidatesValue}
 use Rattle.trail_solver.proofs.SetPairs.{has_pair-pairs_of}
-use Rattle.clue_rules.specs.Left.{IsLeft, without}
+use Rattle.clue_rules.specs.Left.{IsLeft}
 use Rattle.clue_rules.specs.Grades.{is_of_lines}
 use Rattle.clue_rules.specs.Reasons.{Striking, IsByLine}
 use Rattle.clue_rules.specs.Chains.{left_by}
-use Rattle.clue_rules.proofs.Chains.{left_size, left_append, chain_split}
+use Rattle.clue_rules.proofs.Chains.{left_size, chain_split}
 use Rattle.clue_rules.proofs.Takes.{still_left}
 use Rattle.clue_rules.specs.declared.grade.Grade.{Grade}
 use Rattle.clue_rules.specs.declared.reason.Reason.{Reason}
@@ -19,14 +18,7 @@ use Rattle.step_chains.specs.declared.chain.Step.{Step}
 use Rattle.step_chains.specs.ChainValues.{step_value, steps_of}
 use Rattle.step_chains.specs.Inner.Barred.{IsBarred}
 use Rattle.step_chains.specs.Inner.Replays.{IsGradeChain}
-
--- the steps before one, it, and those after it
-parted_at : (steps : List Step) (i : ℕ) (s : Step) → take (i + 1) steps ≡ take i steps ++ s ∷ []
-    → steps_of steps ≡ steps_of (take i steps) ++ step_value s ∷ steps_of (drop (i + 1) steps)
-parted_at steps i s more =
-    let parts : steps ≡ take i steps ++ s ∷ drop (i + 1) steps =
-    sym (take-append-drop (i + 1) steps) ∙ ap (λ xs. xs ++ drop (i + 1) steps) more ∙ append_assoc (take i steps) (s ∷ []) (drop (i + 1) steps) in
-    ap steps_of parts ∙ map-append step_value (take i steps) (s ∷ drop (i + 1) steps)
+use Rattle.step_chains.proofs.Live.{parted_at, left_more}
 
 -- where one of them is barred by what those before it leave, they are no chain
 pub barred_breaks : (Struck : Striking) (w : ℕ)
@@ -48,11 +40,8 @@ pub left_after : (c : CandidatesValue) (steps : List Step) (i : ℕ) (s : Step) 
     → has_pair (step_value s).strikes cell value ≡ false → IsLeft (left_by c (steps_of (take i steps))) cell value
     → IsLeft (left_by c (steps_of (take (i + 1) steps))) cell value
 left_after c steps i s cell value more spares left =
-    let front = steps_of (take i steps) in
-    let listed : steps_of (take (i + 1) steps) ≡ front ++ step_value s ∷ [] = ap steps_of more ∙ map-append step_value (take i steps) (s ∷ []) in
-    let last : left_by c (steps_of (take (i + 1) steps)) ≡ without (left_by c front) (step_value s).strikes =
-    ap (λ xs. left_by c xs) listed ∙ left_append c front (step_value s ∷ []) in
-    subst (λ (x : CandidatesValue). IsLeft x cell value) (sym last) (still_left (left_by c front) (step_value s).strikes cell value left spares)
+    subst (λ (x : CandidatesValue). IsLeft x cell value) (sym (left_more c steps i s more))
+    (still_left (left_by c (steps_of (take i steps))) (step_value s).strikes cell value left spares)
 
 -- a step doesn't strike a number of another square, nor one that isn't among its own
 pub spared_by_cell : (s : Step) (cell value : ℕ) (b : Bool) → s.values < 2 ^ 16 → (s.cell ≡ cell → ⊥)

@@ -109,15 +109,26 @@ pub live_split : (c : CandidatesValue) (front back : List StepValue) → AreLive
 live_split c [] back h = h
 live_split c (step ∷ front) back h = live_split (without c step.strikes) front back h.1
 
+-- the steps before one, it, and those after it
+pub parted_at : (steps : List Step) (i : ℕ) (s : Step) → take (i + 1) steps ≡ take i steps ++ s ∷ []
+    → steps_of steps ≡ steps_of (take i steps) ++ step_value s ∷ steps_of (drop (i + 1) steps)
+parted_at steps i s more =
+    let parts : steps ≡ take i steps ++ s ∷ drop (i + 1) steps =
+    sym (take-append-drop (i + 1) steps) ∙ ap (λ xs. xs ++ drop (i + 1) steps) more ∙ append_assoc (take i steps) (s ∷ []) (drop (i + 1) steps) in
+    ap steps_of parts ∙ map-append step_value (take i steps) (s ∷ drop (i + 1) steps)
+
+-- what one step more leaves
+pub left_more : (c : CandidatesValue) (steps : List Step) (i : ℕ) (s : Step) → take (i + 1) steps ≡ take i steps ++ s ∷ []
+    → left_by c (steps_of (take (i + 1) steps)) ≡ without (left_by c (steps_of (take i steps))) (step_value s).strikes
+left_more c steps i s more =
+    ap (λ xs. left_by c xs) (ap steps_of more ∙ map-append step_value (take i steps) (s ∷ []))
+    ∙ left_append c (steps_of (take i steps)) (step_value s ∷ [])
+
 -- in a chain that strikes what is left, each step does so by what is left before it
 pub live_here : (c d : CandidatesValue) (steps : List Step) (i : ℕ) (s : Step) → take (i + 1) steps ≡ take i steps ++ s ∷ []
     → AreAlike (left_by c (steps_of (take i steps))) d → AreLive c (steps_of steps) → IsLiveStep d (step_value s)
 live_here c d steps i s more alike live =
-    let parts : steps ≡ take i steps ++ s ∷ drop (i + 1) steps =
-    sym (take-append-drop (i + 1) steps) ∙ ap (λ xs. xs ++ drop (i + 1) steps) more ∙ append_assoc (take i steps) (s ∷ []) (drop (i + 1) steps) in
-    let listed : steps_of steps ≡ steps_of (take i steps) ++ step_value s ∷ steps_of (drop (i + 1) steps) =
-    ap steps_of parts ∙ map-append step_value (take i steps) (s ∷ drop (i + 1) steps) in
-    let here = (live_split c (steps_of (take i steps)) (step_value s ∷ steps_of (drop (i + 1) steps)) (subst (AreLive c) listed live)).0 in
+    let here = (live_split c (steps_of (take i steps)) (step_value s ∷ steps_of (drop (i + 1) steps)) (subst (AreLive c) (parted_at steps i s more) live)).0 in
     λ cell v has. alike.1 cell v (here cell v has)
 
 -- one step more of it
@@ -127,10 +138,8 @@ pub live_on : (c d e : CandidatesValue) (steps : List Step) (i : ℕ) (s : Step)
     → AreAlike (left_by c (steps_of (take (i + 1) steps))) e × AreLive c (steps_of (take (i + 1) steps))
 live_on c d e steps i s more size alike live here t =
     let front = steps_of (take i steps) in
-    let listed : steps_of (take (i + 1) steps) ≡ front ++ step_value s ∷ [] = ap steps_of more ∙ map-append step_value (take i steps) (s ∷ []) in
-    let last : left_by c (steps_of (take (i + 1) steps)) ≡ without (left_by c front) (step_value s).strikes =
-    ap (λ xs. left_by c xs) listed ∙ left_append c front (step_value s ∷ []) in (
-      subst (λ (x : CandidatesValue). AreAlike x e) (sym last)
+    let listed : steps_of (take (i + 1) steps) ≡ front ++ step_value s ∷ [] = ap steps_of more ∙ map-append step_value (take i steps) (s ∷ []) in (
+      subst (λ (x : CandidatesValue). AreAlike x e) (sym (left_more c steps i s more))
           (taken_alike (left_by c front) d e (step_value s).strikes (size ∙ sym (left_size c front)) alike t),
       subst (AreLive c) (sym listed) (live_joined c front (step_value s) live (λ cell v has. alike.0 cell v (here cell v has))),
     )
@@ -145,8 +154,5 @@ pub alike_on : (c d e : CandidatesValue) (steps : List Step) (i : ℕ) (s : Step
     → AreAlike (left_by c (steps_of (take (i + 1) steps))) e
 alike_on c d e steps i s more size alike t =
     let front = steps_of (take i steps) in
-    let listed : steps_of (take (i + 1) steps) ≡ front ++ step_value s ∷ [] = ap steps_of more ∙ map-append step_value (take i steps) (s ∷ []) in
-    let last : left_by c (steps_of (take (i + 1) steps)) ≡ without (left_by c front) (step_value s).strikes =
-    ap (λ xs. left_by c xs) listed ∙ left_append c front (step_value s ∷ []) in
-    subst (λ (x : CandidatesValue). AreAlike x e) (sym last)
+    subst (λ (x : CandidatesValue). AreAlike x e) (sym (left_more c steps i s more))
     (taken_alike (left_by c front) d e (step_value s).strikes (size ∙ sym (left_size c front)) alike t)

@@ -115,8 +115,8 @@ fn breaks_clue<P: Steps>(
     !is_step(p, grade, candidates, step, known)
 }
 
-// Whether a step by a clue or a sign looks where a number is spared, and may need that it isn't. Nothing is ensured of it, as nothing stands on it
-// but time. It is asked most often of all.
+// Whether a step by a clue or a sign looks where a number is spared, and may need that it isn't. Nothing is ensured of it, as nothing
+// stands on it but time.
 #[inline(always)]
 fn looks_at(size: Size, step: &Step, spared: Spared) -> bool {
     let place = match step.reason {

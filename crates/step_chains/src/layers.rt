@@ -52,7 +52,7 @@ pub(crate) struct Rounds<'a, P: Steps> {
     losses: Losses,
     places: Looks<LINES>,
     stands: Looks<PLACES>,
-    // What stands in a clue's line may be the same though it lost something.
+    // The numbers that stand in a clue's line may be the same ones though it lost something.
     standing: Seen,
     clues: Looks<PLACES>,
     groups: Looks<LINES>,
