@@ -2,22 +2,27 @@
 #                GAME=unequal is the other game, ID= an ID or a save file. In a
 #                pipe it plays the commands that come in: echo show | make play
 # make page      the board in a browser, programs/web/puzzles.html: one file that
-#                needs no server and no network. WORDS=--path prints where it lies
+#                needs no server and no network. WORDS=--path prints where it lies,
+#                and so does make page where there is no screen
 # make sheet     puzzles on paper: writes build/sheet.html and shows it. GAME=, or
 #                IDS= a list of IDs; WORDS='--size 4-6 --seed 7' goes to
 #                puzzles-sheet
 # make install   installs commands, page, manual pages, documents and completions
 #                below PREFIX=/usr/local; docs/PACKAGING.md has the other folders
 # ----------------------------------------------------------------------------
+# The programs are proved and built by make, make build, make programs and make gate
+# alone, and the page's module by make web and make gate. Where those that are there
+# don't match the sources, all others do nothing and say what is to be typed.
+#
 # make test      tries the programs from outside: commands, saves, objects, the
 #                board, the page, sheets. Its end lists what can't be tried here,
 #                which is a failure only with SKIPS_FAIL=1
-# make           does nothing if programs/linux-amd64 matches the sources, by
+# make           does nothing if the programs in programs/ match the sources, by
 #                programs/RECORD; otherwise it says so and does make build
 # make build     proves and builds both programs from the sources, crates side by
 #                side, as build/puzzles and build/puzzles-json
-# make programs  does that, and stores them in programs/linux-amd64 with their
-#                record, unless they are there
+# make programs  does that, and stores them in programs/ with those for ARM and
+#                their record, unless they are there
 # make web       makes the page, and its module if that is of other sources, and
 #                stores both; the page alone needs no kit
 # make site      puts the page into SITE=build/site, a folder for any web server
@@ -34,8 +39,9 @@
 # make test-faults   has memory, reads and writes fail in turn
 # make exchange  tries saves, IDs and fair games against the usual programs, of
 #                Debian's package sgt-puzzles; no part of the gate
-# make trust     counts the lines to read to believe each promise; PROMISE=solve,
-#                or another name that it prints, prints these lines
+# make trust     counts the lines to read to believe each promise; PROMISE=solve
+#                prints these lines, and so does another name that it prints, or
+#                CRATE::FUNCTION
 # make bench     times solver, generator, saves and objects, beside the usual
 #                program if it is there; IDS=file times the solver on its lines
 # make hard      times the solver on COUNT=22000 fresh hard puzzles, by SEED=1
@@ -71,14 +77,14 @@ DESTDIR ?=
 
 .PHONY: all build programs web site play page sheet test gate trust test-twins test-bodies test-faults exchange bench hard climb check try must-fail fmt dist install uninstall installcheck clean help crate
 
-# Prints the folder of the programs that are of the sources here, and builds them where there are none.
-WHERE = RT='$(RT)' tools/programs where
+# Prints the folder of the programs that are of the sources here; where there are none it says what is to be typed.
+READY = tools/programs ready
 
 # Tries them; folders of tests/ may stand after it.
-TESTS = programs=$$($(WHERE)) && tests/run "$$programs/puzzles" "$$programs/puzzles-json"
+TESTS = programs=$$($(READY)) && tests/run "$$programs/puzzles" "$$programs/puzzles-json"
 
 all:
-	@$(WHERE) > /dev/null
+	@RT='$(RT)' tools/programs where > /dev/null
 
 build:
 	@RT='$(RT)' tools/build
@@ -91,7 +97,7 @@ web:
 
 site: export SITE := $(SITE)
 site:
-	@RT='$(RT)' tools/web where > /dev/null
+	@tools/web where > /dev/null
 	@tools/web site "$$SITE"
 
 # The board is for a terminal; in a pipe the program plays by itself. The words go by the environment, since there may be any letter in them.
@@ -99,18 +105,19 @@ play: export GAME := $(GAME)
 play: export ID := $(ID)
 play:
 	@case "$$GAME" in ''|towers|unequal) ;; *) echo 'make: GAME is towers or unequal' >&2; exit 2 ;; esac
-	@programs=$$($(WHERE)) || exit; \
+	@programs=$$($(READY)) || exit; \
 	if [ -t 0 ] && [ -t 1 ]; then PUZZLES_JSON="$${PUZZLES_JSON:-$$programs/puzzles-json}" exec board/puzzles-play "$${GAME:-$${ID:+towers}}" "$$ID"; \
 	else exec tools/play_in_pipe "$$programs/puzzles" "$$GAME" "$$ID"; fi
 
+# Its status is 1 where there is no screen; then it has printed where the page lies, and that is no error of make.
 page:
-	@RT='$(RT)' tools/web where > /dev/null
-	@page/puzzles-page $(WORDS)
+	@tools/web where > /dev/null
+	@page/puzzles-page $(WORDS) || [ $$? = 1 ]
 
 sheet: export GAME := $(GAME)
 sheet: export IDS := $(IDS)
 sheet:
-	@programs=$$($(WHERE)) || exit; mkdir -p build; [ -n "$$GAME$$IDS" ] || GAME=towers; \
+	@programs=$$($(READY)) || exit; mkdir -p build; [ -n "$$GAME$$IDS" ] || GAME=towers; \
 	PUZZLES_JSON="$${PUZZLES_JSON:-$$programs/puzzles-json}" \
 	    sheet/puzzles-sheet $${GAME:+"$$GAME"} $${IDS:+--ids "$$IDS"} $(WORDS) --output build/sheet.html || exit; \
 	echo 'build/sheet.html is there: a browser shows and prints it'; \

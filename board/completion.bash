@@ -1,4 +1,4 @@
-# Bash completion of puzzles, puzzles-json, puzzles-play, puzzles-page and puzzles-sheet: games, options that were not used yet, and files where there may be one.
+# Bash completion of puzzles, puzzles-json, puzzles-play, puzzles-page, puzzles-sheet and puzzles-check: games, options that were not used yet, and files where there may be one.
 # shellcheck shell=bash
 
 # The words before the cursor and after it, without the values of these options and what comes after '='.
@@ -58,7 +58,7 @@ _puzzles_grades() { # GAME SIZE NUMBER
 }
 
 _puzzles_play() {
-    local word=${COMP_WORDS[COMP_CWORD]} at each before='' used game='' size='' kind='' number='' offered=()
+    local word=${COMP_WORDS[COMP_CWORD]} at each before='' used game='' size='' kind='' number='' learn='' offered=()
     used=$(_puzzles_used)
     COMPREPLY=()
     if [[ ${COMP_WORDS[COMP_CWORD - 1]} == number ]]; then return; fi
@@ -69,23 +69,27 @@ _puzzles_play() {
             # The number of a game is no size.
             number/*) ;;
             */towers | */unequal) game=$each ;;
+            */learn) learn=$each ;;
             */[3-9]) size=$each ;;
             */number | */today) number=$each ;;
             */trivial | */easy | */tricky | */hard | */extreme | */unreasonable | */recursive) kind=$each ;;
         esac
         before=$each
     done
-    if [[ $game ]]; then
+    if [[ $game && ! $learn ]]; then
         [[ $size ]] || offered+=(3 4 5 6 7 8 9)
         [[ $kind ]] || mapfile -t -O "${#offered[@]}" offered < <(_puzzles_grades "$game" "$size" "$number")
         [[ $number ]] || offered+=(number today)
-    else
+    elif [[ ! $game ]]; then
         offered+=(towers unequal)
+        [[ $learn || $used == *' --ids '* ]] || offered+=(learn)
     fi
-    [[ $used == *' --lines '* || $used == *' --ids '* ]] || offered+=(--lines --ids)
+    [[ $used == *' --lines '* || $used == *' --ids '* ]] || offered+=(--lines)
+    [[ $learn || $used == *' --lines '* || $used == *' --ids '* ]] || offered+=(--ids)
     [[ $used == *' --help '* || $used == *' -h '* ]] || offered+=(--help)
     [[ $used == *' --version '* || $used == *' -V '* ]] || offered+=(--version)
     _puzzles_offer "$word" "${offered[@]}"
+    if [[ $learn ]]; then return; fi
     local words=("${COMPREPLY[@]}")
     _puzzles_offer_files "$word" ''
     COMPREPLY=("${words[@]}" "${COMPREPLY[@]}")
@@ -99,7 +103,7 @@ _puzzles_page() {
 
 _puzzles_sheet() {
     local word=${COMP_WORDS[COMP_CWORD]} before=${COMP_WORDS[COMP_CWORD - 1]} prefix='' used option offered=()
-    used=$(_puzzles_used --size --grade --seed --count --ids --per-page --answers --title --paper --output --pdf --browser)
+    used=$(_puzzles_used --size --grade --seed --count --ids --per-page --answers --show-grades --title --paper --output --pdf --browser)
     COMPREPLY=()
     if [[ $before == = ]]; then
         before=${COMP_WORDS[COMP_CWORD - 2]}
@@ -120,17 +124,33 @@ _puzzles_sheet() {
             return ;;
         --per-page) _puzzles_offer "$word" 1 2 3 4 6 9 12; return ;;
         --answers) _puzzles_offer "$word" end none only; return ;;
+        --show-grades) _puzzles_offer "$word" answers all none; return ;;
         --paper) _puzzles_offer "$word" a4 letter; return ;;
         --seed | --count | --title) return ;;
     esac
     [[ $used == *' towers '* || $used == *' unequal '* ]] || offered+=(towers unequal)
-    for option in --size --grade --seed --count --ids --per-page --answers --steps --example --title --ids-below --words --paper --large --output --pdf --browser --help --version; do
+    for option in --size --grade --seed --count --ids --per-page --answers --show-grades --steps --example --title --ids-below --words --paper --large --output --pdf --browser --help --version; do
         [[ $used == *" $option "* ]] || offered+=("$option")
     done
     _puzzles_offer "$word" "${offered[@]}"
+}
+
+# Files may be named again and again.
+_puzzles_check() {
+    local word=${COMP_WORDS[COMP_CWORD]} used option offered=()
+    used=$(_puzzles_used)
+    COMPREPLY=()
+    for option in --json --solutions --quick --help --version; do
+        [[ $used == *" $option "* ]] || offered+=("$option")
+    done
+    _puzzles_offer "$word" "${offered[@]}"
+    local words=("${COMPREPLY[@]}")
+    _puzzles_offer_files "$word" ''
+    COMPREPLY=("${words[@]}" "${COMPREPLY[@]}")
 }
 
 complete -F _puzzles puzzles puzzles-json
 complete -F _puzzles_play puzzles-play
 complete -F _puzzles_page puzzles-page
 complete -F _puzzles_sheet puzzles-sheet
+complete -F _puzzles_check puzzles-check

@@ -1,4 +1,4 @@
-# Fish completion of puzzles, puzzles-json, puzzles-play, puzzles-page and puzzles-sheet: games, options that were not used yet, and files where there may be one.
+# Fish completion of puzzles, puzzles-json, puzzles-play, puzzles-page, puzzles-sheet and puzzles-check: games, options that were not used yet, and files where there may be one.
 
 # The options that have a value.
 set -g __puzzles_valued --id --load --save --size --grade --seed --count --ids --per-page --answers --title --paper --output --pdf --browser
@@ -49,17 +49,18 @@ end
 
 complete -c puzzles-play -e
 complete -c puzzles-play -n __puzzles_no_game -a 'towers unequal' -d 'the game'
-complete -c puzzles-play -n '__fish_seen_subcommand_from towers unequal; and not __puzzles_has 3 4 5 6 7 8 9' -a '3 4 5 6 7 8 9' -d 'the size of a new game'
-complete -c puzzles-play -n '__fish_seen_subcommand_from unequal; and not __puzzles_has $__puzzles_grades' -a 'trivial' -d 'the grade of a new game'
-complete -c puzzles-play -n '__fish_seen_subcommand_from towers unequal; and not __puzzles_has $__puzzles_grades' -a 'easy' -d 'the grade of a new game'
-complete -c puzzles-play -n '__fish_seen_subcommand_from towers; and not __puzzles_has 3 $__puzzles_grades' -a 'hard' -d 'the grade of a new game'
-complete -c puzzles-play -n '__fish_seen_subcommand_from unequal; and not __puzzles_has 3 $__puzzles_grades' -a 'tricky' -d 'the grade of a new game'
-complete -c puzzles-play -n '__fish_seen_subcommand_from towers unequal; and not __puzzles_has number today $__puzzles_grades' -a 'extreme' -d 'the grade of a new game'
-complete -c puzzles-play -n '__fish_seen_subcommand_from towers; and not __puzzles_has 9 number today $__puzzles_grades' -a 'unreasonable' -d 'the grade of a new game'
-complete -c puzzles-play -n '__fish_seen_subcommand_from unequal; and not __puzzles_has 9 number today $__puzzles_grades' -a 'recursive' -d 'the grade of a new game'
-complete -c puzzles-play -n '__fish_seen_subcommand_from towers unequal; and not __puzzles_has number today' -a 'number today' -d 'the number of a new game'
+complete -c puzzles-play -n '__puzzles_no_game; and not __puzzles_has learn' -a 'learn' -d 'a course of two minutes'
+complete -c puzzles-play -n 'not __puzzles_has learn; and __fish_seen_subcommand_from towers unequal; and not __puzzles_has 3 4 5 6 7 8 9' -a '3 4 5 6 7 8 9' -d 'the size of a new game'
+complete -c puzzles-play -n 'not __puzzles_has learn; and __fish_seen_subcommand_from unequal; and not __puzzles_has $__puzzles_grades' -a 'trivial' -d 'the grade of a new game'
+complete -c puzzles-play -n 'not __puzzles_has learn; and __fish_seen_subcommand_from towers unequal; and not __puzzles_has $__puzzles_grades' -a 'easy' -d 'the grade of a new game'
+complete -c puzzles-play -n 'not __puzzles_has learn; and __fish_seen_subcommand_from towers; and not __puzzles_has 3 $__puzzles_grades' -a 'hard' -d 'the grade of a new game'
+complete -c puzzles-play -n 'not __puzzles_has learn; and __fish_seen_subcommand_from unequal; and not __puzzles_has 3 $__puzzles_grades' -a 'tricky' -d 'the grade of a new game'
+complete -c puzzles-play -n 'not __puzzles_has learn; and __fish_seen_subcommand_from towers unequal; and not __puzzles_has number today $__puzzles_grades' -a 'extreme' -d 'the grade of a new game'
+complete -c puzzles-play -n 'not __puzzles_has learn; and __fish_seen_subcommand_from towers; and not __puzzles_has 9 number today $__puzzles_grades' -a 'unreasonable' -d 'the grade of a new game'
+complete -c puzzles-play -n 'not __puzzles_has learn; and __fish_seen_subcommand_from unequal; and not __puzzles_has 9 number today $__puzzles_grades' -a 'recursive' -d 'the grade of a new game'
+complete -c puzzles-play -n 'not __puzzles_has learn; and __fish_seen_subcommand_from towers unequal; and not __puzzles_has number today' -a 'number today' -d 'the number of a new game'
 complete -c puzzles-play -n '__puzzles_unused lines ids' -l lines -d 'play by lines of text'
-complete -c puzzles-play -n '__puzzles_unused lines ids' -l ids -d 'print the IDs of new games'
+complete -c puzzles-play -n '__puzzles_unused lines ids; and not __puzzles_has learn' -l ids -d 'print the IDs of new games'
 complete -c puzzles-play -n '__puzzles_unused help h' -s h -l help -d 'show a help text'
 complete -c puzzles-play -n '__puzzles_unused version V' -s V -l version -d 'show the version'
 
@@ -80,8 +81,9 @@ complete -c puzzles-sheet -n '__puzzles_unused count' -l count -x -d 'how many t
 complete -c puzzles-sheet -n '__puzzles_unused ids' -l ids -r -F -d 'the puzzles of a list'
 complete -c puzzles-sheet -n '__puzzles_unused per-page' -l per-page -x -a '1 2 3 4 6 9 12' -d 'how many a page has at most'
 complete -c puzzles-sheet -n '__puzzles_unused answers' -l answers -x -a 'end none only' -d 'where the answers are'
+complete -c puzzles-sheet -n '__puzzles_unused show-grades' -l show-grades -x -a 'answers all none' -d 'where grades are told'
 complete -c puzzles-sheet -n '__puzzles_unused steps' -l steps -d 'tell how each answer goes on'
-complete -c puzzles-sheet -n '__puzzles_unused example' -l example -d 'a small puzzle with its answer comes first'
+complete -c puzzles-sheet -n '__puzzles_unused example' -l example -d 'the cards of the course come first'
 complete -c puzzles-sheet -n '__puzzles_unused ids-below' -l ids-below -d 'each puzzle has its ID below it'
 complete -c puzzles-sheet -n '__puzzles_unused words' -l words -d 'the foot has the words that make the sheet'
 complete -c puzzles-sheet -n '__puzzles_unused title' -l title -x -d 'stands above'
@@ -92,3 +94,10 @@ complete -c puzzles-sheet -n '__puzzles_unused pdf' -l pdf -r -F -d 'print it to
 complete -c puzzles-sheet -n '__puzzles_unused browser' -l browser -r -F -d 'the Chromium that prints'
 complete -c puzzles-sheet -n '__puzzles_unused help h' -s h -l help -d 'show a help text'
 complete -c puzzles-sheet -n '__puzzles_unused version V' -s V -l version -d 'show the version'
+
+complete -c puzzles-check -e
+complete -c puzzles-check -n '__puzzles_unused json' -l json -d 'write an object for each puzzle'
+complete -c puzzles-check -n '__puzzles_unused solutions' -l solutions -d 'write up to two solutions of each'
+complete -c puzzles-check -n '__puzzles_unused quick' -l quick -d "don't count what could be left out"
+complete -c puzzles-check -n '__puzzles_unused help h' -s h -l help -d 'show a help text'
+complete -c puzzles-check -n '__puzzles_unused version V' -s V -l version -d 'show the version'

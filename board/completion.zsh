@@ -1,12 +1,20 @@
-#compdef puzzles puzzles-json puzzles-play puzzles-page puzzles-sheet
-# Zsh completion of puzzles, puzzles-json, puzzles-play, puzzles-page and puzzles-sheet: games, options that were not used yet, and files where there may be one.
+#compdef puzzles puzzles-json puzzles-play puzzles-page puzzles-sheet puzzles-check
+# Zsh completion of puzzles, puzzles-json, puzzles-play, puzzles-page, puzzles-sheet and puzzles-check: games, options that were not used yet, and files where there may be one.
 
 _puzzles_game_or_file() {
-    _alternative 'games:game:(towers unequal)' 'files:save file:_files'
+    if [[ -n ${words[(r)learn]} ]]; then
+        _alternative 'games:game:(towers unequal)'
+    else
+        _alternative 'games:game:(towers unequal)' 'course:course:(learn)' 'files:save file:_files'
+    fi
 }
 
 _puzzles_kind_or_file() {
     local -A grades=(towers 'easy hard extreme unreasonable' unequal 'trivial easy tricky extreme recursive')
+    if [[ -n ${words[(r)learn]} ]]; then
+        if [[ -z ${words[(r)towers|unequal]} ]]; then _puzzles_game_or_file; fi
+        return
+    fi
     local game=${words[(r)towers|unequal]} size=${words[(r)[3-9]]} number=${words[(r)number|today]}
     local offered=${grades[$game]}
     if [[ $size == 3 ]]; then offered=${${offered/hard /}/tricky /}; fi
@@ -40,6 +48,14 @@ case $service in
             '(- *)'{-h,--help}'[show a help text]' \
             '(- *)'{-V,--version}'[show the version]' \
             ;;
+    puzzles-check)
+        _arguments -S \
+            '--json[write an object for each puzzle]' \
+            '--solutions[write up to two solutions of each]' \
+            "--quick[don't count what could be left out]" \
+            '(- *)'{-h,--help}'[show a help text]' \
+            '(- *)'{-V,--version}'[show the version]' \
+            '*:list, pictures or save file:_files' ;;
     puzzles-sheet)
         _arguments -S \
             '--size=[the sizes of the puzzles]:size, as 5-7:(3 4 5 6 7 8 9)' \
@@ -49,8 +65,9 @@ case $service in
             '--ids=[the puzzles of a list]:list of IDs:_files' \
             '--per-page=[how many a page has at most]:number:(1 2 3 4 6 9 12)' \
             '--answers=[where the answers are]:where:(end none only)' \
+            '--show-grades=[where grades are told]:where:(answers all none)' \
             '--steps[tell how each answer goes on]' \
-            '--example[a small puzzle with its answer comes first]' \
+            '--example[the cards of the course come first]' \
             '--title=[stands above]:title:' \
             '--ids-below[each puzzle has its ID below it]' \
             '--words[the foot has the words that make the sheet]' \

@@ -6,8 +6,9 @@ import textwrap
 from typing import Callable, List, NamedTuple, Optional, Sequence
 
 from board.file_names import completed
+from board.keys import Key
 from board.picture import Piece, Style, wrapped
-from board.screen import Key, Screen
+from board.screen import Screen
 from playing.typed import is_number
 
 #: The board under a question; called anew when the window has another size.
@@ -134,7 +135,7 @@ class Dialogues:
         return pieces
 
     def _show(self, lines: Sequence[str], at: Optional[int] = None) -> None:
-        """Lines right below the board and what stands beside it, or over its last ones; where the terminal's own cursor is in the last of them."""
+        """Draws `lines` below the board, or over its last rows if there is no room; `at` is the cursor's column in the last line."""
         height, columns = self._screen.size
         board = self._background()
         below = max((piece.line for piece in board), default=height) + 1

@@ -7,31 +7,38 @@ import time
 from functools import partial
 from typing import Callable, Dict, List, Optional
 
-from board import keys, manual
+from board import keys, manual, speech
 from board.dialogues import Dialogues, moving
 from board.file_names import file_name, offered, question
+from board.keys import Key
 from board.layout import Layout, fit
 from board.menu import Menu
 from board.picture import Look, Piece, grade, has_room, name, picture, too_small
-from board.screen import Key, Screen
+from board.screen import Screen
+from playing import shared_texts
 from playing.board import GAMES
 from playing.choices import Choice
-from playing.game import Game
+from playing.game import Game, Start
 from playing.games import GRADES
 from playing.hint_walk import HintPart, HintWalk, Press
 from playing.naming import Place
-from playing.state import Home, SavedGame, State
+from playing.state import Home, SavedGame
 from playing.steps import Shown
 from playing.texts import BY_KEYS, STAYS, last_moves, of_wrong
 from playing.typed import is_number
 
 
+#: The title of the list of games; and where there are none.
+OPEN, OPEN_NONE = 'Open a game', 'No other game is kept, and there is no save in this folder.'
+
+
 class FullScreen:
     """A game with a cursor."""
 
-    def __init__(self, screen: Screen, path: str, state: State) -> None:
+    def __init__(self, screen: Screen, game: Game) -> None:
         self._screen = screen
-        self.game = Game(path, state, BY_KEYS, self)
+        self.game = game
+        game.played_by(self, BY_KEYS)
         self._dialogues = Dialogues(screen, self._pieces)
         self._cursor: Place = (0, 0)
         self._is_pencil = False
@@ -94,27 +101,34 @@ class FullScreen:
 
     # --- the run ---
 
-    def begin(self, game: str, what: str, choice: Optional[Choice]) -> str:
+    def begin(self, start: Start) -> str:
         """Goes on with a game, or begins that of an ID or a file, or a new one. Gives the sentence where that is refused."""
-        if choice:
-            self._begin(choice)
-        else:
-            self.game.start(game, what)
+        if not self.game.has_game:
+            if start.choice:
+                self._begin(start.choice)
+            else:
+                self.game.start(start.game, start.what)
         return '' if self.game.has_game else self.game.message
 
     def run(self) -> None:
-        """Until the player leaves."""
-        while not self._is_over:
-            self._draw()
-            self._key = self._screen.key()
-            self._answer(self._key.name)
-        self.game.leave()
+        """Until the player leaves, or goes on in lines of text."""
+        try:
+            while not self._is_over:
+                self._draw()
+                self._key = self._screen.key()
+                self._answer(self._key.name)
+        finally:
+            # A signal or a closed window ends it, too.
+            if not self.wants_lines:
+                self.game.leave()
 
     def _answer(self, key: str) -> None:
+        if key != 'resize':
+            self.game.message = ''
+            self.game.keep_again()
         if self._layout() is None and key not in keys.WITHOUT_BOARD:
             return
         if key != 'resize':
-            self.game.message = ''
             self._shown = Shown()
             self._way = ''
         if self._walk_by(key):
@@ -205,10 +219,8 @@ class FullScreen:
         x, y = self._cursor
         if self._is_on_clue():
             self.game.message = 'That is a clue. d marks it as done.'
-        elif self._is_pencil:
-            self.game.play(f'move P{x},{y},{number}')
-        elif self.game.board.numbers.get(self._cursor) != number or self._cursor in self.game.board.givens:
-            self.game.play(f'move R{x},{y},{number}')
+        else:
+            self.game.play(f'move {"P" if self._is_pencil else "R"}{x},{y},{number}')
 
     def _clear(self) -> None:
         board = self.game.board
@@ -217,7 +229,7 @@ class FullScreen:
         elif self._cursor in board.numbers or self._cursor in board.marks:
             self.game.play(f'move R{self._cursor[0]},{self._cursor[1]},0')
         else:
-            self.game.message = 'There is nothing to clear.'
+            self.game.message = shared_texts.NOTHING_TO_CLEAR
 
     def _enter(self) -> None:
         if self._is_on_clue():
@@ -303,10 +315,9 @@ class FullScreen:
         text = self._dialogues.read(':')
         if not text:
             return
-        if text in ('q', 'quit', 'exit'):
-            self._quit()
-        elif text in ('help', '?'):
-            self._help()
+        own = self._own_commands().get(text)
+        if own:
+            own()
         elif text.startswith('fair '):
             if self.game.begin_fair(self.game.kind, [text]):
                 self._at_start()
@@ -319,6 +330,21 @@ class FullScreen:
                 self._page(text, lines)
             elif lines and lines != ['ok']:
                 self.game.message = lines[0]
+
+    def _own_commands(self) -> Dict[str, Callable[[], object]]:
+        """Commands that the board answers by what its keys do, or in words."""
+        board = self.game.board
+        return {
+            **dict.fromkeys(('q', 'quit', 'exit'), self._quit),
+            **dict.fromkeys(('help', '?'), self._help),
+            'hint': self._hint,
+            'completable': self.game.check,
+            'board': partial(self._page, name(board), speech.rows(board)),
+            'grade': partial(self._say, speech.grade(board, self.game.grade)),
+        }
+
+    def _say(self, text: str) -> None:
+        self.game.message = text
 
     # --- games ---
 
@@ -354,7 +380,7 @@ class FullScreen:
             # A file that is to be named stands before those of the folder.
             own = sum(game.home is not Home.FOLDER for game in saved)
             rows = self.game.told_of(saved)
-            chosen = self._dialogues.choose(self.game.message or 'Open a game', [*rows[:own], 'a file ..', *rows[own:]], min(at, len(saved)))
+            chosen = self._dialogues.choose(self.game.message or (OPEN if saved else OPEN_NONE), [*rows[:own], 'a file ..', *rows[own:]], min(at, len(saved)))
             self.game.message = ''
             if chosen is None:
                 self.game.message = self.game.state.old_trouble()
@@ -401,16 +427,13 @@ class FullScreen:
         self._page(f'The ID of this puzzle, {name(board)} {grade(board)}', lines)
 
     def _help(self) -> None:
-        self._page('Keys', [*manual.KEYS, '', GAMES[self.game.kind], *manual.RULES[self.game.kind], *manual.LOOKS[self.game.kind]])
+        kind = self.game.kind
+        self._page(f'Keys, and the rules of {GAMES[kind]}', [*manual.KEYS, *manual.RULES[kind], *manual.LOOKS[kind], *manual.WORDS])
 
     # --- the screen, and the end ---
 
     def _lines(self) -> None:
-        if self._may_leave():
-            self.wants_lines = self._is_over = True
+        self.wants_lines = self._is_over = True
 
     def _quit(self) -> None:
-        self._is_over = self._may_leave()
-
-    def _may_leave(self) -> bool:
-        return not self.game.trouble or self.confirm(f'The game is not kept ({self.game.trouble}). Quit and lose it?')
+        self._is_over = self.game.may_be_left()

@@ -2,7 +2,17 @@
 
 from __future__ import annotations
 
-from typing import Dict, Tuple
+from typing import Dict, NamedTuple, Tuple
+
+
+class Key(NamedTuple):
+    """A character, or the name of another key; of the mouse also where it was, and which button."""
+
+    name: str
+    line: int = 0
+    column: int = 0
+    button: int = 0
+
 
 #: Columns and rows by which the cursor moves.
 STEPS: Dict[str, Tuple[int, int]] = {

@@ -12,41 +12,60 @@ from board.file_names import file_name, question
 from board.prompt import Asking, asking
 from board.typed_moves import Kind, OutOfGrid, TypedMove, typed_move
 from playing.board import GAMES, Board
-from playing.choices import Choice, Unknown, choice_of, remembered
-from playing.game import Game
+from playing.choices import FIRST_GRADE, Choice, Unknown, choice_of, remembered
+from playing.game import Game, Start
 from playing.games import GRADES
 from playing.hint_walk import HintWalk, Press
 from playing.printable import printable
-from playing.state import State
 from playing.texts import BY_LINES, of_solved, of_wrong
 from playing.typed import is_number
 
-#: What is typed for a command.
+#: Letters, which are the keys of the board; and words that mean the same as others.
 SHORT: Dict[str, str] = {
     '?': 'help',
     'h': 'hint',
+    'H': 'why',
     'q': 'quit',
     'exit': 'quit',
     'u': 'undo',
     'r': 'redo',
+    'R': 'restart',
     'm': 'move M',
+    'P': 'possible',
+    'M': 'tidy',
     'c': 'check',
     'b': 'back',
+    'S': 'solve',
     'n': 'new',
     'o': 'open',
+    'w': 'save',
     'i': 'id',
     's': 'show',
 }
+
+#: Keys of the board that need more than a letter here, or another key.
+OTHERS: Dict[str, str] = {
+    'p': "'p r1c2 3' sets a pencil mark, or takes it away.",
+    'd': "'d above 1' marks a clue as done.",
+    'Z': 'Ctrl-Z goes to the shell.',
+}
+
+NO_BOARD = 'The board needs a terminal with a screen.'
 
 
 class LineMode:
     """A game at a prompt."""
 
-    def __init__(self, path: str, state: State) -> None:
+    def __init__(self, game: Game, has_board: Callable[[], bool]) -> None:
+        """Whether the board can be shown is asked when the player wants it."""
         self._prompt: Asking = asking()
-        self._game = Game(path, state, BY_LINES, self)
+        self._game = game
+        self._has_board = has_board
+        game.played_by(self, BY_LINES)
         self._is_told = False
         self._is_over = False
+        #: Whether the player goes on with the board.
+        self._wants_board = False
         #: Whether it was told that the program is at work, since something was typed.
         self._has_told = False
         self._trouble = ''
@@ -59,6 +78,7 @@ class LineMode:
             'load': self._load,
             'open': self._open,
             'delete': self._delete,
+            'board': lambda _: say(*speech.rows(self._game.board)),
             'row': lambda text: self._line(text, 'row', speech.row),
             'column': lambda text: self._line(text, 'column', speech.column),
             'clues': lambda _: say(*speech.clues(self._game.board)),
@@ -67,12 +87,14 @@ class LineMode:
             'possible': self._possible,
             'hint': self._hint,
             'why': self._why,
-            'check': self._check,
+            'check': lambda _: self._game.check(),
+            'completable': lambda _: self._game.check(),
             'solve': self._solve,
             'tidy': lambda _: self._game.toggle_marks(),
             'back': self._back,
             'show': lambda _: self._show(),
             'status': lambda _: say(f'{self._game.board.session.status} {self._position()}'),
+            'grade': lambda _: say(speech.grade(self._game.board, self._game.grade)),
             'quit': self._quit,
         }
 
@@ -90,26 +112,47 @@ class LineMode:
 
     # --- the run ---
 
-    def run(self, game: str, what: str, choice: Optional[Choice] = None) -> int:
-        """Until the player leaves; the status is 3 where the ID or the file is refused."""
-        if choice:
-            self._begin(choice)
-        elif self._game.start(game, what):
+    def run(self, start: Start) -> Optional[int]:
+        """Until the player leaves; the status is 3 where the ID or the file is refused. Nothing where the player goes on with the board."""
+        try:
+            if not self._begin_with(start):
+                say(self._game.message)
+                return 3
+            say(f'Type a square and a number, like r1c2 {self._game.board.size}; hint helps, help lists the rest.')
+            while not self._is_over:
+                self._read()
+        finally:
+            # A signal or a closed window ends it, too.
+            self._prompt.leave()
+            if not self._wants_board:
+                self._game.leave()
+        return None if self._wants_board else 0
+
+    def _begin_with(self, start: Start) -> bool:
+        """Whether there is a game: the one of another front, or one that begins or goes on."""
+        if self._game.has_game:
             self._begun()
-        if not self._game.has_game:
-            say(self._game.message)
-            return 3
-        say(f'Type a square and a number, like r1c2 {self._game.board.size}; hint helps, help lists the rest.')
-        while not self._is_over:
-            line = self._prompt.read(f'{self._game.kind} {self._position()}> ')
-            if line is None:
-                line = 'quit'
-            self._has_told = False
-            if line:
-                self._answer(line)
-                self._say_message()
-        self._game.leave()
-        return 0
+        elif start.choice:
+            self._begin(start.choice)
+        elif self._game.start(start.game, start.what):
+            self._begun()
+        return self._game.has_game
+
+    def _read(self) -> None:
+        """Reads a line, and answers it."""
+        line = self._prompt.read(f'{self._game.kind} {self._position()}> ')
+        self._has_told = False
+        self._game.keep_again()
+        if line is None:
+            self._quit('')
+        elif line:
+            self._answer(line)
+            self._say_message()
+        else:
+            self._empty()
+
+    def _empty(self) -> None:
+        """Answers an empty line."""
 
     def _answer(self, line: str) -> None:
         size = self._game.board.size
@@ -120,13 +163,28 @@ class LineMode:
             return
         if move:
             self._move(move)
-            return
-        line = SHORT.get(line.lower(), line)
+        elif line == 'T':
+            self._to_board()
+        elif line in OTHERS:
+            say(OTHERS[line])
+        else:
+            self._command(line)
+
+    def _command(self, line: str) -> None:
+        """A command by its letter or its word."""
+        word, blank, rest = line.partition(' ')
+        line = SHORT.get(word, SHORT.get(word.lower(), word)) + blank + rest
         word, _, rest = line.partition(' ')
         if word.lower() in self._commands and not (word == 'new' and not rest.strip() and line != 'new'):
             self._commands[word.lower()](rest.strip())
         else:
             self._play(line.lower() if ' ' not in line else line)
+
+    def _to_board(self) -> None:
+        if self._has_board():
+            self._wants_board = self._is_over = True
+        else:
+            say(NO_BOARD)
 
     def _move(self, move: TypedMove) -> None:
         board = self._game.board
@@ -255,9 +313,6 @@ class LineMode:
             say(f'Left before it: {speech.left(part.shown.left, squares)}.')
         say(part.text)
 
-    def _check(self, _: str) -> None:
-        self._game.check()
-
     def _possible(self, _: str) -> None:
         before = self._game.board
         if self._game.set_possible_marks():
@@ -285,7 +340,7 @@ class LineMode:
         words = (text if set(text) & set(':!#') else text.replace(',', ' ')).split()
         game = next((word.lower() for word in words if word.lower() in GAMES), self._game.kind)
         words = [word for word in words if word.lower() not in GAMES]
-        present = Choice(game, board.size, GRADES[game].get(board.session.letter, ''))
+        present = Choice(game, board.size, GRADES[game].get(board.session.letter, FIRST_GRADE))
         try:
             if all(word.isdecimal() or word.isalpha() for word in words):
                 choice = choice_of(words, remembered(self._game.state, game) or present)
@@ -349,8 +404,7 @@ class LineMode:
             say("'delete 0' deletes number 0 of what 'open' lists.")
 
     def _quit(self, _: str) -> None:
-        trouble = self._game.trouble
-        self._is_over = not trouble or not sys.stdin.isatty() or self.confirm(f'The game is not kept ({trouble}). Quit and lose it?')
+        self._is_over = not sys.stdin.isatty() or self._game.may_be_left()
 
 
 def say_whole(line: str) -> None:

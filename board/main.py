@@ -6,19 +6,24 @@ import os
 import signal
 import sys
 from functools import partial
-from typing import List, NamedTuple, Optional, Sequence, Tuple
+from typing import TYPE_CHECKING, List, NamedTuple, Optional, Sequence, Tuple
 
 from playing.board import GAMES
-from playing.choices import Choice, are_words, choice_of, first, ids, unread, without_number
+from playing.choices import are_words, choice_of, first, ids, unread, without_number
 from playing.command import SIGNALLED, complain, me, refuse, told_of_itself, unwritten, with_program, written
-from playing.game import is_there
+from playing.course import OVER, Course
+from playing.game import Game, Start, is_there
 from playing.printable import printable
 from playing.state import State
 from playing.typed import is_number
 
+if TYPE_CHECKING:
+    from board.screen import Screen
+
 USAGE = """\
 usage: {me} [--lines] [GAME] [ID or FILE]
        {me} [--lines] [GAME] [SIZE] [GRADE] [number N or today]
+       {me} [--lines] learn [GAME]
        {me} --ids [GAME] [SIZE] [GRADE] [number N or today] [COUNT]
        {me} --help | --version
 
@@ -33,7 +38,14 @@ extreme and recursive. There is no end of games up to hard or tricky, and none
 needs a guess. The same number N is always the same game, and today is the game
 of the date, for everybody. The other grades have stored puzzles. --ids prints
 the IDs of such games, one a line, and plays none.
+
+learn is a course of two minutes: small boards on which one number follows, and
+what to look for. No game is kept or changed by it.
 """
+
+
+#: The word for the course.
+LEARN = 'learn'
 
 
 class Words(NamedTuple):
@@ -47,6 +59,7 @@ class Words(NamedTuple):
     is_lines: bool = False
     #: How many IDs are to be printed, where some are.
     ids: int = 0
+    is_course: bool = False
 
 
 def main(words: List[str], here: str) -> int:
@@ -56,7 +69,7 @@ def main(words: List[str], here: str) -> int:
         return status
     asked = read(words)
     if asked is None:
-        return refuse(fault(words), usage(USAGE, words))
+        return refuse(fault(words), tip(words), USAGE.format(me=me()))
     if not (asked.ids or asked.is_lines or (sys.stdin.isatty() and sys.stdout.isatty())):
         return refuse(f'the board is for a terminal; in a pipe use --lines, or the program itself, puzzles {asked.game or "GAME"}')
     try:
@@ -77,6 +90,8 @@ def read(words: List[str]) -> Optional[Words]:
         count = plain.pop() if has_count(plain) else '1'
         return Words(game, kind=plain, ids=int(count)) if int(count) > 0 and (are_words(plain) or not plain) else None
     asked = Words(game, is_lines='--lines' in words)
+    if plain == [LEARN]:
+        return asked._replace(is_course=True)
     if are_words(plain) and not (len(plain) == 1 and is_there(plain[0])):
         return asked._replace(kind=plain)
     # A file says itself which game it is of.
@@ -85,8 +100,10 @@ def read(words: List[str]) -> Optional[Words]:
 
 
 def parted(words: List[str]) -> Tuple[Optional[str], List[str]]:
-    """The game that is named, and the words that are neither this nor an option."""
+    """The game that is named, and the words that are neither this nor an option. That for the course may stand before the game."""
     plain = [word for word in words if word not in ('--lines', '--ids', '')]
+    if plain[:1] == [LEARN] and plain[1:2] and plain[1] in GAMES:
+        plain[:2] = [plain[1], LEARN]
     return (plain[0], plain[1:]) if plain and plain[0] in GAMES else (None, plain)
 
 
@@ -102,6 +119,8 @@ def fault(words: List[str]) -> str:
     option = next((word for word in plain if word.startswith('-')), None)
     if option is not None:
         return f"there is no option '{option}'"
+    if LEARN in plain:
+        return f"'{LEARN}' takes the name of a game and --lines, and nothing else"
     if '--lines' in words and '--ids' in words:
         return '--ids plays no game, by lines or otherwise'
     if is_id(plain):
@@ -120,49 +139,75 @@ def is_id(plain: List[str]) -> bool:
     return len(plain) == 1 and plain[0][:1].isdigit() and bool(set(plain[0]) & set(':#!'))
 
 
-def usage(text: str, words: List[str]) -> str:
-    """How the command is used; and a line on words that can't be read, where it is plain what was meant."""
-    tip = f"\nDid you mean {me()} towers '{printable(words[0])}'?\n" if is_id(words) else ''
-    return text.format(me=me()) + tip
+def tip(words: List[str]) -> str:
+    """A line on words that can't be read, where it is plain what was meant."""
+    return f"Did you mean {me()} towers '{printable(words[0])}'?\n" if is_id(words) else ''
 
 
 def play(path: str, asked: Words) -> int:
     """Raises `Unknown` where there is no such game as the words say."""
     state = State(os.environ)
     game = asked.game or state.last(GAMES) or 'towers'
+    if asked.is_course:
+        course = Course(path, game)
+        status = by_turns(course, Start(game), asked.is_lines)
+        return status or (written(OVER) if course.is_over else 0)
     choice = choice_of(asked.kind, first(state, game)) if asked.kind or asked.ids else None
     if choice and asked.ids:
         return written(''.join(f'{id}\n' for id in ids(path, choice, asked.ids)))
-    if not asked.is_lines:
-        status = on_screen(path, state, game, asked.what, choice)
+    return by_turns(Game(path, state), Start(game, asked.what, choice), asked.is_lines)
+
+
+def by_turns(game: Game, start: Start, is_lines: bool) -> int:
+    """The game in lines or on the board, and in the other one where the player changes to it. The status at the end."""
+    while True:
+        status = in_lines(game, start) if is_lines else on_screen(game, start)
         if status is not None:
             return status
+        is_lines = not is_lines
+
+
+def in_lines(game: Game, start: Start) -> Optional[int]:
+    """The line mode; nothing where the player goes on with the board."""
+    from board.course_lines import CourseLines
     from board.lines import LineMode
 
-    return LineMode(path, state).run(game, asked.what, choice)
+    front = CourseLines(game, has_screen) if isinstance(game, Course) else LineMode(game, has_screen)
+    return front.run(start)
 
 
-def on_screen(path: str, state: State, game: str, what: str, choice: Optional[Choice]) -> Optional[int]:
+def on_screen(game: Game, start: Start) -> Optional[int]:
     """The board; nothing where it can't be shown, or the player goes on in lines of text."""
-    try:
-        from board.fullscreen import FullScreen
-        from board.screen import Screen, Unfit
-    except ImportError:
+    screen = new_screen()
+    if screen is None:
         return None
-    try:
-        screen = Screen()
-    except Unfit:
-        return None
+    from board.course_screen import CourseScreen
+    from board.fullscreen import FullScreen
+
     with screen:
-        front = FullScreen(screen, path, state)
-        refusal = front.begin(game, what, choice)
+        front = CourseScreen(screen, game) if isinstance(game, Course) else FullScreen(screen, game)
+        refusal = front.begin(start)
         if not refusal:
             front.run()
     if refusal:
         complain(refusal)
         return 3
-    if not front.wants_lines:
-        return 0
-    from board.lines import LineMode
+    return None if front.wants_lines else 0
 
-    return LineMode(path, state).run(front.game.kind, '')
+
+def has_screen() -> bool:
+    return new_screen() is not None
+
+
+def new_screen() -> Optional[Screen]:
+    """The terminal as a screen; nothing where it can't show a board."""
+    if not (sys.stdin.isatty() and sys.stdout.isatty()):
+        return None
+    try:
+        from board.screen import Screen, Unfit
+    except ImportError:
+        return None
+    try:
+        return Screen()
+    except Unfit:
+        return None

@@ -15,39 +15,59 @@ KEYS: List[str] = [
     'c can these numbers be completed;  b undo until they can;  S solve',
     'n new game   o open: a game that was put away, a file   w save as',
     'i the ID   : a command of the program   Z to the shell, fg comes back',
-    'T lines of text   q quit: the game is kept for the next start',
+    'T lines of text, and back   q quit: the game is kept for the next start',
+]
+
+#: Those of the course, where they are others.
+COURSE: List[str] = [
+    'n the next card   b the card before   q leave: the game before is as it was',
+    'Enter, once the number is in: the next card',
+    'h hint: where to look, then the step, then the number;  H all steps',
+    'All other keys are those of a game, but no card is kept.',
 ]
 
 RULES: Dict[str, List[str]] = {
     'towers': [
-        'Each row and each column has each of the numbers from 1 to the size',
-        'once. A number is a tower of that height. A clue at the edge says how',
-        'many towers are seen from there, along its row or column: a tower is',
-        'hidden behind a taller one. So 1 2 3 shows three towers to its left',
-        'and one to its right.',
+        'Each row and each column has each number from 1 to the size once. A number',
+        'is a tower of that height. A clue at the edge says how many towers are seen',
+        'from there, along its row or column: a tower hides lower ones behind it. So',
+        '1 2 3 shows three towers to its left and one to its right.',
     ],
     'unequal': [
-        'Each row and each column has each of the numbers from 1 to the size',
-        'once. A sign between two squares says which of them has the greater',
-        'number: it opens to the greater one, as in 1 < 2, and points at the',
-        'lesser one. Of squares one above the other ^ says that the upper one',
-        'is the lesser, v that the lower one is.',
+        'Each row and each column has each number from 1 to the size once. A sign',
+        'between two squares says which of them has the greater number: it opens to',
+        'the greater one, as in 1 < 2. Of squares one above the other ^ says that',
+        'the upper one is the lesser, v that the lower one is.',
     ],
 }
 
 #: How the board shows what was given, and what contradicts.
 LOOKS: Dict[str, List[str]] = {
     'towers': [
-        'Bold numbers were given with the puzzle. A red number or clue with a !',
-        'contradicts: two equal numbers stand in a line, or a clue can no longer',
-        'be met in its own line. A full board without red is the solution.',
+        'Bold numbers were given. A red number or clue with a ! contradicts: equal',
+        'numbers stand in a line, or a clue can no longer be met in its own line. A',
+        'full board without red is the solution.',
     ],
     'unequal': [
-        'Bold numbers were given with the puzzle. A red number or sign with a !',
-        'contradicts: two equal numbers stand in a line, or a sign can no longer',
-        'hold. A full board without red is the solution.',
+        'Bold numbers were given. A red number or sign with a ! contradicts: equal',
+        'numbers stand in a line, or a sign can no longer hold. A full board without',
+        'red is the solution.',
     ],
 }
+
+#: Words of the board that don't explain themselves.
+WORDS: List[str] = [
+    'Marks: all is each number, not 3 (or no3) each but 3, 12+ these and more.',
+    'By what is left, in a hint: by the numbers that are not ruled out there yet.',
+    'Hard by our steps: hints find that grade; the ID has another, or none.',
+]
+
+#: The same in the line mode.
+COURSE_LINES: List[str] = [
+    'next, back             the next card, the one before; n, b; an empty line once',
+    '                       the number is in: the next card',
+    'quit                   leave; the game before is as it was; q',
+]
 
 #: The line mode's help: what is typed, and what it does.
 LINES: List[str] = [
@@ -59,19 +79,26 @@ LINES: List[str] = [
     '  possible               the marks that stand in neither the row nor the column',
     '  d above 1              a clue\'s done mark, or take it away (Towers)',
     '  r1c2, above 1          describe a square, or a clue',
-    '  row 1, column 2        describe a row, or a column',
+    '  row 1, column 2, board   describe a row, or a column; all rows',
     '  clues                  the clues, or the signs',
     '  hint                   where to look; once more: the steps; then the number',
-    '  why, why 2             all steps of the hint; step 2 with the numbers left',
+    '  why, why 2             all steps of the hint; step 2 with the numbers left.',
+    '                         "by what is left": by the numbers that are not ruled',
+    '                         out yet in that row or column',
     '  check, back            can these numbers be completed; undo until they can',
     '  tidy                   from now on, marks go when their number is put into',
     '                         their row or column; once more: they stay',
     '  new [GAME] [SIZE] [GRADE] [number N or today]   a new game; the same number',
     '                         is the same game; today is the number of the date',
     '  new ID                 the puzzle of that ID, your own or a usual program\'s',
+    '  grade                  the grade; "our steps" are those that hints show',
     '  save FILE, load FILE   save the game; load a saved one; Tab completes',
     '  open, open 2, delete 2   list the kept games; open number 2; delete it',
     '  rules, help            the rules of this game; this list',
+    '                         (puzzles-play --lines learn is a course)',
+    '  T                      to the board, where T comes back',
+    '',
+    'Letters are the keys of the board: h H u r R m P M c b S n o w i q.',
     '',
     'and the program\'s own commands:',
     '',

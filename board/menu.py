@@ -9,7 +9,7 @@ from board.picture import Piece, Style, wrapped
 from board.screen import Screen
 from playing import fair, games
 from playing.board import GAMES
-from playing.choices import WRONG_NUMBER, Choice, remembered
+from playing.choices import FIRST_GRADE, WRONG_NUMBER, Choice, remembered
 from playing.state import State
 from playing.typed import is_number
 
@@ -78,8 +78,9 @@ class Menu:
         return [*(games.GRADES[self._game][letter] for letter in games.letters(self._game, self._size)), BY_ID]
 
     def _keep_kind(self) -> None:
-        if self._kind not in self._kinds():
-            self._kind = self._kinds()[0]
+        kinds = self._kinds()
+        if self._kind not in kinds:
+            self._kind = FIRST_GRADE if FIRST_GRADE in kinds else kinds[0]
         self._line = min(self._line, len(self._rows()) - 1)
 
     def _has_number(self) -> bool:

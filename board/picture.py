@@ -8,6 +8,7 @@ from enum import Enum
 from typing import Iterator, List, NamedTuple, Optional, Tuple
 
 from board.layout import Layout, wanted
+from playing import shared_texts
 from playing.beside import hints_told
 from playing.board import GAMES, Board
 from playing.games import GRADES
@@ -142,7 +143,7 @@ def told_of_full(board: Board, hints: int) -> str:
     """What there is to say of a full board, after so many hints; nothing of another one."""
     if board.is_solved:
         return of_solved(board.session.status, hints)
-    return 'Full, but not right yet: ! shows what contradicts.' if board.is_full else ''
+    return shared_texts.FULL_AND_WRONG if board.is_full else ''
 
 
 def _told_of(board: Board, look: Look, layout: Layout) -> str:
@@ -236,11 +237,11 @@ def _grid(layout: Layout, look: Look) -> Iterator[Piece]:
 
 
 def _edge(layout: Layout, look: Look) -> Iterator[Piece]:
-    """The numbers of columns and rows on the frame, where a sentence names some."""
+    """The rows and columns by their names on the frame, r1 and c1, where a sentence names some: a clue may stand beside."""
     if NAMED.search(look.message):
         for at in range(layout.size):
-            yield Piece(layout.top, layout.centre((at, 0))[1], str(at + 1), Style.SHOWN)
-            yield Piece(layout.centre((0, at))[0], layout.left, str(at + 1), Style.SHOWN)
+            yield Piece(layout.top, layout.centre((at, 0))[1] - 1, f'c{at + 1}', Style.SHOWN)
+            yield Piece(layout.centre((0, at))[0], layout.left - 1, f'r{at + 1}', Style.SHOWN)
 
 
 def _squares(board: Board, layout: Layout, look: Look) -> Iterator[Piece]:

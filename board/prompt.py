@@ -10,6 +10,7 @@ import termios
 from typing import Optional, Protocol
 
 from board.file_names import names_after
+from playing.command import end_by_signals
 from playing.printable import printable
 
 try:
@@ -21,6 +22,9 @@ else:
 
 #: Commands after which comes the name of a file.
 FILE_COMMANDS = ('load', 'save')
+
+#: What ends the line mode from outside.
+ENDING = (signal.SIGHUP, signal.SIGTERM)
 
 #: No key interrupts.
 NO_KEY = b'\0'
@@ -38,11 +42,20 @@ class Asking(Protocol):
     def read(self, text: str) -> Optional[str]:
         """A line, after this text; nothing at the end of the input."""
 
+    def leave(self) -> None:
+        """Another face of the board may use the terminal."""
+
 
 class Pipe:
     """Lines of a file or of another program: there is no prompt, and a question is a line."""
 
     is_typed = False
+
+    def __init__(self) -> None:
+        end_by_signals()
+
+    def leave(self) -> None:
+        """There is no other face in a pipe."""
 
     def stopped(self) -> bool:
         return False
@@ -66,7 +79,7 @@ class Prompt:
         self._is_reading = False
         signal.signal(signal.SIGINT, self._interrupted)
         signal.signal(signal.SIGTSTP, self._suspended)
-        for number in (signal.SIGHUP, signal.SIGTERM):
+        for number in ENDING:
             signal.signal(number, self._ended)
         if HAS_READLINE:
             readline.parse_and_bind('"\\C-c": kill-whole-line')
@@ -99,6 +112,10 @@ class Prompt:
         was, self._is_stopped = self._is_stopped, False
         return was
 
+    def leave(self) -> None:
+        self.restore()
+        signal.signal(signal.SIGTSTP, signal.SIG_DFL)
+
     def restore(self) -> None:
         """The terminal is as it was at first."""
         with contextlib.suppress(termios.error):
@@ -124,6 +141,9 @@ class Prompt:
         self._is_stopped = True
 
     def _ended(self, number: int, _: object) -> None:
+        # The game is kept then, whatever comes meanwhile.
+        for one in ENDING:
+            signal.signal(one, signal.SIG_IGN)
         self.restore()
         raise SystemExit(128 + number)
 

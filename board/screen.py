@@ -10,11 +10,13 @@ import select
 import signal
 import sys
 import time
-from typing import Deque, Dict, List, Mapping, NamedTuple, Optional, Tuple, Union
+from typing import Deque, Dict, List, Mapping, Optional, Tuple, Union
 
 from collections import deque
 
+from board.keys import Key
 from board.picture import Piece, Style
+from board.sequences import Sequences
 from playing.printable import printable
 
 #: The keys that are no characters, by the names that `keys` knows.
@@ -33,9 +35,6 @@ NAMES: Dict[int, str] = {
     curses.KEY_RESIZE: 'resize',
 }
 CHARACTERS = {'\r': 'enter', '\n': 'enter', '\x7f': 'backspace', '\b': 'backspace', '\x1b': 'escape'}
-
-#: What terminals send for some keys, after an Escape.
-SEQUENCES = {'[A': 'up', '[B': 'down', '[C': 'right', '[D': 'left', '[3~': 'delete', '[5~': 'page up', '[6~': 'page down', '[Z': 'shift tab'}
 
 #: Colours of 8, and of 256 where there are so many.
 COLOURS = {
@@ -77,15 +76,6 @@ class Unfit(Exception):
     """The terminal can't show a board. The text says why."""
 
 
-class Key(NamedTuple):
-    """A character, or the name of another key; of the mouse also where it was, and which button."""
-
-    name: str
-    line: int = 0
-    column: int = 0
-    button: int = 0
-
-
 def has_lines(env: Mapping[str, str]) -> bool:
     """Whether lines of the grid can be drawn by characters of their own: in UTF-8, by a locale that the player chose."""
     if locale.nl_langinfo(locale.CODESET).upper() not in ('UTF-8', 'UTF8') or env.get('TERM', '').startswith('vt'):
@@ -102,21 +92,6 @@ def first_environment() -> Dict[str, str]:
     except OSError:
         return dict(os.environ)
     return dict(pair.split('=', 1) for pair in pairs if '=' in pair)
-
-
-def without_sequences(keys: List[Key]) -> List[Key]:
-    """Keys that came at once. What a terminal sends for a key that `curses` doesn't know is one key: its digits are no numbers for the board."""
-    found: List[Key] = []
-    rest = deque(keys)
-    while rest:
-        key = rest.popleft()
-        if key.name == 'escape' and rest and rest[0].name in ('[', 'O'):
-            sent = rest.popleft().name
-            while rest and not '@' <= sent[1:][-1:] <= '~':
-                sent += rest.popleft().name
-            key = Key(SEQUENCES.get(sent.replace('O', '['), 'other'))
-        found.append(key)
-    return found
 
 
 class Screen:
@@ -137,12 +112,14 @@ class Screen:
         self._tinted: Dict[Style, int] = {}
         self._pairs = 0
         self._keys: Deque[Key] = deque()
+        self._sequences = Sequences()
         self._ended = 0
+        self._wake = self._waker = -1
+
+    def __enter__(self) -> Screen:
         self._wake, self._waker = os.pipe()
         os.set_blocking(self._waker, False)
         os.set_blocking(self._wake, False)
-
-    def __enter__(self) -> Screen:
         os.environ.setdefault('ESCDELAY', '25')
         # A window that is resized wakes `key`; with a handler of its own `curses` would keep that for itself.
         signal.signal(signal.SIGWINCH, lambda number, frame: None)
@@ -166,6 +143,8 @@ class Screen:
         signal.set_wakeup_fd(-1)
         for number in (*ENDING, signal.SIGWINCH):
             signal.signal(number, signal.SIG_DFL)
+        os.close(self._wake)
+        os.close(self._waker)
         with contextlib.suppress(curses.error, OSError):
             self._show_cursor(True)
             curses.endwin()
@@ -215,9 +194,8 @@ class Screen:
         """The next key, or `resize`. Raises `SystemExit` where the program is to end, or the terminal is gone."""
         empty = 0
         while not self._keys:
-            self._fill(None)
             # Where a terminal is gone there is always something to read, which is nothing.
-            empty += 1
+            empty = 0 if self._fill(None) else empty + 1
             if empty > 100:
                 time.sleep(0.01)
             if empty > 300:
@@ -233,9 +211,10 @@ class Screen:
         self._fill(0)
         return bool(self._keys) and (self._keys.popleft() if is_taken else self._keys[0]).name != 'resize'
 
-    def _fill(self, seconds: Optional[float]) -> None:
-        """Waits for keys, or for a signal."""
-        ready = select.select([0, self._wake], [], [], seconds)[0]
+    def _fill(self, seconds: Optional[float]) -> bool:
+        """Waits for keys, or for a signal. False where there was something to read, and nothing came."""
+        wait = self._sequences.wait(time.monotonic())
+        ready = select.select([0, self._wake], [], [], wait if seconds is None else seconds)[0]
         if self._wake in ready:
             with contextlib.suppress(OSError):
                 os.read(self._wake, 512)
@@ -243,9 +222,10 @@ class Screen:
             self._keys.append(Key('resize'))
         if self._ended:
             raise SystemExit(128 + self._ended)
-        if 0 in ready:
-            came = list(iter(self._read, None))
-            self._keys.extend(without_sequences(came))
+        came = list(iter(self._read, None)) if 0 in ready else []
+        self._keys.extend(self._sequences.keys(came, time.monotonic()))
+        self._keys.extend(self._sequences.late(time.monotonic()))
+        return bool(came) or 0 not in ready
 
     def _read(self) -> Optional[Key]:
         try:

@@ -5,6 +5,7 @@ from __future__ import annotations
 from typing import List, Mapping, Sequence, Tuple
 
 from playing.board import Board, Sign
+from playing.games import GRADES
 from playing.naming import Place, clue_name, listed, name
 
 
@@ -14,6 +15,21 @@ def row(board: Board, y: int) -> str:
 
 def column(board: Board, x: int) -> str:
     return _line(board, f'column {x + 1}', board.column(x), [(x, -1, 'upper'), (x, board.size, 'lower')])
+
+
+def rows(board: Board) -> List[str]:
+    """All rows, and what is red."""
+    return [*(row(board, y) for y in range(board.size)), *filter(None, [faults(board)])]
+
+
+def grade(board: Board, found: str) -> str:
+    """The grade that the ID has, and the one by the program's own steps, by its letter."""
+    said, ours = (GRADES[board.session.game].get(letter, '') for letter in (board.session.letter, found))
+    if not ours:
+        return f'The ID says {said}, and our steps alone lead to no solution.' if said else 'No grade: our steps alone lead to no solution.'
+    if said == ours:
+        return f'The grade is {said}: its steps lead to the solution.'
+    return f'The ID says {said}; our steps find {ours}.' if said else f'The ID has no grade; our steps find {ours}.'
 
 
 def square(board: Board, place: Place) -> str:

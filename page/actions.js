@@ -1,151 +1,122 @@
 // Whatever a player asks for by keys, mouse or finger, by name.
+import {bytesOf} from './bytes.js';
+import {Course} from './course.js';
 import {Daily} from './daily.js';
+import {Desk} from './desk.js';
 import {closeDialogs, openDialog, showPage, typedLine} from './dialogs.js';
 import {inputOf, part} from './drawing.js';
 import {allGames, bringIn, give, saveIn} from './files.js';
 import {Fresh} from './fresh.js';
-import {gradeOf, kindOfName, linkOf, nameOfKind, nearest, numberOfDay} from './games.js';
+import {gradeOf, kindOfName, named, nameOfKind, nearest, numberOfDay} from './games.js';
+import {Hints} from './hints.js';
 import {fileName, kindOf} from './kept.js';
+import {Links} from './links.js';
 import {List} from './list.js';
 import {cellOf} from './objects.js';
 import {openRules} from './rules.js';
 import {openStatistics} from './statistics.js';
-import {
-  COMMAND, ID_OF, KEPT, LINK_COPIED, LINK_HERE, MARKING, MARKS_GO, MARKS_STAY, NEVER_RIGHT, numberedText, PLACING, sinceText, takeBackText,
-} from './texts.js';
+import {BY_STEPS, COMMAND, KEPT, MARKING, NONE_HELD, NO_SUCH_LINK, PLACING, SET, heldText} from './texts.js';
 
 /** @typedef {import('./objects.js').Place} Place */
-/** @typedef {import('./objects.js').Hint} Hint */
 /** @typedef {import('./games.js').Kind} Kind */
 /** @typedef {import('./keeping.js').Settings} Settings */
 /**
  * What the actions work on.
  * @typedef {{present: import('./present.js').Present, moves: import('./moves.js').Moves, beginning: import('./beginning.js').Beginning,
- *   screen: import('./screen.js').Screen, walk: import('./walk.js').Walk, messages: import('./messages.js').Messages, keeping: import('./keeping.js').Keeping,
- *   turns: import('./turns.js').Turns}} Page
+ *   screen: import('./screen.js').Screen, walk: import('./walk.js').Walk, messages: import('./messages.js').Messages,
+ *   keeping: import('./keeping.js').Keeping, turns: import('./turns.js').Turns}} Page
  */
 
 /** Settings that a button switches on or off. */
-const SWITCHES = /** @type {const} */ (['tidy', 'equal', 'lanes', 'time']);
+const SWITCHES = /** @type {const} */ (['tidy', 'numberFirst', 'equal', 'lanes', 'time']);
 
 export class Actions {
   /** @param {Page} page */
   constructor(page) {
     this.page = page;
-    /** @type {Promise<unknown>} */
-    this.parts = Promise.resolve();
-    const {present, beginning, messages, keeping} = page, tell = (/** @type {string} */ text) => messages.tell(text);
+    this.hints = new Hints(page);
+    this.course = new Course(page);
+    const {beginning, keeping} = page;
     this.fresh = new Fresh({
       kind: (kind) => this.begin(kind),
-      numbered: (fair) => beginning.numbered(fair),
-      named: (one) => beginning.named(one),
+      numbered: (fair) => this.refusal(() => beginning.numbered(fair)),
+      named: (link) => this.refusal(() => beginning.named(link)),
       file: (file) => this.file(file),
-      tell,
     });
+    this.links = new Links(page);
+    this.desk = new Desk(page, this.links);
     this.daily = new Daily(keeping, (fair) => beginning.numbered(fair));
-    this.list = new List(keeping, (key) => beginning.goOn(key), (key) => { if (key === present.there?.kept.key) this.act('next'); });
+    this.list = new List(keeping, (key) => beginning.goOn(key), (keys) => this.leave(keys));
     const games = inputOf('games-file');
     games.addEventListener('change', () => { if (games.files?.[0]) this.bringIn(games.files[0]); });
     document.addEventListener('dragover', (event) => event.preventDefault());
     document.addEventListener('drop', (event) => this.drop(event));
   }
 
+  /** @param {number} at */
+  step(at) { this.hints.step(at); }
+  /** @param {number} by */
+  along(by) { return this.hints.along(by); }
+
   isReady() { return this.page.present.there !== null; }
 
   /** @param {string} name */
   act(name) {
-    if (name !== 'earlier' && name !== 'later') closeDialogs();
-    ACTIONS[name]?.(this, this.page);
+    const isAlong = name === 'earlier' || name === 'later';
+    if (!isAlong) closeDialogs();
+    const {course} = this, by = course.isOpen && IN_COURSE[name];
+    if (!isAlong && this.desk.isOpen) this.desk.act(name);
+    else if (by) course.go(course.at + by);
+    else ACTIONS[name]?.(this, this.page);
   }
 
   /** @param {number} number @param {boolean} isOther  a mark where numbers are put in, or the other way round */
   number(number, isOther) {
-    const {moves, screen} = this.page;
-    moves.put(screen.chosen, number, screen.marking !== isOther);
+    const {screen} = this.page;
+    if (screen.desk) screen.desk.number(number);
+    else this.put(screen.chosen, number, screen.marking !== isOther);
+  }
+
+  /** @param {Place} place @param {number} number @param {boolean} isMark */
+  put(place, number, isMark) {
+    if (isMark || !this.course.isOpen) this.page.moves.put(place, number, isMark);
+    else this.course.answer(place, number);
+  }
+
+  // A number is pressed: it goes into the chosen square; or, where numbers are chosen first, into those that are pressed next.
+  /** @param {number} number @param {boolean} isOther */
+  pad(number, isOther) {
+    const {keeping, messages, screen} = this.page;
+    if (isOther || screen.desk || !keeping.settings.numberFirst) return this.number(number, isOther);
+    screen.hold(number);
+    messages.tell(screen.held ? heldText(number) : NONE_HELD);
+  }
+
+  // A clue or a square is pressed, shortly or for long.
+  /** @param {Place} place @param {boolean} isLong */
+  press(place, isLong) {
+    if (this.desk.isOpen) return;
+    const {moves, present: {board}, screen: {held, marking}} = this.page, cell = cellOf(place, board.size), isMark = marking !== isLong;
+    if (cell >= 0 && held) {
+      // The same number once more goes out again, as a mark does.
+      if (!isMark && board.numbers[cell] === held && !board.givens[cell]) moves.clear(place);
+      else this.put(place, held, isMark);
+    } else if (isLong) this.act('enter');
+    else if (cell < 0) moves.done(place);
   }
 
   /** @param {Place} place */
   choose(place) { this.page.screen.choose(place); }
-  /** @param {Place} place */
-  done(place) { this.page.moves.done(place); }
   /** @param {number} dx @param {number} dy */
   move(dx, dy) { this.page.screen.move(dx, dy); }
 
-  /** The hint of the board's numbers is there then. Where they contradict one another it is said first how many moves to take back. */
-  async learn() {
-    const {moves, walk, present} = this.page;
-    if (walk.walked) return true;
-    const hint = await moves.hint(), {numbers} = present.board;
-    if (!hint) return false;
-    if (hint.kind === 'follows') await moves.countHint();
-    else await this.wrong();
-    // A move may have come in between.
-    const isOfThis = present.board.numbers.join() === numbers.join();
-    if (isOfThis) walk.begin(hint, present.board.size);
-    return isOfThis;
-  }
-
-  /** Says since how many moves the numbers can't be completed, and offers to take them back. */
-  async wrong() {
-    const {moves, messages} = this.page, count = await moves.sinceRight();
-    if (count === null) return;
-    const offer = count ? {text: takeBackText(count), run: () => moves.takeBack(count)} : null;
-    messages.tell(count ? sinceText(count) : NEVER_RIGHT, {bad: true, lasting: true, offer});
-  }
-
-  // One part after the other, however fast they are asked for.
-  /** @param {() => Promise<unknown>} part */
-  inOrder(part) {
-    this.parts = this.parts.then(part, part);
-  }
-
-  async hint() {
-    const {walk, messages, screen} = this.page;
-    if (walk.isOpen) return this.along(1);
-    if (!(await this.learn()) || !walk.walked) return;
-    if (walk.walked.hint.kind !== 'follows') return this.why();
-    const text = walk.next();
-    if (!text) return this.take();
-    messages.tell(text, {lasting: true});
-    if (walk.stage === 'reason' && walk.walked.goal) screen.choose(walk.walked.goal);
-    screen.paint();
-  }
-
-  async why() {
-    const {walk, messages} = this.page;
-    if (!(await this.learn())) return;
-    if (walk.walked?.hint.kind === 'follows') messages.clear();
-    walk.open();
-    this.page.screen.paint();
-  }
-
-  /** Puts the number of the hint in. */
-  take() {
-    const {walk, moves, screen} = this.page, {goal, hint} = walk.walked ?? {};
-    walk.forget();
-    if (!goal || !hint?.number) return null;
-    screen.choose(goal);
-    return moves.put(goal, hint.number, false);
-  }
-
-  /** @param {number} at */
-  step(at) {
-    this.page.walk.go(at);
-    this.page.screen.paint();
-  }
-
-  // Along the steps, where they are open; whether they are.
-  /** @param {number} by */
-  along(by) {
-    const {walk} = this.page, {isOpen} = walk;
-    if (isOpen) this.step(walk.at + by);
-    return isOpen;
-  }
-
-  async check() {
-    const answer = await this.page.moves.check();
-    if (answer === 'none') await this.wrong();
-    else if (answer) this.page.messages.tell(answer);
+  // The sign between two squares of the setter's desk; or that of the chosen one on a side, and whether there is such a desk.
+  /** @param {number} one @param {number} other */
+  turn(one, other) { this.page.screen.desk?.turn(one, other); }
+  /** @param {number[]} by */
+  sign(by) {
+    this.page.screen.desk?.sign(by);
+    return this.desk.isOpen;
   }
 
   // A new game of a kind, which is the kind of the next one, too.
@@ -155,8 +126,32 @@ export class Actions {
     await this.page.beginning.byChance(kind);
   }
 
+  // Another game begins where the present one is among those that are deleted; whether it is.
+  /** @param {string[]} keys */
+  async leave(keys) {
+    const {kept} = this.page.present, isAmong = keys.includes(kept.key);
+    if (isAmong) await this.begin(nearest(kindOf(kept)));
+    return isAmong;
+  }
+
+  // A game that is asked for begins; where it doesn't, the sentence that says why, and no other place has it then.
+  /** @param {() => Promise<unknown>} ask */
+  async refusal(ask) {
+    const {present, messages} = this.page, before = present.there;
+    await ask();
+    if (present.there !== before) return '';
+    const why = messages.text;
+    messages.clear();
+    return why;
+  }
+
+  // A link or an ID that is dropped, or in the address.
   /** @param {string} text */
-  named(text) { this.fresh.named(text); }
+  named(text) {
+    const {beginning, messages} = this.page, link = named(text);
+    if (link) beginning.named(link);
+    else messages.tell(NO_SUCH_LINK);
+  }
 
   /** A game that was solved for the first time is noted, if not with the program's help. */
   noteSolved() {
@@ -164,15 +159,17 @@ export class Actions {
     if (kept.state !== 'solved' || kept.solved) return;
     const when = Date.now(), seconds = keeping.settings.time ? kept.seconds : 0;
     keeping.addSolved([{kind: nameOfKind(kindOf(kept)), number: kept.fair?.number ?? '', when, seconds, hints: kept.hints}]);
-    present.inTurn(() => present.keep({...present.kept, solved: when}, {board, session}));
+    present.inTurn(() => present.advance({...present.kept, solved: when}, {board, session}));
   }
 
   /** The grade by our own steps, of a game that isn't made by a grade. */
   async askGrade() {
-    const {present, screen} = this.page, {kept} = present;
-    if (kept.fair) return;
+    const {present, screen, messages} = this.page, {kept} = present;
+    if (kept.fair || !kept.key) return;
     const turned = await present.inTurn(() => present.ask('grade', kept.save, kept.game));
-    if (turned && present.kept.key === kept.key) screen.grade(turned.answer.grade);
+    if (!turned || present.kept.key !== kept.key) return;
+    screen.grade(turned.answer.grade);
+    if (screen.found && !messages.text) messages.tell(BY_STEPS);
   }
 
   /** @param {File} file */
@@ -199,27 +196,6 @@ export class Actions {
     else if (text) this.named(text);
   }
 
-  async link() {
-    const {messages, present} = this.page, link = this.linkText(present.kept);
-    try {
-      await navigator.clipboard.writeText(link);
-      messages.tell(LINK_COPIED);
-    } catch {
-      showPage(LINK_HERE, [link]);
-    }
-  }
-
-  // A page from a disk has no address for others: they have the part that names the game.
-  /** @param {import('./kept.js').Kept} kept */
-  linkText(kept) {
-    return `${location.protocol === 'file:' ? '' : location.href.split('#')[0]}#${linkOf(kept)}`;
-  }
-
-  id() {
-    const {kept} = this.page.present, numbered = kept.fair ? ['', numberedText(kept.fair)] : [];
-    showPage(ID_OF, [kept.id, ...numbered, '', LINK_HERE, this.linkText(kept)]);
-  }
-
   async command() {
     const line = await typedLine(COMMAND);
     if (!line) return;
@@ -234,9 +210,11 @@ export class Actions {
     if (!known) return;
     keeping.set({[known]: !keeping.settings[known]});
     this.showSettings();
+    if (known === 'numberFirst') screen.held = 0;
     screen.paint();
+    const said = SET[known]?.[Number(keeping.settings[known])];
     // After the moves that were asked for before, which would take the sentence away.
-    if (known === 'tidy') present.inTurn(async () => messages.tell(keeping.settings.tidy ? MARKS_GO : MARKS_STAY));
+    if (said) present.inTurn(async () => messages.tell(said));
   }
 
   showSettings() {
@@ -245,25 +223,33 @@ export class Actions {
   }
 }
 
+// By how many cards these go on in the course: to its end by more than there are.
+/** @type {Record<string, number>} */
+const IN_COURSE = {enter: 1, new: 1, back: -1, quit: 9};
+
 // What each name stands for.
 /** @type {Record<string, (actions: Actions, page: Page) => unknown>} */
 const ACTIONS = {
   new: ({fresh, page}) => fresh.open(kindOfName(page.keeping.settings.kind) ?? nearest(kindOf(page.present.kept))),
   next: (actions, {present}) => actions.begin(nearest(kindOf(present.kept))),
+  learn: ({course}) => course.go(0),
   menu(actions) {
     actions.showSettings();
     part('about').textContent = KEPT;
     openDialog('menu');
   },
+  desk: ({desk}) => desk.open(),
   games: ({list}) => list.open(),
   daily: ({daily}) => daily.open(),
   rules: (_, {present}) => openRules(present.kept.game, matchMedia('(any-hover: hover) and (any-pointer: fine)').matches),
   statistics: (_, {keeping}) => openStatistics(keeping.solved()),
-  link: (actions) => actions.link(),
-  id: (actions) => actions.id(),
-  save: (_, {present}) => give(fileName(present.kept, gradeOf(kindOf(present.kept))), present.kept.save),
+  link: ({links}) => links.copyLink(),
+  share: ({links}) => links.copyResult(),
+  id: ({links}) => links.showID(),
+  save: (_, {present: {kept}}) => give(fileName(kept, gradeOf(kindOf(kept))), bytesOf(kept.save)),
   export: (_, {keeping}) => give(`puzzles-games-${numberOfDay(new Date())}.json`, allGames(keeping)),
   print: () => print(),
+  pause: () => openDialog('pause'),
   command: (actions) => actions.command(),
   quit: (_, {messages}) => messages.tell(KEPT),
   tidy: (actions) => actions.set('tidy'),
@@ -276,18 +262,18 @@ const ACTIONS = {
   clear: (_, {moves, screen}) => moves.clear(screen.chosen),
   all: (_, {moves}) => moves.line('move M'),
   possible: (_, {moves}) => moves.possible(),
-  undo: (_, {moves}) => moves.walk('undo'),
-  redo: (_, {moves}) => moves.walk('redo'),
+  undo: (_, {moves}) => moves.undoOrRedo('undo'),
+  redo: (_, {moves}) => moves.undoOrRedo('redo'),
   done: (_, {moves, screen}) => moves.done(screen.chosen),
   restart: (_, {moves}) => moves.restart(),
   solve: (_, {moves}) => moves.solve(),
-  check: (actions) => actions.check(),
+  check: ({hints}) => hints.check(),
   back: (_, {moves}) => moves.back(),
-  hint: (actions) => actions.inOrder(() => actions.hint()),
-  why: (actions) => actions.inOrder(() => actions.why()),
-  take: (actions) => actions.take(),
-  earlier: (actions) => actions.along(-1),
-  later: (actions) => actions.along(1),
+  hint: ({hints}) => hints.inOrder(() => hints.next()),
+  why: ({hints}) => hints.inOrder(() => hints.open()),
+  take: ({hints}) => hints.take(),
+  earlier: ({hints}) => hints.along(-1),
+  later: ({hints}) => hints.along(1),
   leave(_, {walk, screen}) {
     walk.forget();
     screen.paint();

@@ -1,16 +1,25 @@
 // How a game begins: by its size and grade, by a number, an ID, a link or a save; and how a kept one goes on.
-import {byChance, isGame, lineOf, NAMES} from './games.js';
-import {gameOf} from './objects.js';
-import {GOES_ON, GONE, numberedText, unreadText} from './texts.js';
+import {NO_BYTES} from './bytes.js';
+import {byChance, isGame, kindOfName, lineOf, named, NAMES} from './games.js';
+import {CANNOT_BE_READ, FAULTS, GOES_ON, GONE, NO_SUCH_LINK, WELCOME, numberedText, refusal, unreadText} from './texts.js';
 import {Unanswered} from './turns.js';
 
+/** @typedef {import('./bytes.js').ByteText} ByteText */
 /** @typedef {import('./present.js').Present} Present */
+/** @typedef {import('./present.js').Looked} Looked */
+/** @typedef {import('./kept.js').Kept} Kept */
 /** @typedef {import('./turns.js').Game} Game */
 /** @typedef {import('./games.js').Kind} Kind */
 /** @typedef {import('./games.js').Fair} Fair */
 /** @typedef {import('./games.js').Named} Named */
+/** What came of it, and what there is to say of that. */
+/** @typedef {{how: 'begun' | 'goesOn' | 'refused', text: string, bad?: boolean}} Outcome */
+/**
+ * What the module makes of a line: a game that can be shown, or nothing and why. With the game of the same ID that is kept, if there is one.
+ * @typedef {{save: ByteText, looked: Looked | null, why: string, before?: Kept}} Made
+ */
 
-/** So many numbers by chance are tried, since a few have no game. */
+/** So many numbers by chance are tried, since a few have no game, and some the same one. */
 const TRIES = 20;
 
 export class Beginning {
@@ -19,95 +28,142 @@ export class Beginning {
     this.present = present;
   }
 
-  // A game of a kind, of a number by chance.
+  // --- what a player asks for ---
+
   /** @param {Kind} kind */
-  byChance(kind) {
-    return this.present.inTurn(async () => {
-      for (let left = TRIES; left > 0; left--) {
-        if (await this.fair({...kind, number: byChance()}, left > 1)) return;
-      }
-    });
-  }
-
-  // The game of a number.
+  byChance(kind) { return this.inTurn(() => this.chance(kind)); }
   /** @param {Fair} fair */
-  numbered(fair) {
-    return this.present.inTurn(() => this.fair(fair, false));
-  }
-
-  // What a link or a typed text names.
-  /** @param {Named} named */
-  named(named) {
-    const {fair, id} = named;
-    if (fair) return this.numbered(fair);
-    return this.present.inTurn(async () => {
-      const first = named.game ?? this.present.there?.kept.game ?? 'towers', games = named.game ? [first] : [first, ...others(first)];
-      for (const game of games) {
-        if (await this.line(`new ${id}`, game, null, true)) return;
-      }
-      await this.line(`new ${id}`, first, null, false);
-    });
-  }
-
-  /** @param {Fair} fair @param {boolean} isSilent */
-  fair(fair, isSilent) {
-    return this.line(lineOf(fair), fair.game, fair, isSilent);
-  }
-
-  // The game of a line; where it was begun before it goes on.
-  /** @param {string} line @param {Game} game @param {Fair | null} fair @param {boolean} isSilent */
-  async line(line, game, fair, isSilent) {
-    const {answer, save} = await this.present.ask(line, '', game), {session} = answer;
-    if (!session) {
-      if (!isSilent) this.present.isRefused(line, answer, game);
-      return false;
-    }
-    const before = this.present.keeping.games().find((kept) => kept.game === game && kept.id === session.id && kept.state !== 'filled');
-    if (before) await this.goOnWith(before.key);
-    else await this.present.begin(save, game, fair);
-    if (before?.state === 'playing') this.present.front.tell(GOES_ON);
-    else if (!before && fair) this.present.front.tell(numberedText(fair));
-    return true;
-  }
+  numbered(fair) { return this.inTurn(() => this.fair(fair)); }
+  /** @param {Named} name */
+  named(name) { return this.inTurn(() => this.ofName(name)); }
+  /** @param {string} key */
+  goOn(key) { return this.inTurn(() => this.kept(key)); }
+  /** @param {ByteText} text */
+  save(text) { return this.inTurn(() => this.ofSave(text)); }
 
   // A line of the program that begins a game.
   /** @param {string} line */
-  typed(line) {
-    return this.present.inTurn(async () => {
-      await this.line(line, this.present.kept.game, null, false);
-      return null;
+  async typed(line) {
+    await this.inTurn(async () => this.ofMade(await this.made(line, this.present.kept.game), null));
+    return null;
+  }
+
+  // The game of the address, otherwise the one that was shown last, otherwise one by chance.
+  /** @param {string} hash */
+  first(hash) {
+    const {present} = this, {keeping} = present, {now} = keeping, link = named(hash), kind = kindOfName(keeping.settings.kind);
+    return this.inTurn(async () => {
+      /** @type {Outcome[]} */
+      const outcomes = [];
+      if (hash.length > 1) outcomes.push(link ? await this.tried(() => this.ofName(link)) : {how: 'refused', text: NO_SUCH_LINK});
+      if (!present.there && keeping.has(now)) outcomes.push(await this.tried(() => this.kept(now)));
+      if (!present.there && kind) outcomes.push(welcomed(await this.chance(kind)));
+      return outcomes.find(({how}) => how === 'refused') ?? outcomes[outcomes.length - 1];
     });
+  }
+
+  // --- how it is done ---
+
+  // Does something when its turn has come, and says what came of it: how a game has begun only where nothing hinders it from being kept. That is
+  // said otherwise.
+  /** @param {() => Promise<Outcome>} work */
+  inTurn(work) {
+    const {front, keeping} = this.present;
+    return this.present.inTurn(async () => {
+      const {how, text, bad} = await work();
+      if (text && (how === 'refused' || !keeping.trouble)) front.tell(text, {bad});
+      return how;
+    });
+  }
+
+  // The outcome, where the module has no answer, too.
+  /** @param {() => Promise<Outcome>} work @returns {Promise<Outcome>} */
+  async tried(work) {
+    try {
+      return await work();
+    } catch (fault) {
+      if (!(fault instanceof Unanswered)) throw fault;
+      return {how: 'refused', text: FAULTS[fault.fault], bad: true};
+    }
+  }
+
+  // A game of a kind, of a number by chance. One that is solved already counts as a number without a game; where there are no others it begins anew.
+  /** @param {Kind} kind */
+  async chance(kind) {
+    let fair = {...kind, number: byChance()}, made = await this.ofFair(fair);
+    for (let left = TRIES - 1; left > 0 && (!made.looked || made.before?.state === 'solved'); left--) {
+      fair = {...kind, number: byChance()};
+      made = await this.ofFair(fair);
+    }
+    return this.ofMade(made.before?.state === 'solved' ? {...made, before: undefined} : made, fair);
+  }
+
+  // The game of a number. The same board may have been another number's, such as another day's: then it begins anew.
+  /** @param {Fair} fair */
+  async fair(fair) {
+    const made = await this.ofFair(fair), isSame = made.before?.fair?.number === fair.number;
+    return this.ofMade(isSame ? made : {...made, before: undefined}, fair);
+  }
+
+  // What a link or a typed text names: where it names no game, that is the present one or the other one.
+  /** @param {Named} name @returns {Promise<Outcome>} */
+  async ofName(name) {
+    if (name.fair) return this.fair(name.fair);
+    const {id, game} = name, line = `new ${id}`, first = game ?? this.present.there?.kept.game ?? 'towers', made = await this.made(line, first);
+    if (made.looked || game) return this.ofMade(made, null);
+    const other = await this.made(line, first === 'towers' ? 'unequal' : 'towers');
+    return this.ofMade(other.looked ? other : made, null);
   }
 
   // A kept game.
-  /** @param {string} key */
-  goOn(key) {
-    return this.present.inTurn(() => this.goOnWith(key));
-  }
-
-  /** @param {string} key */
-  async goOnWith(key) {
-    const kept = this.present.keeping.game(key);
-    if (kept) this.present.take(kept, await this.present.look(kept.save, kept.game));
-    else this.present.front.tell(GONE);
-    return Boolean(kept);
+  /** @param {string} key @returns {Promise<Outcome>} */
+  async kept(key) {
+    const {present} = this, kept = present.keeping.game(key);
+    if (!kept) return present.keeping.has(key) ? {how: 'refused', text: CANNOT_BE_READ, bad: true} : {how: 'refused', text: GONE};
+    present.open(kept, await present.look(kept.save, kept.game));
+    return {how: 'goesOn', text: ''};
   }
 
   // The game of a save's text, of whichever of the two games it is.
-  /** @param {string} text */
-  save(text) {
-    return this.present.inTurn(async () => {
-      const found = await this.read(text);
-      if (typeof found === 'string') this.present.front.tell(unreadText(text, found), {bad: true});
-      else await this.present.begin(text, gameOf(found.session), null);
-    });
+  /** @param {ByteText} text @returns {Promise<Outcome>} */
+  async ofSave(text) {
+    const found = await this.read(text);
+    if (typeof found === 'string') return {how: 'refused', text: unreadText(text, found), bad: true};
+    this.present.begin(text, found, null);
+    return {how: 'begun', text: ''};
+  }
+
+  // What has been made goes on where it was begun before, and begins otherwise.
+  /** @param {Made} made @param {Fair | null} fair @returns {Promise<Outcome>} */
+  async ofMade({save, looked, why, before}, fair) {
+    if (!looked) return {how: 'refused', text: why};
+    if (before) return {...await this.kept(before.key), text: before.state === 'playing' ? GOES_ON : ''};
+    this.present.begin(save, looked, fair);
+    return {how: 'begun', text: fair ? numberedText(fair) : ''};
+  }
+
+  // --- what is asked of the module ---
+
+  /** @param {Fair} fair */
+  ofFair(fair) {
+    return this.made(lineOf(fair), fair.game, fair.number);
+  }
+
+  // What a line makes. Of the kept games with its ID that is the one of this number, if there is one.
+  /** @param {string} line @param {Game} game @param {string} [number] @returns {Promise<Made>} */
+  async made(line, game, number) {
+    const {answers, saved} = await this.present.askAll([line, 'board'], NO_BYTES, game);
+    const {board, session, lost, refused} = answers[answers.length - 1];
+    if (!board || !session) return {save: saved, looked: null, why: refusal(line, String(lost ?? refused), game)};
+    const same = this.present.keeping.games().filter((kept) => kept.game === game && kept.id === session.id && kept.state !== 'filled');
+    return {save: saved, looked: {board, session}, why: '', before: same.find(({fair}) => fair?.number === number) ?? same[0]};
   }
 
   // The board of a save's text; where it is none, the name by which the module refuses it.
-  /** @param {string} text */
+  /** @param {ByteText} text @returns {Promise<Looked | string>} */
   async read(text) {
-    let why = '';
-    for (const game of Object.keys(NAMES).filter(isGame)) {
+    let why = text ? '' : 'NotASave';
+    for (const game of text ? Object.keys(NAMES).filter(isGame) : []) {
       try {
         return await this.present.look(text, game);
       } catch (fault) {
@@ -120,5 +176,5 @@ export class Beginning {
   }
 }
 
-/** @param {Game} game */
-const others = (game) => Object.keys(NAMES).filter(isGame).filter((one) => one !== game);
+/** @param {Outcome} outcome @returns {Outcome} */
+const welcomed = (outcome) => (outcome.how === 'refused' ? outcome : {...outcome, text: WELCOME});

@@ -37,7 +37,8 @@ function asked(question, line) {
   part('ask-yes').textContent = isLine ? 'Do it' : 'Yes';
   part('ask-no').textContent = isLine ? 'Cancel' : 'No';
   dialog.returnValue = '';
-  openDialog('ask');
+  // Over a dialog that is open: it is as it was, then.
+  dialog.showModal();
   (isLine ? input : part('ask-no')).focus();
   return new Promise((resolve) => {
     dialog.addEventListener('close', function closed() {

@@ -41,6 +41,18 @@ export function part(id) {
   return found;
 }
 
+// Shows an element or hides it. Where one that is hidden has the focus, the chosen square gets it.
+/** @param {HTMLElement} node @param {boolean} isShown */
+export function show(node, isShown) {
+  const hadFocus = !isShown && node.contains(document.activeElement);
+  node.hidden = !isShown;
+  if (hadFocus) focus(part('board').querySelector('[tabindex="0"]'));
+}
+
+// Gives the focus to an element, and nothing is scrolled by it.
+/** @param {Element | null | undefined} node */
+export const focus = (node) => /** @type {HTMLElement | null | undefined} */ (node)?.focus({preventScroll: true});
+
 /** @param {string} id */
 export const dialogOf = (id) => /** @type {HTMLDialogElement} */ (part(id));
 

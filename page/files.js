@@ -1,9 +1,11 @@
 // Files: what a player saves, opens or drops onto the page; and all games as one file.
+import {textOf} from './bytes.js';
 import {element} from './drawing.js';
 import {isSolvedGame} from './keeping.js';
-import {keptIn, newKey, seenOf} from './kept.js';
+import {importedIn, newKey, seenOf} from './kept.js';
 import {DROP_FILE, NOT_OUR_FILE, brought} from './texts.js';
 
+/** @typedef {import('./bytes.js').ByteText} ByteText */
 /** @typedef {import('./beginning.js').Beginning} Beginning */
 /** @typedef {import('./keeping.js').Keeping} Keeping */
 /** @typedef {import('./kept.js').Kept} Kept */
@@ -15,43 +17,55 @@ const SAVE = 16777216, ALL = 2 ** 27;
 const FORMAT = 'puzzles-games';
 
 // Gives the player a file.
-/** @param {string} name @param {string} text */
-export function give(name, text) {
-  const url = URL.createObjectURL(new Blob([text], {type: 'application/octet-stream'}));
+/** @param {string} name @param {Uint8Array} bytes */
+export function give(name, bytes) {
+  const url = URL.createObjectURL(new Blob([bytes], {type: 'application/octet-stream'}));
   element('a', '', {href: url, download: name}).click();
   setTimeout(() => URL.revokeObjectURL(url), 60000);
 }
 
-// The text of a save file; nothing where it is too large, and a sentence says so.
-/** @param {File} file @param {(text: string) => void} tell @returns {Promise<string | null>} */
+// A save file, byte by byte; nothing where it is too large, and a sentence says so.
+/** @param {File} file @param {(text: string) => void} tell @returns {Promise<ByteText | null>} */
 export async function saveIn(file, tell) {
-  if (file.size <= SAVE) return file.text();
+  if (file.size <= SAVE) return textOf(new Uint8Array(await file.arrayBuffer()));
   tell(DROP_FILE);
   return null;
 }
 
-// All games, and what was solved, as the text of one file.
+// All games, and what was solved, as one file. What can't be read is in it as it is.
 /** @param {Keeping} keeping */
-export const allGames = (keeping) => JSON.stringify({format: FORMAT, games: keeping.games(), solved: keeping.solved()});
+export function allGames(keeping) {
+  return new TextEncoder().encode(JSON.stringify({format: FORMAT, games: [...keeping.games(), ...keeping.unread()], solved: keeping.solved()}));
+}
 
 // Brings such a file in; what came of it, as a sentence.
 /** @param {File} file @param {Keeping} keeping @param {Beginning} beginning */
 export async function bringIn(file, keeping, beginning) {
-  const told = file.size <= ALL ? parsed(await file.text()) : null;
-  if (!told) return NOT_OUR_FILE;
-  let [taken, refused, there] = [0, 0, 0];
-  for (const one of told.games) {
-    const kept = await readAgain(keptIn(one), beginning);
-    if (!kept) refused++;
-    else if (keeping.games().some(({game, save}) => game === kept.game && save === kept.save)) there++;
-    else {
-      keeping.keep(keeping.game(kept.key) ? {...kept, key: newKey()} : kept);
-      taken++;
-    }
+  const all = file.size <= ALL ? parsed(await file.text()) : null;
+  if (!all) return NOT_OUR_FILE;
+  const counts = {taken: 0, refused: 0, known: 0}, saves = new Set(keeping.games().map(({save}) => save));
+  for (const one of all.games) {
+    const kept = await readAgain(importedIn(one), beginning);
+    counts[kept ? join(kept, keeping, saves) : 'refused']++;
   }
-  keeping.addSolved(told.solved.filter(isSolvedGame));
-  return brought(taken, refused, there);
+  keeping.addSolved(all.solved.filter(isSolvedGame));
+  return brought(counts.taken, counts.refused, counts.known);
 }
+
+// Joins a game of a file with those that are here. Of one game the later state stays; moves that it doesn't have stay beside it.
+/** @param {Kept} kept @param {Keeping} keeping @param {Set<string>} saves  of all games that were here @returns {'taken' | 'known'} */
+function join(kept, keeping, saves) {
+  const before = keeping.game(kept.key);
+  if (before ? before.turn >= kept.turn : saves.has(kept.save)) return 'known';
+  if (before && !movesIn(kept.save).startsWith(movesIn(before.save))) keeping.replace({...before, key: newKey()});
+  // What can't be read stays as it is, too.
+  keeping.replace(before || !keeping.has(kept.key) ? kept : {...kept, key: newKey()});
+  return 'taken';
+}
+
+// The moves of a save: all that stands below the record of its position.
+/** @param {ByteText} save */
+const movesIn = (save) => save.slice(save.lastIndexOf('\nSTATEPOS:') + 1).replace(/^.*\n/, '');
 
 /** @param {string} text @returns {{games: unknown[], solved: unknown[]} | null} */
 function parsed(text) {

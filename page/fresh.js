@@ -37,18 +37,26 @@ export class KindLists {
   }
 }
 
+/**
+ * How a game begins. What is promised is why it doesn't: nothing where it does.
+ * @typedef {{kind(kind: Kind): void, numbered(fair: Fair): Promise<string>, named(named: Named): Promise<string>, file(file: File): void}} Begin
+ */
+
 export class Fresh {
-  /** @param {{kind(kind: Kind): void, numbered(fair: Fair): void, named(named: Named): void, file(file: File): void, tell(text: string): void}} begin */
+  /** @param {Begin} begin */
   constructor(begin) {
     this.begin = begin;
     this.lists = new KindLists('fresh', () => {});
-    part('fresh').querySelector('form')?.addEventListener('submit', (event) => {
+    this.number = inputOf('fresh-number');
+    this.id = inputOf('fresh-id');
+    const form = part('fresh').querySelector('form');
+    form?.addEventListener('submit', (event) => {
       event.preventDefault();
       this.submit();
     });
+    form?.addEventListener('input', () => this.forgive());
     part('fresh-today').addEventListener('click', () => {
-      closeDialogs();
-      begin.numbered({...this.lists.kind, number: numberOfDay(new Date())});
+      this.ask(this.number, begin.numbered({...this.lists.kind, number: numberOfDay(new Date())}));
     });
     const file = inputOf('fresh-file');
     file.addEventListener('change', () => {
@@ -62,24 +70,39 @@ export class Fresh {
   /** @param {Kind} kind */
   open(kind) {
     this.lists.show(kind);
-    inputOf('fresh-number').value = inputOf('fresh-id').value = '';
+    this.number.value = this.id.value = '';
+    this.forgive();
     openDialog('fresh');
   }
 
+  /** Begins what the fields name. A link or an ID comes before a number. */
   submit() {
-    const id = inputOf('fresh-id').value.trim(), number = inputOf('fresh-number').value.trim(), {kind} = this.lists;
+    const {number, id, begin, lists: {kind}} = this, text = id.value.trim(), digits = number.value.trim();
+    const link = named(text), seed = numberIn(digits);
+    if (text) return link ? this.ask(id, begin.named(link)) : this.refuse(id, NO_SUCH_LINK);
+    if (digits) return seed ? this.ask(number, begin.numbered({...kind, number: seed})) : this.refuse(number, NO_NUMBER);
     closeDialogs();
-    if (id) this.named(id);
-    else if (!number) this.begin.kind(kind);
-    else if (numberIn(number)) this.begin.numbered({...kind, number: numberIn(number)});
-    else this.begin.tell(NO_NUMBER);
+    return begin.kind(kind);
   }
 
-  // A link or an ID that is typed, dropped, or in the address.
-  /** @param {string} text */
-  named(text) {
-    const found = named(text);
-    if (found) this.begin.named(found);
-    else this.begin.tell(NO_SUCH_LINK);
+  // Where the game that is asked for doesn't begin, the dialog comes back with its choices, and with the reason at a field.
+  /** @param {HTMLInputElement} field @param {Promise<string>} refusal */
+  async ask(field, refusal) {
+    closeDialogs();
+    const why = await refusal;
+    if (!why) return;
+    openDialog('fresh');
+    this.refuse(field, why);
+  }
+
+  /** @param {HTMLInputElement} field @param {string} why */
+  refuse(field, why) {
+    field.setCustomValidity(why);
+    field.reportValidity();
+  }
+
+  /** What was wrong with a field is so no more. */
+  forgive() {
+    for (const field of [this.number, this.id]) field.setCustomValidity('');
   }
 }

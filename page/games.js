@@ -6,7 +6,7 @@
 // A fair game, its number in decimal.
 /** @typedef {Kind & {number: string}} Fair */
 // What a link or a typed text names.
-/** @typedef {{fair: Fair, id?: undefined} | {fair?: undefined, id: string, game: Game | null}} Named */
+/** @typedef {{fair: Fair, id?: undefined} | {fair?: null, id: string, game: Game | null}} Named */
 
 /** @type {Record<Game, string>} */
 export const NAMES = {towers: 'Towers', unequal: 'Unequal'};

@@ -5,8 +5,9 @@ import {part} from './drawing.js';
 /** @typedef {import('./objects.js').Place} Place */
 /**
  * What a player asks for, whichever way.
- * @typedef {{isReady(): boolean, act(name: string): void, move(dx: number, dy: number): void, number(number: number, isOther: boolean): void, choose(place: Place): void,
- *   done(place: Place): void, step(at: number): void, along(by: number): boolean, set(name: string): void}} Asked
+ * @typedef {{isReady(): boolean, act(name: string): void, move(dx: number, dy: number): void, number(number: number, isOther: boolean): void,
+ *   pad(number: number, isOther: boolean): void, choose(place: Place): void, press(place: Place, isLong: boolean): void, step(at: number): void,
+ *   along(by: number): boolean, set(name: string): void, turn(one: number, other: number): void, sign(by: number[]): boolean}} Asked
  */
 
 // Columns and rows by which a key moves.
@@ -19,14 +20,14 @@ const STEPS = {
 // What each key does, by the name of an action: the keys of the board in a terminal, and some more.
 /** @type {Record<string, string>} */
 export const KEYS = {
-  Enter: 'enter', p: 'marks', ' ': 'clear', 0: 'clear', Backspace: 'clear', Delete: 'clear', m: 'all', P: 'possible', M: 'tidy', u: 'undo', r: 'redo',
-  d: 'done', R: 'restart', h: 'hint', H: 'why', c: 'check', b: 'back', S: 'solve', n: 'new', o: 'games', t: 'daily', w: 'save', i: 'id', '?': 'rules',
-  ':': 'command', q: 'quit', Escape: 'escape',
+  Enter: 'enter', p: 'marks', ' ': 'clear', 0: 'clear', Backspace: 'clear', Delete: 'clear', m: 'all', P: 'possible', M: 'tidy',
+  u: 'undo', r: 'redo', d: 'done', R: 'restart', h: 'hint', H: 'why', c: 'check', b: 'back', S: 'solve',
+  n: 'new', o: 'games', t: 'daily', w: 'save', i: 'id', '?': 'rules', ':': 'command', q: 'quit', Escape: 'escape',
 };
 
-// The same with Control.
+// The same with Control, or on a Mac with Command; the capital letter with Shift.
 /** @type {Record<string, string>} */
-const CONTROL = {z: 'undo', y: 'redo'};
+const COMMANDS = {z: 'undo', Z: 'redo', y: 'redo'};
 
 /** For how many milliseconds a long press lasts, and how far the finger may go in it. */
 const LONG = 450, STILL = 12;
@@ -41,7 +42,7 @@ export function listenToPlayer(asked) {
     if (!place || !event.isPrimary || event.button) return;
     event.preventDefault();
     asked.choose(place);
-    press.begin(event, () => asked.act('enter'));
+    press.begin(event, () => asked.press(place, true));
   });
   // After the right button WebKit tells of no pointer that is pressed, but of the mouse.
   board.addEventListener('mousedown', (event) => {
@@ -49,16 +50,19 @@ export function listenToPlayer(asked) {
     if (place && !event.button) asked.choose(place);
   });
   board.addEventListener('click', ({target}) => {
-    const place = placeOf(target);
-    if (place && isClue(target) && !press.isLong) asked.done(place);
+    const place = placeOf(target), [one, other] = (nodeOf(target, 'sign')?.dataset.sign ?? '').split('-').map(Number);
+    if (place && !press.isLong) asked.press(place, false);
+    if (other) asked.turn(one, other);
   });
   board.addEventListener('contextmenu', (event) => {
     const place = placeOf(event.target);
     if (!place) return;
     event.preventDefault();
     if (/** @type {PointerEvent} */ (event).pointerType === 'touch') return;
+    // WebKit may tell of a click after it, as of the first button, and Firefox does on a Mac, with Control.
+    press.isLong = event.button > 0 || event.ctrlKey;
     asked.choose(place);
-    asked.act('enter');
+    asked.press(place, true);
   });
   buttons(asked, press);
   fingers();
@@ -67,14 +71,31 @@ export function listenToPlayer(asked) {
 // Keys count where the board has the focus, or nothing has: they must not surprise a player who is in a field or on a button.
 /** @param {KeyboardEvent} event @param {Asked} asked */
 function key(event, asked) {
-  const at = document.activeElement;
-  if (!asked.isReady() || isDialogOpen() || !(part('board').contains(at) || at === document.body) || event.altKey || event.metaKey) return;
-  const action = event.ctrlKey ? CONTROL[event.key] : KEYS[event.key], step = event.ctrlKey ? undefined : STEPS[event.key];
-  if (step && !asked.along(step[0] + step[1])) asked.move(...step);
-  else if (/^[1-9]$/.test(event.key) && !event.ctrlKey) asked.number(Number(event.key), false);
+  const at = document.activeElement, isOnBoard = part('board').contains(at) || at === document.body;
+  if (!asked.isReady() || isDialogOpen() || !isOnBoard || event.altKey) return;
+  const isCommand = event.ctrlKey || event.metaKey, name = isCommand ? letterOf(event) : nameOf(event);
+  const action = isCommand ? COMMANDS[name] : KEYS[name], step = isCommand ? undefined : STEPS[name];
+  const number = isCommand ? 0 : Number(/^[1-9]$/.exec(name));
+  if (step && !asked.along(step[0] + step[1]) && !(event.shiftKey && asked.sign(step))) asked.move(...step);
+  else if (number) asked.number(number, false);
   else if (action) asked.act(action);
-  if (step || action || (/^[1-9]$/.test(event.key) && !event.ctrlKey)) event.preventDefault();
+  if (step || action || number) event.preventDefault();
 }
+
+// How a key is called. Where a keyboard has digits with Shift alone, or other letters than Latin ones, its place counts: 1 is `&` in French.
+/** @param {KeyboardEvent} event */
+function nameOf({key, code, shiftKey}) {
+  const [, digit, letter] = /^(?:Digit(\d)|Key(\w))$/.exec(code) ?? [];
+  if (digit && !shiftKey && !/^\d$/.test(key)) return digit;
+  return letter && key > '~' ? cased(letter, shiftKey) : key;
+}
+
+// The letter of a key, whether or not capitals are locked.
+/** @param {KeyboardEvent} event */
+const letterOf = (event) => cased(nameOf(event), event.shiftKey);
+
+/** @param {string} letter @param {boolean} isCapital */
+const cased = (letter, isCapital) => (isCapital ? letter.toUpperCase() : letter.toLowerCase());
 
 /** @param {Asked} asked @param {LongPress} press */
 function buttons(asked, press) {
@@ -85,7 +106,7 @@ function buttons(asked, press) {
   }
   main?.addEventListener('pointerdown', (event) => {
     const node = event.target instanceof Element ? event.target.closest('button') : null, number = Number(node?.dataset.number);
-    if (number) press.begin(event, () => asked.number(number, true));
+    if (number) press.begin(event, () => asked.pad(number, true));
   });
   document.addEventListener('click', ({target}) => {
     const node = target instanceof Element ? target.closest('button') : null;
@@ -93,14 +114,17 @@ function buttons(asked, press) {
     press.isLong = false;
     if (!node || node.disabled || isLong || !asked.isReady()) return;
     const {do: name, number, step, set} = node.dataset;
-    if (number) asked.number(Number(number), false);
+    if (number) asked.pad(Number(number), false);
     if (step) asked.step(Number(step));
     if (set) asked.set(set);
     if (name) asked.act(name);
   });
 }
 
-/** A finger counts as it is lifted, and not by the click that comes of it: with that a browser shows the button pressed, and takes no answer meanwhile. */
+/**
+ * A finger counts as it is lifted, and not by the click that comes of it: with that a browser shows the button pressed, and takes no answer
+ * meanwhile.
+ */
 function fingers() {
   /** @type {HTMLButtonElement | null} */
   let lifted = null;
@@ -148,11 +172,8 @@ class LongPress {
   }
 }
 
-/** @param {EventTarget | null} target */
-const placeNode = (target) => (target instanceof Element ? /** @type {SVGElement | null} */ (target.closest('[data-place]')) : null);
+/** @param {EventTarget | null} target @param {string} data */
+const nodeOf = (target, data) => (target instanceof Element ? /** @type {SVGElement | null} */ (target.closest(`[data-${data}]`)) : null);
 
 /** @param {EventTarget | null} target */
-const placeOf = (target) => placeNode(target)?.dataset.place ?? '';
-
-/** @param {EventTarget | null} target */
-const isClue = (target) => placeNode(target)?.classList.contains('clue') ?? false;
+const placeOf = (target) => nodeOf(target, 'place')?.dataset.place ?? '';

@@ -1,7 +1,9 @@
 // A game as it is kept: the text of its save, and what the list of games shows of it.
+import {isByteText} from './bytes.js';
 import {NAMES, isGame, isOffered, numberIn} from './games.js';
 import {gameOf, isSolved, letterOf, progress} from './objects.js';
 
+/** @typedef {import('./bytes.js').ByteText} ByteText */
 /** @typedef {import('./turns.js').Game} Game */
 /** @typedef {import('./games.js').Fair} Fair */
 /** @typedef {import('./objects.js').Board} Board */
@@ -12,12 +14,12 @@ import {gameOf, isSolved, letterOf, progress} from './objects.js';
 /**
  * `turn` counts the changes, so that a tab sees whether another one has moved; `joined` has the positions after several moves that undo takes
  * back as one, with those before; `solved` is when it was solved first, in milliseconds.
- * @typedef {{key: string, turn: number, game: Game, save: string, id: string, fair: Fair | null, begun: number, when: number,
+ * @typedef {{key: string, turn: number, game: Game, save: ByteText, id: string, fair: Fair | null, begun: number, when: number,
  *   seconds: number, hints: number, joined: [number, number][], solved: number, numbers: number[], givens: number[], state: State}} Kept
  */
 
 // A game that begins.
-/** @param {Session} session @param {Board} board @param {string} save @param {Fair | null} fair @returns {Kept} */
+/** @param {Session} session @param {Board} board @param {ByteText} save @param {Fair | null} fair @returns {Kept} */
 export function begunGame(session, board, save, fair) {
   const now = Date.now(), game = gameOf(session), plain = {key: newKey(), turn: 1, game, fair, begun: now, seconds: 0, hints: 0, solved: 0};
   return {...plain, ...seenOf(session, board, save), joined: []};
@@ -27,7 +29,7 @@ export function begunGame(session, board, save, fair) {
 export const newKey = () => `${Date.now().toString(36)}-${Math.floor(Math.random() * 1e9).toString(36)}`;
 
 // What is seen of a state of the game.
-/** @param {Session} session @param {Board} board @param {string} save */
+/** @param {Session} session @param {Board} board @param {ByteText} save */
 export function seenOf(session, board, save) {
   const {numbers, givens} = board;
   return {save, id: session.id, when: Date.now(), numbers, givens, state: stateOf(session, board)};
@@ -61,14 +63,49 @@ export function keptIn(text) {
 
 /** @param {any} value @returns {Kept | null} */
 function keptOf(value) {
-  const {key, game, save, id, state} = value, texts = [key, save, id];
-  const counts = [value.turn, value.begun, value.when, value.seconds, value.hints, value.solved];
-  if (!texts.every((text) => typeof text === 'string') || !isGame(game) || !/^[3-9]/.test(id)) return null;
-  if (!counts.every((count) => Number.isFinite(count) && count >= 0) || !['playing', 'solved', 'filled'].includes(state)) return null;
-  if (![value.numbers, value.givens].every((list) => isNumbers(list) && list.length === Number(id.charAt(0)) ** 2)) return null;
-  if (!Array.isArray(value.joined) || !value.joined.every((/** @type {unknown} */ pair) => isNumbers(pair) && pair.length === 2)) return null;
-  const [turn, begun, when, seconds, hints, solved] = counts, {joined, numbers, givens} = value;
+  const {key, game, save, id, state, turn, begun, when, seconds, hints, joined, solved, numbers, givens} = value;
+  if (!key || ![key, id].every((text) => typeof text === 'string') || !isByteText(save) || !isGame(game) || !/^[3-9]/.test(id)) return null;
+  if (![turn, seconds, hints].every(isCountedOn) || ![begun, when, solved].every((time) => isCount(time, LAST_MOMENT))) return null;
+  if (!['playing', 'solved', 'filled'].includes(state) || !Array.isArray(joined) || !joined.every(isJoined)) return null;
+  if (![numbers, givens].every((list) => isNumbers(list) && list.length === Number(id.charAt(0)) ** 2)) return null;
   return {key, turn, game, save, id, fair: fairOf(value.fair, game), begun, when, seconds, hints, joined, solved, numbers, givens, state};
+}
+
+// The same of a file: what it counts is counted on.
+/** @param {unknown} value */
+export function importedIn(value) {
+  const kept = keptIn(value);
+  return kept && [kept.turn, kept.seconds, kept.hints].every((count) => isCount(count)) ? kept : null;
+}
+
+/** The last moment that a date has, in milliseconds; and the most that a file may have counted of anything. */
+export const LAST_MOMENT = 8.64e15;
+const MOST = 1e9;
+
+/** @param {unknown} count @param {number} [most] */
+export const isCount = (count, most = MOST) => isCountedOn(count) && Number(count) <= most;
+
+/** @param {unknown} count */
+const isCountedOn = (count) => Number.isSafeInteger(count) && Number(count) >= 0;
+
+/** @param {unknown} pair */
+const isJoined = (pair) => isNumbers(pair) && pair.length === 2 && pair[0] > pair[1] && pair[1] > 0;
+
+// Whether what a text says of a game, or of the settings, is of a later state than another text.
+/** @param {string} text @param {string | null} other */
+export function isLater(text, other) {
+  const [one, two] = [text, other].map(countsIn);
+  return one.turn > two.turn || (one.turn === two.turn && one.seconds > two.seconds);
+}
+
+/** @param {string | null} text @returns {{turn: number, seconds: number}} */
+function countsIn(text) {
+  try {
+    const {turn = 0, seconds = 0} = JSON.parse(text ?? '');
+    return {turn, seconds};
+  } catch {
+    return {turn: -1, seconds: 0};
+  }
 }
 
 /** @param {unknown} list @returns {list is number[]} */

@@ -1,9 +1,8 @@
-// The list of the games that are kept, each with a small picture.
-import {button, element, part, shape} from './drawing.js';
+// The list of the games that are kept, each with a small picture: those that are to be finished first.
+import {button, element, focus, part, shape, show} from './drawing.js';
 import {closeDialogs, confirmed, openDialog, pictured} from './dialogs.js';
-import {gradeOf} from './games.js';
 import {farOf, kindOf, sizeOf} from './kept.js';
-import {clockText, dayAndTime, deleteGameText, farText, NO_GAMES, titleText} from './texts.js';
+import {clockText, dayAndTime, deleteFinishedText, deleteGameText, farText, kindText, NO_GAMES, unreadGames} from './texts.js';
 
 /** @typedef {import('./kept.js').Kept} Kept */
 /** @typedef {import('./keeping.js').Keeping} Keeping */
@@ -14,24 +13,31 @@ const STATES = {playing: '', solved: 'solved', filled: 'filled in'};
 
 /** @param {Kept} kept */
 function picture({id, numbers, givens}) {
-  const size = Number(id.charAt(0)), svg = shape('svg', {viewBox: `-0.1 -0.1 ${size + 0.2} ${size + 0.2}`, class: 'small-board', 'aria-hidden': true});
-  svg.append(shape('rect', {width: size, height: size, class: 'ground'}));
-  numbers.forEach((number, cell) => {
-    if (!number) return;
-    const kind = givens[cell] ? 'given' : 'own', x = cell % size, y = Math.floor(cell / size);
-    svg.append(shape('rect', {x, y, width: 1, height: 1, class: kind}), shape('text', {x: x + 0.5, y: y + 0.75, 'font-size': 0.72, class: kind}, String(number)));
-  });
+  const size = Number(id.charAt(0)), ground = shape('rect', {width: size, height: size, class: 'ground'});
+  const digits = numbers.flatMap((number, cell) => (number ? digit(cell, size, number, givens[cell] ? 'given' : 'own') : []));
   const lines = Array.from({length: size - 1}, (_, at) => `M${at + 1} 0V${size}M0 ${at + 1}H${size}`).join('');
-  svg.append(shape('path', {d: lines, 'stroke-width': 0.03}), shape('rect', {width: size, height: size, class: 'around', 'stroke-width': 0.1}));
-  return svg;
+  const frame = shape('rect', {width: size, height: size, class: 'around', 'stroke-width': 0.1});
+  return [ground, ...digits, shape('path', {d: lines, 'stroke-width': 0.03}), frame];
+}
+
+/** @param {number} cell @param {number} size @param {number} number @param {string} kind */
+function digit(cell, size, number, kind) {
+  const x = cell % size, y = Math.floor(cell / size);
+  const text = shape('text', {x: x + 0.5, y: y + 0.75, 'font-size': 0.72, class: kind}, String(number));
+  return [shape('rect', {x, y, width: 1, height: 1, class: kind}), text];
 }
 
 export class List {
-  /** @param {Keeping} keeping @param {(key: string) => void} goOn @param {(key: string) => void} deleted */
+  // What is done with a chosen game, and after games were deleted: whether another one begins then.
+  /** @param {Keeping} keeping @param {(key: string) => void} goOn @param {(keys: string[]) => Promise<boolean>} deleted */
   constructor(keeping, goOn, deleted) {
     this.keeping = keeping;
     this.goOn = goOn;
     this.deleted = deleted;
+    /** @type {Kept[]} */
+    this.games = [];
+    // A picture is drawn where it comes into view: those of a thousand games have a hundred thousand elements.
+    this.view = new IntersectionObserver((seen) => seen.forEach((one) => this.draw(one)), {root: part('games'), rootMargin: '100%'});
     part('games-list').addEventListener('click', ({target}) => {
       const node = target instanceof Element ? target.closest('button') : null, {key, gone} = node?.dataset ?? {};
       if (key) {
@@ -40,6 +46,7 @@ export class List {
       }
       if (gone) this.delete(gone);
     });
+    part('games-finished').addEventListener('click', () => this.deleteFinished());
   }
 
   open() {
@@ -48,31 +55,70 @@ export class List {
   }
 
   show() {
-    const games = this.keeping.games();
+    const games = this.keeping.games(), finished = games.filter(({state}) => state !== 'playing');
+    this.games = [...games.filter(({state}) => state === 'playing'), ...finished];
     part('games-none').textContent = NO_GAMES;
-    part('games-none').hidden = games.length > 0;
-    part('games-list').replaceChildren(...games.map((kept) => this.item(kept)));
+    show(part('games-none'), games.length === 0);
+    part('games-unread').textContent = unreadGames(this.keeping.unread().length);
+    show(part('games-finished'), finished.length > 0);
+    this.view.disconnect();
+    part('games-list').replaceChildren(...this.games.map((kept) => this.item(kept)));
+  }
+
+  // The list keeps its place, since its other items stay as they are.
+  /** @param {string[]} keys */
+  drop(keys) {
+    const items = [...part('games-list').children];
+    this.games.forEach(({key}, at) => { if (keys.includes(key)) items[at].remove(); });
+    this.games = this.games.filter(({key}) => !keys.includes(key));
+    show(part('games-finished'), this.games.some(({state}) => state !== 'playing'));
   }
 
   /** @param {Kept} kept */
   item(kept) {
-    const {filled, empty} = farOf(kept), grade = gradeOf(kindOf(kept)), name = titleText(kept.game, sizeOf(kept));
-    const number = kept.fair ? `number ${kept.fair.number}` : '', state = STATES[kept.state] || farText(filled, empty);
-    const second = [number, kept.seconds ? clockText(kept.seconds) : '', dayAndTime(kept.when)].filter(Boolean).join(' · ');
-    const first = element('b', [name, grade].filter(Boolean).join(', ')), how = element('span', ` · ${state}`);
-    const node = pictured(picture(kept), first, how, element('br'), element('small', second));
+    const size = sizeOf(kept), name = kindText(kindOf(kept)), time = kept.seconds ? clockText(kept.seconds) : '';
+    const more = [kept.fair ? `number ${kept.fair.number}` : '', time, dayAndTime(kept.when)].filter(Boolean).join(' · ');
+    const svg = shape('svg', {viewBox: `-0.1 -0.1 ${size + 0.2} ${size + 0.2}`, class: 'small-board', 'aria-hidden': true});
+    const node = pictured(svg, element('b', name), element('span', ` · ${stateText(kept)}`), element('br'), element('small', more));
     node.dataset.key = kept.key;
-    const gone = button('Delete', {'data-gone': kept.key, 'aria-label': `Delete ${name}, ${grade}, ${second}`});
-    return element('li', '', {}, node, gone);
+    this.view.observe(svg);
+    return element('li', '', {}, node, button('Delete', {'data-gone': kept.key, 'aria-label': `Delete ${name}, ${more}`}));
+  }
+
+  /** @param {IntersectionObserverEntry} seen */
+  draw({isIntersecting, target}) {
+    const key = target.closest('button')?.dataset.key, kept = this.games.find((game) => game.key === key);
+    if (!isIntersecting || !kept) return;
+    target.append(...picture(kept));
+    this.view.unobserve(target);
   }
 
   /** @param {string} key */
   async delete(key) {
-    const kept = this.keeping.game(key);
-    if (kept && (await confirmed(deleteGameText(`${titleText(kept.game, sizeOf(kept))}, ${farText(farOf(kept).filled, farOf(kept).empty)}`)))) {
-      this.keeping.delete(key);
-      this.deleted(key);
-    }
-    this.open();
+    const at = this.games.findIndex((game) => game.key === key), kept = this.games[at];
+    await this.deleteAll([key], deleteGameText(`${kindText(kindOf(kept))}, ${stateText(kept)}`));
+    // The next one is where this was; a player who goes on deleting needs look for nothing.
+    focus(part('games-list').children[Math.min(at, this.games.length - 1)]?.lastElementChild);
   }
+
+  async deleteFinished() {
+    const keys = this.games.filter(({state}) => state !== 'playing').map(({key}) => key);
+    await this.deleteAll(keys, deleteFinishedText(keys.length));
+    focus(part('games').querySelector('[data-close]'));
+  }
+
+  // After a question.
+  /** @param {string[]} keys @param {string} question */
+  async deleteAll(keys, question) {
+    if (!(await confirmed(question))) return;
+    for (const key of keys) this.keeping.delete(key);
+    if (await this.deleted(keys)) this.show();
+    else this.drop(keys);
+  }
+}
+
+/** @param {Kept} kept */
+function stateText(kept) {
+  const {filled, empty} = farOf(kept);
+  return STATES[kept.state] || farText(filled, empty);
 }

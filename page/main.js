@@ -1,29 +1,34 @@
 // The page: the module, what is kept, the screen, and what a player may ask for are put together here.
 import {Actions} from './actions.js';
 import {Beginning} from './beginning.js';
-import {confirmed, listenToDialogs} from './dialogs.js';
+import {confirmed, isDialogOpen, listenToDialogs} from './dialogs.js';
 import {part} from './drawing.js';
-import {kindOfName, named} from './games.js';
 import {listenToPlayer} from './input.js';
+import {Journal, askToPersist} from './journal.js';
 import {keptIn} from './kept.js';
 import {Messages} from './messages.js';
 import {Moves} from './moves.js';
 import {Present} from './present.js';
 import {Screen} from './screen.js';
 import {Keeping, storesHere} from './keeping.js';
-import {AT_WORK, DELETED_ELSEWHERE, NO_SUCH_LINK, STOP, WELCOME, unableText} from './texts.js';
+import {AT_WORK, DELETED_ELSEWHERE, FAILED, LEARN, STOP, WELCOME, unableText} from './texts.js';
 import {Turns} from './turns.js';
 import {Walk} from './walk.js';
 
 /** @typedef {import('./objects.js').Board} Board */
 
-const messages = new Messages(), keeping = new Keeping(storesHere);
+/** How many milliseconds the page waits for its database. */
+const PATIENCE = 2000;
+
+const messages = new Messages(), journal = new Journal(), keeping = new Keeping(storesHere, journal);
 const turns = new Turns(part('module').textContent ?? '', part('worker').textContent ?? '');
 const walk = new Walk((text) => messages.say(text));
 
 /** Shows the present game. */
 const front = {
   begins() {
+    actions.desk.leave();
+    actions.course.begins();
     walk.forget();
     messages.clear();
     screen.begin();
@@ -32,10 +37,15 @@ const front = {
   },
   /** @param {Board} before @param {boolean} isOwn  whether this tab has moved */
   changes(before, isOwn) {
-    if (before.numbers.join() !== present.board.numbers.join()) walk.forget();
-    messages.clear();
-    screen.change(before);
-    if (isOwn) actions.noteSolved();
+    if (!screen.desk) {
+      if (before.numbers.join() !== present.board.numbers.join()) walk.forget();
+      messages.clear();
+      screen.change(before);
+    }
+    if (isOwn && present.kept.key) {
+      askToPersistOnce();
+      actions.noteSolved();
+    }
     rest();
   },
   /** @param {string} text @param {{bad?: boolean}} [how] */
@@ -50,19 +60,37 @@ const front = {
 const present = new Present(turns, keeping, front), screen = new Screen(present, messages, walk);
 const beginning = new Beginning(present), moves = new Moves(present, confirmed);
 const actions = new Actions({present, moves, beginning, screen, walk, messages, keeping, turns});
-const rest = () => screen.rest(() => actions.act('next'));
 
-/** The game of the address, the one that was shown last, or a first one. The stores are asked for here first, after the worker has answered. */
-async function start() {
-  const {hash} = location, link = named(hash), kind = kindOfName(keeping.settings.kind);
-  forgetLink();
-  if (link) await beginning.named(link);
-  if (!present.there && keeping.game(keeping.now)) await beginning.goOn(keeping.now);
-  if (!present.there && kind) {
-    await beginning.byChance(kind);
-    messages.tell(WELCOME);
+/** What lasts is seen, and a browser asks before it closes the page while something isn't kept. */
+function rest() {
+  if (present.kept.key || screen.desk) screen.rest(() => actions.act('next'));
+  else actions.course.rest();
+  onbeforeunload = keeping.trouble ? () => true : null;
+}
+
+/** Once there is something to lose: a browser may ask the player. */
+function askToPersistOnce() {
+  if (!isAsked) askToPersist();
+  isAsked = true;
+}
+
+let isAsked = false;
+
+/** The worker first, then what is kept, and then a game. */
+async function begin() {
+  try {
+    await turns.ready();
+    // The stores are asked for here first, after the worker has answered. A database that doesn't answer keeps nobody waiting for long.
+    const restored = journal.texts().then((texts) => keeping.restore(texts));
+    await Promise.race([restored, new Promise((settle) => setTimeout(settle, PATIENCE))]);
+    // Whoever comes for the first time is offered the course.
+    const {hash} = location, isFirst = !keeping.settings.turn;
+    forgetLink();
+    await beginning.first(hash);
+    if (isFirst && !keeping.trouble) messages.tell(messages.text || WELCOME, {offer: {text: LEARN, run: () => actions.act('learn')}});
+  } catch (fault) {
+    messages.tell(unableText(fault instanceof Error ? fault.message : String(fault)), {bad: true, lasting: true});
   }
-  if (hash.length > 1 && !link) messages.tell(NO_SUCH_LINK);
 }
 
 /** A link has begun its game once: with the address as it is without it a reload goes on with whatever game is played by then. */
@@ -77,7 +105,9 @@ function attend() {
     forgetLink();
     if (hash.length > 1) actions.named(hash);
   });
+  addEventListener('unhandledrejection', () => messages.tell(FAILED, {bad: true}));
   addEventListener('storage', ({key, newValue}) => {
+    keeping.flush();
     if (!present.there || keeping.keyOf(key) !== present.kept.key) return;
     if (newValue === null) messages.tell(DELETED_ELSEWHERE, {bad: true});
     // Not as the store has it: WebKit may tell of a change before this tab can read it.
@@ -85,9 +115,10 @@ function attend() {
   });
   setInterval(() => {
     if (!present.there) return;
+    rest();
     // Of a page from a disk WebKit may tell the other tabs nothing.
     if (!present.isBusy) present.inTurn(() => present.catchUp());
-    if (document.visibilityState !== 'visible' || present.kept.state !== 'playing') return;
+    if (document.visibilityState !== 'visible' || screen.desk || isDialogOpen() || present.kept.state !== 'playing') return;
     present.kept.seconds++;
     if (keeping.settings.time) screen.paintCount();
   }, 1000);
@@ -103,6 +134,4 @@ function attend() {
 listenToDialogs(() => { if (present.there) screen.choose(screen.chosen); });
 listenToPlayer(actions);
 attend();
-turns.ready().then(start).catch((fault) => {
-  messages.tell(unableText(String(fault.message ?? fault)), {bad: true, lasting: true});
-});
+begin();

@@ -1,5 +1,5 @@
 // What is said: a line that is seen, which fades, with an offer beside it; and one for readers of screens alone.
-import {part} from './drawing.js';
+import {part, show} from './drawing.js';
 
 // What can be done at once.
 /** @typedef {{text: string, run: () => void}} Offer */
@@ -18,6 +18,9 @@ export class Messages {
     this.rest = {text: '', how: {}};
     part('offer').addEventListener('click', () => this.offered?.run());
   }
+
+  /** What is to be seen now. */
+  get text() { return part('told').textContent ?? ''; }
 
   /** @param {string} text @param {How} [how] */
   tell(text, how = {}) {
@@ -55,7 +58,7 @@ export class Messages {
     told.append(text);
     told.classList.toggle('bad', bad);
     part('offer').textContent = offer?.text ?? '';
-    part('offer').hidden = !offer;
+    show(part('offer'), Boolean(offer));
   }
 
   // For readers of screens.

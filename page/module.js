@@ -4,7 +4,8 @@
 /** @typedef {'answered' | 'ended' | 'unread' | 'memory'} Outcome */
 
 /**
- * What came of a call: what is said, and the text of a save of the session after. Where the text before was no save, the program's line on it is said.
+ * What came of a call: what is said, and the text of a save of the session after. Where the text before was no save, the program's line on it is
+ * said.
  * @typedef {{outcome: Outcome, said: Uint8Array, saved: Uint8Array}} Turned
  */
 
@@ -30,6 +31,9 @@ const ENDING_BYTES = 8 * ENDING_NUMBERS;
 
 /** The fewest bytes that a room has, so that it seldom has to grow. */
 const LEAST_ROOM = 1 << 14;
+
+/** A call that lacks room says how much it needs, so that the next one has it. */
+const ROUNDS = 2;
 
 /** Where a room lies that has no bytes: nobody looks there. */
 const NOWHERE = 1n;
@@ -128,12 +132,12 @@ export class Module {
   }
 
   /**
-   * Calls the module until the answer has its room, which is once or twice: the same line to the same session has the same answer.
+   * Calls the module until the answer has its room: the same line to the same session has the same answer.
    * @param {Game} game @param {number} before @param {number} line
    * @returns {Turned}
    */
   turned(game, before, line) {
-    for (;;) {
+    for (let round = 0; round < ROUNDS; round += 1) {
       const [number, said, saved] = this.called(game, before, line);
       const outcome = OUTCOMES[number];
       if (outcome === 'memory') {
@@ -145,6 +149,7 @@ export class Module {
       this.said.grow(said);
       this.saved.grow(saved);
     }
+    throw new Error('the module has asked for room again');
   }
 
   /**
@@ -203,33 +208,4 @@ function bytesOf85(text) {
     view.setUint32(4 * word, value);
   }
   return new Uint8Array(view.buffer, 0, 4 * words - (5 * words - text.length));
-}
-
-/**
- * The text of a save as bytes: each letter stands for one.
- * @param {string} text
- * @returns {Uint8Array}
- */
-export function bytesOf(text) {
-  const bytes = new Uint8Array(text.length);
-  for (let at = 0; at < text.length; at += 1) {
-    bytes[at] = text.charCodeAt(at);
-  }
-  return bytes;
-}
-
-/** So many bytes become letters at once; engines take no longer lists. */
-const LETTERS = 1 << 13;
-
-/**
- * The bytes of a save as text: each is the letter of its number, so that none is lost.
- * @param {Uint8Array} bytes
- * @returns {string}
- */
-export function textOf(bytes) {
-  let text = '';
-  for (let at = 0; at < bytes.length; at += LETTERS) {
-    text += String.fromCharCode(...bytes.subarray(at, at + LETTERS));
-  }
-  return text;
 }

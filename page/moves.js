@@ -1,9 +1,7 @@
 // What a player does to the present game, as lines of the module.
 import {cellOf, crossing, isFull, isSolved, placeOf} from './objects.js';
-import {
-  ALL_POSSIBLE, AT_START, COMPLETABLE, FILL_IN, FULL, NEVER_RIGHT, NO_HINT, NOT_A_CLUE, NOT_A_SQUARE, NOTHING_TO_CLEAR, SOLVED, STILL_RIGHT,
-  takenBackText,
-} from './texts.js';
+import {ALL_POSSIBLE, FULL, NEVER_RIGHT, NO_HINT, NOTHING_TO_CLEAR, SOLVED, STILL_RIGHT} from './shared_texts.js';
+import {AT_START, COMPLETABLE, FILL_IN, NOT_A_CLUE, NOT_A_SQUARE, takenBackText} from './texts.js';
 
 /** @typedef {import('./present.js').Present} Present */
 /** @typedef {import('./objects.js').Board} Board */
@@ -58,8 +56,11 @@ export class Moves {
 
   // One move back or forth, of however many states.
   /** @param {'undo' | 'redo'} way */
-  walk(way) {
-    return this.present.inTurn(() => this.present.play(Array(this.present.statesOf(way, this.present.session.position)).fill(way), true));
+  undoOrRedo(way) {
+    return this.present.inTurn(() => {
+      const {present} = this, states = present.statesOf(way, present.session.position);
+      return present.play(Array(states).fill(way), true);
+    });
   }
 
   /** @param {Place} place */
@@ -88,7 +89,11 @@ export class Moves {
 
   /** Fills in the solution, after a question. */
   async solve() {
-    if (!(await this.confirm(FILL_IN))) return null;
+    if (isSolved(this.present.board)) this.present.front.tell(SOLVED);
+    else if (await this.confirm(FILL_IN)) await this.fillIn();
+  }
+
+  fillIn() {
     return this.present.inTurn(async () => {
       const answer = await this.present.play(['solve']);
       if (answer && !isSolved(this.present.board)) this.present.front.tell(`${answer.reply.join(' ')}.`);
@@ -117,14 +122,17 @@ export class Moves {
   /** How many moves ago the numbers could be completed last; 0 where they never could, and nothing where that isn't known. */
   sinceRight() {
     return this.present.inTurn(async () => {
-      let {save} = this.present.kept, {position} = this.present.session, moves = 0;
-      while (position > 1) {
-        const states = this.present.statesOf('undo', position), turned = await this.present.askAll([...Array(states).fill('undo'), 'completable'], save);
-        if (!turned) return null;
-        [save, position, moves] = [turned.save, position - states, moves + 1];
-        if (turned.answer.completable !== 'none') return moves;
+      const {present} = this, {kept, session} = present;
+      /** @type {string[]} */
+      const lines = [];
+      for (let position = session.position; position > 1;) {
+        const before = position - present.statesOf('undo', position);
+        for (; position > before; position--) lines.push('undo');
+        lines.push('completable');
       }
-      return 0;
+      const {answers} = await present.askAll(lines, kept.save, kept.game, 'completable'), last = answers[answers.length - 1];
+      if (last && present.isRefused(lines[answers.length - 1], last)) return null;
+      return last?.completable === 'none' ? 0 : answers.filter(({completable}) => completable).length;
     });
   }
 
@@ -149,14 +157,20 @@ export class Moves {
     else if (answer && answer !== 'none') this.present.front.tell(STILL_RIGHT);
   }
 
-  // The hint of the board's numbers; nothing where none follows, and a sentence says so then.
-  /** @returns {Promise<Hint | null>} */
+  // The hint of the board's numbers. Nothing where none follows, and a sentence says so then; 'none' where the numbers can't be completed, though no
+  // steps show it.
+  /** @returns {Promise<Hint | 'none' | null>} */
   hint() {
     return this.present.inTurn(async () => {
       const {board, front} = this.present, {answer} = await this.present.ask('hint');
       if (this.present.isRefused('hint', answer) || !answer.hint) return null;
       const {kind} = answer.hint;
-      if (kind === 'nothing') front.tell(isSolved(board) ? SOLVED : isFull(board) ? FULL : NO_HINT);
+      if (kind === 'nothing' && isFull(board)) {
+        front.tell(isSolved(board) ? SOLVED : FULL);
+        return null;
+      }
+      if (kind !== 'contradiction' && (await this.present.ask('completable')).answer.completable === 'none') return 'none';
+      if (kind === 'nothing') front.tell(NO_HINT);
       return kind === 'nothing' ? null : answer.hint;
     });
   }
@@ -165,7 +179,7 @@ export class Moves {
   countHint() {
     return this.present.inTurn(async () => {
       const {kept, board, session} = this.present;
-      await this.present.keep({...kept, hints: kept.hints + 1}, {board, session});
+      await this.present.advance({...kept, hints: kept.hints + 1}, {board, session});
     });
   }
 }

@@ -1,5 +1,6 @@
 // How squares, clues and signs are called, and what of them has changed. Rows and columns count from 1, as a reader of screens counts a grid.
 import {cellOf} from './objects.js';
+import {clueAt} from './texts.js';
 
 /** @typedef {import('./objects.js').Board} Board */
 /** @typedef {import('./objects.js').Clue} Clue */
@@ -22,7 +23,10 @@ function signsOf({size, signs}, cell) {
   const sides = {1: 'right', [-1]: 'left', [size]: 'below', [-size]: 'above'};
   return signs
     .filter(({greater, less}) => greater === cell || less === cell)
-    .map(({greater, less, error}) => `, ${greater === cell ? 'greater' : 'less'} than ${sides[greater === cell ? less - cell : greater - cell]}${error ? ', wrong' : ''}`)
+    .map(({greater, less, error}) => {
+      const [than, other] = greater === cell ? ['greater', less] : ['less', greater];
+      return `, ${than} than ${sides[other - cell]}${error ? ', wrong' : ''}`;
+    })
     .join('');
 }
 
@@ -31,10 +35,7 @@ function signsOf({size, signs}, cell) {
 export const square = (board, cell) => `${nameOf(cell, board.size)}, ${content(board, cell)}${signsOf(board, cell)}`;
 
 /** @param {Clue} clue @param {number} size */
-export function clueName({clue, x, y, done, error}, size) {
-  const side = y < 0 ? `above column ${x + 1}` : y === size ? `below column ${x + 1}` : `${x < 0 ? 'left' : 'right'} of row ${y + 1}`;
-  return `clue ${clue} ${side}${done ? ', done' : ''}${error ? ', wrong' : ''}`;
-}
+export const clueName = ({clue, x, y, done, error}, size) => `${clueAt(clue, x, y, size)}${done ? ', done' : ''}${error ? ', wrong' : ''}`;
 
 // What is to be said of a change, in the shortest form.
 /** @param {Board} before @param {Board} after @param {Place} chosen */
@@ -49,8 +50,9 @@ export function changeName(before, after, chosen) {
 
 /** @param {Board} before @param {Board} after */
 function changedClues(before, after) {
-  const done = after.clues.filter((one, at) => one.done !== before.clues[at].done).map((one) => clueName(one, after.size) + (one.done ? '' : ', not done'));
-  return [...done, ...after.clues.filter((one, at) => one.error && !before.clues[at].error).map((one) => clueName(one, after.size))];
+  const {size, clues} = after, done = clues.filter((clue, at) => clue.done !== before.clues[at].done);
+  const wrong = clues.filter((clue, at) => clue.error && !before.clues[at].error);
+  return [...done.map((clue) => clueName(clue, size) + (clue.done ? '' : ', not done')), ...wrong.map((clue) => clueName(clue, size))];
 }
 
 /** @param {Board} before @param {Board} after */

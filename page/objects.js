@@ -14,9 +14,10 @@
  * @typedef {{kind: 'follows' | 'nothing' | 'contradiction', cell: number | null, number: number | null, line: number | null, grade: string | null,
  *   view?: number[][], steps: Step[], text: string[]}} Hint
  */
+/** @typedef {{clues: {x: number, y: number}[], signs: {greater: number, less: number}[], givens: number[]}} Items */
 /**
  * @typedef {{lost?: string, refused: string | null, reply: string[], session: Session | null, board?: Board, hint?: Hint, grade?: string | null,
- *   completable?: 'none' | 'one' | 'several'}} Answer
+ *   completable?: 'none' | 'one' | 'several', solutions?: number[][], spare?: Items}} Answer
  */
 
 /**
@@ -57,6 +58,13 @@ export const isFull = ({numbers}) => numbers.every(Boolean);
 // A full board on which nothing is an error is a solution: the program promises it.
 /** @param {Board} board */
 export const isSolved = (board) => isFull(board) && !board.errors.length && ![...board.clues, ...board.signs].some(({error}) => error);
+
+// Whether numbers, pencil marks and done marks are those of another board of the same puzzle.
+/** @param {Board} board @param {Board} other */
+export const showsAs = (board, other) => shown(board) === shown(other);
+
+/** @param {Board} board */
+const shown = ({numbers, marks, clues}) => JSON.stringify([numbers, marks, clues.map(({done}) => done)]);
 
 // The word of the page for a game that the module names.
 /** @param {Session} session @returns {Game} */

@@ -12,8 +12,9 @@ import {cellOf, crossing, placeAt, placeOf} from './objects.js';
 /** @typedef {import('./walked_hint.js').Shown} Shown */
 
 /**
- * What is seen beside the board itself: the chosen place, whether digits are marks, what a hint points at, and what is tinted.
- * @typedef {{chosen: Place, marking: boolean, shown: Shown | null, equal: boolean, lanes: boolean}} View
+ * What is seen beside the board itself: the chosen place, whether digits are marks, what a hint points at, the number that is lit wherever it
+ * stands, 0 where none is, and whether the row and column of the chosen square are tinted.
+ * @typedef {{chosen: Place, marking: boolean, shown: Shown | null, lit: number, lanes: boolean}} View
  */
 
 // How a square is seen.
@@ -24,7 +25,8 @@ export class Picture {
   constructor(game, board, title) {
     this.size = board.size;
     this.measures = new Measures(game, board.size);
-    this.svg = shape('svg', {viewBox: this.measures.view, role: 'grid', 'aria-label': title, 'aria-rowcount': this.size, 'aria-colcount': this.size});
+    const grid = {role: 'grid', 'aria-label': title, 'aria-rowcount': this.size, 'aria-colcount': this.size};
+    this.svg = shape('svg', {viewBox: this.measures.view, ...grid});
     /** @type {Map<Place, SVGElement>} */
     this.places = new Map();
     for (let y = -1; y <= this.size; y++) this.addRow(y, board);
@@ -100,12 +102,12 @@ export class Picture {
   }
 
   /** @param {Board} board @param {number} cell @param {View} view @returns {Look} */
-  look(board, cell, {chosen, shown, equal, lanes}) {
-    const own = cellOf(chosen, this.size), number = own >= 0 && !shown ? board.numbers[own] : 0;
+  look(board, cell, {chosen, shown, lit, lanes}) {
+    const own = cellOf(chosen, this.size);
     return {
       given: Boolean(board.givens[cell]),
       wrong: board.errors.includes(cell),
-      same: equal && number > 0 && board.numbers[cell] === number,
+      same: lit > 0 && board.numbers[cell] === lit,
       lane: lanes && !shown && own >= 0 && crossing(own, this.size).includes(cell),
       rests: Boolean(shown?.rests.includes(placeOf(cell, this.size))),
       struck: Boolean(shown?.struck.has(cell)),
@@ -114,7 +116,7 @@ export class Picture {
 
   /** @param {Board} board @param {number} cell @param {View} view */
   paintSquare(board, cell, view) {
-    const node = this.places.get(placeOf(cell, this.size));
+    const place = placeOf(cell, this.size), node = this.places.get(place);
     if (!node) return;
     const look = this.look(board, cell, view), left = view.shown?.left?.[cell] ?? null, struck = view.shown?.struck.get(cell) ?? [];
     set(node, 'class', ['square', ...Object.entries(look).filter(([, is]) => is).map(([name]) => name)].join(' '));
@@ -122,21 +124,32 @@ export class Picture {
     set(node, 'aria-readonly', look.given);
     set(node, 'aria-invalid', look.wrong);
     const seen = [board.numbers[cell], board.marks[cell], look.wrong, look.rests, look.struck, left, struck].join('|');
-    renew(node, seen, () => [...this.corner(cell % this.size, Math.floor(cell / this.size), look.rests), ...this.inside(board, cell, look, left, struck)]);
+    renew(node, seen, () => [...this.corner(place, look.rests), ...this.inside(board, cell, look, left, struck)]);
+    this.light(node, cell, view.lit);
+  }
+
+  // Of the marks of a square the one of this number has a light behind it. Nothing else is made anew for that: a large board has 700 marks.
+  /** @param {SVGElement} node @param {number} cell @param {number} number */
+  light(node, cell, number) {
+    const mark = [...node.querySelectorAll('.mark')].find(({textContent}) => textContent === String(number)), light = node.querySelector('.light');
+    if (light?.nextSibling === mark) return;
+    const {x, y} = this.measures.mark(cell, number);
+    light?.remove();
+    mark?.before(shape('circle', {cx: x, cy: y, r: PEN.mark / 2, class: 'light'}));
   }
 
   // What a step rests on has a corner, so that it is seen by a form and not by the colour alone.
-  /** @param {number} x @param {number} y @param {boolean} rests */
-  corner(x, y, rests) {
-    const box = this.measures.box(x, y);
+  /** @param {Place} place @param {boolean} rests */
+  corner(place, rests) {
+    const [column, row] = place.split(',').map(Number), box = this.measures.box(column, row);
     return rests ? [shape('path', {d: `M${box.x} ${box.y}h22l-22 22z`, class: 'corner'})] : [];
   }
 
   /** @param {Board} board @param {number} cell @param {Look} look @param {number[] | null} left @param {number[]} struck */
-  inside(board, cell, look, left, struck) {
-    const {x, y} = this.measures.centre(cell);
-    if (!board.numbers[cell]) return (left ?? board.marks[cell]).flatMap((own) => this.mark(cell, own, left ? 'left' : 'mark', struck.includes(own)));
-    return [this.text(x, y, PEN.number, board.numbers[cell], 'number'), ...(look.wrong ? [this.text(x + 34, y - 26, PEN.bang, '!', 'bad')] : [])];
+  inside({numbers, marks}, cell, {wrong}, left, struck) {
+    const {x, y} = this.measures.centre(cell), number = numbers[cell], kind = left ? 'left' : 'mark';
+    if (!number) return (left ?? marks[cell]).flatMap((own) => this.mark(cell, own, kind, struck.includes(own)));
+    return [this.text(x, y, PEN.number, number, 'number'), ...(wrong ? [this.text(x + 34, y - 26, PEN.bang, '!', 'bad')] : [])];
   }
 
   // A pencil mark, or a number that is left; one that a step strikes is crossed out.
@@ -152,11 +165,11 @@ export class Picture {
     const place = placeAt(clue.x, clue.y), node = this.places.get(place), x = this.measures.middle(clue.x), y = this.measures.middle(clue.y);
     if (!node) return;
     const rests = Boolean(shown?.rests.includes(place));
-    set(node, 'class', `clue${clue.done ? ' done' : ''}${clue.error ? ' wrong' : ''}${rests ? ' rests' : ''}`);
+    set(node, 'class', `clue${clue.clue ? '' : ' none'}${clue.done ? ' done' : ''}${clue.error ? ' wrong' : ''}${rests ? ' rests' : ''}`);
     set(node, 'aria-label', clueName(clue, this.size));
-    renew(node, [clue.done, clue.error, rests].join('|'), () => [
-      ...this.corner(clue.x, clue.y, rests),
-      this.text(x, y, clue.error ? PEN.wrongClue : PEN.clue, `${clue.error ? '!' : ''}${clue.clue}`, ''),
+    renew(node, [clue.clue, clue.done, clue.error, rests].join('|'), () => [
+      ...this.corner(place, rests),
+      this.text(x, y, clue.error ? PEN.wrongClue : PEN.clue, `${clue.error ? '!' : ''}${clue.clue || '•'}`, ''),
       ...(clue.done ? [shape('path', {d: `M${x - 20} ${y + 20}L${x + 20} ${y - 20}`, class: 'strike', 'stroke-width': 4})] : []),
     ]);
   }

@@ -1,23 +1,26 @@
 // The present game: lines go to the module with the text of its save, and what comes of them is kept. One thing at a time, whatever is asked for.
 import {begunGame, seenOf} from './kept.js';
+import {showsAs} from './objects.js';
+import {NOTHING_CHANGES} from './shared_texts.js';
 import {FAULTS, MOVED, refusal} from './texts.js';
 import {Unanswered} from './turns.js';
 
+/** @typedef {import('./bytes.js').ByteText} ByteText */
 /** @typedef {import('./turns.js').Turns} Turns */
 /** @typedef {import('./turns.js').Game} Game */
+/** @typedef {import('./worker.js').End} End */
 /** @typedef {import('./games.js').Fair} Fair */
 /** @typedef {import('./kept.js').Kept} Kept */
 /** @typedef {import('./keeping.js').Keeping} Keeping */
 /** @typedef {import('./objects.js').Answer} Answer */
 /** @typedef {import('./objects.js').Board} Board */
 /** @typedef {import('./objects.js').Session} Session */
-// What the module answers a line, and the text of the save after it.
-/** @typedef {{answer: Answer, save: string}} Turned */
 // What can be shown: a board and the session that it is of.
 /** @typedef {{board: Board, session: Session}} Looked */
 /**
  * Whoever shows the game: another one has begun; it has changed, by this tab or another one; there is something to say; the program takes long.
- * @typedef {{begins(): void, changes(before: Board, isOwn: boolean): void, tell(text: string, how?: {bad?: boolean}): void, busy(isBusy: boolean): void}} Front
+ * @typedef {{begins(): void, changes(before: Board, isOwn: boolean): void, tell(text: string, how?: {bad?: boolean}): void,
+ *   busy(isBusy: boolean): void}} Front
  */
 
 /** After so many milliseconds the player learns that the program is at work. */
@@ -72,58 +75,57 @@ export class Present {
   }
 
   // One line to the session of a save, in a game.
-  /** @param {string} line @param {string} [save] @param {Game} [game] @returns {Promise<Turned>} */
-  async ask(line, save = this.kept.save, game = this.kept.game) {
-    const {said, saved} = await this.turns.turn(game, save, line);
-    return {answer: said ? JSON.parse(said) : {refused: null, reply: [], session: null}, save: saved};
+  /** @param {string} line @param {ByteText} [save] @param {Game} [game] */
+  async ask(line, save, game) {
+    const {answers, saved} = await this.askAll([line], save, game);
+    return {answer: answers[0], saved};
   }
 
-  // One line after the other; the answer to the last, or to the first that is refused.
-  /** @param {string[]} lines @param {string} [save] */
-  async askAll(lines, save = this.kept.save) {
-    /** @type {Turned} */
-    let turned = {answer: {refused: null, reply: [], session: null}, save};
-    for (const line of lines) {
-      turned = await this.ask(line, turned.save);
-      if (this.isRefused(line, turned.answer)) return null;
-    }
-    return turned;
+  // One line after the other, in one message: their answers, up to the first that is refused or that is the end.
+  /** @param {string[]} lines @param {ByteText} [saved] @param {Game} [game] @param {End} [end] */
+  askAll(lines, saved = this.kept.save, game = this.kept.game, end = 'last') {
+    return this.turns.turn({game, saved, lines, end});
   }
 
   // Whether the module refuses a line, which is said then.
-  /** @param {string} line @param {Answer} answer @param {Game} [game] */
-  isRefused(line, {refused, lost}, game = this.kept.game) {
+  /** @param {string} line @param {Answer} answer */
+  isRefused(line, {lost, refused}) {
     const name = lost ?? refused;
-    if (name) this.front.tell(refusal(line, name, game));
+    if (name) this.front.tell(refusal(line, name, this.kept.game));
     return Boolean(name);
   }
 
   // The board of a save.
-  /** @param {string} save @param {Game} game @returns {Promise<Looked>} */
+  /** @param {ByteText} save @param {Game} game @returns {Promise<Looked>} */
   async look(save, game) {
     const {answer} = await this.ask('board', save, game), {board, session} = answer;
     if (!board || !session) throw new Unanswered(answer.lost ? 'memory' : 'unread');
     return {board, session};
   }
 
-  // Plays lines as one move, and keeps the game that comes of them; the last answer.
-  /** @param {string[]} lines @param {boolean} isWalk  back or forth */
-  async play(lines, isWalk = false) {
+  // Plays lines as one move, and keeps the game that comes of them; the last answer. What changes nothing is no move.
+  /** @param {string[]} lines @param {boolean} isHistory  undo or redo */
+  async play(lines, isHistory = false) {
     if (await this.isBehind()) return null;
-    const before = this.session.position, turned = await this.askAll(lines);
-    if (!turned) return null;
-    const {board, session} = await this.look(turned.save, this.kept.game), after = session.position, {joined} = this.kept;
+    const asked = [...lines, 'board'], {answers, saved} = await this.askAll(asked), last = answers.length - 1, {board, session} = answers[last];
+    if (this.isRefused(asked[last], answers[last]) || !board || !session) return null;
+    const before = this.session.position, after = session.position, {joined} = this.kept;
+    if (after !== before && !isHistory && showsAs(board, this.board)) {
+      this.front.tell(NOTHING_CHANGES);
+      return null;
+    }
     /** @type {[number, number][]} */
     const added = after - before > 1 ? [[after, before]] : [];
-    const stays = isWalk || after <= before ? joined : [...joined.filter(([last]) => last <= before), ...added];
-    await this.keep({...this.kept, ...seenOf(session, board, turned.save), joined: stays}, {board, session});
-    return turned.answer;
+    const stays = isHistory || after <= before ? joined : [...joined.filter(([last]) => last <= before), ...added];
+    await this.advance({...this.kept, ...seenOf(session, board, saved), joined: stays}, {board, session});
+    return answers[last - 1];
   }
 
   // How many states the last move, or the next one, is.
   /** @param {'undo' | 'redo'} way @param {number} position */
   statesOf(way, position) {
-    const {joined} = this.kept, [last, first] = joined.find(([last, first]) => (way === 'undo' ? last : first) === position) ?? [1, 0];
+    const {kept, session} = this;
+    const [last, first] = kept.joined.find((pair) => pair[way === 'undo' ? 0 : 1] === position && pair[0] <= session.states) ?? [1, 0];
     return last - first;
   }
 
@@ -142,9 +144,9 @@ export class Present {
     return true;
   }
 
-  // Keeps the game as it is now, and shows it.
+  // The game as it is now is kept, and shown.
   /** @param {Kept} kept @param {Looked} looked */
-  async keep(kept, looked) {
+  async advance(kept, looked) {
     const next = {...kept, turn: this.kept.turn + 1, seconds: this.kept.seconds};
     if (!this.keeping.keep(next)) await this.isBehind();
     else this.change(next, looked, true);
@@ -157,20 +159,26 @@ export class Present {
     this.front.changes(before, isOwn);
   }
 
-  // Goes on with a game.
+  // Shows another game, which is kept.
   /** @param {Kept} kept @param {Looked} looked */
-  take(kept, looked) {
-    if (this.there) this.keeping.keepTime(this.kept);
-    this.there = {...looked, kept};
+  open(kept, looked) {
     this.keeping.now = kept.key;
+    this.show({...looked, kept});
+  }
+
+  // Shows another game, or a board that is kept nowhere.
+  /** @param {Looked & {kept: Kept}} there */
+  show(there) {
+    if (this.there) this.keeping.keepTime(this.kept);
+    this.there = there;
     this.front.begins();
   }
 
   // Begins a game that isn't kept yet.
-  /** @param {string} save @param {Game} game @param {Fair | null} fair */
-  async begin(save, game, fair) {
-    const looked = await this.look(save, game), kept = begunGame(looked.session, looked.board, save, fair);
+  /** @param {ByteText} save @param {Looked} looked @param {Fair | null} fair */
+  begin(save, looked, fair) {
+    const kept = begunGame(looked.session, looked.board, save, fair);
     this.keeping.keep(kept);
-    this.take(kept, looked);
+    this.open(kept, looked);
   }
 }

@@ -2,14 +2,16 @@
 import {element, part, shape} from './drawing.js';
 import {openDialog} from './dialogs.js';
 import {Measures, PEN} from './measures.js';
-import {ABOUT_BOARD, ABOUT_HINT, KEYS, KEPT, RULES, WORKED} from './texts.js';
 import {NAMES} from './games.js';
+import {ABOUT_BOARD, ABOUT_DESK, ABOUT_HINT, ABOUT_PRESSING, KEYS, RULES, WORKED} from './rules_texts.js';
+import {KEPT} from './texts.js';
 
 /** @typedef {import('./turns.js').Game} Game */
 
 /** A row of towers, from the side, with the clues at its ends. */
 function towers() {
-  const heights = [1, 3, 2, 4], seen = [true, true, false, true], svg = shape('svg', {viewBox: '-60 -12 520 232', class: 'worked', 'aria-hidden': true});
+  const heights = [1, 3, 2, 4], seen = [true, true, false, true];
+  const svg = shape('svg', {viewBox: '-60 -12 520 232', class: 'worked', 'aria-hidden': true});
   heights.forEach((height, at) => {
     svg.append(shape('rect', {x: at * 100 + 16, y: 160 - 40 * height, width: 68, height: 40 * height, class: seen[at] ? 'tower' : 'tower hidden'}));
     svg.append(shape('rect', {x: at * 100, y: 160, width: 100, height: 60, class: 'cell'}), text(at * 100 + 50, 190, height, 'own'));
@@ -39,7 +41,7 @@ export function openRules(game, hasKeys) {
   part('rules-text').replaceChildren(
     ...RULES[game].map((sentence) => element('p', sentence)),
     game === 'towers' ? towers() : unequal(),
-    ...[WORKED[game], ABOUT_BOARD, ABOUT_HINT, KEPT].map((sentence) => element('p', sentence)),
+    ...[WORKED[game], ABOUT_BOARD, ABOUT_PRESSING, ABOUT_HINT, ABOUT_DESK, KEPT].map((sentence) => element('p', sentence)),
     ...(hasKeys ? [element('h3', 'Keys'), keys] : []),
   );
   openDialog('rules');

@@ -1,5 +1,6 @@
-// All sentences of the page. They speak of what is seen there, and not of keys, since a phone has none.
+// All sentences of the page but those of its rules. They speak of what is seen there, and not of keys, since a phone has none.
 import {GRADES, NAMES, gradeOf} from './games.js';
+import {MARKS_GO, MARKS_STAY, REFUSED_IDS, REFUSED_LINES, REFUSED_MOVES, REFUSED_SAVES, STILL_COMPLETABLE, STOPPED} from './shared_texts.js';
 
 /** @typedef {import('./turns.js').Game} Game */
 /** @typedef {import('./turns.js').Fault} Fault */
@@ -10,44 +11,43 @@ import {GRADES, NAMES, gradeOf} from './games.js';
 /** @typedef {import('./objects.js').Step} Step */
 
 export const WELCOME = 'Choose a square, then a number. The menu has the rules.';
+export const LEARN = 'Learn';
+export const FRAMED = 'Put the number that follows into the framed square.';
+export const SEE_WHY = 'Why? shows it.';
 export const MARKING = 'Numbers are pencil marks now.';
 export const PLACING = 'Numbers are put in now.';
 export const NOT_A_CLUE = 'A done mark is for a clue at the edge.';
 export const NOT_A_SQUARE = 'That is a clue. A tap on it marks it as done.';
-export const NOTHING_TO_CLEAR = 'There is nothing to clear.';
-export const ALL_POSSIBLE = 'The marks are the possible ones already.';
 export const AT_START = 'Back at the start. Undo takes that back.';
-export const SOLVED = 'The board is solved.';
-export const FULL = 'The board is full.';
-export const FULL_AND_WRONG = 'Full, but not right yet: a ! shows where.';
-export const FILLED_IN = 'Filled in by the program.';
 export const FILL_IN = 'Fill in the solution? Undo takes it back.';
 export const NEXT_GAME = 'Next game';
-export const STILL_RIGHT = 'These numbers can still be completed: there is nothing to take back.';
-export const NEVER_RIGHT = 'Not even the board at the start can be completed.';
-export const MARKS_GO = 'From now on, marks go when their number is put into their row or column.';
-export const MARKS_STAY = 'From now on, marks stay when a number is put in.';
+export const NONE_HELD = 'No square gets a number by being pressed now.';
+export const BY_STEPS = 'By our steps: hints of that grade lead to the solution, and nothing has to be guessed.';
 export const AT_WORK = 'The program is at work.';
 export const STOP = 'Stop';
 export const MOVED = 'Another tab has made a move in between. Look again.';
 export const DELETED_ELSEWHERE = 'Another tab has deleted this game. It is kept again with your next move.';
 export const GOES_ON = 'You have begun this game before. Here it is.';
 export const GONE = 'That game is no longer kept.';
-const CANNOT_BE_READ = 'That kept game can’t be read. It stays as it is.';
+export const CANNOT_BE_READ = 'That kept game can’t be read. It stays as it is.';
 export const NO_STORAGE = 'This browser keeps nothing for this page. Save the game to a file before you close it.';
 export const NO_ROOM = 'The browser has no room left, so this game is not kept. Delete other games, or save this one to a file.';
 export const KEPT = 'Each game is kept in this browser after each change. You can close this page at any time.';
 export const LINK_COPIED = 'The link to this game is copied.';
 export const LINK_HERE = 'Copy this link to the game:';
+export const NAME_COPIED = 'This page has no address for others, so the name of the game is copied. They put it in at New, under Link or ID.';
+export const NAME_HERE = 'This page has no address for others. They put this in at New, under Link or ID:';
+export const RESULT_COPIED = 'The result is copied. It shows nothing of the solution.';
+export const RESULT_HERE = 'Copy this line:';
 export const NO_SUCH_LINK = 'That is no game. Type a link, an ID or a number from 0 to 18446744073709551615.';
 export const NO_NUMBER = 'The number of a game goes from 0 to 18446744073709551615.';
+export const FAILED = 'Something failed on this page. The game is as it was kept last.';
 export const NO_GAMES = 'There is no game yet.';
 export const NO_STATISTICS = 'Solve a game to see its time here.';
 export const DROP_FILE = 'That file is too large. A save has at most 16,777,216 bytes.';
 export const NOT_OUR_FILE = 'That is no file of games that this page has written.';
 export const ID_OF = 'The ID of this puzzle';
 export const COMMAND = 'A command of the program:';
-export const NO_HINT = 'No number follows by steps alone. Try one, or mark the possible numbers.';
 
 // Where the module can't run at all.
 /** @param {string} why */
@@ -60,35 +60,33 @@ export const FAULTS = {
   unread: CANNOT_BE_READ,
   memory: 'The program had no memory left for that. It has begun anew, and the game is as it was.',
   trap: 'The program failed at that. It has begun anew, and the game is as it was.',
-  stopped: 'Stopped. Nothing has changed.',
+  stopped: STOPPED,
   unable: unableText('the module has ended'),
 };
 
 /** @type {Record<'none' | 'one' | 'several', string>} */
 export const COMPLETABLE = {
   none: 'These numbers can’t be completed.',
-  one: 'These numbers can still be completed, in one way.',
-  several: 'These numbers can still be completed, in several ways.',
+  ...STILL_COMPLETABLE,
+};
+
+// What is said where a setting is switched off, or on.
+/** @type {Partial<Record<string, [string, string]>>} */
+export const SET = {
+  tidy: [MARKS_STAY, MARKS_GO],
+  numberFirst: ['From now on, choose a square, then its number.', 'From now on, press a number, then each square that gets it.'],
 };
 
 // Refusals of moves.
 /** @type {Record<string, string>} */
 const MOVES = {
   BadMove: 'That is no move.',
-  Unsupported: 'Moves with H or F (hints and spent signs) are not played here.',
+  ...REFUSED_MOVES,
   OffGrid: 'There is no square and no clue at that place.',
   OffRange: 'Numbers go from 1 to the size.',
-  GivenSquare: 'That number was given with the puzzle, and stays.',
   FilledSquare: 'The square has a number. Clear it before you set pencil marks.',
-  BadSolution: 'Those numbers are no solution of this puzzle.',
-  HistoryFull: 'A game has at most 100,000 states. Undo some moves first.',
-  NothingToUndo: 'This is the first state: there is nothing to undo.',
-  NothingToRedo: 'This is the last state: there is nothing to redo.',
-  NothingToRestart: 'The game is at its start already.',
-  LongLine: 'A line has 1,024 bytes at most.',
+  ...REFUSED_LINES,
   BadCommand: 'There is no such command.',
-  OutOfMemory: 'There is no memory left for that. Nothing has changed.',
-  NoneFound: 'That number gives no such game. Try another one.',
 };
 
 // Refusals of IDs.
@@ -100,7 +98,7 @@ const IDS = {
   ForeignSeed: 'A seed after # is the usual program’s. Copy its game ID with a : from there.',
   NoDescription: 'An ID has a : and a description, or a ! and a seed, after the size, as in 5!7.',
   BadSeed: 'A seed goes from 0 to 18446744073709551615, without leading zeros.',
-  SizeTooLarge: 'Seeded games have the sizes 3 to 6.',
+  ...REFUSED_IDS,
   Graded: 'A seeded game has no difficulty letter, as in 5!7.',
   BadClue: 'The ID has a clue that this game doesn’t have.',
   BadSquares: 'The ID has a square that this game doesn’t have.',
@@ -121,13 +119,8 @@ export function refusal(line, name, game) {
 /** @type {Record<string, string>} */
 const SAVES = {
   NotASave: 'That is no save file of the collection: one begins with SAVEFILE:41:.',
-  Version: 'That save is of another version. Only version 1 can be read.',
-  TooLarge: 'A save has 16,777,216 bytes at most.',
-  BadParams: 'That save is of a size or a mode that is not played here: sizes go from 3 to 9.',
-  BadDesc: 'That save’s puzzle, its record DESC, can’t be read.',
-  BadCount: 'That save has a wrong number of states, or a wrong position among them.',
+  ...REFUSED_SAVES,
   BadState: 'Move NUMBER of that save can’t be made on its board.',
-  Unsupported: 'Moves with H or F (hints and spent signs) are not played here. Undo them there and make another move.',
 };
 
 // What there is to say of a text that is no save of these games, and of the name by which the module refuses it.
@@ -141,10 +134,12 @@ export function unreadText(text, why) {
 
 // `1, 2 and 3`.
 /** @param {(string | number)[]} words @param {string} last */
-export const listed = (words, last = 'and') => (words.length > 1 ? `${words.slice(0, -1).join(', ')} ${last} ${words[words.length - 1]}` : words.join(''));
+export function listed(words, last = 'and') {
+  return words.length > 1 ? `${words.slice(0, -1).join(', ')} ${last} ${words[words.length - 1]}` : words.join('');
+}
 
 /** @param {number} count @param {string} thing */
-const counted = (count, thing) => `${count} ${thing}${count === 1 ? '' : 's'}`;
+export const counted = (count, thing) => `${count} ${thing}${count === 1 ? '' : 's'}`;
 
 /** @param {string} text */
 const capital = (text) => text.charAt(0).toUpperCase() + text.slice(1);
@@ -156,7 +151,7 @@ export const titleText = (game, size) => `${NAMES[game]} ${size}×${size}`;
 export const numberedText = (fair) => `${NAMES[fair.game]}, ${gradeOf(fair)} ${fair.size}, number ${fair.number}.`;
 
 /** @param {Kind} kind */
-export const kindText = (kind) => `${titleText(kind.game, kind.size)}, ${gradeOf(kind)}`;
+export const kindText = (kind) => gameText(kind, '', null);
 
 /** @param {number} seconds */
 export function clockText(seconds) {
@@ -164,11 +159,30 @@ export function clockText(seconds) {
   return `${hours ? `${hours}:` : ''}${hours ? two(Math.floor(seconds / 60) % 60) : Math.floor(seconds / 60)}:${two(Math.floor(seconds) % 60)}`;
 }
 
-/** @param {number} hints @param {number} seconds */
-export const solvedText = (hints, seconds) => `${['Solved', seconds ? `in ${clockText(seconds)}` : '', hints ? `with ${counted(hints, 'hint')}` : ''].filter(Boolean).join(' ')}!`;
+/** @param {number} hints @param {number} seconds @param {number} [days]  in a row */
+export function solvedText(hints, seconds, days = 0) {
+  const solved = ['Solved', seconds ? `in ${clockText(seconds)}` : '', hints ? `with ${counted(hints, 'hint')}` : ''].filter(Boolean).join(' ');
+  return [`${solved}!`, daysText(days)].filter(Boolean).join(' ');
+}
+
+// One day is none in a row.
+/** @param {number} days */
+export const daysText = (days) => (days > 1 ? `${days} days in a row.` : '');
+
+// A game with all that names it. The number of a day is told as that day.
+/** @param {Kind} kind @param {string} number @param {Date | null} day */
+export function gameText(kind, number, day) {
+  return [titleText(kind.game, kind.size), gradeOf(kind), day ? dateText(day) : number && `number ${number}`].filter(Boolean).join(', ');
+}
+
+// A line on a solved game, for others.
+/** @param {string} name @param {string} solved @param {string} link */
+export const resultText = (name, solved, link) => `${name}: ${solved.charAt(0).toLowerCase()}${solved.slice(1)} ${link}`;
 
 /** @param {Board} board @param {string} title */
-export const begunText = ({givens, clues, signs}, title) => `${title}, ${givens.filter(Boolean).length} given, ${counted(clues.length + signs.length, 'clue')}`;
+export function begunText({givens, clues, signs}, title) {
+  return `${title}, ${givens.filter(Boolean).length} given, ${counted(clues.length + signs.length, 'clue')}`;
+}
 
 /** @param {number} moves */
 export const sinceText = (moves) => `These numbers can’t be completed since the last ${moves === 1 ? 'move' : `${moves} moves`}.`;
@@ -179,20 +193,25 @@ export const takeBackText = (moves) => `Take back ${counted(moves, 'move')}`;
 /** @param {number} moves */
 export const takenBackText = (moves) => `${capital(counted(moves, 'move'))} taken back. Redo makes ${moves === 1 ? 'it' : 'them'} again.`;
 
+/** @param {number} number */
+export const heldText = (number) => `Each square that you press gets ${number}. Press ${number} again to end that.`;
+
 // Where a step looks: a clue, a sign, or squares by their rows and columns.
 /** @param {Step} step @param {number} size */
 export function lookAt({clue, x, y, greater, less, line, cells}, size) {
   const name = (/** @type {number} */ cell) => `r${Math.floor(cell / size) + 1}c${(cell % size) + 1}`;
-  if (clue !== null && x !== null && y !== null) return `Look at the ${clueAt(clue, x, y, size)}.`;
+  if (clue !== null && x !== null && y !== null) return `Look at ${clueAt(clue, x, y, size)}.`;
   if (greater !== null && less !== null) return `Look at the sign between ${name(greater)} and ${name(less)}.`;
   if (line !== null) return `Look at ${lineName(line, size)}.`;
   return `Look at ${listed((cells ?? []).map(name))}.`;
 }
 
+// A clue by its place.
 /** @param {number} clue @param {number} x @param {number} y @param {number} size */
-function clueAt(clue, x, y, size) {
-  const isUpright = y < 0 || y === size;
-  return `clue ${clue} ${isUpright ? (y < 0 ? 'above column' : 'below column') : x < 0 ? 'left of row' : 'right of row'} ${(isUpright ? x : y) + 1}`;
+export function clueAt(clue, x, y, size) {
+  const name = clue ? `clue ${clue}` : 'no clue';
+  if (y < 0 || y === size) return `${name} ${y < 0 ? 'above' : 'below'} column ${x + 1}`;
+  return `${name} ${x < 0 ? 'left' : 'right'} of row ${y + 1}`;
 }
 
 /** @param {number} line @param {number} size */
@@ -200,7 +219,9 @@ const lineName = (line, size) => (line < size ? `row ${line + 1}` : `column ${li
 
 // Where to look where no step is needed.
 /** @param {number | null} line @param {number} size */
-export const lookAtGoal = (line, size) => (line === null ? 'Only one number is left in this square.' : `Look at ${lineName(line, size)}: a number has one square left there.`);
+export function lookAtGoal(line, size) {
+  return line === null ? 'Only one number is left in this square.' : `Look at ${lineName(line, size)}: a number has one square left there.`;
+}
 
 /** @param {number} count */
 export const inSteps = (count) => (count > 1 ? `Why? shows the ${count} steps.` : '');
@@ -208,16 +229,27 @@ export const inSteps = (count) => (count > 1 ? `Why? shows the ${count} steps.` 
 /** @param {number} at @param {number} count */
 export const stepOf = (at, count) => `Step ${at + 1} of ${count}`;
 
+/** @param {number} at @param {number} count */
+export const cardText = (at, count) => `Card ${at + 1} of ${count}`;
+
 /** @param {number} number @param {number} left */
 export const numberName = (number, left) => `${number}, ${left > 0 ? `${left} left` : 'none left'}`;
 
 /** @param {string} title */
 export const deleteGameText = (title) => `Delete this game, ${title}? It can’t be brought back.`;
 
+/** @param {number} count */
+export const deleteFinishedText = (count) => `Delete ${counted(count, 'game')}, solved or filled in, for good? Statistics and calendar stay.`;
+
 /** @param {number} taken @param {number} refused @param {number} there */
 export function brought(taken, refused, there) {
-  return [`${capital(counted(taken, 'game'))} imported.`, there ? `${there} were here already.` : '', refused ? `${refused} can’t be read.` : ''].filter(Boolean).join(' ');
+  const more = [there ? `${there} were here already.` : '', refused ? `${refused} can’t be read.` : ''];
+  return [`${capital(counted(taken, 'game'))} imported.`, ...more].filter(Boolean).join(' ');
 }
+
+// What there is to say of games that are kept and can’t be read.
+/** @param {number} count */
+export const unreadGames = (count) => (count ? `${counted(count, 'game')} more can’t be read. The file of all games has each as it is.` : '');
 
 /** @param {number} filled @param {number} empty */
 export const farText = (filled, empty) => `${filled} of ${empty}`;
@@ -228,48 +260,8 @@ export const dayAndTime = (when) => new Date(when).toLocaleString('en-GB', {day:
 /** @param {Date} day */
 export const monthText = (day) => day.toLocaleString('en-GB', {month: 'long', year: 'numeric'});
 
+/** @param {Date} day */
+const dateText = (day) => day.toLocaleString('en-GB', {day: 'numeric', month: 'long', year: 'numeric'});
+
 /** @param {Date} day @param {boolean} isSolved */
-export const dayName = (day, isSolved) => `${day.toLocaleString('en-GB', {day: 'numeric', month: 'long', year: 'numeric'})}${isSolved ? ', solved' : ''}`;
-
-// The keys, where there is a keyboard: what is pressed, and what it does.
-/** @type {[string, string][]} */
-export const KEYS = [
-  ['arrows', 'go to another square, and in Towers onto the clues'],
-  ['1 to 9', 'a number, or a pencil mark where Marks is pressed'],
-  ['Enter or p', 'Marks on or off; on a clue: done'],
-  ['Space 0 Delete', 'clear the square'],
-  ['m, P', 'all marks in all empty squares; the possible ones alone'],
-  ['M', 'marks go when their number is put in, or stay'],
-  ['u, r', 'undo, redo; Ctrl-Z and Ctrl-Y, too'],
-  ['d', 'a clue is done'],
-  ['h, H', 'hint; all steps'],
-  ['c, b, S', 'can it be completed; back until it can; solve'],
-  ['R', 'back to the start'],
-  ['n, o, t', 'new game; games to continue; the daily games'],
-  ['w, i', 'save to a file; the link and the ID'],
-  [':', 'a command of the program'],
-  ['?', 'rules and keys'],
-];
-
-// The rules, sentence by sentence.
-/** @type {Record<Game, string[]>} */
-export const RULES = {
-  towers: [
-    'Each row and each column has each number from 1 to the size once.',
-    'A number is a tower of that height. A clue at the edge says how many towers are seen from there along its row or column. A tower hides all lower ones behind it.',
-  ],
-  unequal: [
-    'Each row and each column has each number from 1 to the size once.',
-    'A sign between two squares says which of them has the greater number: it opens to the greater one, and points at the lesser one.',
-  ],
-};
-
-// A clue that is worked through beside its picture.
-/** @type {Record<Game, string>} */
-export const WORKED = {
-  towers: 'From the left 1, 3 and 4 are seen, and 2 stands behind the 3: the clue is 3. From the right 4 hides all others: the clue is 1.',
-  unequal: 'Three squares in a chain, each greater than the one before it. With 1 to 4 the last is 3 or 4, and the first is 1 or 2.',
-};
-
-export const ABOUT_BOARD = 'Bold numbers were given with the puzzle. A red ! marks a contradiction. A full board without red is the solution.';
-export const ABOUT_HINT = 'Hint first frames where to look, then says why, then puts the number in. Why? walks through all steps.';
+export const dayName = (day, isSolved) => `${dateText(day)}${isSolved ? ', solved' : ''}`;

@@ -1,16 +1,12 @@
 // What the page asks of the module: lines to a session, which the page has as the text of a save. The module runs in a worker.
 
 /** @typedef {import('./module.js').Game} Game */
-/** @typedef {import('./worker.js').Beginning | import('./worker.js').Asked} Message */
-/** @typedef {import('./worker.js').Answer} Answer */
+/** @typedef {import('./worker.js').Asked} Asked */
+/** @typedef {import('./worker.js').Reply} Reply */
+/** @typedef {import('./worker.js').Answered} Answered */
 /** @typedef {import('./worker.js').WorkerFault | 'stopped'} Fault */
 
-/**
- * What is said, one line or nothing; the text of a save of the session after, empty where there is none; and whether the line was `quit`.
- * @typedef {{said: string, saved: string, ended: boolean}} Answered
- */
-
-/** Why a line has no answer. The session is as it was before, since the page has its text. */
+/** Why lines have no answer. The session is as it was before, since the page has its text. */
 export class Unanswered extends Error {
   /** @param {Fault} fault @param {string} [why] */
   constructor(fault, why) {
@@ -30,7 +26,7 @@ class Helper {
   /** @param {string} script */
   constructor(script) {
     this.worker = new Worker(script);
-    /** @type {(answer: Answer) => void} */
+    /** @type {(reply: Reply) => void} */
     this.answer = () => undefined;
     /** @type {(why: Unanswered) => void} */
     this.refuse = () => undefined;
@@ -38,17 +34,17 @@ class Helper {
     this.worker.onerror = ({message}) => this.refuse(new Unanswered('unable', message));
   }
 
-  /** @param {Message} message @returns {Promise<Exclude<Answer, {fault: unknown}>>} */
+  /** @param {import('./worker.js').Beginning | Asked} message @returns {Promise<Answered>} */
   async ask(message) {
-    const answer = await new Promise((/** @type {(answer: Answer) => void} */ settle, refuse) => {
+    const reply = await new Promise((/** @type {(reply: Reply) => void} */ settle, refuse) => {
       this.answer = settle;
       this.refuse = refuse;
       this.worker.postMessage(message);
     });
-    if ('fault' in answer) {
-      throw new Unanswered(answer.fault, answer.why);
+    if ('fault' in reply) {
+      throw new Unanswered(reply.fault, reply.why);
     }
-    return answer;
+    return reply;
   }
 
   /** What it was asked has no answer, then. */
@@ -58,40 +54,46 @@ class Helper {
   }
 }
 
-/** Turns are answered one by one, in the order in which they were asked. */
+/** Messages are answered one by one, in the order in which they were asked. */
 export class Turns {
   /** @param {string} packed  the module, packed  @param {string} script  the text of the worker */
   constructor(packed, script) {
     this.packed = packed;
-    this.script = ownScript(script);
+    this.script = script;
+    this.address = '';
     /** How often turns were stopped. */
     this.stops = 0;
     /** @type {Promise<unknown>} */
     this.last = Promise.resolve();
-    this.helper = new Helper(this.script);
-    this.beginning = this.begun();
+    /** @type {Promise<Helper> | null} */
+    this.helper = null;
   }
 
-  begun() {
-    const beginning = this.helper.ask({packed: this.packed});
-    // Each turn is refused where this fails; there may be none.
-    beginning.catch(() => undefined);
-    return beginning;
+  /** A worker that can answer lines, begun where there is none. Refused as `unable` where this browser can't run the module. */
+  ready() {
+    return this.helper ??= this.begun();
   }
 
-  /** Settles once lines can be answered. Refused as `unable` where this browser can't run the module. */
-  async ready() {
-    await this.beginning;
+  async begun() {
+    try {
+      this.address ||= ownScript(this.script);
+      this.begins = new Helper(this.address);
+    } catch (fault) {
+      throw new Unanswered('unable', String(fault));
+    }
+    const {begins} = this;
+    await begins.ask({packed: this.packed});
+    return begins;
   }
 
   /**
-   * The answer to a line, in the session of this save, or in none where that is empty.
-   * @param {Game} game @param {string} saved @param {string} line
+   * The answers to lines, in the session of this save, or in none where that is empty.
+   * @param {Asked} asked
    * @returns {Promise<Answered>}
    */
-  turn(game, saved, line) {
+  turn(asked) {
     const {stops} = this;
-    const turn = this.last.then(() => this.answered(stops, {game, saved, line}));
+    const turn = this.last.then(() => this.answered(stops, asked));
     this.last = turn.catch(() => undefined);
     return turn;
   }
@@ -103,19 +105,20 @@ export class Turns {
   }
 
   anew() {
-    this.helper.end();
-    this.helper = new Helper(this.script);
-    this.beginning = this.begun();
+    this.begins?.end();
+    this.helper = null;
+    // The next turn is refused where this fails; there may be none.
+    this.ready().catch(() => undefined);
   }
 
-  /** @param {number} stops @param {Message} message @returns {Promise<Answered>} */
-  async answered(stops, message) {
-    await this.beginning;
+  /** @param {number} stops @param {Asked} asked @returns {Promise<Answered>} */
+  async answered(stops, asked) {
+    const helper = await this.ready();
     if (stops !== this.stops) {
       throw new Unanswered('stopped');
     }
     try {
-      return await this.helper.ask(message);
+      return await helper.ask(asked);
     } catch (why) {
       if (why instanceof Unanswered && LAST_FAULTS.has(why.fault)) {
         this.anew();

@@ -1,5 +1,5 @@
 // A hint as it is shown: where to look, why, and the number; or all its steps one by one, in place of the buttons.
-import {button, element, part} from './drawing.js';
+import {button, element, focus, part, show} from './drawing.js';
 import {WalkedHint} from './walked_hint.js';
 import {inSteps, lookAt, lookAtGoal, stepOf} from './texts.js';
 
@@ -26,8 +26,8 @@ export class Walk {
   /** Nothing is shown of a hint any more. */
   forget() {
     [this.walked, this.stage, this.shown, this.at] = [null, 'nothing', null, -1];
-    part('walk').hidden = true;
-    part('play').hidden = false;
+    show(part('play'), true);
+    show(part('walk'), false);
   }
 
   get isOpen() { return this.at >= 0; }
@@ -47,19 +47,21 @@ export class Walk {
       return walked.steps.length ? lookAt(walked.steps[0], walked.size) : lookAtGoal(walked.hint.line, walked.size);
     }
     this.stage = 'reason';
-    this.shown = walked.shown(walked.steps.length === 1 ? 0 : walked.steps.length);
-    return walked.steps.length === 1 ? walked.sentences.join(' ') : [walked.sentences[walked.steps.length], inSteps(walked.steps.length)].filter(Boolean).join(' ');
+    const {steps: {length}, sentences} = walked;
+    this.shown = walked.shown(length === 1 ? 0 : length);
+    return length === 1 ? sentences.join(' ') : [sentences[length], inSteps(length)].filter(Boolean).join(' ');
   }
 
-  /** All steps, in place of the buttons. */
+  /** All steps, in place of the buttons: the first step has the focus where one of these had it. */
   open() {
-    const {walked} = this;
+    const {walked} = this, hadFocus = part('play').contains(document.activeElement);
     if (!walked) return;
     part('steps').replaceChildren(...walked.sentences.map((text, at) => element('li', '', {}, button(text, {'data-step': at}))));
-    part('walk').hidden = false;
-    part('play').hidden = true;
+    show(part('walk'), true);
+    show(part('play'), false);
     part('walk').querySelector('[data-do=take]')?.toggleAttribute('hidden', !walked.move);
     this.go(0);
+    if (hadFocus) focus(part('steps').querySelector('button'));
   }
 
   // Shows a sentence.

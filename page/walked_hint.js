@@ -11,7 +11,7 @@ import {placeAt, placeOf, sentences} from './objects.js';
  */
 
 /** @type {Shown} */
-const NOTHING_SHOWN = {framed: [], rests: [], struck: new Map(), left: null};
+export const NOTHING_SHOWN = {framed: [], rests: [], struck: new Map(), left: null};
 
 // The squares of a row or column; the rows come first.
 /** @param {number} line @param {number} size @returns {Place[]} */

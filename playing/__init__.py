@@ -12,14 +12,19 @@ files        reads, makes and locks files: regular ones alone
 saves        what a front end itself sees in a save
 program      talks to the program
 fair         fair games: which there are, and the line for one
-beside       what is kept beside a save: how many hints a game had, and its number
+moves        a player's move as lines of the program; moves of several states
+beside       what is kept beside a save: how many hints a game had, its number, and which states are one move
 state        where games are kept, and what was chosen last
 games        games worth playing: fair ones, and the stored puzzles, which lie in `bank/`; and a line on a game
+shared_texts   what the board and the page in a browser both say
+cards        the cards of the course, for the board, the page and the sheets
 texts        a sentence for each refusal
 choices      which new game: size, grade, number or ID
 hint_walk    a hint as a walk along its steps
-present      the present game, and what can be done with it
+kept_game    the present game in the program, kept after each change
+present      what can be done with it
 game         how a game begins, and what becomes of the one before
+course       a card in the place of the present game
 version      what is said of the version
 command      how the commands begin and end
 

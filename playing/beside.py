@@ -1,20 +1,23 @@
-"""What is kept of a game in a file beside its save, with the ID of its puzzle: how many hints it had, and its number where it is a fair one."""
+"""What is kept of a game in a file beside its save, with the ID of its puzzle: how many hints it had, its number, and which states are one move."""
 
 from __future__ import annotations
 
-from typing import NamedTuple, Optional
+from typing import List, NamedTuple, Optional, Tuple
 
 from playing.fair import seed_of
+from playing.moves import Pair
 from playing.typed import is_number
 
-#: Before the number, on a line of its own.
-NUMBER = 'number'
+#: Before the number, and before the joined moves, each on a line of its own.
+NUMBER, JOINED = 'number', 'joined'
 
 
 class Beside(NamedTuple):
     hints: int = 0
     #: The seed of a fair game; nothing where it isn't known.
     number: Optional[int] = None
+    #: Moves of several states, by the position after each and the one before it.
+    joined: Tuple[Pair, ...] = ()
 
 
 def file_of(save: str) -> str:
@@ -27,17 +30,24 @@ def content_of(beside: Beside, id: str) -> bytes:
     if beside == Beside():
         return b''
     number = '' if beside.number is None else f'{NUMBER} {beside.number}\n'
-    return f'{beside.hints} {id}\n{number}'.encode('latin-1')
+    joined = f'{JOINED} {" ".join(f"{last}-{first}" for last, first in beside.joined)}\n' if beside.joined else ''
+    return f'{beside.hints} {id}\n{number}{joined}'.encode('latin-1')
 
 
 def beside_in(content: bytes, id: str) -> Beside:
     """What that says of the puzzle; nothing where it is of another one, or can't be read."""
-    first, _, second = content.decode('latin-1').partition('\n')
+    first, *others = content.decode('latin-1').split('\n')
     count, _, of = first.strip().partition(' ')
     if of != id or not is_number(count):
         return Beside()
-    word, _, number = second.strip().partition(' ')
-    return Beside(int(count), seed_of(number) if word == NUMBER else None)
+    told = dict(line.strip().partition(' ')[::2] for line in others)
+    return Beside(int(count), seed_of(told.get(NUMBER, '')), tuple(pairs_in(told.get(JOINED, ''))))
+
+
+def pairs_in(text: str) -> List[Pair]:
+    """The joined moves of a line; those that can't be read are passed over."""
+    parted = (word.partition('-')[::2] for word in text.split())
+    return [(int(last), int(first)) for last, first in parted if is_number(last) and is_number(first)]
 
 
 def hints_told(count: int) -> str:

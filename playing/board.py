@@ -71,6 +71,15 @@ class Board(NamedTuple):
         """How many pencil marks are here that aren't on another board of this puzzle."""
         return sum(len(set(marks) - set(other.marks.get(place, []))) for place, marks in self.marks.items())
 
+    def shows_as(self, other: Board) -> bool:
+        """Whether numbers, pencil marks and done marks are those of another board of this puzzle."""
+        return (self.numbers, self.marks, self.clues_done) == (other.numbers, other.marks, other.clues_done)
+
+    @property
+    def clues_done(self) -> FrozenSet[Place]:
+        """The clues that are marked as done."""
+        return frozenset(place for place, clue in self.clues.items() if clue.is_done)
+
     @property
     def is_full(self) -> bool:
         return len(self.numbers) == self.size * self.size

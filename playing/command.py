@@ -67,27 +67,29 @@ def complain(text: str) -> None:
         print(printable(text), file=sys.stderr)
 
 
-def refuse(reason: str, then: str = '') -> int:
-    """Says why words can't be read, and what there is to say then. The status."""
+def refuse(reason: str, then: str = '', usage: str = '') -> int:
+    """Says why words can't be read, and what there is to say then; above it, how the command is used, if that is given. The status."""
+    if sys.stderr:
+        print(usage, end='\n' if usage else '', file=sys.stderr)
     complain(f'{me()}: {reason}')
     if sys.stderr:
         print(then, end='', file=sys.stderr)
     return 2
 
 
-def with_program(here: str, work: Callable[[str], int]) -> int:
-    """The status of work that needs the path of the program; `here` is the folder of the command."""
+def with_program(here: str, work: Callable[[str], int], failed: int = 1) -> int:
+    """The status of work that needs the path of the program, or the one of a failure; `here` is the folder of the command."""
     path = program(here)
     if path is None:
         complain(f'{me()}: the program is not built yet: run make')
-        return 1
+        return failed
     try:
         return work(path)
     except Unknown as unknown:
         return refuse(str(unknown))
     except Gone as gone:
         complain(f'{me()}: the program has ended: {gone}')
-        return 1
+        return failed
 
 
 def program(here: str) -> Optional[str]:

@@ -4,14 +4,22 @@ from __future__ import annotations
 
 import os
 from functools import partial
-from typing import Callable, List, Optional, Sequence, Tuple
+from typing import Callable, List, NamedTuple, Optional, Sequence, Tuple
 
-from playing import beside, choices, files, games, saves, texts
+from playing import beside, choices, files, games, saves, shared_texts, texts
 from playing.board import GAMES
 from playing.choices import Choice
 from playing.present import PresentGame
 from playing.program import Gone, Program, Refused, Stopped, begun_by, started_with
 from playing.state import Home, NotKept, SavedGame, Slot, saves_in
+
+
+class Start(NamedTuple):
+    """What is played at first: the game that is kept; or what an ID, a file or a choice says."""
+
+    game: str
+    what: str = ''
+    choice: Optional[Choice] = None
 
 
 class Game(PresentGame):
@@ -135,6 +143,7 @@ class Game(PresentGame):
 
     def _turn_to(self, saved: SavedGame) -> bool:
         """The game before stays where it is kept, for the next time."""
+        self.keep_again()
         if self.trouble and not self._put_away(self.kind, self._saved, self._beside(), self.board.is_solved):
             return False
         slot = self.state.slot_of(saved)
@@ -157,7 +166,7 @@ class Game(PresentGame):
         except Refused as refused:
             self.message = sentence(str(refused), game)
         except Stopped:
-            self.message = texts.STOPPED
+            self.message = shared_texts.STOPPED
         except Gone as gone:
             self.message = f'The program says: {gone}.'
         return None
@@ -214,6 +223,9 @@ class Game(PresentGame):
         if saves.is_untouched(content):
             return True
         try:
+            if not content:
+                # There was no memory for its save.
+                raise NotKept(self.trouble)
             self.state.put_away(game, content, kept_beside, is_solved)
             return True
         except NotKept as reason:

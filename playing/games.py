@@ -103,7 +103,7 @@ def summary(path: str, saved: SavedGame, waiting: Waiting) -> str:
     if board is None:
         return f"{name}{game}, can't be read, {when}"
     kept = beside_in(files.read(beside.file_of(saved.path)).content, board.session.id)
-    parts = [which(board, kept.number), how_far(board), 'not put away' if saved.home is Home.PRESENT else '', when]
+    parts = [which(board, kept.number), how_far(board), 'in play' if saved.home is Home.PRESENT else '', when]
     return name + ', '.join(filter(None, parts))
 
 

@@ -64,6 +64,12 @@ class Program:
         #: What it tells at the start of its game.
         self.first: Reply = self._first(waiting)
 
+    def __enter__(self) -> Program:
+        return self
+
+    def __exit__(self, *_: object) -> None:
+        self.stop()
+
     def ask(self, line: str, waiting: Optional[Waiting] = None) -> Reply:
         """The reply to a line, or to `board` where the line has none. Raises `Gone`, or `Stopped` after which the program is gone too."""
         return reply_of(self.object(line, waiting))

@@ -119,6 +119,8 @@ class State:
         #: Where the present game is kept.
         self.slot = Slot(None, None)
         self._chosen: Dict[str, str] = {}
+        #: What was kept last beside a game, and where.
+        self._beside = '', b''
 
     # --- the present game ---
 
@@ -146,6 +148,7 @@ class State:
         """Keeps the present game there from here on."""
         if slot.file is not self.slot.file:
             self.release()
+            self._beside = '', b''
         self.slot = Slot(slot.file, None, why=slot.why)
 
     def last(self, games: Iterable[str]) -> Optional[str]:
@@ -153,8 +156,11 @@ class State:
         found = {game: max(map(_changed, self._paths(game)), default=0.0) for game in games}
         return max(found, key=lambda game: found[game]) if any(found.values()) else None
 
-    def keep(self, content: bytes) -> str:
+    def keep(self, game: str, content: bytes) -> str:
         """Keeps the present game; beside its file where something else has taken its place, and a sentence says so."""
+        if self.slot.file is None:
+            # What kept it from having one may be over. It takes no other game's place.
+            self.take(self.claim(game, self._there(game)))
         file, told = self.slot.file, ''
         if file is None:
             raise NotKept(self.slot.why)
@@ -170,15 +176,18 @@ class State:
         return told
 
     def keep_beside(self, content: bytes) -> None:
-        """Keeps that beside the present game; it is no harm where that can't be done."""
+        """Keeps that beside the present game, where it isn't there yet; it is no harm where that can't be done."""
         if self.slot.file is None:
             return
         path = beside.file_of(self.slot.file.path)
+        if (path, content) == self._beside:
+            return
         with contextlib.suppress(OSError):
             if content:
                 files.replace(path, content)
             elif os.path.lexists(path):
                 os.unlink(path)
+            self._beside = path, content
 
     def drop(self) -> None:
         """The present game is no longer kept: it was put away."""

@@ -5,8 +5,8 @@ choice, likeness            which puzzles come onto the sheet, and whether two s
 lists, seeds                where they come from: IDs and save files, or fair games by size, grade and seed
 puzzles, steps              a puzzle with its only answer, and how that goes on, as the program says
 pages, answers, listing     the page in HTML: puzzles, answers and steps
-examples                    a small puzzle for a first lesson
-layout                      how many puzzles a page can have, and how large their squares are
+examples                    the cards of the course for a first lesson, board by board
+layout, titles              how many puzzles a page can have, how large their squares are, and how many lines a title takes
 measures, style, markup     lengths, the style sheet, and text that becomes HTML
 drawing                     a board as a picture, also one that is played
 

@@ -1,103 +1,118 @@
-"""The answers, small, by the numbers of their puzzles."""
+"""The answers, by the numbers of their puzzles: as few sheets of paper as can be, and squares as large as those have room for."""
 
 from __future__ import annotations
 
 from string import Template
-from typing import Iterator, List, NamedTuple, Sequence
+from typing import List, NamedTuple, Sequence
 
 from sheet import drawing, measures
 from sheet.layout import Numbered, Paper
 from sheet.markup import Markup, fill, joined
 from sheet.measures import length
 
-#: Below a row.
-ROW_GAP = 400
-
 #: What is left free beside a picture, for its lines.
 LINES = 100
 
-ROW = Template('<div class="answers" style="height:$height">\n$figures</div>\n')
+#: From one side of the squares to the next one that is tried.
+STEP = 5
+
+ROW = Template('<div class="answers" style="height:$height;font-size:$font">\n$figures</div>\n')
 FIGURE = Template('<figure style="width:$width"><p class="line"><b>$number</b><span>$grade</span></p>$picture</figure>\n')
 
 
 class Row(NamedTuple):
     some: List[Numbered]
-    #: How wide each of them is at most, and the sides of their squares.
+    #: How wide the place of each of them is.
     width: int
-    sides: List[int]
-
-    @property
-    def pictures(self) -> List[int]:
-        """How high each is."""
-        games = [(each.puzzle.game, each.puzzle.size) for each in self.some]
-        return [drawing.extent(game, size, drawing.small_pen(game, side)) for (game, size), side in zip(games, self.sides)]
 
 
 class Squares(NamedTuple):
-    """How answers are printed: how many may stand side by side, and the most and the least side of their squares."""
+    """How many answers may stand side by side; the side of their squares for which no paper is saved, if two large ones have room side by side; and
+    the most side."""
 
-    columns: Sequence[int]
-    most: int
+    columns: int
     least: int
+    most: int
 
 
-LARGE = Squares((2,), measures.LARGE_ANSWER_SIDE, measures.LEAST_ANSWER_SIDE)
-ROOMY = Squares((5, 4, 3, 2), measures.ANSWER_SIDE, measures.ANSWER_SIDE - 5)
-SMALL = Squares((5, 4, 3), measures.SMALL_ANSWER_SIDE, measures.LEAST_ANSWER_SIDE)
+USUAL = Squares(6, measures.LEAST_ANSWER_SIDE, measures.MOST_ANSWER_SIDE)
+LARGE = Squares(2, measures.LEAST_LARGE_ANSWER_SIDE, measures.MOST_LARGE_ANSWER_SIDE)
 
 
-def sections(paper: Paper, puzzles: Sequence[Numbered], is_large: bool) -> List[Markup]:
-    """What stands between head and foot, for each sheet of paper: with large digits where that takes no more sheets."""
-    if is_large:
-        return list(_sections(paper, puzzles, LARGE))
-    small, roomy = list(_sections(paper, puzzles, SMALL)), list(_sections(paper, puzzles, ROOMY))
-    return roomy if len(roomy) <= len(small) else small
+def sections(paper: Paper, puzzles: Sequence[Numbered], has_grades: bool) -> List[Markup]:
+    """What stands between head and foot, for each sheet of paper."""
+    squares = LARGE if paper.is_large else USUAL
+    least = min(squares.least, widest(paper, puzzles, 2))
+    most = min(squares.most, widest(paper, puzzles, 1))
+    fewest = len(_sheets(paper, puzzles, squares.columns, least))
+    for side in range(most, least, -STEP):
+        found = _sheets(paper, puzzles, squares.columns, side)
+        if len(found) <= fewest:
+            break
+    else:
+        side, found = least, _sheets(paper, puzzles, squares.columns, least)
+    return [joined(_row(paper, row, side, has_grades) for row in rows) for rows in found]
 
 
-def _sections(paper: Paper, puzzles: Sequence[Numbered], squares: Squares) -> Iterator[Markup]:
+def widest(paper: Paper, puzzles: Sequence[Numbered], columns: int) -> int:
+    """The greatest side of squares with which so many of the largest answers stand side by side."""
+    return (place(paper, columns) - LINES) * 100 // max(drawing.parts(each.puzzle.game, each.puzzle.size) for each in puzzles)
+
+
+def place(paper: Paper, columns: int) -> int:
+    """How wide the place of an answer is, if so many stand side by side."""
+    return (paper.width - paper.print.answer_gap * (columns - 1)) // columns
+
+
+def _sheets(paper: Paper, puzzles: Sequence[Numbered], columns: int, side: int) -> List[List[Row]]:
+    """The rows on each sheet of paper."""
     room = paper.height - paper.head - paper.print.foot
-    placed: List[Markup] = []
-    used = 0
-    for row in rows(paper, puzzles, squares):
-        height = max(row.pictures) + paper.print.answer_head
-        if used + height > room:
-            yield joined(placed)
-            placed, used = [], 0
-        placed.append(_row(row, height))
-        used += height
-    yield joined(placed)
-
-
-def rows(paper: Paper, puzzles: Sequence[Numbered], squares: Squares) -> Iterator[Row]:
-    left = list(puzzles)
+    sheets: List[List[Row]] = [[]]
+    used, left = 0, list(puzzles)
     while left:
-        row = _next_row(paper, left, squares)
-        yield row
+        row = _next_row(paper, left, columns, side)
         del left[: len(row.some)]
+        height = _height(paper, row, side)
+        if used + height > room:
+            sheets.append([])
+            used = 0
+        sheets[-1].append(row)
+        used += height
+    return sheets
 
 
-def _next_row(paper: Paper, left: Sequence[Numbered], squares: Squares) -> Row:
-    """With as many answers as leave their squares large enough."""
-    return next(_ways(paper, left, squares))
+def _next_row(paper: Paper, left: Sequence[Numbered], columns: int, side: int) -> Row:
+    """As many answers as have room side by side."""
+    for number in range(columns, 1, -1):
+        some, width = list(left[:number]), place(paper, number)
+        if all(_extent(each, side) <= width for each in some):
+            return Row(some, width)
+    return Row(list(left[:1]), paper.width)
 
 
-def _ways(paper: Paper, left: Sequence[Numbered], squares: Squares) -> Iterator[Row]:
-    """The next row, first with as many answers as might be; the last way always is one."""
-    for columns in squares.columns:
-        width = (paper.width - paper.print.answer_gap * (columns - 1)) // columns
-        some = list(left[:columns])
-        sides = [min(squares.most, (width - LINES) * 100 // drawing.parts(each.puzzle.game, each.puzzle.size)) for each in some]
-        if min(sides) >= squares.least or columns == squares.columns[-1]:
-            yield Row(some, width, sides)
+def _extent(each: Numbered, side: int) -> int:
+    """How wide and how high an answer is."""
+    return drawing.extent(each.puzzle.game, each.puzzle.size, drawing.small_pen(each.puzzle.game, side))
 
 
-def _row(row: Row, height: int) -> Markup:
-    figures = (_figure(each, side, row.width) for each, side in zip(row.some, row.sides))
-    return fill(ROW, height=length(height), figures=joined(figures))
+def _height(paper: Paper, row: Row, side: int) -> int:
+    """How high a row is, with the numbers above and what is free below."""
+    return max(_extent(each, side) for each in row.some) + _font(paper, side) * 6 // 5 + paper.print.answer_free
 
 
-def _figure(each: Numbered, side: int, width: int) -> Markup:
+def _font(paper: Paper, side: int) -> int:
+    """That of the numbers above the answers."""
+    return max(paper.print.answer_number, min(paper.print.most_answer_number, side * 45 // 100))
+
+
+def _row(paper: Paper, row: Row, side: int, has_grades: bool) -> Markup:
+    figures = (_figure(each, row.width, side, has_grades) for each in row.some)
+    return fill(ROW, height=length(_height(paper, row, side)), font=length(_font(paper, side)), figures=joined(figures))
+
+
+def _figure(each: Numbered, width: int, side: int, has_grades: bool) -> Markup:
     puzzle = each.puzzle
-    name = drawing.title(f'Answer to puzzle {each.number}', puzzle.answer, puzzle.grade)
+    grade = puzzle.grade if has_grades else ''
+    name = drawing.title(f'Answer to puzzle {each.number}', puzzle.answer, grade)
     svg = drawing.picture(puzzle.answer, drawing.small_pen(puzzle.game, side), name)
-    return fill(FIGURE, width=length(width), number=each.number, grade=puzzle.grade, picture=Markup(drawing.text_of(svg)))
+    return fill(FIGURE, width=length(width), number=each.number, grade=grade, picture=Markup(drawing.text_of(svg)))

@@ -19,8 +19,9 @@ OUTSIDE, BETWEEN = 52, 34
 #: How far from the frame's middle the middle of a clue is, and half of a wedge's depth and of its height, in the same measure.
 CLUE, DEPTH, HEIGHT = 35, 8, 17
 
-#: How far apart two pencil marks are, in the same measure.
+#: How far apart two pencil marks are, in the same measure; and the room for the names of rows and columns, with their font.
 APART = 30
+EDGE, EDGE_FONT = 52, 36
 
 #: A digit's baseline is so far below its middle, in per cent of the font: half of a digit's height.
 BASELINE = 36
@@ -78,6 +79,11 @@ def extent(game: str, size: int, with_pen: Pen) -> int:
     return parts(game, size) * with_pen.side // 100 + with_pen.frame
 
 
+def edge(side: int) -> int:
+    """What the names of rows and columns take, at the left and above."""
+    return side * EDGE // 100
+
+
 class Places:
     """Where squares, clues and wedges of a board are."""
 
@@ -112,11 +118,12 @@ class Places:
         return f'M{x - height} {y + depth}l{height} {-2 * depth}l{height} {2 * depth}'
 
 
-def picture(board: Board, with_pen: Pen, name: str, hinted: Collection[Place] = ()) -> Element:
-    """The element `svg`, with its name and the board in words for who doesn't see it."""
-    places, full = Places(board, with_pen), extent(board.session.game, board.size, with_pen)
+def picture(board: Board, with_pen: Pen, name: str, hinted: Collection[Place] = (), has_edges: bool = False) -> Element:
+    """The element `svg`, with its name and the board in words for who doesn't see it; at its edges may stand the names of rows and columns."""
+    places, outside = Places(board, with_pen), edge(with_pen.side) if has_edges else 0
+    full = extent(board.session.game, board.size, with_pen) + outside
     length = f'{full // 100}.{full % 100:02}mm'
-    svg = Element('svg', {'role': 'img', 'width': length, 'height': length, 'viewBox': f'0 0 {full} {full}', **LINES})
+    svg = Element('svg', {'role': 'img', 'width': length, 'height': length, 'viewBox': f'{-outside} {-outside} {full} {full}', **LINES})
     SubElement(svg, 'title').text = name
     SubElement(svg, 'desc').text = ' '.join([*told(board), ''])
     if hinted:
@@ -125,6 +132,8 @@ def picture(board: Board, with_pen: Pen, name: str, hinted: Collection[Place] = 
     _add_grid(svg, places, with_pen)
     _add_signs(svg, board, places, with_pen)
     _add_numbers(svg, board, places, with_pen)
+    if has_edges:
+        _add_edges(svg, places, -outside // 2)
     return svg
 
 
@@ -175,6 +184,16 @@ def _add_numbers(svg: Element, board: Board, places: Places, with_pen: Pen) -> N
     _add_digits(group, with_pen.number, digits(False))
     _add_digits(group, with_pen.clue, clues)
     _add_digits(group, with_pen.mark, list(_marks(board, places)), {'class': 'marks'})
+
+
+def _add_edges(svg: Element, places: Places, at: int) -> None:
+    """The names of columns above, and those of rows at the left, so that r1c2 is found."""
+    font = places.side * EDGE_FONT // 100
+    group = SubElement(svg, 'g', {**DIGITS, 'font-size': str(font), 'font-style': 'italic', 'class': 'edges'})
+    for index in range(places.size):
+        middle = places.at[index] + places.side // 2
+        for text, x, y in ((f'c{index + 1}', middle, at), (f'r{index + 1}', at, middle)):
+            SubElement(group, 'text', {'x': str(x), 'y': str(y + font * BASELINE // 100)}).text = text
 
 
 def _marks(board: Board, places: Places) -> Iterator[Digit]:

@@ -1,64 +1,121 @@
-"""A first lesson: a small puzzle with its answer and its first three moves, on a sheet of paper of its own."""
+"""A first lesson: the cards of the course, each with its board and the step that shows the number, on a sheet of paper of its own."""
 
 from __future__ import annotations
 
 from string import Template
-from typing import Iterator, List, NamedTuple
+from typing import Iterator, List, NamedTuple, Optional, Sequence
 
-from playing import fair
-from playing.board import GAMES
+from playing.board import GAMES, Board
+from playing.cards import CARDS, Card
+from playing.naming import Place
+from playing.program import Gone
 from sheet import drawing, steps
-from sheet.layout import RULES, Paper
+from sheet.layout import ANY_SIZE, RULES, Paper, lines
 from sheet.listing import SQUARES
 from sheet.markup import Markup, fill, joined
-from sheet.puzzles import Programs, Puzzle, Unfit, proved
-from sheet.steps import Move
+from sheet.measures import length
+from sheet.puzzles import Programs, Unfit
 
-#: The fair game that is taken of each game: its size, the letter of its grade, and its number.
-SIZE, LETTER, NUMBER = 4, 'e', 4
+#: From one side of the squares to the next one that is tried.
+STEP = 5
 
-BODY = Template("""\
-<p class="rules"><b>$game.</b> $rules</p>
-<div class="example">
-$figures</div>
-<div class="moves"><p>$squares</p>
-$moves</div>
-""")
-FIGURE = Template('<figure><figcaption>$caption</figcaption>$picture</figure>\n')
-MOVE = Template('<p><b>Move $number.</b> $text</p>\n')
-SENTENCE = Template('<p>$text</p>\n')
+#: Between a board and its text, and below a board.
+BESIDE, BELOW = 900, 350
+
+#: How the number that follows is shown, or the square that has none left.
+FRAMED = 'The number that follows stands in a thick frame.'
+
+BODY = Template('<p class="rules"><b>$game.</b> $rules</p>\n<div class="lessons">\n$rows</div>\n')
+ROW = Template('<div class="example" style="height:$height">$picture<div style="width:$width">$texts</div></div>\n')
+HEAD = Template('<p><b>$text</b></p>')
+SENTENCE = Template('<p>$text</p>')
+
+
+class Lesson(NamedTuple):
+    """A board, what is told beside it, and the square that has just got its number, or has none left."""
+
+    head: str
+    board: Board
+    sentences: Sequence[str]
+    square: Optional[Place]
 
 
 class Example(NamedTuple):
-    """A puzzle, and its first moves."""
+    game: str
+    lessons: List[Lesson]
 
-    puzzle: Puzzle
-    moves: List[Move]
+
+class Row(NamedTuple):
+    """A board with its text on paper: how high both are, and how wide the text."""
+
+    lesson: Lesson
+    height: int
+    width: int
 
 
 def example(programs: Programs, game: str) -> Example:
     """Raises `Unfit` where the program doesn't make it."""
-    if programs.ask(game, fair.line(SIZE, LETTER, NUMBER)).refused:
+    first, *others = (_lesson(programs, game, card) for card in CARDS[game])
+    return Example(game, [first._replace(sentences=[*first.sentences, SQUARES, FRAMED]), *others])
+
+
+def _lesson(programs: Programs, game: str, card: Card) -> Lesson:
+    """The board of a card with the number of its hint, and the sentences of that."""
+    if programs.ask(game, f'new {card.id}').refused:
         raise Unfit(f'The program makes no example of {GAMES[game]}.')
-    puzzle = proved(programs, game)
-    return Example(puzzle, [move for move in steps.told(programs, puzzle) if move.number <= steps.FIRST])
+    board, hint = programs.board(game), programs.ask(game, 'hint').hint
+    if hint is None:
+        raise Gone('it gives no hint')
+    put, struck = hint.square(board.size), [strike.place for step in hint.steps(board.size) for strike in step.strikes]
+    if put:
+        programs.ask(game, f'move R{put[0]},{put[1]},{hint.number}')
+    return Lesson(card.title, programs.board(game), [card.text, *steps.told_in(hint.text)], put or next(reversed(struck), None))
 
 
-def body(paper: Paper, told: Example) -> Markup:
-    """What stands between head and foot."""
-    puzzle = told.puzzle
-    boards = {'The puzzle': puzzle.board, 'Its answer': puzzle.answer}
-    pen = drawing.pen(puzzle.game, paper.example_side, paper.print.strength)
-    figures = [
-        fill(FIGURE, caption=caption, picture=Markup(drawing.text_of(drawing.picture(board, pen, drawing.title(caption, board, puzzle.grade)))))
-        for caption, board in boards.items()
-    ]
-    rules = RULES[puzzle.game].format(last=puzzle.size)
-    return fill(BODY, game=GAMES[puzzle.game], rules=rules, figures=joined(figures), squares=SQUARES, moves=joined(_moves(told.moves)))
+def sections(paper: Paper, told: Example) -> Iterator[Markup]:
+    """What stands between head and foot, on as few sheets of paper as can be: with squares as large as there is room for."""
+    game, side = told.game, _side(paper, told)
+    rules = RULES[game].format(last=ANY_SIZE)
+    for rows in _sheets(paper, told, side):
+        yield fill(BODY, game=GAMES[game], rules=rules, rows=joined(_drawn(row, game, side, paper) for row in rows))
 
 
-def _moves(moves: List[Move]) -> Iterator[Markup]:
-    for move in moves:
-        first, *others = move.sentences
-        yield fill(MOVE, number=move.number, text=first)
-        yield from (fill(SENTENCE, text=text) for text in others)
+def _side(paper: Paper, told: Example) -> int:
+    """The greatest one for which no more paper is taken than for the least."""
+    most, least = paper.print.lesson_sides
+    fewest = len(_sheets(paper, told, least))
+    return next(side for side in range(most, least - 1, -STEP) if len(_sheets(paper, told, side)) <= fewest)
+
+
+def _sheets(paper: Paper, told: Example, side: int) -> List[List[Row]]:
+    """The rows on each sheet of paper."""
+    sheets: List[List[Row]] = [[]]
+    left = room = paper.room([told.game])
+    for lesson in told.lessons:
+        row = _row(paper, lesson, told.game, side)
+        if row.height > left and sheets[-1]:
+            sheets.append([])
+            left = room
+        sheets[-1].append(row)
+        left -= row.height
+    return sheets
+
+
+def _row(paper: Paper, lesson: Lesson, game: str, side: int) -> Row:
+    font = paper.print.lesson
+    full = drawing.extent(game, lesson.board.size, _pen(paper, game, side)) + drawing.edge(side)
+    width = paper.width - full - BESIDE
+    text = (1 + sum(lines(sentence, width, font) for sentence in lesson.sentences)) * font * 27 // 20
+    return Row(lesson, max(full, text) + BELOW, width)
+
+
+def _pen(paper: Paper, game: str, side: int) -> drawing.Pen:
+    return drawing.pen(game, side, paper.print.strength)
+
+
+def _drawn(row: Row, game: str, side: int, paper: Paper) -> Markup:
+    lesson = row.lesson
+    called = drawing.title(lesson.head, lesson.board, '')
+    svg = drawing.picture(lesson.board, _pen(paper, game, side), called, {lesson.square} if lesson.square else (), has_edges=True)
+    texts = joined([fill(HEAD, text=lesson.head), *(fill(SENTENCE, text=text) for text in lesson.sentences)])
+    return fill(ROW, height=length(row.height), width=length(row.width), picture=Markup(drawing.text_of(svg)), texts=texts)

@@ -9,7 +9,7 @@ from functools import lru_cache
 from typing import Iterator, List, Mapping, NamedTuple, Optional, Sequence
 
 from playing.board import GAMES
-from sheet import drawing, measures
+from sheet import drawing, measures, titles
 from sheet.markup import shortened, width
 from sheet.measures import Density, Print
 from sheet.puzzles import Puzzle
@@ -66,26 +66,27 @@ class Page(NamedTuple):
         return str(sizes.pop()) if len(sizes) == 1 else ANY_SIZE
 
 
-class TooMany(Exception):
-    """So many puzzles don't come onto a page. The text says how many do."""
+class NoRoom(Exception):
+    """A page has no room for what is asked. The text says for how much it has."""
 
 
 class Paper:
-    """A kind of paper, and how it is printed on: with a title of one line or of two, and with IDs or without."""
+    """A kind of paper, and how it is printed on: with a title of some lines, and with IDs or without."""
 
     def __init__(self, name: str, is_large: bool, title: str = '', has_ids: bool = True) -> None:
+        """Raises `NoRoom` where the title is too long."""
+        self.is_large = is_large
         self.size = measures.PAPERS[name]
         self.width = self.size.width - 2 * measures.SIDE
         self.height = self.size.height - 2 * measures.TOP - measures.SPARE
         self.print: Print = measures.LARGE if is_large else measures.USUAL
         self.densities: Sequence[Density] = measures.LARGE_DENSITIES if is_large else measures.DENSITIES
         self.has_ids = has_ids
-        self.title_letters = letters(self.width - self.print.name_width, self.print.title)
-        self.title_lines = 1 if width(title) <= self.title_letters else 2
-        #: The side of an example's squares.
-        self.example_side = 1600 if is_large else 1300
+        title_lines = titles.lines(title, self.width - self.print.name_width, self.print.title)
+        if title_lines > self.print.title_lines:
+            raise NoRoom(f'--title: it is too long: it may take {title_lines} lines, and {self.print.title_lines} have room')
         #: What the head takes.
-        self.head = self.print.head + (self.title_lines - 1) * self.print.title * 6 // 5
+        self.head = self.print.head + (title_lines - 1) * self.print.title * 6 // 5
 
     def rules_height(self, games: Sequence[str]) -> int:
         return sum(60 + lines(rules(game, ANY_SIZE), self.width, self.print.rules) * self.print.rules * 5 // 4 for game in games)
@@ -200,11 +201,14 @@ class Plan:
         return density.number_line + density.note_line * self._notes + density.id_line * of_id
 
 
-def pages(paper: Paper, puzzles: Sequence[Numbered]) -> Iterator[Page]:
-    """As many puzzles on a page as their squares allow that are large, and no more than are usual or needed."""
+def pages(paper: Paper, puzzles: Sequence[Numbered]) -> List[Page]:
+    """As few pages as there can be with large squares; and on each no more puzzles than are needed for that."""
     allowed = [density for density in paper.densities if density.puzzles <= measures.PER_PAGE]
-    enough = [density for density in allowed if density.puzzles >= len(puzzles)]
-    densities = allowed[allowed.index(enough[-1]) :] if enough else allowed
+    every = [list(_pages(paper, allowed[at:], puzzles)) for at in range(len(allowed))]
+    return [found for found in every if len(found) == len(every[0])][-1]
+
+
+def _pages(paper: Paper, densities: Sequence[Density], puzzles: Sequence[Numbered]) -> Iterator[Page]:
     left = list(puzzles)
     while left:
         page = _next_page(paper, densities, left)
@@ -213,21 +217,24 @@ def pages(paper: Paper, puzzles: Sequence[Numbered]) -> Iterator[Page]:
 
 
 def _next_page(paper: Paper, densities: Sequence[Density], left: Sequence[Numbered]) -> Page:
-    """The densest one that is possible."""
+    """The densest one that is possible. Raises `NoRoom` where not even one puzzle has room."""
     plans = (Plan(paper, density, left[: density.puzzles], measures.LEAST_SIDE) for density in densities)
-    return next(filter(None, (plan.page() for plan in plans)))
+    page = next(filter(None, (plan.page() for plan in plans)), None)
+    if page is None:
+        raise NoRoom('with this title not even one puzzle has room on a page')
+    return page
 
 
 def asked_pages(paper: Paper, puzzles: Sequence[Numbered], per_page: int) -> List[Page]:
-    """So many puzzles on each page. Raises `TooMany` where their squares would be too small."""
+    """So many puzzles on each page. Raises `NoRoom` where their squares would be too small."""
     for number in range(per_page, 0, -1):
         found = _pages_of(paper, puzzles, number)
         if found and number == per_page:
             return found
         if found:
             least = measures.LEAST_ASKED // 100
-            raise TooMany(f"--per-page {per_page}: the squares would be smaller than {least} mm; {number} on a page have room")
-    raise TooMany(f'--per-page {per_page}: not even one puzzle fits on a page')
+            raise NoRoom(f"--per-page {per_page}: the squares would be smaller than {least} mm; {number} on a page have room")
+    raise NoRoom(f'--per-page {per_page}: not even one puzzle fits on a page')
 
 
 def _pages_of(paper: Paper, puzzles: Sequence[Numbered], number: int) -> List[Page]:

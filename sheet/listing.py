@@ -8,7 +8,7 @@ from typing import Iterator, List, NamedTuple, Sequence
 from sheet.layout import Numbered, Paper, lines
 from sheet.markup import Markup, fill, joined
 from sheet.measures import length
-from sheet.steps import Move
+from sheet.steps import Move, explained_words
 
 #: Between two columns, and above a puzzle.
 COLUMN_GAP, GAP = 600, 150
@@ -19,9 +19,11 @@ SQUARES = 'r2c3 is the square in row 2 from the top and column 3 from the left.'
 #: Which moves are told.
 LEFT_OUT = 'Each puzzle has here its first three moves and its hardest one. The others are left out, since they are found in the same ways.'
 
-BLOCK = Template('<div class="steps" style="left:$left;top:$top;width:$width;height:$height">$content</div>\n')
+COLUMNS = Template('<div class="listing">\n$columns</div>\n')
+BLOCK = Template('<div class="steps" style="width:$width;height:$height">$content</div>\n')
 HEAD = Template('<p class="first"><b>$number</b> $grade</p>')
-MOVE = Template('<p><b>$label.</b> $text</p>')
+LABEL = Template('<p><b>$label</b></p>')
+LABELLED = Template('<p><b>$label.</b> $text</p>')
 SENTENCE = Template('<p>$text</p>')
 
 
@@ -32,59 +34,79 @@ class Explained(NamedTuple):
     moves: List[Move]
 
 
-class Piece(NamedTuple):
-    """Some paragraphs that stay together, and how many lines they take at most; and whether a puzzle begins there."""
+class Paragraph(NamedTuple):
+    """A line of text or several, as it is printed, and how many it takes at most."""
 
     content: Markup
     lines: int
-    is_first: bool = False
 
 
-def sections(paper: Paper, every: Sequence[Explained]) -> Iterator[Markup]:
+class Part(NamedTuple):
+    """Moves that stay together, as far as a column has room for them."""
+
+    moves: List[List[Paragraph]]
+    #: What is free above.
+    gap: int
+
+
+def sections(paper: Paper, every: Sequence[Explained], has_grades: bool) -> Iterator[Markup]:
     """What stands between head and foot, for each sheet of paper."""
     columns, font = paper.print.steps_columns, paper.print.steps
     width = (paper.width - COLUMN_GAP * (columns - 1)) // columns
     room = paper.height - paper.head - paper.print.foot
-    placed: List[Markup] = []
-    for content in _columns(_all_pieces(every, width, font), font, room):
-        place = {'left': len(placed) * (width + COLUMN_GAP), 'top': paper.head, 'width': width, 'height': room}
-        placed.append(fill(BLOCK, content=content, **{name: length(value) for name, value in place.items()}))
-        if len(placed) == columns:
-            yield joined(placed)
-            placed = []
-    if placed:
-        yield joined(placed)
+    blocks = [
+        fill(BLOCK, width=length(width), height=length(room), content=content) for content in _columns(_parts(every, width, font, has_grades), font, room)
+    ]
+    for first in range(0, len(blocks), columns):
+        yield fill(COLUMNS, columns=joined(blocks[first : first + columns]))
 
 
-def _columns(pieces: Iterator[Piece], font: int, room: int) -> Iterator[Markup]:
-    """Columns that are full, one piece below the other, and the last one."""
+def _columns(parts: Iterator[Part], font: int, room: int) -> Iterator[Markup]:
+    """Columns with one part below the other. What isn't longer than a column stands in one: a part, or at least a move."""
     column: List[Markup] = []
     used = 0
-    for piece in pieces:
-        height = piece.lines * font * 5 // 4 + (GAP if piece.is_first else 0)
-        if column and used + height > room:
-            yield joined(column)
-            column, used = [], 0
-        column.append(piece.content)
-        used += height
+    for part in parts:
+        whole = [paragraph for move in part.moves for paragraph in move]
+        pieces = [whole] if _height(whole, font) + part.gap <= room else _short(part.moves, font, room)
+        for at, piece in enumerate(pieces):
+            height = _height(piece, font) + (0 if at else part.gap)
+            if column and used + height > room:
+                yield joined(column)
+                column, used = [], 0
+            column += [paragraph.content for paragraph in piece]
+            used += height
     yield joined(column)
 
 
-def _all_pieces(every: Sequence[Explained], width: int, font: int) -> Iterator[Piece]:
-    for text in (SQUARES, LEFT_OUT):
-        yield Piece(fill(SENTENCE, text=text), lines(text, width, font))
+def _short(moves: List[List[Paragraph]], font: int, room: int) -> List[List[Paragraph]]:
+    """The moves, and the paragraphs of those that are longer than a column."""
+    pieces: List[List[Paragraph]] = []
+    for move in moves:
+        pieces += [move] if _height(move, font) + GAP <= room else [[paragraph] for paragraph in move]
+    return pieces
+
+
+def _height(piece: Sequence[Paragraph], font: int) -> int:
+    return sum(paragraph.lines for paragraph in piece) * font * 5 // 4
+
+
+def _parts(every: Sequence[Explained], width: int, font: int, has_grades: bool) -> Iterator[Part]:
+    words = explained_words([move for explained in every for move in explained.moves])
+    yield Part([[Paragraph(fill(SENTENCE, text=text), lines(text, width, font)) for text in (SQUARES, *words, LEFT_OUT)]], 0)
     for explained in every:
-        yield from _pieces(explained, width, font)
+        puzzle = explained.numbered.puzzle
+        head = Paragraph(fill(HEAD, number=explained.numbered.number, grade=puzzle.grade if has_grades else ''), 1)
+        first, *others = [list(paragraphs(move, width, font)) for move in explained.moves]
+        yield Part([[head, *first], *others], GAP)
 
 
-def _pieces(explained: Explained, width: int, font: int) -> Iterator[Piece]:
-    """A piece for each sentence; the first one has the puzzle's number above, and that of each move the move's."""
-    puzzle = explained.numbered.puzzle
-    head = fill(HEAD, number=explained.numbered.number, grade=puzzle.grade)
-    for move in explained.moves:
-        label = f'Move {move.number}{", the hardest" if move.is_hardest else ""}'
-        first, *others = move.sentences
-        paragraph = joined([head, fill(MOVE, label=label, text=first)])
-        yield Piece(paragraph, lines(f'{label}. {first}', width, font) + (1 if head else 0), is_first=bool(head))
-        yield from (Piece(fill(SENTENCE, text=text), lines(text, width, font)) for text in others)
-        head = Markup('')
+def paragraphs(move: Move, width: int, font: int) -> Iterator[Paragraph]:
+    """The label of a move, and its sentences: the label stands before the first one, unless that has a number."""
+    label = f'Move {move.number}{", the hardest" if move.is_hardest else ""}'
+    texts = list(move.sentences)
+    if move.is_numbered:
+        yield Paragraph(fill(LABEL, label=label), 1)
+    else:
+        first = texts.pop(0)
+        yield Paragraph(fill(LABELLED, label=label, text=first), lines(f'{label}. {first}', width, font))
+    yield from (Paragraph(fill(SENTENCE, text=text), lines(text, width, font)) for text in texts)

@@ -12,8 +12,8 @@ from playing import files
 from playing.command import SIGNALLED, complain, end_by_signals, me, refuse, told_of_itself, with_program
 from sheet import choice, examples, lists, pdf, seeds, steps
 from sheet.choice import Choice, WrongLines
-from sheet.layout import TooMany
-from sheet.pages import Sheet
+from sheet.layout import NoRoom
+from sheet.pages import Sheet, papers, title_of
 from sheet.pdf import NoPdf
 from sheet.puzzles import Programs, Unfit
 from sheet.words import USAGE, Asked, Wrong, read
@@ -31,8 +31,8 @@ def main(words: List[str], here: str) -> int:
         return refuse(str(wrong), f"'{me()} --help' lists all options.\n")
     try:
         return with_program(here, partial(make, asked=asked))
-    except TooMany as many:
-        return refuse(str(many))
+    except NoRoom as full:
+        return refuse(str(full))
     except NoPdf as lacks:
         complain(f'{me()}: {lacks}')
     except OSError as error:
@@ -43,8 +43,10 @@ def main(words: List[str], here: str) -> int:
 
 
 def make(path: str, asked: Asked) -> int:
-    """Raises `Gone`, `TooMany` or `NoPdf`, or `OSError` where the page can't be written. What has been begun is taken away where a signal ends it."""
+    """Raises `Gone`, `NoRoom` or `NoPdf`, or `OSError` where the page can't be written. What has been begun is taken away where a signal ends it."""
     end_by_signals()
+    # What is wrong with the words alone is told before puzzles are made.
+    papers(asked.form, title_of(asked.form))
     browser = pdf.found(asked.browser) if asked.pdf else ''
     try:
         with Programs(path) as programs, Progress() as progress:
@@ -56,12 +58,13 @@ def make(path: str, asked: Asked) -> int:
         return unfit(wrong.told)
     except Unfit as reason:
         return unfit([str(reason)])
-    page = Sheet(chosen.puzzles, asked, explained, example).html().encode()
+    sheet = Sheet(chosen.puzzles, asked, explained, example)
+    page = sheet.html().encode()
     if asked.pdf:
         write(asked.pdf, pdf.printed(browser, page, os.path.dirname(asked.pdf)))
     if asked.output or not asked.pdf:
         write(asked.output, page)
-    for text in chosen.told:
+    for text in [*chosen.told, *sheet.cut()]:
         complain(text)
     return 0
 
@@ -80,8 +83,10 @@ def chosen_by(programs: Programs, asked: Asked, progress: Progress) -> Choice:
         return choice.of_list(programs, lists.lines_of(asked.ids), asked.game, asked.how_many, progress)
     assert asked.game and asked.how_many and asked.seed is not None, 'without a list these are asked for'
     progress.count = asked.how_many
-    wanted = seeds.shared(seeds.kinds(asked.game, asked.sizes, asked.letters), asked.how_many)
-    return choice.of_seeds(seeds.Seeds(programs, asked.seed), wanted, progress)
+    every = seeds.kinds(asked.game, asked.sizes, asked.letters)
+    wanted = seeds.shared(every, asked.how_many)
+    found = choice.of_seeds(seeds.Seeds(programs, asked.seed), wanted, progress)
+    return found._replace(told=[*seeds.uneven(every, wanted), *found.told])
 
 
 class Progress:

@@ -3,7 +3,7 @@
 from __future__ import annotations
 
 import itertools
-from typing import Dict, List, NamedTuple
+from typing import Dict, List, NamedTuple, Tuple
 
 
 class Paper(NamedTuple):
@@ -20,7 +20,7 @@ SIDE, TOP = 1200, 1000
 SPARE = 100
 
 #: Between two columns, between two rows at least and at most, and between the head and what is below.
-COLUMN_GAP, ROW_GAP, MOST_ROW_GAP, HEAD_GAP = 400, 200, 1000, 300
+COLUMN_GAP, ROW_GAP, MOST_ROW_GAP, HEAD_GAP = 400, 200, 2000, 300
 
 #: How wide a letter of a text is on the whole, and one of an ID, in per cent of its font, rounded up over the fonts that a page may get.
 LETTER, ID_LETTER = 56, 61
@@ -29,8 +29,9 @@ LETTER, ID_LETTER = 56, 61
 LEAST_SIDE = {3: 600, 4: 600, 5: 600, 6: 600, 7: 800, 8: 850, 9: 850}
 LEAST_ASKED = 700
 
-#: The squares of answers: so large that a digit has 9 points, where no more paper is needed for that; otherwise smaller, and never smaller than that.
-ANSWER_SIDE, SMALL_ANSWER_SIDE, LEAST_ANSWER_SIDE, LARGE_ANSWER_SIDE = 550, 440, 420, 1100
+#: The squares of answers: no paper is saved by smaller ones, nor taken for larger ones, and what looks childish is larger still.
+LEAST_ANSWER_SIDE, MOST_ANSWER_SIDE = 440, 1200
+LEAST_LARGE_ANSWER_SIDE, MOST_LARGE_ANSWER_SIDE = 1000, 1600
 
 
 class Print(NamedTuple):
@@ -38,7 +39,9 @@ class Print(NamedTuple):
 
     head: int
     foot: int
+    #: Its font, and how many lines it has at most.
     title: int
+    title_lines: int
     rules: int
     #: Of the line for a name, and what it takes of the width.
     name: int
@@ -46,10 +49,14 @@ class Print(NamedTuple):
     footer: int
     #: The command in the foot.
     command: int
-    #: Of answers: the number above, with what it takes, and the gap between two columns.
+    #: Of answers: the number above at least and at most, what is free around it and below, and the gap between two columns.
     answer_number: int
-    answer_head: int
+    most_answer_number: int
+    answer_free: int
     answer_gap: int
+    #: Of an example's text, and the most and the least side of its squares: no paper is saved by smaller ones.
+    lesson: int
+    lesson_sides: Tuple[int, int]
     #: Of steps: their font, and how many columns they have.
     steps: int
     steps_columns: int
@@ -61,14 +68,18 @@ USUAL = Print(
     head=920,
     foot=450,
     title=529,
+    title_lines=6,
     rules=300,
     name=318,
     name_width=6400,
     footer=247,
     command=198,
     answer_number=300,
-    answer_head=850,
+    most_answer_number=423,
+    answer_free=490,
     answer_gap=400,
+    lesson=423,
+    lesson_sides=(1400, 650),
     steps=282,
     steps_columns=2,
     strength=100,
@@ -77,14 +88,18 @@ LARGE = Print(
     head=1650,
     foot=650,
     title=917,
+    title_lines=5,
     rules=564,
     name=564,
     name_width=7200,
     footer=423,
     command=282,
     answer_number=635,
-    answer_head=1600,
+    most_answer_number=635,
+    answer_free=838,
     answer_gap=900,
+    lesson=564,
+    lesson_sides=(1600, 800),
     steps=564,
     steps_columns=1,
     strength=120,
@@ -123,10 +138,10 @@ def grids(puzzles: int) -> List[Density]:
     return found
 
 
-ONE = Density(columns=1, rows=1, most_side=1800, number=423, note=247, id=229, number_line=590, note_line=310, id_line=255)
-TWO = ONE._replace(rows=2, most_side=1600)
-FOUR = TWO._replace(columns=2, most_side=1400)
-SIX = FOUR._replace(rows=3, most_side=1300, number=388, id=212, number_line=550, id_line=235)
+ONE = Density(columns=1, rows=1, most_side=2600, number=423, note=247, id=229, number_line=590, note_line=310, id_line=255)
+TWO = ONE._replace(rows=2, most_side=2000)
+FOUR = TWO._replace(columns=2, most_side=1700)
+SIX = FOUR._replace(rows=3, most_side=1400, number=388, id=212, number_line=550, id_line=235)
 TWELVE = SIX._replace(columns=3, rows=4, most_side=1200, number=353, id=194, number_line=510, id_line=215)
 
 #: How puzzles are printed on a page that has no more of them than this, the densest first; and the most columns and rows.
@@ -136,7 +151,7 @@ MOST_COLUMNS, MOST_ROWS = TWELVE.columns, TWELVE.rows
 #: How many come onto a page where it isn't asked.
 PER_PAGE = 6
 
-LARGE_DENSITIES = [Density(columns=1, rows=1, most_side=2600, number=847, note=494, id=423, number_line=1110, note_line=620, id_line=520)]
+LARGE_DENSITIES = [Density(columns=1, rows=1, most_side=3200, number=847, note=494, id=423, number_line=1110, note_line=620, id_line=520)]
 
 #: Below this font an ID is bold: a copier eats the strokes of small letters.
 BOLD_BELOW = 229

@@ -4,7 +4,7 @@ from __future__ import annotations
 
 import hashlib
 from string import Template
-from typing import Iterator, List, NamedTuple, Sequence
+from typing import Dict, Iterator, List, NamedTuple, Sequence
 
 from playing.board import GAMES
 from sheet import answers, drawing, examples, layout, listing
@@ -16,7 +16,7 @@ from sheet.measures import BOLD_BELOW, CAPTION_TOP, Density, length
 from sheet.puzzles import Puzzle
 from sheet.steps import Move
 from sheet.style import style
-from sheet.words import Asked
+from sheet.words import Asked, Form
 
 #: Nothing is fetched from anywhere, and nothing is run.
 WHOLE = Template("""\
@@ -48,8 +48,9 @@ NOTE = Template('<p class="note" dir="auto" style="font-size:$font;max-height:$h
 BREAK = Markup('<wbr>')
 BOLD = Markup(' class="small"')
 
-#: The longest word that stands before a title.
-LONGEST_KIND = 'Answers: '
+#: What stands before the title, by what a sheet of paper has; nothing above the puzzles.
+EXAMPLE, PUZZLES_THEMSELVES, ANSWERS, STEPS = 'Example: ', '', 'Answers: ', 'Steps: '
+KINDS = [EXAMPLE, PUZZLES_THEMSELVES, ANSWERS, STEPS]
 
 
 class Section(NamedTuple):
@@ -60,18 +61,28 @@ class Section(NamedTuple):
     has_name: bool = False
 
 
+def papers(form: Form, title: str) -> Dict[str, Paper]:
+    """What each kind is printed on. Raises `NoRoom` where the title is too long."""
+    return {kind: Paper(form.paper, form.is_large, kind + title, form.has_ids) for kind in KINDS}
+
+
+def title_of(form: Form) -> str:
+    """The one that is asked for, or nothing."""
+    return plain(form.title or '')
+
+
 class Sheet:
     """Some puzzles, and how they are printed."""
 
     def __init__(self, puzzles: Sequence[Puzzle], asked: Asked, explained: Sequence[List[Move]] = (), example: Sequence[Example] = ()) -> None:
-        """With the moves of each puzzle, and solved puzzles to begin with, where such are asked for. Raises `TooMany`."""
+        """With the moves of each puzzle, and solved puzzles to begin with, where such are asked for. Raises `NoRoom`."""
         self._form = asked.form
         self._puzzles = [Numbered(number, puzzle) for number, puzzle in enumerate(puzzles, 1)]
         self._explained = [Explained(numbered, moves) for numbered, moves in zip(self._puzzles, explained)]
         self._example = example
-        title = plain(asked.form.title or '') or ' and '.join(GAMES[game] for game in layout.games_of(self._puzzles))
-        self._paper = Paper(asked.form.paper, asked.form.is_large, LONGEST_KIND + title, asked.form.has_ids)
-        self._title = title
+        self._title = title_of(asked.form) or ' and '.join(GAMES[game] for game in layout.games_of(self._puzzles))
+        self._papers = papers(asked.form, self._title)
+        self._paper = self._papers[PUZZLES_THEMSELVES]
         #: By this the answer of a puzzle that was cut out is found; by the number the same puzzles can be made again.
         self._code = hashlib.sha256('\n'.join(puzzle.id for puzzle in puzzles).encode()).hexdigest()[:4].upper()
         self._sheet = f'Sheet {self._code}' + ('' if asked.seed is None else f', number {asked.seed}')
@@ -84,10 +95,18 @@ class Sheet:
         return shortened(plain(asked.titled if len(asked.titled) <= room else asked.again), room)
 
     def _planned(self) -> List[Page]:
-        """Raises `TooMany`."""
+        """Raises `NoRoom`."""
         if self._form.per_page is None or self._form.is_large:
-            return list(layout.pages(self._paper, self._puzzles))
+            return layout.pages(self._paper, self._puzzles)
         return layout.asked_pages(self._paper, self._puzzles, self._form.per_page)
+
+    def cut(self) -> Iterator[str]:
+        """What there is to say of captions that are too long."""
+        for page in self._pages:
+            for figure in page.figures:
+                number, puzzle = figure.numbered
+                if puzzle.caption and self._note_text(page, figure) != puzzle.caption:
+                    yield f'puzzle {number}: the end of its caption is cut off, since {layout.MOST_NOTES} lines have room'
 
     def html(self) -> str:
         sections = list(self._sections())
@@ -95,18 +114,18 @@ class Sheet:
         return fill(WHOLE, title=self._title, style=Markup(style(self._paper)), sections=joined(every))
 
     def _sections(self) -> Iterator[Section]:
-        yield from (Section('Example: ', examples.body(self._paper, told)) for told in self._example)
-        for page in self._pages:
-            yield Section('', self._body(page), has_name=True)
+        has_grades = self._form.grades != 'none'
+        for told in self._example:
+            yield from (Section(EXAMPLE, body) for body in examples.sections(self._papers[EXAMPLE], told))
+        yield from (Section(PUZZLES_THEMSELVES, self._body(page), has_name=True) for page in self._pages)
         if self._form.answers != 'none':
-            yield from (Section('Answers: ', body) for body in answers.sections(self._paper, self._puzzles, self._form.is_large))
+            yield from (Section(ANSWERS, body) for body in answers.sections(self._papers[ANSWERS], self._puzzles, has_grades))
         if self._explained:
-            yield from (Section('Steps: ', body) for body in listing.sections(self._paper, self._explained))
+            yield from (Section(STEPS, body) for body in listing.sections(self._papers[STEPS], self._explained, has_grades))
 
     def _section(self, section: Section, number: str) -> Markup:
         right = NAME if section.has_name else f'Sheet {self._code}'
-        title = shortened(self._title, self._paper.title_letters * self._paper.title_lines - len(section.kind))
-        parts = {'kind': section.kind, 'title': title, 'right': right, 'body': section.body}
+        parts = {'kind': section.kind, 'title': self._title, 'right': right, 'body': section.body}
         return fill(SECTION, sheet=self._sheet, again=self._again, number=number, **parts)
 
     def _body(self, page: Page) -> Markup:
@@ -116,7 +135,8 @@ class Sheet:
 
     def _figure(self, page: Page, figure: Figure) -> Markup:
         density, (number, puzzle) = page.density, figure.numbered
-        name = drawing.title(f'Puzzle {number}', puzzle.board, puzzle.grade)
+        grade = puzzle.grade if self._form.grades == 'all' else ''
+        name = drawing.title(f'Puzzle {number}', puzzle.board, grade)
         svg = drawing.picture(puzzle.board, drawing.pen(puzzle.game, figure.side, self._paper.print.strength), name)
         line = density.number_line - CAPTION_TOP
         lengths = {'height': page.height, 'width': figure.caption_width, 'caption': page.caption_height, 'line': line}
@@ -125,7 +145,7 @@ class Sheet:
             FIGURE,
             picture=Markup(drawing.text_of(svg)),
             number=number,
-            grade=puzzle.grade,
+            grade=grade,
             game=GAMES[puzzle.game],
             size=puzzle.size,
             code=self._code,
@@ -140,9 +160,13 @@ class Sheet:
         pieces = joined(map(safe, layout.id_pieces(puzzle.id)), BREAK)
         return fill(ID, bold=bold, font=length(density.id), line=length(density.id_line), id=pieces)
 
+    @staticmethod
+    def _note_text(page: Page, figure: Figure) -> str:
+        return layout.note(figure.numbered.puzzle, figure.caption_width, page.density.note, page.notes)
+
     def _note(self, page: Page, figure: Figure) -> Markup:
         """The puzzle's own caption, where it has one."""
-        text = layout.note(figure.numbered.puzzle, figure.caption_width, page.density.note, page.notes)
+        text = self._note_text(page, figure)
         if not text:
             return Markup('')
         return fill(NOTE, font=length(page.density.note), height=length(page.density.note_line * page.notes), lines=page.notes, text=text)

@@ -12,6 +12,9 @@ from typing import List, Optional
 BROWSERS = ['chromium', 'chromium-browser', 'google-chrome', 'google-chrome-stable', 'chrome', 'microsoft-edge', 'brave-browser']
 SECONDS = 120
 
+#: What a browser calls itself that prints nothing so, and how many seconds it has to say it.
+OTHERS, SOON = ('Mozilla', 'Firefox'), 10
+
 BEGINS = b'%PDF-'
 OTHERWISE = 'write the page with --output, and print it in a browser'
 
@@ -25,10 +28,23 @@ def found(browser: Optional[str]) -> str:
     for name in [browser] if browser else BROWSERS:
         path = shutil.which(name)
         if path:
+            if browser:
+                refuse_others(path, browser)
             return path
     if browser:
         raise NoPdf(f"there is no program '{browser}'")
     raise NoPdf(f'no Chromium was found ({", ".join(BROWSERS[:3])} ..): --browser names one; or {OTHERWISE}')
+
+
+def refuse_others(path: str, name: str) -> None:
+    """Raises `NoPdf` where a browser says that it is none of those that print so: it would start, and wait for nothing."""
+    try:
+        ended = subprocess.run([path, '--version'], stdin=subprocess.DEVNULL, stdout=subprocess.PIPE, stderr=subprocess.DEVNULL, timeout=SOON, check=False)
+    except (OSError, subprocess.TimeoutExpired):
+        return
+    called = ended.stdout.decode('utf-8', 'replace').strip()
+    if any(other in called for other in OTHERS):
+        raise NoPdf(f'{name} ({called}) makes no PDF by a command, as a Chromium does: {OTHERWISE}')
 
 
 def printed(browser: str, page: bytes, folder: str) -> bytes:

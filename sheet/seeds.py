@@ -38,6 +38,15 @@ def shared(every: Sequence[Kind], count: int) -> List[Kind]:
     return [every[at * len(every) // count] for at in range(count)]
 
 
+def uneven(every: Sequence[Kind], wanted: Sequence[Kind]) -> List[str]:
+    """What there is to say where there aren't as many puzzles of one kind as of another."""
+    counts = [(wanted.count(kind), kind) for kind in every]
+    if len({count for count, _ in counts}) == 1:
+        return []
+    shares = ', '.join(f'{count} of size {kind.size} {GRADES[kind.game][kind.letter]}' for count, kind in counts)
+    return [f'{len(wanted)} puzzles of {len(every)} kinds: {shares}']
+
+
 class Seeds:
     """The puzzles of some seeds, from the first one on. Each kind has each seed once: they are not the same games."""
 

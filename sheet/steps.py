@@ -2,9 +2,11 @@
 
 from __future__ import annotations
 
-from typing import List, NamedTuple
+import re
+from typing import Iterator, List, NamedTuple, Optional, Sequence
 
 from playing.games import GRADES
+from playing.naming import Place
 from playing.steps import sentences
 from sheet.puzzles import Programs, Puzzle
 
@@ -12,6 +14,15 @@ from sheet.puzzles import Programs, Puzzle
 FIRST = 3
 
 NO_MORE = 'After that no number follows by steps.'
+
+#: What begins a step of several.
+NUMBER = re.compile(r'[0-9]+\. ')
+
+#: Terms of the sentences, and what there is to say of them.
+TERMS = {
+    'with the numbers in': 'With the numbers in a row or column: with those that stand there, and any others elsewhere.',
+    'by what is left in': 'By what is left in a row or column: by the numbers that are not ruled out there yet.',
+}
 
 
 class Move(NamedTuple):
@@ -21,7 +32,15 @@ class Move(NamedTuple):
     #: The place of its grade among the game's, and how many steps it takes.
     grade: int
     steps: int
+    #: The square, and the number that it puts there; nothing at the end.
+    square: Optional[Place] = None
+    put: Optional[int] = None
     is_hardest: bool = False
+
+    @property
+    def is_numbered(self) -> bool:
+        """Whether its steps are counted."""
+        return bool(NUMBER.match(self.sentences[0]))
 
 
 def told(programs: Programs, puzzle: Puzzle) -> List[Move]:
@@ -36,9 +55,22 @@ def told(programs: Programs, puzzle: Puzzle) -> List[Move]:
         if hint is None or square is None:
             break
         grade = letters.index(hint.grade) if hint.grade in letters else -1
-        moves.append(Move(len(moves) + 1, sentences(hint.text), grade, len(hint.told)))
+        moves.append(Move(len(moves) + 1, told_in(hint.text), grade, len(hint.told), square, hint.number))
         programs.ask(puzzle.game, f'move R{square[0]},{square[1]},{hint.number}')
     return _chosen(moves, programs.board(puzzle.game).is_solved)
+
+
+def told_in(text: List[str]) -> List[str]:
+    """Those of a hint; a step that is the only one has no number."""
+    found = sentences(text)
+    numbered = [sentence for sentence in found if NUMBER.match(sentence)]
+    return [NUMBER.sub('', sentence, count=1) for sentence in found] if len(numbered) == 1 else found
+
+
+def explained_words(moves: Sequence[Move]) -> Iterator[str]:
+    """What there is to say of the terms that some moves have."""
+    every = [sentence for move in moves for sentence in move.sentences]
+    yield from (said for term, said in TERMS.items() if any(term in sentence for sentence in every))
 
 
 def _chosen(moves: List[Move], is_solved: bool) -> List[Move]:

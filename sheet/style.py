@@ -20,7 +20,7 @@ body{font:$rules/1.25 $fonts}
 section{width:$width;height:$height;position:relative;overflow:hidden;break-after:page;break-inside:avoid}
 section:last-child{break-after:auto}
 header{display:flex;justify-content:space-between;align-items:flex-end;border-bottom:.3mm solid #000;padding-bottom:1mm;margin-bottom:1.5mm}
-h1{font-size:$title;line-height:1.2;max-height:$title_height;overflow:hidden;overflow-wrap:anywhere}
+h1{font-size:$title;line-height:1.2;overflow-wrap:anywhere}
 .name{font-size:$name;white-space:nowrap;margin-left:6mm}
 .name u{display:inline-block;width:45mm;border-bottom:.2mm solid #000}
 .rules{margin-bottom:.6mm}
@@ -41,14 +41,12 @@ figcaption{flex:none;padding-top:$above;overflow:hidden}
 code{display:block;font-family:$id_fonts;font-variant-ligatures:none;overflow-wrap:anywhere}
 .small{font-weight:700}
 .answers{display:flex;column-gap:$answer_gap}
-.answers .line{font-size:$answer_number}
 .answers svg{margin:.6mm 0 0}
-.steps{position:absolute;overflow:hidden;font-size:$steps;line-height:1.25}
+.listing{display:flex;justify-content:space-between}
+.steps{overflow:hidden;font-size:$steps;line-height:1.25}
 .steps .first:not(:first-child){margin-top:$steps_gap}
-.example{display:flex;justify-content:space-evenly;margin:5mm 0}
-.example figcaption{padding:0 0 1mm;font-size:$steps;text-align:center}
-.moves{font-size:$name;line-height:1.4}
-.moves p{margin-bottom:1mm}
+.lessons{margin-top:$below}
+.example{display:flex;justify-content:space-between;font-size:$lesson;line-height:1.35}
 footer{position:absolute;left:0;right:0;bottom:0;display:flex;justify-content:space-between;align-items:baseline;font-size:$footer;white-space:nowrap}
 footer code{font-size:$command}
 @media screen{html{background:#ddd}section{box-sizing:content-box;background:#fff;border:10mm solid #fff;margin:6mm auto}}
@@ -70,11 +68,10 @@ def style(paper: Paper) -> str:
         fonts=FONTS,
         id_fonts=ID_FONTS,
         title=length(fonts.title),
-        title_height=length(fonts.title * 6 // 5 * paper.title_lines),
         name=length(fonts.name),
         rules=length(fonts.rules),
         answer_gap=length(fonts.answer_gap),
-        answer_number=length(fonts.answer_number),
+        lesson=length(fonts.lesson),
         steps=length(fonts.steps),
         steps_gap=length(GAP),
         footer=length(fonts.footer),

@@ -33,9 +33,12 @@ Which puzzles:
 FORM, how they are printed:
   --per-page N     how many on a page, up to 12; by default up to 6
   --answers WHERE  end, none or only; by default end
+  --show-grades WHERE
+                   answers, with the answers alone; all, also below the puzzles;
+                   or none; by default answers
   --steps          print the first steps to each answer, and the hardest
-  --example        begin with a small puzzle, its answer and three steps
-  --title TEXT     print a title above the puzzles
+  --example        begin with the cards of the course, board by board
+  --title TEXT     print a title above the puzzles, on as many lines as it takes
   --ids-below      print below each puzzle its ID
   --words          print in the foot the command that makes the sheet again
   --paper PAPER    a4 or letter; by default a4
@@ -58,6 +61,9 @@ MOST_PER_PAGE = 12
 #: Where answers are.
 ANSWERS = ('end', 'none', 'only')
 
+#: And grades: the first is what pupils aren't shown.
+GRADES_STAND = ('answers', 'all', 'none')
+
 #: A number without anything around it.
 NUMBER = re.compile('0|[1-9][0-9]*')
 
@@ -72,6 +78,7 @@ class Form(NamedTuple):
     #: Nothing where it is as many as come onto a page with large squares.
     per_page: Optional[int]
     answers: str
+    grades: str
     has_steps: bool
     has_example: bool
     title: Optional[str]
@@ -132,7 +139,16 @@ def read(words: Sequence[str]) -> Asked:
         found.count = found.count or COUNT
         letters = _letters(found.games[0], found.grade)
     form = Form(
-        found.per_page, found.answers, found.steps, found.example, found.title, found.ids_below, found.words, found.paper, found.large
+        found.per_page,
+        found.answers,
+        found.show_grades,
+        found.steps,
+        found.example,
+        found.title,
+        found.ids_below,
+        found.words,
+        found.paper,
+        found.large,
     )
     again = _again(found)
     titled = f'{again} --title {shlex.quote(found.title)}' if found.title else again
@@ -150,6 +166,7 @@ def _parser() -> Parser:
     parser.add_argument('--ids')
     parser.add_argument('--per-page', type=_number(1, MOST_PER_PAGE))
     parser.add_argument('--answers', choices=ANSWERS, default=ANSWERS[0])
+    parser.add_argument('--show-grades', choices=GRADES_STAND, default=GRADES_STAND[0])
     parser.add_argument('--steps', action='store_true')
     parser.add_argument('--example', action='store_true')
     parser.add_argument('--ids-below', action='store_true')
@@ -202,6 +219,7 @@ def _again(found: argparse.Namespace) -> str:
         given += [f'--{name}', ','.join(map(str, value)) if isinstance(value, list) else str(value)] if value is not None else []
     given += ['--per-page', str(found.per_page)] if found.per_page else []
     given += ['--answers', found.answers] if found.answers != ANSWERS[0] else []
+    given += ['--show-grades', found.show_grades] if found.show_grades != GRADES_STAND[0] else []
     given += ['--paper', found.paper] if found.paper != PAPER else []
     given += [f'--{name}' for name in ('steps', 'example', 'ids-below', 'words', 'large') if getattr(found, name.replace('-', '_'))]
     return ' '.join(['puzzles-sheet', *map(shlex.quote, given)])

@@ -9,7 +9,7 @@ import pytest
 #: What the cases of a folder share, the fixtures there too; and more that says of an assertion what pytest says.
 SHARED = ['scripts.place', 'scripts.small', 'installing.site', 'lines.runs', 'objects.agreement', 'saving.game', 'exchange.sides']
 pytest_plugins = [f'tests.{name}' for name in SHARED]
-for name in ('board', 'faults', 'harness', 'objects', 'page', 'sheet'):
+for name in ('board', 'check', 'faults', 'harness', 'objects', 'page', 'sheet'):
     pytest.register_assert_rewrite(f'tests.{name}')
 
 from building.ready import NotReady, ready
@@ -35,6 +35,7 @@ class Programs(NamedTuple):
 def pytest_addoption(parser: pytest.Parser) -> None:
     for name, what in (('puzzles', 'the program'), ('puzzles-json', 'the one that writes objects'), ('calls', 'that of crates/trial_runs')):
         parser.addoption(f'--{name}', metavar='PATH', help=f'{what}, if not the one that is ready')
+    parser.addoption('--kills', type=int, metavar='N', help='how often the board, or a browser in each case of the page, is killed while a game is played')
 
 
 def pytest_collection_modifyitems(items: List[pytest.Item]) -> None:

@@ -140,7 +140,7 @@ def test_no_place_for_choices(front: BoardFront, room: Room) -> None:
     with front.window(['towers', '4', 'hard']) as window:
         window.look('', ['Towers 4x4', 'hard'])
         window.look('M', ['From now on, marks go when'])
-        window.look('M', ['From now on marks stay'])
+        window.look('M', ['From now on, marks stay'])
         window.look('n', ['[4]', '[hard]'])
         window.leave('qq')
     assert os.listdir(os.path.join(room.path, 'state', 'puzzles', 'choices')) == [], 'what was there'

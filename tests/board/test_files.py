@@ -90,8 +90,8 @@ def test_menu(front: BoardFront) -> None:
         window.look('<down><right><right><enter>', ['A new game', 'Type the number: digits.'])
         window.look('99999999999999999999', ['[typed: 9999999999999999999]', 'A number goes from 0 to 18446744073709551615'])
         window.look('<up><right><right><right><right><enter>', ['ID, or a number as the seed:'])
-        window.look('7#7<enter>', ['A new game', "usual program's: copy its game ID"])
-        window.look('<up><right>', ['[5]'], ['copy its game ID'])
+        window.look('7#7<enter>', ['A new game', "There, copy the game ID, which has ':'."])
+        window.look('<up><right>', ['[5]'], ['copy the game ID'])
         window.look('q', ['Towers 4x4', '0 of 14'])
         window.leave('q')
 
@@ -143,13 +143,13 @@ def test_listed(front: BoardFront, room: Room) -> None:
         window.leave('q')
     with front.window(['towers', ID]) as window:
         window.look('1', ['1 of 9'])
-        shows = ['0 Unequal 3x3, ID 3:', ', 1 of 7, not put away, ', '1 a file ..', 'mine.sav: Towers 3x3, ID 3:3//////3/////, 3 of 9']
+        shows = ['0 Unequal 3x3, ID 3:', ', 1 of 7, in play, ', '1 a file ..', 'mine.sav: Towers 3x3, ID 3:3//////3/////, 3 of 9']
         shows += ['other.sav: Keen, not played here', "bad.sav: save, can't be read"]
         window.look('o', shows, ['notes.txt'])
         window.look('7m9', shows)
         window.look('q', ['Towers 3x3', '1 of 9', 'move 1/1'])
         window.look('o0', ['Unequal 3x3', '1 of 7'])
-        window.look('o', ['0', 'Towers 3x3, ID 3:3//////3/////, 1 of 9, not put away', 'mine.sav'])
+        window.look('o', ['0', 'Towers 3x3, ID 3:3//////3/////, 1 of 9, in play', 'mine.sav'])
         window.look('<down><down><enter>', ['Towers 3x3', '3 of 9'], ['Go on'])
         window.look('<right>w', ['save as: mine.sav'])
         window.leave('<escape>q')

@@ -78,7 +78,7 @@ GAMES: List[BoardGame] = [
             Look('b', ['One move taken back', 'move 10/14']),
             Look('r', ['move 14/14']),
             Look('u<up><up>', ['move 10/14']),
-            Look('M', ['From now on marks stay']),
+            Look('M', ['From now on, marks stay']),
             Look('<right>3', ['│     1     │     2     │     3     │', 'move 11/11']),
             Look('u', ['move 10/11']),
         ],
@@ -110,7 +110,7 @@ GAMES: List[BoardGame] = [
         'solved, and changed then',
         ['towers', ID],
         [
-            Look('1<right>2<right>3<down>1<left>3<left>2<down>3<right>1<right>1', ['Full, but not right yet: ! shows what contradicts.', '1!']),
+            Look('1<right>2<right>3<down>1<left>3<left>2<down>3<right>1<right>1', ['Full, but not right yet: a ! shows where.', '1!']),
             Look('2', ['Solved!', 'solved']),
             Look('3', ['was solved', 'Full, but not right yet'], ['Solved!']),
             Look('u', ['Solved!']),
@@ -142,7 +142,7 @@ GAMES: List[BoardGame] = [
         [
             Look('p3', ['│         3 │', 'move 1/1']),
             # Where to look; rows and columns have their numbers then.
-            Look('h', ['Look at clue 3 above column 1. h again: the steps.', '┌─────1─────┬─────2─────┬─────3─────┐', '3  1           │', '3*']),
+            Look('h', ['Look at clue 3 above column 1. h again: the steps.', '┌────c1─────┬────c2─────┬────c3─────┐', '3 r1           │', '3*']),
             # What is left, in place of the player's marks, and what the step rules out.
             Look(
                 'h',
@@ -151,7 +151,7 @@ GAMES: List[BoardGame] = [
             ),
             Look('<down>', ['So r1c1 is 1: 2 and 3 are ruled out above.', '2 of 2  Enter puts it in', '│*1         │ 1   2   3 │']),
             Look('<up><right><right><right>', ['2 of 2']),
-            Look('h', ['│     1     │           │', 'move 2/2', '1 of 9'], ['┌─────1']),
+            Look('h', ['│     1     │           │', 'move 2/2', '1 of 9'], ['c1']),
             Look('u', ['│         3 │', 'move 1/2']),
         ],
     ),
@@ -179,7 +179,7 @@ GAMES: List[BoardGame] = [
         [
             Look('1', ['left  1:2  2:3  3:3']),
             Look('P', ['│           │     2   3 │     2   3 │', '│     2   3 │ 1   2   3 │']),
-            Look('P', ['These marks are there already.']),
+            Look('P', ['The marks are the possible ones already.']),
             Look('u', ['│     1     │           │', 'move 1/']),
             Look('r', ['│           │     2   3 │     2   3 │']),
             Look('u<right>p1', ['│           │ 1         │']),
@@ -250,53 +250,30 @@ GAMES: List[BoardGame] = [
     ),
 ]
 
-#: A line of the program, and the sentence where it is refused.
-REFUSALS = [
-    ('move R3,0,1', 'Columns and rows count from 0 to 2.'),
-    ('move R1,0,4', 'Numbers go from 1 to 3, and 0 clears a square.'),
-    ('move R0,0,2', 'That number was given with the puzzle, and stays.'),
-    ('move R1,0', 'That is no move'),
-    ('move H', 'Moves with H or F (hints and spent signs) are not played here.'),
-    ('move D0,-1', 'A done mark is for a clue'),
-    ('move S111111111', 'Those numbers are no solution of this puzzle.'),
-    ('undo', 'This is the first state: there is nothing to undo.'),
-    ('redo', 'This is the last state: there is nothing to redo.'),
-    ('restart', 'The game is at its start already.'),
-    ('list 0', "'list 5' shows the first five solutions: a number from 1 to 100."),
-    ('sing', 'There is no such command; ? shows the keys.'),
-    ('x' * 1025, 'A line has 1,024 bytes at most.'),
-    ('new 2', 'An ID begins with the size, one digit from 3 to 9'),
-    ('new 5dk:', "After the size and 'd' comes one of the letters e, h, x or u."),
-    ('new 5x', "Only 'd' and a letter may stand between the size and ':' or '!'."),
-    ('new 5#7', "A seed after '#' is the usual program's: copy its game ID with ':' from there."),
-    ('new 5', "An ID has ':' and a description, or '!' and a seed, after the size"),
-    ('new 5!007', 'A seed is a number from 0 to 18446744073709551615, without leading zeros'),
-    ('new 7!1', 'Seeded games have the sizes 3 to 6.'),
-    ('new 5de!7', 'A seeded game has no difficulty letter'),
-    ('new 3:3', "A description has four clues for each of the size, with '/' between"),
-    ('new 3:4///////////', 'Each clue is nothing, or one digit from 1 to the size.'),
-    ('new 3:///////////,12g', "After ',' come letters for empty squares, and digits from 1 to the size."),
-]
-
-UNEQUAL_REFUSALS = [
-    ('move D0,-1', 'Done marks are for the clues of Towers: Unequal has none.'),
-    ('new 5a:', "The adjacent mode of Unequal, with 'a' after the size, is not played here."),
-    ('new 5du:', 'one of the letters t, e, k, x or r.'),
-    ('new 3:0,0', "A description has one part for each square, with ',' between."),
-    ('new 3:4,0,0,0,0,0,0,0,0,', 'Each square is one digit from 0 to the size, with its letters after it.'),
-    ('new 3:0X,0,0,0,0,0,0,0,0,', "After a square's digit come no other letters than U, R, D and L."),
-    ('new 3:0U,0,0,0,0,0,0,0,0,', 'A sign points out of the grid.'),
-    ('new 3:0R,0L,0,0,0,0,0,0,0,', 'Of two neighbours only one can be the greater'),
-]
-
 MORE = [
-    BoardGame('refusals', ['towers', GIVEN], [Look(f':{line}<enter>', [sentence]) for line, sentence in REFUSALS]),
-    BoardGame('refusals of Unequal', ['unequal', '3!7'], [Look(f':{line}<enter>', [sentence]) for line, sentence in UNEQUAL_REFUSALS]),
     BoardGame('no solution', ['towers', '3:3///3////////'], [Look('Sy', ['No solution exists for this puzzle'])]),
     BoardGame('several solutions', ['towers', '3:3///////////'], [Look('Sy', ['Multiple solutions exist for this puzzle'])]),
     BoardGame('two lines of a message', ['towers', NINE['towers']], [
         Look('hh<right>', ['So r4c1 is 7: 1, 2, 3, 4, 5 and 6 stand in its row or column', ' 2 of 2  Enter puts it in']),
     ]),
+    BoardGame(
+        'commands of the program that the board answers in words',
+        ['towers', ID],
+        [
+            Look(':board<enter>', ['row 1: empty, empty, empty; row 1 lacks 1, 2 and 3; the left clue is 3', 'any key goes back']),
+            Look('x:grade<enter>', ['The ID has no grade; our steps find easy.']),
+            Look(':completable<enter>', ['These numbers can still be completed, in one way.']),
+            Look(':hint<enter>', ['Look at clue 3 above column 1.']),
+            Look('o', ['No other game is kept, and there is no save in this folder.', '0 a file ..']),
+            Look('q?', ['all is each number', 'By what is left, in a hint', 'Hard by our steps', 'any key goes back']),
+            Look('xT', ['towers 1/1>']),
+            Look('m<enter>', ['towers 2/2>']),
+            Look('T<enter>', ['│ 1   2   3 │', 'move 1/1']),
+            Look('T', ['towers 2/2>']),
+            Look('T<enter>n<up><up><right>', ['[Unequal]', '[easy]']),
+            Look('q', ['move 1/1']),
+        ],
+    ),
     BoardGame('a filled square', ['towers', ID], [Look('1p2', ['The square has a number: 0 clears it for pencil marks.'])]),
 ]
 
@@ -316,13 +293,14 @@ def test_kept_choice(front: BoardFront, room: Room) -> None:
         window.look('1 1 1<enter>', ['r1c1 is 1; row 1 lacks 2 and 3; 4 other squares have other pencil marks'])
         window.look('2 1<enter>', ['r2c1 is empty, marked 2 and 3'])
         window.look('undo<enter>', ['towers 2/7>'])
-        window.look('tidy<enter>', ['From now on marks stay'])
+        window.look('tidy<enter>', ['From now on, marks stay'])
         window.look('redo<enter>', ['towers 7/7>'])
         window.leave('q<enter>')
     with front.window([]) as window:
-        # What went together is known while the board runs; of a game that goes on the number is undone first.
-        window.look('u', ['0 of 9', 'move 5/6', '│     2   3 │'])
-        window.leave('rq')
+        # What goes together is kept, too.
+        window.look('u', ['0 of 9', 'move 1/6', '│ 1   2   3 │ 1   2   3 │'])
+        window.look('r', ['1 of 9', 'move 6/6'])
+        window.leave('q')
     moves = [b'M', b'P1,0,1', b'P2,0,1', b'P0,1,1', b'P0,2,1', b'R0,0,1']
     assert re.findall(rb'^MOVE    :.:(.*)$', room.read('state/puzzles/towers.sav') or b'', re.MULTILINE) == moves
 

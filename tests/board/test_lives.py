@@ -1,4 +1,4 @@
-"""Terminals that are closed, resized and stopped, programs that are killed, disks that are full: and how the game goes on then."""
+"""Terminals that are closed, resized and stopped, programs that are killed: and how the game goes on then."""
 
 from __future__ import annotations
 
@@ -12,9 +12,7 @@ import pytest
 from board import manual
 from tests.board.front import BoardFront
 from tests.harness import Room, run
-from tests.harness.game import ID, left_files, save_text
-from tests.harness.mounts import fill, small_disk
-from tests.harness.room import Folder
+from tests.harness.game import ID, save_text
 from tests.harness.terminal import Terminal
 
 KEPT = 'state/puzzles/towers.sav'
@@ -172,28 +170,6 @@ def test_place_taken(front: BoardFront, room: Room) -> None:
         window.look('', ['3 of 9'])
 
 
-def test_full_disk(front: BoardFront, room: Room) -> None:
-    """The file has the game as it was before the disk was full, and the whole game as soon as there is room."""
-    os.mkdir(os.path.join(room.path, 'state'))
-    with small_disk(os.path.join(room.path, 'state'), 1 << 16), Folder('state', room) as disk:
-        with front.window(['towers', ID]) as window:
-            window.look('1', ['1 of 9'])
-            fill(disk)
-            window.look('<right>2', ['The game is not kept: No space left on device', '2 of 9'])
-            assert disk.read('puzzles/towers.sav') == save_text(1), 'what is kept'
-            window.look('q', ['Quit and lose it? y/N'])
-            disk.remove('filler')
-            window.look('x<right>3', ['3 of 9'], ['not kept'])
-            window.leave('q')
-        assert disk.read('puzzles/towers.sav') == save_text(3), 'what is kept then'
-        fill(disk)
-        with front.window(['towers', '5!7']) as window:
-            window.look('', ["The present game can't be put away (No space left on device). Lose it? y/N"])
-            window.leave('n', 3)
-        assert disk.read('puzzles/towers.sav') == save_text(3), 'what is kept at the end'
-        assert left_files(disk) == [], 'no new file is left'
-
-
 def test_mouse(front: BoardFront, room: Room) -> None:
     """A click goes to a square or a clue; on the clue of the cursor it sets the done mark; the right button takes pencil marks."""
     with front.window(['towers', ID]) as window:
@@ -255,17 +231,17 @@ def test_words(front: BoardFront, room: Room) -> None:
         (['-h'], 0, b'usage: '),
         (['towers', '-h'], 0, b'usage: '),
         (['--version'], 0, b''),
-        (['--nothing'], 2, b"there is no option '--nothing'\nusage: "),
-        (['chess'], 2, b"'chess' is no game, no size, no grade and no file\nusage: "),
-        (['/nowhere'], 2, b"there is no file '/nowhere'\nusage: "),
-        (['unequal', '6', 'chess'], 2, b"'chess' is no size and no grade\nusage: "),
+        (['--nothing'], 2, b"\n\npuzzles-play: there is no option '--nothing'\n"),
+        (['chess'], 2, b"'chess' is no game, no size, no grade and no file\n"),
+        (['/nowhere'], 2, b"there is no file '/nowhere'\n"),
+        (['unequal', '6', 'chess'], 2, b"'chess' is no size and no grade\n"),
         (['5!7'], 2, b"'5!7' fits both games"),
         (['5!7'], 2, b"towers '5!7'?"),
-        (['towers', ID, 'more'], 2, b"'more' is no size and no grade\nusage: "),
-        (['towers', '6', 'more'], 2, b"'more' is no size and no grade\nusage: "),
+        (['towers', ID, 'more'], 2, b"'more' is no size and no grade\n"),
+        (['towers', '6', 'more'], 2, b"'more' is no size and no grade\n"),
         (['--ids', '--lines'], 2, b'--ids plays no game'),
         (['--ids', ID], 2, b'usage: '),
-        (['--ids', 'towers', '6', 'easy', '0'], 2, b"'0' is no number of IDs\nusage: "),
+        (['--ids', 'towers', '6', 'easy', '0'], 2, b"'0' is no number of IDs\n"),
         (['--ids', 'towers', '6', 'tricky'], 2, b"Towers has no grade 'tricky': easy, hard, extreme or unreasonable."),
         (['--ids', 'towers', '10'], 2, b'A size is one digit from 3 to 9'),
         (['--ids', 'unequal', '9', 'recursive'], 2, b'Of size 9 there are puzzles of the grades trivial, easy, tricky and extreme.'),
@@ -279,5 +255,6 @@ def test_words(front: BoardFront, room: Room) -> None:
         found = run([front.path, *line], room, env=front.env())
         assert found.status == status, f'{line}: the status'
         assert text in found.output + found.error, found
+        assert not text.endswith(b'\n') or found.error.endswith(text), f'{line}: the reason is not the last line'
         assert max(map(len, found.output.splitlines()), default=0) < 80, f'{line}: a wide line'
     assert max(map(len, [*manual.LINES, *manual.KEYS])) < 80, 'a wide line of help'

@@ -63,6 +63,22 @@ for line in sys.stdin.buffer:
     sys.stdout.buffer.flush()
 """
 
+#: Stands there, too, and has no memory for the first two saves.
+WITHOUT_SAVES = """\
+#!/usr/bin/env python3
+import json, subprocess, sys
+program = subprocess.Popen(['{program}', *sys.argv[1:]], stdin=subprocess.PIPE, stdout=subprocess.PIPE, close_fds=False)
+asked = 0
+for line in sys.stdin.buffer:
+    asked += line == b'save\\n'
+    lacks = line == b'save\\n' and asked <= 2
+    program.stdin.write(line)
+    program.stdin.flush()
+    reply = program.stdout.readline()
+    sys.stdout.buffer.write(json.dumps(dict(json.loads(reply), refused='OutOfMemory', reply=[])).encode() + b'\\n' if lacks else reply)
+    sys.stdout.buffer.flush()
+"""
+
 
 def between(front: BoardFront, room: Room) -> Dict[str, str]:
     """The environment of a front over the program with something between."""
@@ -88,13 +104,13 @@ def test_long_work(front: BoardFront, room: Room) -> None:
         window.look('c', ['The program is at work. Any key stops it.'])
         before = window.screen.text()
         assert window.wait_until(lambda screen: screen.text() != before), 'nothing moves'
-        window.look('x', ['Stopped; nothing has changed.', '1 of 9'])
+        window.look('x', ['Stopped. Nothing has changed.', '1 of 9'])
         window.look('2', ['│     2     │', 'move 2/2'])
         window.leave('q')
     with front.window(['--lines', 'towers', ID], env=between(front, room)) as window:
         window.look('', ['towers 1/1>'])
         window.look('check<enter>', ['towers 1/1> check The program is at work: Ctrl-C stops it.'])
-        window.look('<ctrl-c>', ['Stopped; nothing has changed.', 'towers 1/1>'])
+        window.look('<ctrl-c>', ['Stopped. Nothing has changed.', 'towers 1/1>'])
         assert window.shown.partition('check')[2].count('is at work') == 1
         window.leave('q<enter>')
 
@@ -119,7 +135,7 @@ def test_no_answer(front: BoardFront, room: Room) -> None:
     with front.window(['towers', ID], env=between(front, room)) as window:
         window.look('1', ['1 of 9'])
         window.look('<down>3', ['The program is at work. Any key stops it.'])
-        window.look('x', ['Stopped; nothing has changed.', '1 of 9'])
+        window.look('x', ['Stopped. Nothing has changed.', '1 of 9'])
         window.look('2', ['2 of 9', 'move 2/2'])
         programs = window.programs()
         window.press('3')
@@ -177,10 +193,22 @@ def test_no_memory(front: BoardFront, room: Room) -> None:
     """What was done is shown, whether its reply was lost or not, and is kept."""
     with front.window(['towers', ID], env=between(front, room)) as window:
         window.look('1', ['1 of 9'])
-        window.look('<right>2', ['There is no memory left: the program did that or refused it, and could not say which.', '2 of 9'])
-        window.look('<right>3', ['There is no memory left for that; nothing has changed.', '2 of 9'])
+        window.look('<right>2', ['Out of memory. The command may or may not have been carried out: look at the board.', '2 of 9'])
+        window.look('<right>3', ['There is no memory left for that. Nothing has changed.', '2 of 9'])
         window.leave('q')
     assert room.read(KEPT) == save_text(2), 'what is kept'
+
+
+def test_no_save(front: BoardFront, room: Room) -> None:
+    """A game that has no save yet is not put away without a question, and each key tries to keep it."""
+    room.put('without', WITHOUT_SAVES.format(program=front.program).encode(), 0o755)
+    with front.window(['towers', ID], env={**front.env(), 'PUZZLES_JSON': os.path.join(room.path, 'without')}) as window:
+        window.look('', ['The game is not kept: There is no memory left for that. Nothing has changed.', '0 of 9'])
+        window.look('n<enter>', ["The present game can't be put away", 'Lose it? y/N'])
+        window.look('x', ['The present game stays.', 'Towers 3x3'])
+        window.look('<right>', ['0 of 9'], ['not kept'])
+        assert room.read(KEPT) == save_text(0), 'what is kept'
+        window.leave('q')
 
 
 def test_full_history(front: BoardFront, room: Room) -> None:

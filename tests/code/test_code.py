@@ -14,7 +14,7 @@ from tests.harness.room import Room
 SETTINGS = TOP / 'tests' / 'code'
 
 #: The folders with Python and shell.
-FOLDERS = ['.ci', 'bench', 'board', 'docs', 'page', 'playing', 'sheet', 'tests', 'tools']
+FOLDERS = ['.ci', 'bench', 'board', 'check', 'docs', 'page', 'playing', 'sheet', 'tests', 'tools']
 
 
 def scripts(*commands: str) -> List[str]:

@@ -11,6 +11,9 @@ from tests.harness import FaultLibrary, Room, by_name
 from tests.harness.game import ID
 from tests.objects.reading import OWN_LINES, read_answers
 
+#: A setter's lines.
+DESK = [b'solutions', b'spare', b'spare e', b'thin', b'item 0,0,1', b'blank 3', b'item 1,0,2', b'thin e', b'status']
+
 DEVICES = b'board\nmove R0,0,1\nundo\nsave\nhint\nundo\n'
 
 
@@ -28,8 +31,8 @@ class RefusingObjects(Refusing):
 
     def __init__(self, rounds: Rounds, game: Game) -> None:
         super().__init__(rounds, game)
-        self.commands = [*game.commands, b'fair 3 e 7', b'status']
-        self.owed = [*(line.decode() for line in OWN_LINES if line in self.commands), 'fair']
+        self.commands = [*game.commands, b'fair 3 e 7', b'status', *DESK]
+        self.owed = [*(line.decode() for line in OWN_LINES if line in self.commands), 'fair', 'blank', 'item', 'thin']
 
     def typed(self, commands: Sequence[bytes]) -> bytes:
         return b''.join(command + b'\n' for command in commands)

@@ -3,6 +3,7 @@
 from __future__ import annotations
 
 import base64
+import contextlib
 import fcntl
 import json
 import os
@@ -56,6 +57,8 @@ class Browser:
         self._came, self._number = b'', 0
         #: What the pages have complained of: errors of scripts, and what their policies have refused.
         self.complaints: List[str] = []
+        #: What the browser has asked for a page, as `beforeunload`. The answer is yes.
+        self.questions: List[str] = []
         told, self._to = pipe()
         self._from, answers = pipe()
 
@@ -82,11 +85,15 @@ class Browser:
         return self
 
     def __exit__(self, *_: object) -> None:
-        # All that it has started, too.
-        os.killpg(self._process.pid, signal.SIGKILL)
+        self.kill()
         self._process.wait()
         os.close(self._to)
         os.close(self._from)
+
+    def kill(self) -> None:
+        """It and all that it has started, at once."""
+        with contextlib.suppress(ProcessLookupError):
+            os.killpg(self._process.pid, signal.SIGKILL)
 
     def open(self) -> int:
         """One more window, which is asked from here on. Its number."""
@@ -195,22 +202,30 @@ class Browser:
         return self._ask(method, self._session, parameters)
 
     def _ask(self, method: str, session: Mapping[str, str], parameters: Mapping[str, Any]) -> Mapping[str, Any]:
-        self._number += 1
-        message = json.dumps({'id': self._number, 'method': method, 'params': parameters, **session}).encode() + END
-        while message:
-            message = message[os.write(self._to, message) :]
+        number = self._send(method, session, parameters)
         while True:
             answer = self._next()
             self._note(answer)
-            if answer.get('id') == self._number:
+            if answer.get('id') == number:
                 if answer.get('error', {}).get('message') in LEAVING:
                     raise PageLeft(f'{method}: {answer["error"]}')
                 assert 'error' not in answer, f'{method}: {answer["error"]}'
                 result: Mapping[str, Any] = answer['result']
                 return result
 
+    def _send(self, method: str, session: Mapping[str, str], parameters: Mapping[str, Any]) -> int:
+        """The number of the message. Nobody waits for its answer."""
+        self._number += 1
+        message = json.dumps({'id': self._number, 'method': method, 'params': parameters, **session}).encode() + END
+        while message:
+            message = message[os.write(self._to, message) :]
+        return self._number
+
     def _note(self, message: Mapping[str, Any]) -> None:
         told = message.get('params', {})
+        if message.get('method') == 'Page.javascriptDialogOpening':
+            self.questions.append(told['type'])
+            self._send('Page.handleJavaScriptDialog', {'sessionId': message['sessionId']}, {'accept': True})
         if message.get('method') == 'Runtime.exceptionThrown':
             details = told['exceptionDetails']
             self.complaints.append(str(details.get('exception', {}).get('description', details['text'])))

@@ -18,7 +18,7 @@ def compile_scripts() -> Callable[[], None]:
     folder = tempfile.mkdtemp(prefix='bytecode.')
     os.chmod(folder, 0o755)
     os.environ[PREFIX] = sys.pycache_prefix = folder
-    for package in ('board', 'page', 'playing', 'sheet'):
+    for package in ('board', 'check', 'page', 'playing', 'sheet'):
         compileall.compile_dir(TOP / package, quiet=2)
     return lambda: shutil.rmtree(folder, ignore_errors=True)
 

@@ -17,8 +17,8 @@ KEYS = {
 #: What each button of the mouse is called by its number.
 LEFT, RIGHT = 0, 2
 
-#: A long press lasts so many milliseconds.
-LONG = 700
+#: A long press lasts so many milliseconds: three times as long as it must, since a busy machine begins to count late.
+LONG = 1400
 
 
 class PageLeft(AssertionError):
@@ -62,6 +62,9 @@ class Driver:
 
     def close_tab(self) -> None:
         raise NotImplementedError
+
+    def rest(self) -> None:
+        """Between two cases no button is pressed."""
 
     def end(self) -> None:
         raise NotImplementedError

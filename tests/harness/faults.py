@@ -22,14 +22,15 @@ class FaultLibrary:
     """The library, built in a room. What the names and errors are, the source says."""
 
     def __init__(self, room: Room) -> None:
-        """Raises `Skip` where it can't be built."""
-        need('cc')
+        """Raises `Skip` where it can't be built. For another processor CC_OF_TESTS names a compiler."""
+        compiler = os.environ.get('CC_OF_TESTS', 'cc')
+        need(compiler)
         if not can_preload(room.path):
             raise Skip('nothing below TMPDIR can be preloaded', 'a TMPDIR without blanks and colons in its path')
         self._library = os.path.join(room.path, 'faults.so')
         self._count = os.path.join(room.path, 'count')
         built = subprocess.run(
-            ['cc', '-O1', '-shared', '-fPIC', '-o', self._library, str(SOURCE)],
+            [compiler, '-O1', '-shared', '-fPIC', '-o', self._library, str(SOURCE)],
             stdin=subprocess.DEVNULL,
             stderr=subprocess.PIPE,
             check=False,

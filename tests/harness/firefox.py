@@ -38,7 +38,7 @@ class Firefox(Driver):
     def __init__(self, room: Room, path: str, seconds: float = 60) -> None:
         super().__init__(seconds)
         profile = f'{room.path}/firefox'
-        os.mkdir(profile)
+        os.makedirs(profile, exist_ok=True)
         with open(f'{profile}/user.js', 'w', encoding='utf-8') as file:
             file.writelines(f'user_pref({json.dumps(name)}, {json.dumps(value)});\n' for name, value in PREFERENCES.items())
         self._process = subprocess.Popen(
@@ -55,7 +55,7 @@ class Firefox(Driver):
             self._socket.seconds = seconds
             self._tab: str = self._ask('browsingContext.getTree')['contexts'][0]['context']
         except BaseException:
-            self._kill()
+            self._end()
             raise
 
     def go(self, url: str) -> None:
@@ -93,11 +93,15 @@ class Firefox(Driver):
 
     def end(self) -> None:
         self._socket.close()
-        self._kill()
+        self._end()
 
-    def _kill(self) -> None:
+    def kill(self) -> None:
+        """It and all that it has started, at once."""
         with contextlib.suppress(ProcessLookupError):
             os.killpg(self._process.pid, signal.SIGKILL)
+
+    def _end(self) -> None:
+        self.kill()
         self._process.communicate()
 
     def _port(self) -> int:

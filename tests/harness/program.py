@@ -15,6 +15,9 @@ from tests.harness.users import User
 
 Word = Union[str, bytes]
 
+#: What may be ignored around the tests, as in a job in the background or after nohup: no program that they start is to begin so.
+USUAL = (signal.SIGINT, signal.SIGQUIT, signal.SIGHUP, signal.SIGTERM)
+
 
 class Ended(NamedTuple):
     """How a run ended, and what it wrote. A status below 0 is the signal that ended it."""
@@ -34,6 +37,16 @@ class Ended(NamedTuple):
         for text in says:
             assert text in self.said
         return self
+
+
+def are_usual() -> bool:
+    return not any(signal.getsignal(number) is signal.SIG_IGN for number in USUAL)
+
+
+def make_usual() -> None:
+    """Before a program is started: these signals end it, unless it does otherwise."""
+    for number in USUAL:
+        signal.signal(number, signal.SIG_DFL)
 
 
 def run(  # pylint: disable=too-many-arguments
@@ -61,6 +74,7 @@ def run(  # pylint: disable=too-many-arguments
     """
 
     def begin() -> None:
+        make_usual()
         for number in ignored:
             signal.signal(number, signal.SIG_IGN)
         for what, most in (limits or {}).items():
@@ -71,7 +85,7 @@ def run(  # pylint: disable=too-many-arguments
             user.become()
 
     # A process is started much sooner where nothing is to be done in it first.
-    is_plain = not (ignored or limits or closed or user)
+    is_plain = are_usual() and not (ignored or limits or closed or user)
     environment: Dict[str, str] = {'LC_ALL': 'C', 'PATH': os.environ.get('PATH', ''), **bytecode(), **(env or {})}
     with tempfile.TemporaryFile() as file:
         file.write(input)

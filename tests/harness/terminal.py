@@ -12,6 +12,7 @@ from typing import Callable, Dict, List, Mapping, NamedTuple, Optional, Pattern,
 
 import pexpect
 
+from tests.harness.program import make_usual
 from tests.harness.screen import Screen, Stream
 from tests.harness.users import User
 
@@ -63,6 +64,7 @@ class Terminal:
         seconds: float = 60,
     ) -> None:
         def begin() -> None:
+            make_usual()
             if user:
                 # As a login does: the terminal is the user's.
                 os.fchown(0, *user.owner)

@@ -13,7 +13,7 @@ import socket
 import subprocess
 from typing import Any, Dict, List, Mapping, Sequence
 
-from tests.harness.driver import Driver, until
+from tests.harness.driver import LEFT, RIGHT, Driver, until
 from tests.harness.room import Room, Skip
 
 #: Chromium asks nobody for anything, and takes what memory there is. It needs no screen.
@@ -46,9 +46,10 @@ class WebDriver(Driver):
         self._port = port
         self._process = subprocess.Popen(command, env=env, stdout=subprocess.DEVNULL, stderr=subprocess.DEVNULL, start_new_session=True)
         self._session = ''
+        self._capabilities = capabilities
         try:
             until(self._is_up, BEGINS)
-            self._session = self._ask('POST', '/session', {'capabilities': {'alwaysMatch': capabilities}})['sessionId']
+            self._begin()
         except BaseException:
             self.end()
             raise
@@ -89,10 +90,16 @@ class WebDriver(Driver):
         """The driver, and all that it has started."""
         if self._session:
             with contextlib.suppress(Exception):
-                self._ask('DELETE', f'/session/{self._session}')
+                self._leave()
         with contextlib.suppress(ProcessLookupError):
             os.killpg(self._process.pid, signal.SIGKILL)
         self._process.wait()
+
+    def _begin(self) -> None:
+        self._session = self._ask('POST', '/session', {'capabilities': {'alwaysMatch': self._capabilities}})['sessionId']
+
+    def _leave(self) -> None:
+        self._ask('DELETE', f'/session/{self._session}')
 
     def _is_up(self) -> bool:
         assert self._process.poll() is None, 'the driver has ended'
@@ -133,6 +140,9 @@ class WebKit(WebDriver):
     # The driver takes actions of a mouse and of keys alone.
     has_touch = False
 
+    # For it the right button stays pressed for ever, and then a page hears of no other press.
+    _is_stuck = False
+
     def __init__(self, room: Room, browser: str) -> None:
         reading, writing = os.pipe()
         self._screen = subprocess.Popen(
@@ -151,6 +161,16 @@ class WebKit(WebDriver):
         except BaseException:
             self._end_screen()
             raise
+
+    def click(self, selector: str, button: int = LEFT) -> None:
+        super().click(selector, button)
+        self._is_stuck |= button == RIGHT
+
+    def rest(self) -> None:
+        if self._is_stuck:
+            self._leave()
+            self._begin()
+            self._is_stuck = False
 
     def end(self) -> None:
         super().end()

@@ -52,12 +52,13 @@ ANSWERS: Dict[str, Tuple[Sequence[str], bytes, bytes]] = {
 
 
 def expect_plays(site: Site, folder: str) -> None:
-    """Both programs in a folder play, puzzles-play and puzzles-page say how they are used, and puzzles-sheet makes a page, in an environment with next
-    to nothing."""
+    """Both programs in a folder play, puzzles-play and puzzles-page say how they are used, puzzles-sheet makes a page, and puzzles-check checks a puzzle, in an
+    environment with next to nothing."""
     for program, (words, typed, written) in ANSWERS.items():
         ended = site.run([os.path.join(folder, program), *words], cwd='..', input=typed)
         assert ended == Ended(0, written, b''), program
-    for words, typed in (['puzzles-play', '--help'], b''), (['puzzles-page', '--help'], b''), (['puzzles-sheet', '--ids', '-'], b'3:3//////3/////\n'):
+    one = b'3:3//////3/////\n'
+    for words, typed in (['puzzles-play', '--help'], b''), (['puzzles-page', '--help'], b''), (['puzzles-sheet', '--ids', '-'], one), (['puzzles-check'], one):
         ended = site.run([os.path.join(folder, words[0]), *words[1:]], cwd='..', input=typed)
         assert (ended.status, ended.error) == (0, b''), words
 

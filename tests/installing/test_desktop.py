@@ -16,7 +16,7 @@ FOLDER = TOP / 'desktop'
 ENTRIES = sorted(path.name for path in FOLDER.glob('*.desktop'))
 METAINFO = FOLDER / 'verified-puzzles.metainfo.xml'
 
-COMMANDS = {'puzzles', 'puzzles-json', 'puzzles-page', 'puzzles-play', 'puzzles-sheet'}
+COMMANDS = {'puzzles', 'puzzles-check', 'puzzles-json', 'puzzles-page', 'puzzles-play', 'puzzles-sheet'}
 
 
 def validated(room: Room, words: List[str]) -> None:
@@ -65,6 +65,8 @@ def test_page_opens(room: Room) -> None:
     assert run([command, '--path'], room) == (0, page.encode(), b'')
     none = run([command], room)
     assert (none.status, none.output, none.error) == (1, page.encode(), b'puzzles-page: there is no screen here: open this file in a browser:\n')
+    made = run(['make', '-C', str(TOP), '--no-print-directory', 'page'], room)
+    assert made == (0, none.output, none.error), 'to make that is no error'
     room.put('xdg-open', b'#!/bin/sh\necho "$@" > opened.part && mv opened.part opened\n')
     os.chmod(f'{room.path}/xdg-open', 0o755)
     opened = run(['sh', '-c', f'PATH={room.path}:$PATH DISPLAY=:9 "$0" && until [ -e opened ]; do sleep 0.05; done', command], room)

@@ -41,8 +41,8 @@ def test_packed(site: Site) -> None:
     site.expect(['make', 'dist'], 2, 'changes that are not committed')
     commit(site, 'the programs')
     site.expect(['make', 'clean'])
-    site.expect(['make', 'dist', NO_KIT], says=f'build/{name(site)}-linux-amd64.tar.gz')
-    expect_origin(site, 'the tree')
+    site.expect(['make', 'dist', NO_KIT], says=f'build/{name(site)}-linux-arm64.tar.gz')
+    expect_origin(site, 'the repository')
     asked_by_root(site)
     sources, programs = archive(site, ''), archive(site, '-linux-amd64')
     reproducible(site, sources, programs)
@@ -117,7 +117,7 @@ def unpacked(site: Site) -> None:
     assert os.readlink(os.path.join(place, 'bin', 'puzzles-json')) == 'puzzles'
     expect_plays(site, os.path.join(place, 'bin'))
     version = site.run([os.path.join(place, 'bin', 'puzzles-play'), '--version'], cwd='..').output.decode().splitlines()
-    assert version[1:] == [f'commit {head(site)}', 'proved by a kit that proves nothing', 'taken from the tree']
+    assert version[1:] == [f'commit {head(site)}', 'proved by a kit that proves nothing', 'taken from the repository']
     first_game(site, place)
 
 

@@ -26,7 +26,7 @@ OF_A_BUILD = 'commit unknown\nproved by a kit that proves nothing\ntaken from a 
 
 def wanted() -> List[str]:
     """What is installed, below PREFIX."""
-    names = ('puzzles', 'puzzles-json', 'puzzles-play', 'puzzles-page', 'puzzles-sheet')
+    names = ('puzzles', 'puzzles-json', 'puzzles-play', 'puzzles-page', 'puzzles-sheet', 'puzzles-check')
     listed = [
         *(f'games/{name}' for name in names),
         *(f'share/bash-completion/completions/{name}' for name in names),
@@ -35,7 +35,7 @@ def wanted() -> List[str]:
         *(f'share/man/man{page.name[-1]}/{page.name}' for page in (TOP / 'man').iterdir()),
         f'{OURS}/VERSION',
         *(f'{OURS}/playing/bank/{game}.txt' for game in ('towers', 'unequal')),
-        *(f'{OURS}/{package}/{path.name}' for package in ('board', 'playing', 'sheet') for path in (TOP / package).glob('*.py')),
+        *(f'{OURS}/{package}/{path.name}' for package in ('board', 'check', 'playing', 'sheet') for path in (TOP / package).glob('*.py')),
         f'{OURS}/puzzles.html',
         *DESKTOP,
         *(f'{DOCUMENTS}/{name}' for name in ('VERSION', 'README.md', 'CHANGELOG.md', 'LICENSE')),
@@ -93,7 +93,7 @@ def expect_bank(site: Site, place: str) -> None:
 
 def expect_completes(site: Site, place: str) -> None:
     """The file that bash looks for by the name of a command says how that command is completed."""
-    for name in ('puzzles', 'puzzles-json', 'puzzles-play', 'puzzles-page', 'puzzles-sheet'):
+    for name in ('puzzles', 'puzzles-json', 'puzzles-play', 'puzzles-page', 'puzzles-sheet', 'puzzles-check'):
         file = os.path.join(place, 'share', 'bash-completion', 'completions', name)
         ended = site.run(['bash', '-c', '. "$0" && complete -p -- "$1"', file, name])
         assert (ended.status, ended.error) == (0, b''), f'completion of {name}'

@@ -96,10 +96,10 @@ def test_from_the_tree(site: Site) -> None:
     install(site, where)
     site.expect(['make', 'installcheck', *where], says='is there and plays')
     version = site.run([os.path.join(prefix, 'bin', 'puzzles-play'), '--version'], cwd='..').output.decode().splitlines()
-    assert version[1:] == ['commit unknown', 'proved by a kit that proves nothing', 'taken from the tree']
+    assert version[1:] == ['commit unknown', 'proved by a kit that proves nothing', 'taken from the repository']
     version = site.run(['board/puzzles-play', '--version'], cwd='').output.decode().splitlines()
-    assert version[3:] == ['taken from the tree']
+    assert version[3:] == ['taken from the repository']
     site.put('programs/linux-amd64/puzzles', b'#!/bin/sh\n')
-    site.expect(['make', 'install', *where], 2, 'the programs are not built yet: run make')
+    site.expect(['make', 'install', *where], 2, 'linux-amd64/puzzles is not the program that programs/RECORD names: run make')
     site.expect(['make', 'uninstall', *where])
     assert snapshot(prefix) == []

@@ -10,7 +10,7 @@ import pytest
 
 from tests.harness import Room, by_name, run
 from web_build.kept import MODULE_FILE, PAGE_FILE, read
-from web_build.page import MOST_BYTES, filled, page_of, packed, packed_in, unpacked
+from web_build.page import MOST_BYTES, filled, page_of, packed, packed_in, squeezed, unpacked
 from web_build.retarget import GIVEN_LAYOUT, LAYOUT, retargeted
 from web_build.scripts import Unfit, script
 from web_build.sections import MAGIC, without_idle
@@ -72,6 +72,18 @@ def test_template() -> None:
     for template, why in ((whole[10:], 'the mark policy 0 times'), (whole + '{{style}}', 'the mark style 2 times'), (whole + '{{other}}', 'the unknown mark other')):
         with pytest.raises(Unfit, match=why):
             filled(template, parts)
+
+
+#: A line of a style sheet, and what the page has of it: blanks stay that mean something.
+STYLES = {
+    'a { b: c; d: e f; }': 'a{b:c;d:e f;}',
+    '.a :focus, .b .c > d { w: min(1rem, 100% - 2rem); }': '.a :focus,.b .c > d{w:min(1rem,100% - 2rem);}',
+    "@media (a: b) and (c: d) { e::before { content: '. '; } }": "@media (a:b) and (c:d){e::before{content:'. ';}}",
+}
+
+
+def test_squeezed() -> None:
+    assert {style: squeezed(style) for style in STYLES} == STYLES
 
 
 def test_page() -> None:

@@ -9,8 +9,9 @@ from tests.conftest import Programs
 from tests.harness import Ended, Room, run
 from tests.objects.boards import Texts, board_of, numbers_of, puzzle_of
 from tests.objects.reading import Answered, as_plain, lines_with_reply, read_answers, shortened
-from tests.objects.solutions import expect_completable, expect_hint
+from tests.objects.solutions import expect_completable, expect_hint, expect_solutions
 from tests.objects.steps import expect_steps
+from tests.second_implementation.desk import spare
 from tests.second_implementation.grades import grade_of
 
 #: The views that are asked for after each line, and those of the board after some.
@@ -96,6 +97,10 @@ def expect_group(game: str, group: Sequence[Answered]) -> None:
         if answer.line == b'hint':
             expect_hint(puzzle, numbers, answer.found['hint'])
             expect_steps(puzzle, numbers, answer.found['hint'])
+        if answer.line == b'solutions':
+            expect_solutions(puzzle, numbers, answer.found['solutions'])
+        if answer.line.startswith(b'spare') and answer.found['refused'] is None:
+            assert answer.found['spare'] == spare(game.lower(), puzzle, answer.line[6:])
         if answer.line == b'grade':
             assert answer.found['grade'] == grade_of(puzzle)
 

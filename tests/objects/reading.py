@@ -5,6 +5,7 @@ import re
 from typing import Any, Dict, List, NamedTuple, Sequence, Tuple
 
 from tests.objects.schema import LOST, unfit, wrong_object
+from tests.second_implementation.desk import begun
 from tests.second_implementation.fair_lines import fair_words, plain_lines
 
 Object = Dict[str, Any]
@@ -19,7 +20,12 @@ MOST_BYTES = 1024
 FAIR = b'fair'
 
 #: The lines that the plain program doesn't know.
-OWN_LINES = (b'board', b'completable', b'hint', b'grade')
+OWN_LINES = (b'board', b'completable', b'hint', b'grade', b'solutions', b'spare')
+
+#: Those of a setter that begin a game.
+DESK_LINES = (b'blank', b'item', b'thin')
+
+ALL_OWN = (*OWN_LINES, FAIR, *DESK_LINES)
 
 
 class Unread(Exception):
@@ -67,7 +73,7 @@ class Answered(NamedTuple):
     @property
     def is_own(self) -> bool:
         """Whether the plain program has no line for it."""
-        return self.line in OWN_LINES or is_fair(self.line) and self.found['refused'] is not None
+        return is_own(self.line) or is_fair(self.line) and self.found['refused'] is not None
 
     @property
     def reply(self) -> bytes:
@@ -90,7 +96,12 @@ def lines_with_reply(script: bytes) -> List[bytes]:
 
 def without_own(lines: Sequence[bytes]) -> List[bytes]:
     """The lines without those that the plain program doesn't know."""
-    return [line for line in lines if line.rstrip(b'\r') not in OWN_LINES]
+    return [line for line in lines if not is_own(line.rstrip(b'\r'))]
+
+
+def is_own(line: bytes) -> bool:
+    """Whether the plain program has no line for it: one that is answered from the session, or a setter's."""
+    return line in OWN_LINES or re.fullmatch(rb'spare [^ ]+', line) is not None or begun(line) is not None
 
 
 def is_fair(line: bytes) -> bool:

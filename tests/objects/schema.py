@@ -1,5 +1,6 @@
 """The keys of each object, with the types and ranges of their values (docs/JSON.md)."""
 
+import re
 from typing import Any, Dict, Iterator, Set
 
 
@@ -76,13 +77,21 @@ HINT: Dict[str, Any] = {
 
 #: What each object has that answers a line, and what besides, by the line that it answers.
 COMMON: Dict[str, Any] = {'refused': (None, text), 'reply': [text], 'session': (None, SESSION)}
-ANSWERS: Dict[str, Any] = {'board': BOARD, 'completable': COUNTS, 'grade': (None, *GRADES), 'hint': HINT}
+SPARE: Dict[str, Any] = {'clues': [{'x': PLACE, 'y': PLACE}], 'givens': [CELL], 'signs': [{'greater': CELL, 'less': CELL}]}
+ANSWERS: Dict[str, Any] = {
+    'board': BOARD,
+    'completable': COUNTS,
+    'grade': (None, *GRADES),
+    'hint': HINT,
+    'solutions': [[NUMBER]],
+    'spare': SPARE,
+}
 LOST: Dict[str, Any] = {'lost': 'OutOfMemory'}
 
 
 def names() -> Set[str]:
     """All keys that there are."""
-    return {key for table in (COMMON, ANSWERS, SESSION, BOARD, CLUE, SIGN, HINT, STEP, STRIKE, LOST) for key in table}
+    return {key for table in (COMMON, ANSWERS, SESSION, BOARD, CLUE, SIGN, HINT, STEP, STRIKE, SPARE, LOST) for key in table}
 
 
 def unfit(place: str, value: object, shape: Any) -> Iterator[str]:
@@ -110,6 +119,7 @@ def is_one(value: object, shape: Any) -> bool:
 def wrong_object(found: Dict[str, Any], line: bytes) -> Iterator[str]:
     """What is wrong with the object that answers a line. A refusal is named where the reply is its line, and nowhere else; the own lines have no other reply."""
     key = line.decode('latin-1')
+    key = 'spare' if re.fullmatch('spare [^ ]+', key) else key
     refused, reply = found.get('refused'), found.get('reply')
     yield from unfit('it', found, {**COMMON, key: ANSWERS[key]} if key in ANSWERS and refused is None else COMMON)
     if refused is not None and reply != [f'refused: {refused}']:

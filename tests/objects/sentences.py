@@ -2,34 +2,37 @@
 
 import re
 import textwrap
-from typing import Dict, FrozenSet, List, Sequence, Tuple
+from typing import FrozenSet, List, Sequence
 
+from tests.objects.clue_sentences import clue_sentence
 from tests.objects.reading import Object
+from tests.objects.words import capital, joined, line_name, losses, square, squares
 from tests.second_implementation.puzzles import Numbers, Puzzle
-from tests.second_implementation.steps import Left, Step, after, each, in_view, shown_with
+from tests.second_implementation.solving import cells_of
+from tests.second_implementation.steps import Left, Step, after, each, in_view
 from tests.second_implementation.towers import TowersPuzzle
 
 #: How many characters a line of text has at most.
 WIDTH = 100
 
-#: What a clue is looked at with.
-KNOWN = {'bound': ', by itself: ', 'stand': ' and the numbers that stand there: ', 'clue': ' and what is left there: '}
-
 
 def expect_text(puzzle: Puzzle, numbers: Numbers, hint: Object, chain: Sequence[Step]) -> None:
-    left = view = in_view(puzzle.size, numbers)
+    before = left = view = in_view(puzzle.size, numbers)
     whole: List[str] = []
     for at, (step, told) in enumerate(zip(chain, hint['steps'])):
         sentence = sentence_of(puzzle, left, step)
         assert told['text'] == cut(sentence)
         whole += cut(f'{at + 1}. {sentence}')
+        before = left
         left = after(puzzle, left, [step]) or left
-    end = empty_conclusion(puzzle.size, numbers, view, emptied(puzzle.size, hint)) if hint['kind'] == 'contradiction' else conclusion(puzzle, view, hint)
+    end = contradiction(puzzle.size, numbers, view, before, chain[-1:], hint) if hint['kind'] == 'contradiction' else conclusion(puzzle, numbers, view, hint)
     assert hint['text'] == [*whole, *cut(end)]
 
 
 def emptied(size: int, hint: Object) -> int:
-    """The square that the steps to a contradiction leave nothing, as the last sentence names it."""
+    """The square that the steps to a contradiction leave nothing: the last sentence names it, or a number without a square left, for which the last step took it."""
+    if any(line.startswith('So ') and ' has no square left for ' in line for line in hint['text']):
+        return int(hint['steps'][-1]['cells'][0])
     found = [re.match(r'So r(\d)c(\d) has no number left: ', line) for line in hint['text']]
     (row, column), = [match.groups() for match in found if match]
     return (int(row) - 1) * size + int(column) - 1
@@ -39,45 +42,13 @@ def cut(sentence: str) -> List[str]:
     return textwrap.wrap(sentence, WIDTH, subsequent_indent='   ')
 
 
-# ---- words
-
-
-def square(size: int, cell: int) -> str:
-    return f'r{cell // size + 1}c{cell % size + 1}'
-
-
-def joined(words: Sequence[object], last: str) -> str:
-    texts = [str(word) for word in words]
-    return texts[0] if len(texts) == 1 else f"{', '.join(texts[:-1])} {last} {texts[-1]}"
-
-
-def squares(size: int, cells: Sequence[int], last: str = 'and') -> str:
-    return joined([square(size, cell) for cell in cells], last)
-
-
-def line_name(size: int, line: int) -> str:
-    return f'row {line + 1}' if line < size else f'column {line - size + 1}'
-
-
-def capital(text: str) -> str:
-    return text[0].upper() + text[1:]
-
-
 # ---- a step
 
 
 def sentence_of(puzzle: Puzzle, left: Left, step: Step) -> str:
-    if step.reason.kind in KNOWN:
+    if isinstance(puzzle, TowersPuzzle) and step.reason.kind in ('bound', 'stand', 'clue'):
         return clue_sentence(puzzle, left, step)
     return f'{capital(why_of(puzzle.size, left, step))}: {losses(puzzle.size, step)}.'
-
-
-def losses(size: int, step: Step) -> str:
-    """What is struck: squares that lose the same numbers together."""
-    lost: Dict[FrozenSet[int], List[int]] = {}
-    for cell, numbers in step.strikes.items():
-        lost.setdefault(numbers, []).append(cell)
-    return '; '.join(f"{squares(size, cells)} {'is' if len(cells) == 1 else 'are'} not {joined(sorted(numbers), 'or')}" for numbers, cells in lost.items())
 
 
 def why_of(size: int, left: Left, step: Step) -> str:
@@ -85,12 +56,28 @@ def why_of(size: int, left: Left, step: Step) -> str:
     if reason.kind == 'sign':
         return sign_why(size, left, step)
     at = squares(size, reason.cells)
-    if reason.kind == 'set':
-        return f"in {line_name(size, reason.line)} {at} take {joined(sorted(reason.numbers), 'and')} among them"
+    if reason.kind == 'set' and len(reason.cells) > 1:
+        return set_why(size, left, step)
     if reason.kind == 'place':
         number, line = min(reason.numbers), line_name(size, reason.line)
         return f'in {line} only {at} can be {number}' if number in left[reason.cells[0]] else f'no other square of {line} can be {number}'
-    return f'{at} is given' if reason.kind == 'given' else f'{at} is {min(left[reason.cells[0]])}'
+    return f'{at} is given' if reason.kind == 'given' else f'{at} is {min(reason.numbers or left[reason.cells[0]])}'
+
+
+def set_why(size: int, left: Left, step: Step) -> str:
+    """Squares that take some numbers among them; or, where those are fewer, the others of the line, as the only ones for the numbers that are over."""
+    reason = step.reason
+    line = cells_of(size, reason.line)
+    open_cells = [cell for cell in line if len(left[cell]) != 1]
+    alone = {number for cell in line if len(left[cell]) == 1 for number in left[cell]}
+    rest = [cell for cell in open_cells if cell not in reason.cells]
+    over = each(size) - reason.numbers - alone
+    are_alone = all(over.isdisjoint(left[cell]) for cell in line if cell not in rest)
+    struck = all(cell in rest and over.isdisjoint(numbers) for cell, numbers in step.strikes.items())
+    taken = sum(1 for cell in reason.cells if len(left[cell]) > 1)
+    if len(rest) == len(over) < taken and are_alone and struck:
+        return f"in {line_name(size, reason.line)} only {squares(size, rest)} can be {joined(sorted(over), 'or')}"
+    return f"in {line_name(size, reason.line)} {squares(size, reason.cells)} take {joined(sorted(reason.numbers), 'and')} among them"
 
 
 def sign_why(size: int, left: Left, step: Step) -> str:
@@ -100,68 +87,32 @@ def sign_why(size: int, left: Left, step: Step) -> str:
     word = 'greater' if to == greater else 'less'
     end = min(left[other]) if to == greater else max(left[other])
     said = f'{square(size, to)} is {word} than {square(size, other)}'
-    if end == (1 if to == greater else size):
+    last = 1 if to == greater else size
+    if end == last or set(step.strikes[to]) == {last}:
         return said
     most = '' if len(left[other]) == 1 else 'at least ' if to == greater else 'at most '
     return f'{said}, which is {most}{end}'
 
 
-# ---- a clue
-
-
-def clue_sentence(puzzle: Puzzle, left: Left, step: Step) -> str:
-    assert isinstance(puzzle, TowersPuzzle)
-    size, kind, clue = puzzle.size, step.reason.kind, puzzle.clues[step.reason.place]
-    side, at = divmod(step.reason.place, size)
-    named = f"Clue {clue} {('above column', 'below column', 'left of row', 'right of row')[side]} {at + 1}"
-    plain = {1: 'the nearest tower is the tallest', size: 'all towers are seen and rise'}
-    if kind == 'bound' and clue in plain:
-        return f'{named}: {plain[clue]}, so {losses(size, step)}.'
-    shown: Dict[Tuple[str, FrozenSet[int]], Dict[int, List[int]]] = {}
-    for cell, numbers in step.strikes.items():
-        for number in sorted(numbers):
-            seen = beside(clue, shown_with(size, left, step.reason, cell, number))
-            shown.setdefault(seen, {}).setdefault(cell, []).append(number)
-    return f"{named}{KNOWN[kind]}{'; '.join(seen_with(size, clue, *seen, where) for seen, where in shown.items())}."
-
-
-def beside(clue: int, counts: FrozenSet[int]) -> Tuple[str, FrozenSet[int]]:
-    """What is seen beside what the clue says; where that is more in some orders and fewer in others, these counts."""
-    if not counts:
-        return 'never', counts
-    if clue < min(counts):
-        return 'more', frozenset()
-    return ('fewer', frozenset()) if max(counts) < clue else ('both', counts)
-
-
-def seen_with(size: int, clue: int, word: str, counts: FrozenSet[int], where: Dict[int, List[int]]) -> str:
-    """With which numbers in which squares so much would be seen."""
-    cells: Dict[Tuple[int, ...], List[int]] = {}
-    for cell, numbers in where.items():
-        cells.setdefault(tuple(numbers), []).append(cell)
-    places = [f"{numbers_in_words(numbers)} in {squares(size, those, 'or')}" for numbers, those in cells.items()]
-    if word == 'never':
-        return f"no order has {', nor '.join(places)}"
-    with_them = f"with {' or with '.join(places)}"
-    if word == 'both':
-        return f"{with_them} it would be {joined(sorted(counts), 'or')} towers, never {clue}"
-    return f"{with_them} {word} than {clue} tower{'' if clue == 1 else 's'} would be seen"
-
-
-def numbers_in_words(numbers: Sequence[int]) -> str:
-    if len(numbers) == 1:
-        return f"{'an' if numbers[0] == 8 else 'a'} {numbers[0]}"
-    return joined(numbers, 'or')
-
-
 # ---- what they show
 
 
-def conclusion(puzzle: Puzzle, view: Left, hint: Object) -> str:
+def conclusion(puzzle: Puzzle, numbers: Numbers, view: Left, hint: Object) -> str:
     size, cell, number, line = puzzle.size, hint['cell'], hint['number'], hint['line']
     if line is not None:
         return f'So {square(size, cell)} is {number}: no other square of {line_name(size, line)} can be {number}.'
+    for of_cell in (cell // size, size + cell % size):
+        if each(size) - {numbers[other] for other in cells_of(size, of_cell)} == {number}:
+            return f'So {square(size, cell)} is {number}: it is the last free square of {line_name(size, of_cell)}.'
     return f'So {square(size, cell)} is {number}: {where_gone(size, view[cell], view[cell] - {number})}.'
+
+
+def contradiction(size: int, numbers: Numbers, view: Left, before: Left, last: Sequence[Step], hint: Object) -> str:
+    """What the steps to a contradiction come to: a number that has no square in a line, if the last one leaves it none, or a square without numbers."""
+    for reason in (step.reason for step in last):
+        if reason.kind == 'place' and reason.numbers.isdisjoint(before[reason.cells[0]]):
+            return f'So {line_name(size, reason.line)} has no square left for {min(reason.numbers)}.'
+    return empty_conclusion(size, numbers, view, emptied(size, hint))
 
 
 def empty_conclusion(size: int, numbers: Numbers, view: Left, cell: int) -> str:

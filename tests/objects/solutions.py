@@ -3,7 +3,7 @@
 from dataclasses import replace
 from functools import lru_cache
 from itertools import chain, permutations
-from typing import List, Tuple
+from typing import List, Sequence, Tuple
 
 from tests.objects.reading import Object
 from tests.objects.schema import COUNTS
@@ -61,3 +61,10 @@ def expect_hint(puzzle: Puzzle, numbers: Numbers, hint: Object) -> None:
         assert (cell, number) == (None, None)
     if hint['kind'] == 'contradiction' and puzzle.size <= MOST_COUNTED:
         assert not completions(puzzle, numbers), numbers
+
+
+def expect_solutions(puzzle: Puzzle, numbers: Numbers, grids: Sequence[Sequence[int]]) -> None:
+    """They solve the puzzle and keep the numbers, they differ, and there are as many as there have to be."""
+    assert len(grids) == len({tuple(grid) for grid in grids})
+    assert all(puzzle.solved_by(tuple(grid)) and all(n in (0, kept) for n, kept in zip(numbers, grid)) for grid in grids), grids
+    assert puzzle.size > MOST_COUNTED or len(grids) == completions(puzzle, numbers)

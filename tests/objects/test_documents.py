@@ -96,8 +96,10 @@ def test_example(pair: Pair, room: Room, block: str) -> None:
     """A command, and what it writes. A line that ends in a backslash or a bar goes on in the next one, and so does an object in an indented one."""
     command, _, wanted = unfolded(re.sub(r'\\\n *|(?<=\|)\n *', ' ', block[2:])).partition('\n')
     room.put('odd.sav', ODD_SAVE)
-    here = command.replace('docs/clients', str(CLIENTS)).replace('python3', sys.executable).replace('programs/linux-amd64/', '')
-    env = {'PATH': f"{os.path.dirname(pair.plain)}:{os.environ.get('PATH', os.defpath)}"}
+    for folder in ('docs/clients', 'tests/module', 'programs/web'):
+        command = command.replace(folder, str(TOP / folder))
+    here = command.replace('python3', sys.executable).replace('programs/linux-amd64/', '')
+    env = {'PATH': f"{os.path.dirname(pair.plain)}:{TOP / 'check'}:{os.environ.get('PATH', os.defpath)}", 'PUZZLES_JSON': pair.objects}
     ended = run(['bash', '-c', here], room, env=env)
     assert (ended.output.decode(errors='replace'), ended.error) == (wanted, b'')
 

@@ -39,16 +39,8 @@ class Asked(NamedTuple):
 #: has to hold, whichever they are.
 ONE_BY_ONE = [
     Asked('towers', ['new 4:////2///////////2,c2b4i'], []),
-    Asked(
-        'towers',
-        ['new 5de:1/2/3/3/4/4/2/2/2/1/1/2/2/3/4/4/3/2/2/1,e3s', 'move R3,4,4', 'move R2,3,3', 'move R1,1,5'],
-        [{22: [2]}, {2: [1, 2]}],
-    ),
-    Asked(
-        'towers',
-        ['new 7dh:/3///4/2//3///2//3/1/4//5/3///4//3/////,j1g2c4o2j', 'move R3,0,7', 'move R0,1,7', 'move R1,1,5', 'move R0,2,1', 'move R1,2,3', 'move R6,2,6', 'move R0,3,2'],
-        [{0: [4], 1: [1]}, {0: [3]}],
-    ),
+    Asked('towers', ['new 6dh://4////3/////2/2//2///4////3//,a1i1b3u', 'move R2,4,5'], [{32: [1, 2]}, {2: [2]}]),
+    Asked('towers', ['new 7dh:2/2//2/2/5///2/3/3///3//4/////2///5/2//4/,b1r4_1z', 'move R5,5,5'], [{5: [3]}, {26: [3]}]),
 ]
 
 

@@ -34,6 +34,7 @@ BAD_IDS = [
 ODD: List[bytes] = [
     b'', b'\r', b'\r\r', b' ', b'undo ', b'undo x', b'Undo', b'move', b'move ', b'new', b'list', b'list 0', b'list 101', b'list 05',
     b'fair', b'fair ', b'fair 3 e', b'fair 3 e 7 ', b'fair 3  e 7', b'fair 3 e 7 8', b'fair\t3 e 7', b'Fair 3 e 7',
+    b'blank', b'blank ', b'blank 3 4', b'item', b'item 0,0', b'item 0,0,1,1', b'item 0,0,-1', b'solutions 2', b'spare ', b'spare  e', b'thin ', b'Thin',
     b'board ', b'board x', b'BOARD', b'hint ', b'hint 1', b'grade ', b'grade 1', b'completable x', b'{"line":"undo"}', b'"', b'\\', b'\x00', b'\x7f',
     b'\x1b[A', b'\xff\xfe', b'move R0,0,\xb2', b'new 3:\xc3\xa9', b'undo\x00', b'\xc3\xa9' * 300, b'x' * 1024, b'x' * 1025,
     b'x' * 1024 + b'\r', b'x' * 1023 + b'\r', b'y' * 5000, b'move R01,0,1', b'move H0,0,1', b'move F0,0,1', b'move S123',
@@ -88,7 +89,11 @@ MOVE = st.one_of(
     st.tuples(st.sampled_from([-1, 0, 3, 4]), NUMBER).map(clue_move),
     st.tuples(NUMBER, st.sampled_from([-1, 0, 3, 4])).map(clue_move),
 )
-CALL = st.sampled_from([b'undo', b'undo', b'redo', b'redo', b'restart', b'solve', b'save', *BOARD, b'completable', b'hint', b'grade', *(b'list %d' % most for most in range(7))])
+SETTING = [b'solutions', b'spare', b'spare e', b'spare h', b'spare k']
+CALL = st.sampled_from([
+    *[b'undo', b'undo', b'redo', b'redo', b'restart', b'solve', b'save', *BOARD, b'completable', b'hint', b'grade', *SETTING],
+    *(b'list %d' % most for most in range(7)),
+])
 BYTES = st.lists(st.one_of(st.sampled_from(CAREFUL), st.binary(min_size=1, max_size=1)), max_size=12).map(b''.join)
 
 

@@ -17,6 +17,8 @@ DRIVERS: Dict[str, Callable[[Room], Driver]] = {'chromium': chromium, 'firefox':
 #: All of them, each by its own driver; and Chromium by its pipe, the one that other cases have open already.
 ALL, PIPE = 'all', 'pipe'
 
+BLANK = 'about:blank'
+
 #: Which browser is there where one of these is.
 COMMANDS = {PIPE: 'chromium', 'firefox': 'firefox-esr', 'webkit': 'WebKitWebDriver'}
 
@@ -39,6 +41,9 @@ class Piped(Driver):
 
     def go(self, url: str) -> None:
         self.browser.go(url)
+        if url == BLANK:
+            # Chromium may forget the next page, where this one isn't there yet and the one before asks whether it may be left.
+            self.wait_for(f'document.URL === "{BLANK}"')
 
     def value(self, expression: str) -> Any:
         return self.browser.promised(f'(async () => ({expression}))()')

@@ -69,6 +69,7 @@ def player(driver: Driver, page: Path) -> Iterator[Player]:
     made = Player(driver, f'file://{page}')
     yield made
     made.forget()
+    driver.rest()
     driver.go('about:blank')
 
 

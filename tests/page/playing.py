@@ -22,6 +22,20 @@ BESIDE = f'file://{TOP}/page/icon.svg'
 PAINTED = 'new Promise((done) => requestAnimationFrame(() => requestAnimationFrame(() => done(true))))'
 
 
+#: Clears the database that has each change, too. The page writes nothing into it any more. Deleting it would wait for pages that WebKit hasn't left yet.
+NO_JOURNAL = """new Promise((done) => {
+  const request = indexedDB.open("puzzles");
+  IDBObjectStore.prototype.put = () => undefined;
+  request.onupgradeneeded = () => request.result.createObjectStore("texts");
+  request.onerror = () => done(true);
+  request.onsuccess = () => {
+    const cleared = request.result.transaction("texts", "readwrite");
+    cleared.objectStore("texts").clear();
+    cleared.oncomplete = cleared.onabort = () => { request.result.close(); done(true); };
+  };
+})"""
+
+
 class Seen:
     """What is seen of one page in one browser, and what that browser keeps."""
 
@@ -84,6 +98,12 @@ class Seen:
         texts = self.value(f'Object.keys(localStorage).filter((name) => name.startsWith("{OURS}game:")).map((name) => localStorage[name])')
         return sorted((json.loads(text) for text in texts), key=lambda game: -float(game['when']))
 
+    def keeps(self, moves: Sequence[int]) -> None:
+        """How many moves each kept game comes to have, in rising order."""
+        counts = f'Object.keys(localStorage).filter((name) => name.startsWith("{OURS}game:"))'
+        counts += '.map((name) => JSON.parse(localStorage[name]).save.split("\\nMOVE ").length - 1).sort()'
+        self.driver.wait_for(f'JSON.stringify({counts}) === {json.dumps(json.dumps(moves, separators=(",", ":")))}')
+
     def moves(self) -> List[str]:
         """Those of the save of the last game."""
         lines = str(self.kept()[0]['save']).split('\n')
@@ -111,7 +131,7 @@ class Player(Seen):
 
     def forget(self) -> None:
         """The browser keeps nothing any more, whatever the page and tabs that were closed are still about to keep."""
-        self.driver.value('(Storage.prototype.setItem = () => undefined, [localStorage.clear(), sessionStorage.clear()])')
+        self.driver.value(f'(Storage.prototype.setItem = () => undefined, localStorage.clear(), sessionStorage.clear(), {NO_JOURNAL})')
         self.driver.go(BESIDE)
         self.driver.wait_for('localStorage.length + sessionStorage.length === 0 || (localStorage.clear(), sessionStorage.clear())')
 
@@ -157,7 +177,8 @@ class Player(Seen):
     def write(self, selector: str, text: str) -> None:
         """Writes into a field, or chooses of a list."""
         self.value(
-            f'((node) => {{ node.value = {json.dumps(text)}; node.dispatchEvent(new Event("change")); return true; }})(document.querySelector({json.dumps(selector)}))'
+            f'((node) => {{ node.value = {json.dumps(text)}; for (const kind of ["input", "change"]) node.dispatchEvent(new Event(kind, {{bubbles: true}}));'
+            f' return true; }})(document.querySelector({json.dumps(selector)}))'
         )
 
     def drop(self, content: Optional[bytes] = None, name: str = 'a.sav', text: str = '', size: int = 0) -> None:
@@ -175,6 +196,11 @@ class Player(Seen):
         """The text of the last file."""
         self.driver.wait_for('window.files.length > 0')
         return str(self.value('window.files[window.files.length - 1].text()'))
+
+    def caught_bytes(self) -> bytes:
+        """The bytes of the last file."""
+        self.driver.wait_for('window.files.length > 0')
+        return bytes(self.value('window.files[window.files.length - 1].arrayBuffer().then((all) => [...new Uint8Array(all)])'))
 
 
 def at(x: int, y: int) -> str:

@@ -26,7 +26,7 @@ WebAssembly.instantiate = async (...words) => {
 """
 AFTER = """
 const answer = self.onmessage;
-self.onmessage = (event) => { line = event.data.line; while (line === 'completable') Math.random(); return answer(event); };
+self.onmessage = (event) => { [line] = event.data.lines ?? []; while (line === 'completable') Math.random(); return answer(event); };
 """
 
 WORKER = '<script type="text/plain" id="worker">'

@@ -217,7 +217,7 @@ def test_hint(player: Player) -> None:
     """Three presses: where to look, the step and what it shows, the number."""
     player.sit('towers:5!7', PHONE)
     player.click('Hint')
-    player.told('Look at the clue 4 left of row 2.')
+    player.told('Look at clue 4 left of row 2.')
     assert player.value('document.querySelectorAll(".look rect").length') == 1
     assert player.value('getComputedStyle(document.querySelector(".index")).visibility') == 'visible'
     player.click('Hint')
@@ -268,6 +268,35 @@ def test_contradiction(player: Player) -> None:
     player.told('taken back. Redo makes')
     player.press('c')
     player.told('can still be completed')
+
+
+@pytest.mark.gate
+def test_wrong_without_steps(player: Player) -> None:
+    """Of numbers that can't be completed no hint is shown, though no steps show it."""
+    player.sit('towers:4dx://2/////3///3/1//2//')
+    player.press('ArrowRight', 'ArrowRight', '2', 'h')
+    player.told('can’t be completed since the last move.')
+    player.is_gone('#walk')
+    player.driver.click('#offer')
+    player.told('1 move taken back.')
+    player.press('h')
+    player.told('Look at clue 1 left of row 4.')
+
+
+@pytest.mark.gate
+def test_no_move(player: Player) -> None:
+    """All marks where all are, and the solution where it is there, are no moves: what could be redone stays."""
+    player.sit(TOWERS)
+    player.press('m', '1', 'u', 'm')
+    player.told('Nothing changes: the board has that already.')
+    player.press('r')
+    player.is_called(0, 0, 'row 1, column 1, 1')
+    assert player.moves() == ['M', 'R0,0,1']
+    player.press('S')
+    player.click('Yes')
+    player.told('Filled in by the program.')
+    player.press('S')
+    player.told('The board is solved.')
 
 
 @pytest.mark.gate
@@ -347,13 +376,6 @@ def test_new_games(player: Player) -> None:
     for id, title in [(ID, 'Towers 3×3'), ('unequal-4-easy-7', 'Unequal 4×4'), (f'https://a.example/p#{UNEQUAL}', 'Unequal 3×3'), ('4!7', 'Unequal 4×4')]:
         choose(player, id=id)
         player.called(title)
-    for typed, said in [
-        ({'id': '3:4///////////'}, 'The ID has'),
-        ({'id': 'what'}, 'That is no game'),
-        ({'number': '18446744073709551616'}, 'The number of a game goes'),
-    ]:
-        choose(player, **typed)
-        player.told(said)
 
 
 def choose(player: Player, **values: str) -> None:
@@ -363,11 +385,3 @@ def choose(player: Player, **values: str) -> None:
         player.write(f'#fresh-{name}', value)
     player.click('Begin')
     player.closes('#fresh')
-
-
-@pytest.mark.gate
-def test_copy_link(player: Player) -> None:
-    """Where the browser lets no page copy, the link stands there to be copied by hand; a page from a disk gives its part after the # alone."""
-    player.sit('towers-4-easy-20261127')
-    player.menu('Copy link')
-    player.driver.wait_for('document.querySelector("#told").textContent.includes("is copied") || document.querySelector("#page-text").textContent === "#towers-4-easy-20261127"')

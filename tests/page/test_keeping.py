@@ -46,7 +46,7 @@ def test_each_game_is_kept(player: Player) -> None:
     player.is_shown('#games')
     listed = player.value('[...document.querySelectorAll("#games-list .pictured")].map((node) => node.textContent)')
     assert 'number 20261127' in listed[0] and 'Unequal 3×3 · 0 of 9' in listed[1] and 'Towers 3×3 · 1 of 9' in listed[2]
-    assert player.value('[...document.querySelectorAll(".small-board")].map((node) => node.querySelectorAll("text").length)')[1:] == [0, 1]
+    player.driver.wait_for('[...document.querySelectorAll(".small-board")].map((node) => node.querySelectorAll("text").length).join().endsWith(",0,1")')
     player.driver.click('#games-list li:nth-child(3) .pictured')
     player.begins(0, 0, 'row 1, column 1, 1')
     player.press('o')

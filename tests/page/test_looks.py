@@ -14,6 +14,7 @@ from typing import Any, Callable, Dict, List, NamedTuple, Sequence, Tuple
 
 import pytest
 
+from playing.cards import CARDS
 from playing.games import SIZES, stored
 from tests.harness import by_name
 from tests.harness.browser import Browser
@@ -97,6 +98,11 @@ def test_checks(piped: Player, game: str, window: Tuple[int, int]) -> None:
     piped.click('Menu')
     piped.is_shown('#menu')
     assert wrong(piped) == []
+    piped.click('Learn')
+    for number, _ in enumerate(CARDS[game], 1):
+        piped.counts(f'Card {number} of')
+        assert wrong(piped) == [], number
+        piped.press('Enter')
 
 
 def wrong(player: Player) -> List[Any]:
@@ -175,6 +181,8 @@ def test_tree(piped: Player, browser: Browser) -> None:
 def test_tab(piped: Player) -> None:
     """The head, the board, the numbers, the buttons; and an arrow leaves the one tab stop of the board where it goes."""
     piped.sit('unequal:4!7', LAPTOP)
+    # The second time nothing is offered between the two.
+    piped.load('unequal:4!7')
     piped.press('ArrowDown', 'Tab')
     assert piped.value('document.activeElement.dataset.number') == '1'
     piped.press(*['Tab'] * 4)
@@ -250,6 +258,44 @@ def solve(player: Player) -> None:
     player.told('Filled in')
 
 
+def paper(player: Player) -> None:
+    """As a browser tells of it before it prints: with a hint open, of which nothing is seen then."""
+    play('m', '1', 'h')(player)
+    player.told('Look at')
+    player.value('dispatchEvent(new Event("beforeprint"))')
+
+
+def learn(*pressed: str) -> Callable[[Player], object]:
+    """Begins the course, and presses keys there."""
+
+    def act(player: Player) -> None:
+        player.press('m', 'u')
+        player.is_gone('#offer')
+        player.menu('Learn')
+        player.counts('Card 1 of')
+        play(*pressed)(player)
+
+    return act
+
+
+def setting(player: Player) -> None:
+    """At the setter's desk, with two clues that contradict each other."""
+    player.menu('Check or set a puzzle')
+    player.counts('0 clues')
+    player.press('ArrowUp', '1', 'ArrowRight', '1')
+    player.driver.wait_for('document.querySelectorAll(".blamed").length === 2')
+
+
+def number_first(player: Player) -> None:
+    player.menu('Number first, then squares')
+    player.press('Escape')
+    player.closes('#menu')
+    player.press('m')
+    player.driver.click('[data-number="2"]')
+    player.driver.click('[data-place="0,0"]')
+    player.begins(0, 0, 'row 1, column 1, 2')
+
+
 def puzzle(game: str, size: int) -> str:
     return f'{game}:{stored(game, size, "x")[0]}'
 
@@ -272,7 +318,12 @@ ALL_PICTURES: List[Picture] = [
     Picture('menu', UNEQUAL, PHONE, lambda player: player.click('Menu')),
     Picture('rules', TOWERS, PHONE, open_dialog('?', '#rules')),
     Picture('filled-in-zoomed', puzzle('towers', 6), (683, 384), solve),
-    Picture('print', puzzle('towers', 6), (560, 700), play('m', '1'), {}, 'print'),
+    Picture('number-first', 'unequal-5-easy-7', PHONE, number_first),
+    Picture('course', UNEQUAL, SMALL, learn('1')),
+    Picture('desk', TOWERS, PHONE, setting),
+    Picture('desk-forced', TOWERS, (800, 480), setting, FORCED_COLOURS),
+    Picture('course-forced', TOWERS, (800, 480), learn(), FORCED_COLOURS),
+    Picture('print', puzzle('towers', 6), (560, 700), paper, {}, 'print'),
 ]
 
 #: The part of its points in which a picture may be otherwise, since fonts are.

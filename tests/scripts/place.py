@@ -15,7 +15,7 @@ from tests.harness.terminal import Terminal
 from tests.harness.users import plain_user
 
 #: What of the repository is copied: folders and files.
-PARTS = ['.ci', 'board', 'page', 'playing', 'sheet', 'desktop', 'tests', 'tools', 'man', 'docs', 'bench', 'programs/web']
+PARTS = ['.ci', 'board', 'check', 'page', 'playing', 'sheet', 'desktop', 'tests', 'tools', 'man', 'docs', 'bench', 'programs/web']
 PARTS += ['Makefile', 'README.md', 'CHANGELOG.md', 'LICENSE', 'VERSION', 'COMMIT', '.gitattributes', '.gitignore']
 
 #: What stands for commands that the scripts call.
@@ -49,8 +49,7 @@ class Place:
                 shutil.copytree(source, target, ignore=shutil.ignore_patterns('__pycache__'))
             else:
                 shutil.copy2(source, target)
-        self.stand_in('rt', '../kit/bin/rt')
-        self.put('../kit/KIT-ID', b'a kit that proves nothing\n', 0o644)
+        self.kit('../kit', 'rt', b'a kit that proves nothing\n')
         self.put('crates.txt', (TOP / 'crates.txt').read_bytes(), 0o644)
         for crate in (TOP / 'crates').iterdir():
             self.put(f'crates/{crate.name}/src/lib.rt', b'', 0o644)
@@ -68,6 +67,13 @@ class Place:
     def stand_in(self, name: str, path: str) -> str:
         """Puts what stands for a command there, and gives its whole path."""
         return self.put(path, (STAND_INS / name).read_bytes())
+
+    def kit(self, folder: str, rt: str, line: bytes) -> str:
+        """Puts what stands for a kit into a folder, with this command and this line. Gives the whole path of the command."""
+        self.put(f'{folder}/KIT-ID', line, 0o644)
+        for name, path in zip(['rtlib.py', *['maker'] * 3], ['bin/rtlib.py', 'bin/rattle', 'bin/rattle-link', 'toolchain/bin/clang']):
+            self.stand_in(name, f'{folder}/{path}')
+        return self.stand_in(rt, f'{folder}/bin/rt')
 
     def give(self) -> None:
         """All of it, and the folder above, belongs to the user from here on."""

@@ -53,9 +53,8 @@ class Small:
 
     def __init__(self, place: Place) -> None:
         self.place = place
-        self.rt = place.stand_in('small-rt', '../small kit/bin/rt')
+        self.rt = place.kit('../small kit', 'small-rt', b'a small kit\n')
         self.calls = os.path.join(os.path.dirname(self.rt), 'calls')
-        place.put('../small kit/KIT-ID', b'a small kit\n', 0o644)
         place.put('crates.txt', CRATES, 0o644)
         for name in [*ALL, 'test']:
             place.put(f'crates/{name}/src/lib.rt', f'// The crate {name}.\n'.encode(), 0o644)

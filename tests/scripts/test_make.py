@@ -46,16 +46,24 @@ ROUNDS = [
     Make('install: nor is DESTDIR', ['make', 'uninstall', 'DESTDIR=there'], 2, ['DESTDIR is no path that begins with /']),
     Make('install: no folder is named', ['../tools/install', '--remove'], 2, ['gamesdir is no path'], cwd='man'),
     Make('install: another word', ['tools/install', '--into', 'there'], 2, ['usage:']),
-    Make('install: nothing is built', ['make', 'install', 'DESTDIR=/nowhere'], 2, ['the programs are not built yet: run make']),
     Make('installcheck: nothing is there', ['make', 'installcheck', 'DESTDIR=/nowhere'], 2, ['bin/puzzles is not there', 'does not play']),
     Make('dist: no commit is there', ['make', 'dist'], 2, ['dist: ']),
-    Make('make play, in a pipe', ['make', 'play', f'ID={ID}'], says=[SHOWN], input=b'show\n'),
-    Make('make page, of which the record says nothing', ['make', 'page'], 2, ['programs/RECORD says nothing of the page: it is proved and built']),
-    Make('make sheet, of seeds', ['make', 'sheet'], says=['build/sheet.html is there']),
+]
+
+#: What is said where no programs are there, and no page, by each command that needs some.
+NOT_BUILT = 'there is no programs/RECORD: run make, which proves and builds them'
+NO_PAGE = 'programs/RECORD says nothing of the page: run make web, which proves and builds it'
+UNBUILT = [
+    *(Make(f'make {name}', ['make', name, 'DESTDIR=/nowhere'], 2, [NOT_BUILT]) for name in ('play', 'sheet', 'test', 'exchange', 'install')),
+    Make('make play, in a terminal or not', ['make', 'play', f'ID={ID}'], 2, [NOT_BUILT], input=b'show\n'),
+    Make('make page', ['make', 'page'], 2, [NO_PAGE]),
+    Make('make site', ['make', 'site'], 2, [NO_PAGE]),
 ]
 
 #: Where the programs are built already.
 OF_BUILT = [
+    Make('make play, an ID in a pipe', ['make', 'play', f'ID={ID}'], says=[SHOWN], input=b'show\n'),
+    Make('make sheet, of seeds', ['make', 'sheet'], says=['build/sheet.html is there']),
     Make('make play, no ID in a pipe', ['make', 'play'], says=['+ '], input=b'show\n'),
     Make('make play, no input', ['make', 'play'], says=['+ ', 'to play on']),
     Make('make play, no input and an ID', ['make', 'play', f'ID={ID}'], says=[SHOWN, 'to play on']),
@@ -139,6 +147,14 @@ def test_make(place: Place, row: Make) -> None:
     expect(place, row)
 
 
+@pytest.mark.parametrize('row', UNBUILT, ids=by_name)
+def test_unbuilt(place: Place, row: Make) -> None:
+    """They say what is to be typed, and begin no proof, though there is a kit."""
+    ended = expect(place, row)
+    assert 'functions proved' not in ended.said
+    assert not os.path.exists(os.path.join(place.path, 'build'))
+
+
 @pytest.fixture(scope='module')
 def first_built(memory: str, first_place: Place) -> Iterator[Place]:
     """Others are copied from it."""
@@ -161,8 +177,9 @@ def expect_built(place: Place, row: Make) -> None:
     assert 'functions proved' not in ended.said
 
 
-def test_in_a_terminal(place: Place) -> None:
-    in_a_terminal(place)
+def test_in_a_terminal(memory: str, first_built: Place) -> None:
+    with Room(memory) as room:
+        in_a_terminal(Place(room, first_built.program, first_built.objects, first_built))
 
 
 def last_line(place: Place, *words: str) -> str:

@@ -3,11 +3,12 @@
 import os
 import re
 import shutil
+import signal
 from typing import Iterable, List, NamedTuple, Sequence, Set
 
 import pytest
 
-from tests.harness import by_name
+from tests.harness import Room, by_name, run
 from tests.harness.builds import TOP
 from tests.harness.skips import PACKAGES
 from tests.scripts.place import Place
@@ -150,3 +151,13 @@ def small_path(place: Place) -> str:
             os.symlink(shutil.which(command) or command, path)
     place.give()
     return folder
+
+
+@pytest.mark.parametrize('number', [signal.SIGINT, signal.SIGQUIT, signal.SIGHUP])
+def test_ignored(room: Room, number: signal.Signals) -> None:
+    """A signal that is ignored around the tests, as in the background or after nohup, ends the programs that they start."""
+    before = signal.signal(number, signal.SIG_IGN)
+    try:
+        assert run(['sh', '-c', f'kill -{int(number)} $$; echo "It is ignored."'], room).status == -number
+    finally:
+        signal.signal(number, before)

@@ -8,7 +8,8 @@ from tests.harness.program import Ended
 
 FOLDER = 'programs/linux-amd64'
 OTHER = f'{FOLDER}/puzzles-json'
-STORED = [f'{FOLDER}/puzzles', OTHER, 'programs/RECORD']
+FOR_ARM = 'programs/linux-arm64'
+STORED = [f'{FOLDER}/puzzles', OTHER, f'{FOR_ARM}/puzzles', f'{FOR_ARM}/puzzles-json', 'programs/RECORD']
 OTHER_SOURCES = b'are of other sources than those that are here'
 
 
@@ -52,6 +53,8 @@ def test_tree(small: Small) -> None:
     before_stored(small)
     stored(small)
     where(small, FOLDER, RT='/no kit')
+    where(small, FOR_ARM, RT='/no kit', PUZZLES_MACHINE='Linux aarch64')
+    where(small, '', says=[b'no program here is for Linux riscv64: the page, programs/web/puzzles.html, plays'], PUZZLES_MACHINE='Linux riscv64')
     for row in CHANGES:
         taken(small, row)
     for crate in ('low', 'beside'):
@@ -78,6 +81,7 @@ def expect(small: Small, ended: Ended, output: bytes, error: bytes = b'', status
 
 def before_stored(small: Small) -> None:
     """A repository without programs in the tree."""
+    small.expect(small.run('tools/programs', 'ready'), [], 1, [b'there is no programs/RECORD: run make, which proves and builds them'])
     where(small, 'build', ALL, [b'there is no programs/RECORD: they are proved and built\n'])
     where(small, 'build', [], [b'there is no programs/RECORD: they are proved and built\n'])
     expect(small, small.run('tools/programs', 'ready'), b'build\n')
@@ -88,10 +92,10 @@ def stored(small: Small) -> None:
     ended = small.run('tools/programs', 'store')
     expect(small, ended, ''.join(f'stored: {path}\n' for path in STORED).encode())
     modes = [f'{os.stat(os.path.join(small.place.path, path)).st_mode & 0o777:o}' for path in STORED]
-    assert modes == ['755', '755', '644'], repr(modes)
+    assert modes == ['755', '755', '755', '755', '644'], repr(modes)
     assert small.place.file(OTHER) == small.place.file(STORED[0])
     summed = small.place.run(['sha256sum', '--check', '--strict', 'RECORD'], cwd='programs')
-    expect(small, summed, b'linux-amd64/puzzles: OK\nlinux-amd64/puzzles-json: OK\n')
+    expect(small, summed, ''.join(f'{path[9:]}: OK\n' for path in STORED[:-1]).encode())
     lines = small.place.file('programs/RECORD').splitlines()
     assert b'# kit: a small kit' in lines, repr(lines)
 
@@ -118,7 +122,7 @@ def other_sources(small: Small) -> None:
     old = small.place.file(path)
     expect(small, small.run('make', RT='/no kit'), b'')
     put(path, b'// Else.\n')(small.place)
-    expect(small, small.run('tools/programs', 'ready'), b'', b'the programs in build ' + OTHER_SOURCES + b': run make\n', 1)
+    small.expect(small.run('tools/programs', 'ready'), [], 1, [b'the programs in build ' + OTHER_SOURCES + b': run make, which proves and builds them'])
     where(small, 'build', OF_HIGH, [OTHER_SOURCES])
     where(small, 'build', [], [OTHER_SOURCES])
     expect(small, small.run('tools/programs', 'ready'), b'build\n')
@@ -146,7 +150,7 @@ def stored_again(small: Small) -> None:
     assert dates(small) == before, 'something is'
     put(path, b'// Else, but the same program.\n')(small.place)
     small.expect(small.run('tools/programs', 'store'), OF_HIGH)
-    assert dates(small)[:2] == before[:2] != dates(small)[2:], 'it is more'
+    assert dates(small)[:-1] == before[:-1] and dates(small)[-1] != before[-1], 'it is more'
     where(small, FOLDER)
     put(path, old)(small.place)
     ended = small.run('tools/programs', 'store', RT_ADDS='exit 3')
@@ -162,11 +166,14 @@ def compared(small: Small) -> None:
     """The words of the gate, after what is stored was built as `build/`."""
 
     def expect_compared(status: int, *says: str, built: str = 'build/puzzles', **env: str) -> None:
-        ended = small.run('tools/programs', 'compare', built, **env).expect(*says, status=status)
+        ended = small.run('tools/programs', 'compare', *[built] * bool(built), **env).expect(*says, status=status)
         assert (ended.error, ended.said.endswith(f'{says[-1]}\n')) == (b'', True), ended
 
     advice = ': make programs, and commit\n'
     expect_compared(0, '3 passed, 0 failed')
+    expect_compared(0, '3 passed, 0 failed', built='')
+    expect_compared(1, 'build/arm/puzzles is ', advice, '2 passed, 1 failed', built='', RT_PROGRAM='/bin/true')
+    expect_compared(0, "the kit here is 'there is no command rt'", 'nothing is compared', '1 passed, 0 failed', built='', RT='/no kit')
     other = small.place.put('../another', b'#!/bin/sh\n')
     sums = [small.place.run(['sha256sum', path]).output.decode()[:64] for path in (other, STORED[0])]
     expect_compared(1, *sums, advice, '2 passed, 1 failed', built=other)

@@ -56,7 +56,8 @@ def pictures(page: str) -> List[Picture]:
 
 
 def picture(svg: Element) -> Picture:
-    lines = [line for path in svg.iter('path') for line in lines_of(path.attrib['d'])]
+    # A thick frame around a square says nothing of the puzzle.
+    lines = [line for path in svg.iter('path') if path.get('class') != 'hint' for line in lines_of(path.attrib['d'])]
     squares = [line for line in lines if line.is_closed]
     return of_towers(squares[0], lines, list(digits(svg))) if len(squares) == 1 else of_unequal(squares, lines, list(digits(svg)))
 
@@ -81,6 +82,9 @@ def lines_of(path: str) -> Iterator[Line]:
 
 def digits(svg: Element) -> Iterator[Digit]:
     for group in svg.iter('g'):
+        # The names of rows and columns.
+        if group.get('class') == 'edges':
+            continue
         font = int(group.get('font-size', '0'))
         for text in group.findall('text'):
             yield Digit(int(text.attrib['x']), int(text.attrib['y']) - MIDDLE * font, int(text.text or ''), group.get('font-weight') == BOLD)

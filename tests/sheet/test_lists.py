@@ -21,7 +21,7 @@ TOWERS, TURNED, OTHER = '3:3//////3/////', '3://3///////3//', '3:///////////,3_2
 UNEQUAL = '3:0,0L,0L,0U,0,0,0U,0,0,'
 SEVERAL, NONE, SHORT = '3:///////////', '3:1,1,0,0,0,0,0,0,0,', '3:1/2'
 
-FEW = "A description has four clues for each of the size, with '/' between, and all squares after a ','."
+FEW = "Too few parts: a description has 4 x size clues separated by '/', then ',' and the squares."
 SIZE = "An ID begins with the size, one digit from 3 to 9, like the 5 in '5!7'."
 
 
@@ -76,7 +76,7 @@ WRONG = [
     Wrong('a seed that fits both', b'3!7', 'line 1: it fits both games: write towers or unequal before it\n'),
     Wrong('of the game that is named', f'towers {UNEQUAL}'.encode(), f'line 1: {FEW}\n'),
     Wrong('a long line', b'3:' + b'/' * 5000, 'line 1: A line has 1,024 bytes at most.\n'),
-    Wrong('a line of zeros', b'3:\x00', "line 1: A description has one part for each square, with ',' between.\n"),
+    Wrong('a line of zeros', b'3:\x00', "line 1: Too few parts: a description has one for each square, separated by ','.\n"),
     Wrong('a folder', b'/tmp', 'line 1: /tmp is a folder\n'),
     Wrong('no save', b'/etc/passwd', "line 1: That is no save file of the collection: one begins with 'SAVEFILE:41:'.\n"),
     Wrong('empty', b'', 'standard input has no puzzles\n'),

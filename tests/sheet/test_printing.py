@@ -6,12 +6,12 @@ import os
 import re
 import shutil
 import sys
-from typing import Iterator, List, NamedTuple, Sequence
+from typing import Iterator, List, NamedTuple, Sequence, Tuple
 
 import pytest
 
-from sheet.pdf import BROWSERS
-from tests.harness import Room, Skip
+from sheet.pdf import BROWSERS, OTHERWISE
+from tests.harness import Room, Skip, by_name
 from tests.harness.browser import Browser
 from tests.second_implementation.seeded import full_puzzle
 from tests.sheet.making import Maker, content, stored
@@ -58,9 +58,10 @@ def sheets(paper: str) -> Iterator[Sheet]:
     yield Sheet(['--ids-below'], nines()[4:], 2, 1)
     yield Sheet(['--title', 'A title that is longer than a line ' * 3], sixes(), 2, 1)
     yield Sheet(['--large', '--ids-below', '--words'], [sixes()[0], sixes()[-1], *full()], 4, 1)
-    yield Sheet(['--large', '--title', 'A title that is longer than a line ' * 3], sixes()[:2], 2, 1)
+    yield Sheet(['--large', '--example', '--title', 'A title that is longer than a line ' * 2], sixes()[:2], 5, 1)
+    yield Sheet(['--example'], sixes(), 6, 1)
     yield Sheet(['--answers', 'only', '--per-page', '12'], nines(), 0, 1)
-    yield Sheet(['--answers', 'only', '--steps'], nines(), 0, 1, 2)
+    yield Sheet(['--answers', 'only', '--steps'], nines(), 0, 1, 3 if paper == 'letter' else 2)
     yield Sheet(['--answers', 'only', '--steps', '--large'], nines()[2:6], 0, 1, 5)
 
 
@@ -94,6 +95,42 @@ def expect_sheet(browser: Browser, room: Room, maker: Maker, sheet: Sheet, paper
         assert len(pages) == (1 if '--ids-below' in sheet.words else 0), line
         of_number = found.pages_with(f'{code[1]}-{number}')
         assert set(pages) <= set(of_number) and len(of_number) >= (1 if sheet.pages else 0), line
+
+
+class Answers(NamedTuple):
+    """The words of a sheet of Towers, how many pages its answers take, and the side of their squares in mm: at least and at most, reckoned by hand."""
+
+    words: Sequence[str]
+    size: int
+    pages: int
+    sides: Tuple[float, float]
+
+    @property
+    def name(self) -> str:
+        return ' '.join(self.words)
+
+
+ANSWERS = [
+    # Four rows of 65 mm, of which a number and what is free take 10.
+    Answers(['--count', '12'], 5, 1, (8.8, 9.4)),
+    # Six rows of 43 mm, with four each.
+    Answers(['--size', '6', '--count', '24'], 6, 1, (4.8, 5.2)),
+    # Larger ones than those of 12 mm look childish.
+    Answers(['--size', '4', '--count', '4'], 4, 1, (11.8, 12.3)),
+    # Three rows of 84 mm, of which 16 are no board.
+    Answers(['--count', '6', '--large'], 5, 1, (11, 11.5)),
+    # No page has room for 16 with squares of 4.4 mm. On two there are three columns of 59 mm.
+    Answers(['--size', '9', '--count', '16', '--seed', '7'], 9, 2, (5.7, 5.95)),
+]
+
+
+@pytest.mark.parametrize('row', ANSWERS, ids=by_name)
+def test_answers(maker: Maker, row: Answers) -> None:
+    """They are as large as their pages have room for, and all alike."""
+    page = maker.page(['towers', *row.words, '--answers', 'only'])
+    assert page.count('<h1 dir="auto">Answers: ') == row.pages
+    (width,) = set(re.findall(r'<svg role="img" width="([0-9.]+)mm"', page))
+    assert row.sides[0] <= float(width) / (row.size + 1.04) <= row.sides[1]
 
 
 #: Words, and how many of the puzzles come onto a page whose squares aren't smaller than 7 mm: reckoned by hand for A4, of which 186 by 250 mm are free.
@@ -135,9 +172,13 @@ def test_pdf(maker: Maker, room: Room) -> None:
     assert 'Answers: Towers' in said('pdftotext', os.path.join(room.path, 'sheet.pdf'), '-')
 
 
+#: What a Firefox says of itself; asked for a PDF it would go on for ever.
+FIREFOX = b'#!/bin/sh\n[ "$1" = --version ] && echo Mozilla Firefox 140.0 || exec sleep 600\n'
+
 #: Words, what is told where no PDF comes of them.
 NO_PDF = [
     (['--browser', 'no-browser'], "there is no program 'no-browser'"),
+    (['--browser', './a-firefox'], f'./a-firefox (Mozilla Firefox 140.0) makes no PDF by a command, as a Chromium does: {OTHERWISE}'),
     (['--browser', '/bin/false'], '/bin/false has made no PDF: write the page with --output, and print it in a browser'),
     ([], 'no Chromium was found (chromium, chromium-browser, google-chrome ..): --browser names one; or write the page with --output, and print it in a browser'),
 ]
@@ -147,6 +188,7 @@ NO_PDF = [
 def test_no_pdf(maker: Maker, room: Room, words: List[str], told: str) -> None:
     """It is told what is lacking, and nothing is written."""
     env = {} if words else {'PATH': here_alone(room)}
+    room.put('a-firefox', FIREFOX, 0o755)
     ended = maker.run(['towers', '--count', '1', '--pdf', 'sheet.pdf', *words], env=env)
     assert (ended.status, ended.output, ended.error.decode()) == (1, b'', f'puzzles-sheet: {told}\n')
     assert 'sheet.pdf' not in room.names()
@@ -176,15 +218,53 @@ LOOK = """[
 ]"""
 
 
+#: What is said of a caption that is too long.
+CUT = 'puzzle 1: the end of its caption is cut off, since 2 lines have room\n'
+
+
 def test_hostile(paper: Browser, maker: Maker, room: Room) -> None:
     """Titles and captions are text, whatever stands in them; and what is measured is seen where it is wrong."""
     for text in HOSTILE:
-        page = maker.page(['--ids', '-', f'--title={text}', '--per-page', '9', '--ids-below'], content([f'{sixes()[0]} {text}', *sixes()[1:5]]))
+        lines, title = content([f'{sixes()[0]} {text}', *sixes()[1:5]]), text[:90]
+        page = maker.page(['--ids', '-', f'--title={title}', '--per-page', '9', '--ids-below'], lines, told=CUT if len(text) > 300 else '')
         shown(paper, room, page)
-        title = ' '.join(text.split())
+        title = ' '.join(title.split())
         *found, above, notes = paper.value(LOOK)
         assert [*found, notes] == ['undefined', 0, 0, title, 1]
-        assert all(title.startswith(text.rstrip('…')) and (text == title or len(text) > 40) for text in above), above
+        assert above == [title]
         assert not any(map(any, paper.value(MEASURE))), text[:40]
     shown(paper, room, re.sub('line-height:2', 'line-height:4', page))
     assert any(map(any, paper.value(MEASURE)))
+
+
+#: Titles that are long, and as wide as may be; and another font, which is wider.
+TITLES = ['W' * 62, 'MMMM WWWW ' * 6, 'ä rather long title, ' * 6, 'iiii ' * 40, '漢字' * 24, 'Щука ' * 14]
+WIDER = ('Arial,"Liberation Sans",Helvetica,"DejaVu Sans"', '"DejaVu Sans"')
+
+
+@pytest.mark.parametrize('title', TITLES)
+def test_title(paper: Browser, maker: Maker, room: Room, title: str) -> None:
+    """It takes as many lines as it needs, and nothing lies over another thing."""
+    page = maker.page(['--ids', '-', '--title', title, '--per-page', '6', '--steps', '--example'], content(sixes()[:6]))
+    for each in (page, page.replace(*WIDER)):
+        found = printed(paper, room, each)
+        assert not any(map(any, found.sticks_out))
+        whole = ''.join(title.split())
+        assert found.pages_with(whole) == list(range(1, len(found.texts) + 1))
+
+
+#: Titles of one letter that have no room, with how many lines they may take, and how many have room: reckoned by hand. `A` may be 0.88 of its font.
+LONG = [
+    # 122 mm are free, and 26 letters of 4.66 mm have room; above the example a word stands before them.
+    (['towers'], 1000, 1 + 39, 6),
+    # 114 mm are free, and 14 letters of 8.07 mm have room.
+    (['unequal', '--large'], 100, 1 + 8, 5),
+]
+
+
+@pytest.mark.parametrize(('words', 'letters', 'lines', 'most'), LONG)
+def test_long_title(maker: Maker, words: List[str], letters: int, lines: int, most: int) -> None:
+    """It is refused, and nothing is made."""
+    ended = maker.run([*words, '--title', 'A' * letters])
+    told = f'puzzles-sheet: --title: it is too long: it may take {lines} lines, and {most} have room\n'
+    assert (ended.status, ended.output, ended.error.decode()) == (2, b'', told)

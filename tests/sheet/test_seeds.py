@@ -11,7 +11,6 @@ import pytest
 from playing.board import Board
 from playing.games import GRADES
 from playing.program import Program
-from playing.steps import sentences
 from tests.harness import Room, by_name
 from tests.second_implementation.fair import fair
 from tests.second_implementation.grades import LETTERS, follows
@@ -42,6 +41,7 @@ class Sheet(NamedTuple):
 
     words: Sequence[str]
     captions: List[str]
+    told: str = ''
 
     @property
     def name(self) -> str:
@@ -51,7 +51,16 @@ class Sheet(NamedTuple):
 SHEETS = [
     Sheet(['towers'], ['5 Easy'] * 12),
     Sheet(['unequal', '--count', '3', '--seed', '0'], ['5 Easy'] * 3),
-    Sheet(['towers', '--size', '4-6', '--count', '4'], ['4 Easy', '4 Easy', '5 Easy', '6 Easy']),
+    Sheet(
+        ['towers', '--size', '4-6', '--count', '4'],
+        ['4 Easy', '4 Easy', '5 Easy', '6 Easy'],
+        '4 puzzles of 3 kinds: 2 of size 4 easy, 1 of size 5 easy, 1 of size 6 easy',
+    ),
+    Sheet(
+        ['unequal', '--size', '4-5', '--grade', 'easy,tricky', '--count', '3'],
+        ['4 Easy', '4 Tricky', '5 Easy'],
+        '3 puzzles of 4 kinds: 1 of size 4 easy, 1 of size 4 tricky, 1 of size 5 easy, 0 of size 5 tricky',
+    ),
     Sheet(
         ['towers', '--size', '5-7', '--grade', 'easy,hard', '--seed', '20261126'],
         [f'{size} {grade}' for size in (5, 6, 7) for grade in ('Easy', 'Easy', 'Hard', 'Hard')],
@@ -68,8 +77,8 @@ SHEETS = [
 
 @pytest.mark.parametrize('row', SHEETS, ids=by_name)
 def test_sheet(maker: Maker, row: Sheet) -> None:
-    """They rise by size, and then by grade, with as many of one kind as of another; each has the grade that was asked for."""
-    page = maker.page([*row.words, '--answers', 'none'])
+    """They rise by size, and then by grade, with as many of one kind as of another, or it is told; each has the grade that was asked for."""
+    page = maker.page([*row.words, '--answers', 'none', '--show-grades', 'all'], told=f'{row.told}\n' if row.told else '')
     assert captions(page) == row.captions
     assert [graded(picture) for picture in pictures(page)] == row.captions
 
@@ -193,7 +202,7 @@ def test_grade(maker: Maker, objects: str) -> None:
         Graded(UNEQUAL, '5'),
         Graded(f'6dx:{description}', '6 Extreme'),
     ]
-    ended = maker.run(['--ids', '-', '--answers', 'none'], content([row.line for row in rows]))
+    ended = maker.run(['--ids', '-', '--answers', 'none', '--show-grades', 'all'], content([row.line for row in rows]))
     page = ended.output.decode()
     assert captions(page) == [row.caption for row in rows]
     assert [graded(picture) for picture in pictures(page)][:-1] == [row.caption for row in rows][:-1]
@@ -207,58 +216,3 @@ def board_of(objects: str, line: str) -> Board:
     program.stop()
     assert board is not None
     return board
-
-
-def test_steps(maker: Maker, objects: str) -> None:
-    """The first three moves, and the hardest one, in the sentences of the hints, after the answers."""
-    page = maker.page(['towers', '--grade', 'hard', '--count', '2', '--steps', '--title', 'Two'])
-    assert re.findall(r'<h1 dir="auto">([A-Za-z: ]*)<bdi>', page) == ['', 'Answers: ', 'Steps: ']
-    assert re.findall(r'<p class="first"><b>(\d+)</b> (\w+)</p>', page) == [('1', 'Hard'), ('2', 'Hard')]
-    moves = re.findall(r'<p><b>Move (\d+)(, the hardest)?\.</b> ', page)
-    second = [number for number, _ in moves].index('1', 1)
-    for told in (moves[:second], moves[second:]):
-        assert [number for number, _ in told[:3]] == ['1', '2', '3'] and len(told) in (3, 4)
-        assert len([hardest for _, hardest in told if hardest]) == 1
-    for id, first in zip(ids(page), re.split(r'<b>Move 1\.</b> |<b>Move 1, the hardest\.</b> ', page)[1:]):
-        assert paragraphs(first.partition('<b>Move 2')[0]) == hinted(objects, id)
-
-
-def test_all_told(maker: Maker) -> None:
-    """It is said which moves are told, and that others are left out; the columns are full but for the last one."""
-    page = maker.page(['towers', '--size', '6', '--grade', 'hard', '--steps'])
-    assert page.count('The others are left out, since they are found in the same ways.') == 1
-    columns = [len(paragraphs(column)) for column in re.findall(r'<div class="steps" [^>]*>(.*?)</div>', page, re.DOTALL)]
-    assert len(columns) > 1 and min(columns[:-1]) > 20, columns
-
-
-def test_example(maker: Maker) -> None:
-    """A small puzzle of each game comes first, with its answer and its first three moves; it is none of the sheet's own."""
-    lines = content([TOWERS, UNEQUAL])
-    page, without = maker.page(['--ids', '-', '--example'], lines), maker.page(['--ids', '-'], lines)
-    assert re.findall(r'<h1 dir="auto">([A-Za-z: ]*)<bdi>', page)[:3] == ['Example: ', 'Example: ', '']
-    drawn = pictures(page)
-    assert [(picture.game, picture.puzzle.size) for picture in drawn[:4]] == [('towers', 4), ('towers', 4), ('unequal', 4), ('unequal', 4)]
-    assert [ids(page)[at] for at in (0, 2)] == ids(page)[1:4:2], 'the answer is that of the puzzle'
-    assert all(all(picture.numbers) for picture in drawn[1:4:2]), 'it is solved'
-    assert ids(page)[4:] == ids(without)
-    assert re.findall(r'<p><b>Move (\d)\.</b>', page) == ['1', '2', '3'] * 2
-
-
-def paragraphs(text: str) -> List[str]:
-    """The text of some paragraphs, without the blocks that they stand in."""
-    return [unescape(piece) for piece in re.sub('<[^>]*>', '\n', text).split('\n') if piece]
-
-
-def hinted(objects: str, id: str) -> List[str]:
-    """The sentences of the first hint of a puzzle of Towers."""
-    program = Program(objects, 'towers', ['--id', id])
-    hint = program.ask('hint').hint
-    program.stop()
-    assert hint and hint.grade and hint.text
-    return sentences(hint.text)
-
-
-def test_steps_end(maker: Maker) -> None:
-    """Where no grade has the steps to the end, that is told."""
-    page = maker.page(['--ids', '-', '--steps', '--answers', 'only'], content([TOWERS, UNEQUAL, '3:3//////3/////']))
-    assert page.count('</b> After that no number follows by steps.</p>') == 2

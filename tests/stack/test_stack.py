@@ -19,13 +19,16 @@ STACK = 64 * 1024
 #: So often what takes most of it is tried: a system lets the stack begin up to 8 KB lower, each time elsewhere, and after an environment, here one
 #: as large as the manual allows.
 TIMES = 60
-ENVIRONMENT = {'EVERYTHING_ELSE': 3000 * '.'}
+ENVIRONMENT = {'EVERYTHING_ELSE': 2000 * '.'}
 
 #: Each command, on the puzzle itself and on a board with all its marks, and then on a seeded game.
 COMMANDS = Path(__file__).with_name('commands.txt').read_bytes()
 
 #: The lines that the plain program doesn't know.
-FURTHER = b'board\ncompletable\nhint\ngrade\n'
+FURTHER = b'board\ncompletable\nhint\ngrade\nsolutions\nspare\n'
+
+#: Those of a setter, which begin a game each.
+DESK = b'thin\nspare\nspare e\nthin e\nitem 0,0,1\nspare\nthin\nblank 9\nsolutions\nspare\n'
 
 
 class Board(NamedTuple):
@@ -66,7 +69,7 @@ def test_puzzles(program: str, room: Room, board: Board) -> None:
 
 @pytest.mark.parametrize('board', BOARDS, ids=by_name)
 def test_objects(objects: str, room: Room, board: Board) -> None:
-    words, script = [objects, board.game, '--id', board.id], FURTHER + COMMANDS + FURTHER
+    words, script = [objects, board.game, '--id', board.id], FURTHER + COMMANDS + FURTHER + DESK
     wanted = run(words, room, input=script)
     assert run(words, room, input=script, limits={resource.RLIMIT_STACK: STACK}) == wanted
     assert wanted.status == 0
@@ -76,7 +79,7 @@ def test_objects(objects: str, room: Room, board: Board) -> None:
 def test_fair(objects: str, room: Room, game: str, letter: str) -> None:
     """Fair games of the largest boards, and what follows in each."""
     words = [objects, game]
-    script = b''.join(b'fair 9 %s %d\n%s' % (letter.encode(), seed, FURTHER) for seed in (1, 7, 20261126))
+    script = b''.join(b'fair 9 %s %d\n%s' % (letter.encode(), seed, FURTHER + DESK) for seed in (1, 7, 20261126))
     wanted = run(words, room, input=script)
     assert run(words, room, input=script, limits={resource.RLIMIT_STACK: STACK}) == wanted
     assert wanted.status == 0

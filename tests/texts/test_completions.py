@@ -39,7 +39,7 @@ LINES = [
     Line('a file called as a game', ['puzzles', '--save', 'towers', 't'], 'towers'),
     Line('puzzles-json', ['puzzles-json', 'u'], 'unequal'),
     Line('the options of puzzles-json', ['puzzles-json', 'towers', '--s'], '--save'),
-    Line('the board', ['puzzles-play', ''], 'towers unequal --lines --ids --help --version old.sav'),
+    Line('the board', ['puzzles-play', ''], 'towers unequal learn --lines --ids --help --version old.sav'),
     Line('the board, a game', ['puzzles-play', 'u'], 'unequal'),
     Line('the board, a file', ['puzzles-play', '--lines', 'towers', 'o'], 'old.sav'),
     Line('the board, an option once', ['puzzles-play', '--lines', '-'], '--help --version'),
@@ -51,10 +51,14 @@ LINES = [
     Line('the board, grades of size 3', ['puzzles-play', 'towers', '3', 'today', ''], 'easy --lines --ids --help --version old.sav'),
     Line('the board, grades of size 9', ['puzzles-play', 'unequal', '9', ''], 'trivial easy tricky extreme number today --lines --ids --help --version old.sav'),
     Line('the board, nothing for a number', ['puzzles-play', 'towers', 'number', ''], ''),
+    Line('the board, the course', ['puzzles-play', 'learn', ''], 'towers unequal --lines --help --version'),
+    Line('the board, the course of a game', ['puzzles-play', 'learn', 'towers', ''], '--lines --help --version'),
+    Line('the board, its word', ['puzzles-play', '--lines', 'le'], 'learn'),
     Line('the page', ['puzzles-page', ''], '--path --help --version'),
     Line('the page, an option', ['puzzles-page', '--p'], '--path'),
     Line('the page, all was named', ['puzzles-page', '--path', ''], ''),
-    Line('a sheet', ['puzzles-sheet', 'towers', '--s'], '--size --seed --steps'),
+    Line('a sheet', ['puzzles-sheet', 'towers', '--s'], '--size --seed --show-grades --steps'),
+    Line('a sheet, where grades stand', ['puzzles-sheet', 'towers', '--show-grades', ''], 'answers all none'),
     Line('a sheet, where a PDF goes', ['puzzles-sheet', 'towers', '--pdf', 'o'], 'old.sav'),
     Line('a sheet, its game', ['puzzles-sheet', '--size', '5', 'u'], 'unequal'),
     Line('a sheet, a word of an option', ['puzzles-sheet', 'towers', '--paper', ''], 'a4 letter'),
@@ -63,6 +67,9 @@ LINES = [
     Line('a sheet, grades of Unequal', ['puzzles-sheet', 'unequal', '--grade', ''], 'trivial easy tricky'),
     Line('a sheet, sizes', ['puzzles-sheet', '--size', ''], '3 4 5 6 7 8 9'),
     Line('a sheet, a list', ['puzzles-sheet', '--ids', 'o'], 'old.sav'),
+    Line('a check', ['puzzles-check', ''], '--json --solutions --quick --help --version old.sav'),
+    Line('a check, an option', ['puzzles-check', 'old.sav', '--json', '--'], '--solutions --quick --help --version'),
+    Line('a check, one file more', ['puzzles-check', 'new.sav', 'o'], 'old.sav'),
     Line('a sheet, nothing for a title', ['puzzles-sheet', '--title', ''], ''),
 ]
 
@@ -87,6 +94,7 @@ def zsh_options() -> Dict[str, List[str]]:
         'puzzles-play': found(r'--([a-z]+)[\[}]', part(text, '    puzzles-play)', ';;$')),
         'puzzles-page': found(r'--([a-z-]+)[\[}]', part(text, '    puzzles-page)', ';;$')),
         'puzzles-sheet': found(r'--([a-z-]+)[=\[}]', part(text, '    puzzles-sheet)', ';;$')),
+        'puzzles-check': found(r'--([a-z-]+)[\[}]', part(text, '    puzzles-check)', ';;$')),
     }
 
 
@@ -97,6 +105,7 @@ def fish_options() -> Dict[str, List[str]]:
         'puzzles-play': found(r'complete -c puzzles-play .* -l ([a-z]+)', text),
         'puzzles-page': found(r'complete -c puzzles-page .* -l ([a-z-]+)', text),
         'puzzles-sheet': found(r'complete -c puzzles-sheet .* -l ([a-z-]+)', text),
+        'puzzles-check': found(r'complete -c puzzles-check .* -l ([a-z-]+)', text),
     }
 
 
@@ -119,6 +128,10 @@ def sheet_options(room: Room) -> List[str]:
     return front_options(room, 'sheet/puzzles-sheet')
 
 
+def check_options(room: Room) -> List[str]:
+    return front_options(room, 'check/puzzles-check')
+
+
 @pytest.mark.parametrize('line', LINES, ids=by_name)
 def test_bash(room: Room, line: Line) -> None:
     room.put('old.sav')
@@ -130,10 +143,10 @@ def test_bash(room: Room, line: Line) -> None:
 def test_options(room: Room, shell: str, offered: Callable[[], Dict[str, List[str]]]) -> None:
     """Those of the help, and the names of the programs and games."""
     wanted = {'puzzles': said('FORMATS', read('docs/FORMATS.md'))[1], 'puzzles-play': play_options(room)}
-    wanted.update({'puzzles-page': page_options(room), 'puzzles-sheet': sheet_options(room)})
+    wanted.update({'puzzles-page': page_options(room), 'puzzles-sheet': sheet_options(room), 'puzzles-check': check_options(room)})
     for program, told in offered().items():
         assert set(told) == set(wanted[program]) != set(), program
-    assert [text for text in ['puzzles', 'puzzles-json', 'puzzles-play', 'puzzles-page', 'puzzles-sheet', *GAMES] if text not in read(f'board/completion.{shell}')] == []
+    assert [text for text in [*wanted, 'puzzles-json', *GAMES] if text not in read(f'board/completion.{shell}')] == []
 
 
 @pytest.mark.parametrize('shell', ['zsh', 'fish'])
@@ -141,3 +154,11 @@ def test_shell(room: Room, shell: str) -> None:
     """The shell itself, where it is there, finds nothing wrong with its file."""
     if shutil.which(shell):
         assert run([shell, '-n', str(ROOT / f'board/completion.{shell}')], room) == (0, b'', b'')
+
+
+def test_debian_zsh(room: Room) -> None:
+    """The package has the file where Debian's zsh looks for those of packages; one that is there says the same."""
+    (folder,) = found(r'zshcompdir=(\S+)', read('debian/rules'))
+    assert folder == '/usr/share/zsh/vendor-completions'
+    if shutil.which('zsh') and read('/etc/os-release').startswith('PRETTY_NAME="Debian'):
+        assert folder in run(['zsh', '-fc', 'print -l $fpath'], room).output.decode().splitlines()

@@ -2,7 +2,7 @@
 
 from tests.harness import Room, run
 from tests.objects import schema
-from tests.objects.reading import FAIR, OWN_LINES
+from tests.objects.reading import ALL_OWN
 from tests.texts.parts import found, part, read
 from tests.texts.test_users import KINDS, said
 
@@ -12,7 +12,8 @@ def test_members() -> None:
 
 
 def test_lines() -> None:
-    assert not {line.decode() for line in (*OWN_LINES, FAIR)} - set(found(r'^### (\w+)', read('docs/JSON.md')))
+    heads = ' '.join(found(r'^### (.*)', read('docs/JSON.md')))
+    assert not {line.decode() for line in ALL_OWN} - set(found(r'\w+', heads))
 
 
 def test_manual() -> None:
@@ -30,5 +31,5 @@ def test_help(program: str, objects: str, room: Room) -> None:
     plain, own = (dict(zip(KINDS, said('help', text))) for text in told)
     for kind in ('options', 'statuses'):
         assert set(own[kind]) == set(plain[kind]) != set(), kind
-    wanted = [*(line.decode() for line in (*OWN_LINES, FAIR)), *schema.COMMON]
+    wanted = [*(line.decode() for line in ALL_OWN), *schema.COMMON]
     assert not set(wanted) - set(found(r'^  ([a-z]+) ', told[1]))

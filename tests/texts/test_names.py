@@ -27,7 +27,7 @@ class Known:
         self.names = set(found(r'\b(\w+)', read('crates.txt'))).union(OTHER_WORDS, self.make, *self.crates.values())
         self.names.update(schema.names(), schema.STATUSES, schema.COUNTS, schema.KINDS)
         self.names.update(name for path in self.files for name in (path.rpartition('/')[2], path.rpartition('/')[2].partition('.')[0]))
-        self.names.update(listed(PARTS).kit)
+        self.names.update(name for _, name in listed(PARTS).kit)
 
     def has(self, words: str) -> bool:
         """Whether a name, a path or a command of `make` is one that there is. What is none of these is a sample."""

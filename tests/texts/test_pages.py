@@ -8,10 +8,10 @@ import pytest
 from mdoc.page import page
 from tests.harness import Room, by_name, need, run
 from tests.objects import schema
-from tests.objects.reading import FAIR, OWN_LINES
+from tests.objects.reading import ALL_OWN
 from tests.texts import sources
 from tests.texts.parts import ROOT, found, part, read
-from tests.texts.test_completions import page_options, play_options, sheet_options
+from tests.texts.test_completions import check_options, page_options, play_options, sheet_options
 from tests.texts.test_users import wanted
 
 #: The types of faults of which no number is in the definitions.
@@ -88,7 +88,7 @@ def test_records() -> None:
 def test_objects() -> None:
     page = read('man/puzzles-json.6')
     assert set(named_options(page)) == set(wanted()[1]) != set(), 'options'
-    assert not {line.decode() for line in (*OWN_LINES, FAIR)} - set(found(r'^\.It Cm (\w+)', page)), 'lines'
+    assert not {line.decode() for line in ALL_OWN} - set(found(r'^\.It Cm (\w+)', page)), 'lines'
     assert not schema.names() - set(re.findall(r'\w+', page)), 'members'
 
 
@@ -105,6 +105,10 @@ def test_page(room: Room) -> None:
 
 def test_sheet(room: Room) -> None:
     assert set(named_options(read('man/puzzles-sheet.6'))) == set(sheet_options(room)) != set()
+
+
+def test_check(room: Room) -> None:
+    assert set(named_options(read('man/puzzles-check.6'))) == set(check_options(room)) != set()
 
 
 @pytest.mark.parametrize(('kind', 'names'), {**sources.faults(), **ONE_FAULT}.items())

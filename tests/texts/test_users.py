@@ -82,4 +82,4 @@ def test_sentences() -> None:
     """Each refusal has one."""
     faults = sources.faults()
     names = {name for kind in REFUSALS for name in faults[kind].values()} - UNEXPLAINED
-    assert not names - set(found(r"'(\w+)':? ?", read('playing/texts.py')))
+    assert not names - set(found(r"'(\w+)':? ?", read('playing/texts.py') + read('playing/shared_texts.py')))

@@ -1,47 +1,70 @@
-"""The programs in the tree: they are stored there, and compared with others."""
+"""The programs in the tree: they are stored there, and compared with others. The record has `# arm makers: ` above those for ARM: the line of `rt version`, and a sum
+over what they are linked with."""
 
 from __future__ import annotations
 
 import sys
-from typing import Iterator
+from typing import Callable, Iterator
 
 from building.changes import command, kit_of, sum_of
-from building.record import BUILT, LINKS, NAMES, TREE, sum_of_sources
+from building.record import AMD, ARM, BUILT, LINKS, NAMES, Programs, sum_of_sources
 from building.start import make
+from web_build.scripts import Unfit
 
 #: What is to be done where the programs in the tree aren't those of the sources.
 ADVICE = 'make programs, and commit'
 
 
 def store() -> int:
-    """Proves and builds, and stores the programs and their record in the tree, as far as they aren't there yet. Gives the status to end with."""
-    status = make()
-    if status != 0:
-        return status
-    record, fault = BUILT.read(), BUILT.fault(sum_of_sources())
-    if not record or fault:
-        print(f'nothing is stored: {fault}', file=sys.stderr)
+    """Proves and builds, and stores the programs for PCs and for ARM with their record in the tree, as far as they aren't there yet. Gives the status to end with."""
+    from arm_build.program import MADE, build, makers
+
+    try:
+        made_by = makers()
+        status = make()
+        if status != 0:
+            return status
+        record, fault = BUILT.read(), BUILT.fault(sum_of_sources())
+        if not record or fault:
+            raise Unfit(fault)
+        build()
+    except Unfit as unfit:
+        print(f'nothing is stored: {unfit}', file=sys.stderr)
         return 1
-    for name in NAMES:
-        if TREE.take(BUILT, name):
-            print(f'stored: {TREE.folder}/{name}')
-    if TREE.write(record):
-        print(f'stored: {TREE.record}')
+    for tree, made in (AMD, BUILT), (ARM, MADE):
+        for name in NAMES:
+            if tree.take(made, name):
+                print(f'stored: {tree.folder}/{name}')
+    if AMD.write(record, f'# arm makers: {made_by}\n{ARM.lines(ARM.sums())}'):
+        print(f'stored: {AMD.record}')
     return 0
 
 
 def compare(built: str) -> int:
-    """Compares a program that was built from nothing with that in the tree. Says how many cases have passed, which are the record, the program and its
-    other names, and gives the status to end with."""
-    fault = TREE.fault(sum_of_sources())
+    """Compares a program that was built from nothing with that in the tree. Gives the status to end with."""
+    rt = command()
+    return compared(AMD, 'kit', kit_of(rt) if rt else 'none', lambda: built)
+
+
+def compare_arm() -> int:
+    """The same for ARM, for which the program is built."""
+    from arm_build.program import build, makers
+
+    try:
+        return compared(ARM, 'arm makers', makers(), build)
+    except Unfit as unfit:
+        return compared(ARM, 'arm makers', str(unfit), build)
+
+
+def compared(tree: Programs, makers: str, here: str, build: Callable[[], str]) -> int:
+    """Says how many cases have passed, which are the record, the program and its other names, and gives the status to end with."""
+    fault = tree.fault(sum_of_sources())
     faults = [f'{fault}: {ADVICE}'] if fault else []
     passed = 0 if fault else 1
-    record, rt = TREE.read(), command()
-    kit = kit_of(rt) if rt else 'none'
-    if record and record.kit != kit:
-        print(f"the programs in {TREE.folder} were built by '{record.kit}', and the kit here is '{kit}': so nothing is compared")
+    if tree.text() and tree.fact(makers) != here:
+        print(f"the programs in {tree.folder} were built by '{tree.fact(makers)}', and the kit here is '{here}': so nothing is compared")
     else:
-        unlike = [*difference(built), *others()]
+        unlike = [*difference(tree, build), *others(tree)]
         passed += len(NAMES) - len(unlike)
         faults += unlike
     for text in faults:
@@ -50,20 +73,21 @@ def compare(built: str) -> int:
     return 1 if faults else 0
 
 
-def difference(built: str) -> Iterator[str]:
-    """How the program differs from that in the tree, with both sums; nothing where they are the same bytes."""
-    name, *_ = NAMES
+def difference(tree: Programs, build: Callable[[], str]) -> Iterator[str]:
+    """How a program differs from that in the tree, with both sums; nothing where they are the same bytes."""
     try:
-        found, kept = sum_of(built), sum_of(TREE.path(name))
+        built = build()
+        found, kept = sum_of(built), sum_of(tree.path(NAMES[0]))
+        if found != kept:
+            yield f'{built} is {found}, and {tree.folder}/{NAMES[0]} is {kept}: {ADVICE}'
     except OSError as error:
         yield f'{error.filename}: {error.strerror}: {ADVICE}'
-        return
-    if found != kept:
-        yield f'{built} is {found}, and {TREE.folder}/{name} is {kept}: {ADVICE}'
+    except Unfit as unfit:
+        yield f'{tree.folder}: {unfit}'
 
 
-def others() -> Iterator[str]:
+def others(tree: Programs) -> Iterator[str]:
     """The other names of the program in the tree that are not the same bytes."""
     for name, program in LINKS.items():
-        if TREE.sums().get(name) != TREE.sums().get(program):
-            yield f'{TREE.folder}/{name} is not {program}: {ADVICE}'
+        if tree.sums().get(name) != tree.sums().get(program):
+            yield f'{tree.folder}/{name} is not {program}: {ADVICE}'

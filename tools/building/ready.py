@@ -4,7 +4,11 @@ from __future__ import annotations
 
 import sys
 
-from building.record import BUILT, TREE, Programs, sum_of_sources
+from building.record import BUILT, STRANGE, TREE, Programs, sum_of_sources
+
+
+#: What is to be typed where there are none.
+ADVICE = 'run make, which proves and builds them: that needs the kit, and may take an hour'
 
 
 class NotReady(Exception):
@@ -13,6 +17,9 @@ class NotReady(Exception):
 
 def where() -> int:
     """Prints the folder of the programs. Where those in the tree aren't of these sources it says so, and proves and builds. Gives the status to end with."""
+    if STRANGE:
+        print(STRANGE, file=sys.stderr)
+        return 1
     fault = TREE.fault(sum_of_sources())
     if not fault:
         print(TREE.folder)
@@ -39,10 +46,13 @@ def tell() -> int:
 
 def ready() -> Programs:
     """The programs that are there, where nothing is built for it."""
+    if STRANGE:
+        raise NotReady(STRANGE)
     sources = sum_of_sources()
-    if not TREE.fault(sources):
+    in_tree = TREE.fault(sources)
+    if not in_tree:
         return TREE
-    fault = BUILT.fault(sources)
+    fault = BUILT.fault(sources) if BUILT.read() else in_tree
     if fault:
-        raise NotReady(f'{fault}: run make' if BUILT.read() else 'the programs are not built yet: run make')
+        raise NotReady(f'{fault}: {ADVICE}')
     return BUILT

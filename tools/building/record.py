@@ -14,6 +14,7 @@ So it goes by names and texts, and not by dates, modes, owners or what git knows
 from __future__ import annotations
 
 import os
+import sys
 from hashlib import sha256
 from typing import Dict, Iterable, Iterator, Optional
 
@@ -66,36 +67,41 @@ class Programs:
         """Those of the programs that are there."""
         return {name: sum_of(self.path(name)) for name in NAMES if os.path.isfile(self.path(name))}
 
-    def read(self) -> Optional[Record]:
-        """What the record says; nothing where there is none."""
+    def text(self) -> str:
+        """The whole record; nothing where there is none."""
         try:
             with open(f'{TOP}/{self.record}', encoding='utf-8', errors='replace') as file:
-                lines = file.read().splitlines()
+                return file.read()
         except OSError:
-            return None
-        facts = dict(line[2:].split(': ', 1) for line in lines if line.startswith('# ') and ': ' in line)
-        sums = dict(line.split('  ', 1)[::-1] for line in lines if '  ' in line and not line.startswith('#'))
-        return Record(facts.get('kit', ''), facts.get('sources', ''), {os.path.basename(path): told for path, told in sums.items()})
+            return ''
 
-    def text(self, record: Record) -> str:
-        """The record as it is written."""
-        way = os.path.relpath(self.folder, os.path.dirname(self.record))
-        lines = [f'{record.sums[name]}  {os.path.normpath(f"{way}/{name}")}\n' for name in NAMES]
-        return f'{HEAD}# kit: {record.kit}\n# sources: {record.sources}\n{"".join(lines)}'
+    def fact(self, name: str) -> str:
+        """What the record says by this name; nothing where it doesn't."""
+        return next((line.partition(': ')[2] for line in self.text().splitlines() if line.startswith(f'# {name}: ')), '')
 
-    def write(self, record: Record) -> bool:
-        """Writes the record, where it isn't there already. Says whether it wasn't."""
-        return put(f'{TOP}/{self.record}', (self.text(record) + self.of_page()).encode(), 0o644)
+    def read(self) -> Optional[Record]:
+        """What the record says; nothing where there is none."""
+        text = self.text()
+        sums = dict(line.split('  ', 1)[::-1] for line in text.splitlines() if '  ' in line and not line.startswith('#'))
+        own = {name: sums.get(self.named(name), '') for name in NAMES}
+        return Record(self.fact('kit'), self.fact('sources'), own) if text else None
+
+    def named(self, name: str) -> str:
+        """The path of a program from the folder of the record."""
+        return os.path.relpath(f'{self.folder}/{name}', os.path.dirname(self.record))
+
+    def lines(self, sums: Dict[str, str]) -> str:
+        """What the record has of the sums of the programs."""
+        return ''.join(f'{sums[name]}  {self.named(name)}\n' for name in NAMES)
+
+    def write(self, record: Record, more: str = '') -> bool:
+        """Writes the record, with lines of other programs below, where it isn't there already. Says whether it wasn't."""
+        text = f'{HEAD}# kit: {record.kit}\n# sources: {record.sources}\n{self.lines(record.sums)}{more}{self.of_page()}'
+        return put(f'{TOP}/{self.record}', text.encode(), 0o644)
 
     def of_page(self) -> str:
         """What the record says of the page, below what it says of the programs: `web_build.kept` writes it."""
-        try:
-            with open(f'{TOP}/{self.record}', encoding='utf-8', errors='replace') as file:
-                text = file.read()
-        except OSError:
-            return ''
-        start = text.find(PAGE)
-        return text[start:] if start >= 0 else ''
+        return ''.join(self.text().partition(PAGE)[1:])
 
     def forget(self) -> None:
         """Takes the record away."""
@@ -118,9 +124,17 @@ class Programs:
         return ''
 
 
-#: The programs that git keeps, and those that were proved and built here.
-TREE = Programs('programs/linux-amd64', 'programs/RECORD')
+#: The programs that git keeps, by the machines that run them, as `uname -sm` names these; and those that were proved and built here.
+AMD, ARM = (Programs(f'programs/linux-{name}', 'programs/RECORD') for name in ('amd64', 'arm64'))
+TREES = {'Linux x86_64': AMD, 'Linux aarch64': ARM}
 BUILT = Programs('build', 'build/RECORD')
+
+#: This machine, or the one that PUZZLES_MACHINE names. Below a kernel of 64 bits all else may have 32, as this Python then has, and `getconf LONG_BIT` says.
+MACHINE = os.environ.get('PUZZLES_MACHINE') or f'{os.uname().sysname} {os.uname().machine}{"" if sys.maxsize >> 32 else " of 32 bits"}'
+
+#: Those of this machine; and why it has none, in whose place stand others then.
+TREE = TREES.get(MACHINE, AMD)
+STRANGE = '' if MACHINE in TREES else f'no program here is for {MACHINE}: the page, programs/web/puzzles.html, plays in any browser'
 
 
 def sum_of_sources(tops: Optional[Iterable[str]] = None, besides: Iterable[str] = ()) -> str:

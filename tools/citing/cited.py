@@ -9,7 +9,7 @@ from typing import Dict, Iterable, List, NamedTuple, Set, Tuple
 
 from building.crates import ROOT, own
 from citing.declared import Declared, parts_of, words_of
-from trusting.definitions import imports
+from trusting.names import imports
 
 #: The last name of a module, and a name in it.
 Name = Tuple[str, str]

@@ -27,6 +27,7 @@ HEAD = r"""
 FOOT = """
 .Sh SEE ALSO
 .Xr puzzles 6 ,
+.Xr puzzles-check 6 ,
 .Xr puzzles-json 6 ,
 .Xr puzzles-page 6 ,
 .Xr puzzles-play 6 ,

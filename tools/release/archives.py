@@ -11,8 +11,9 @@ import tempfile
 from typing import Iterator, NamedTuple
 
 from building.changes import sum_of
+from building.record import BUILT, TREE, TREES
 from release import installing, places
-from release.note import Ready, Unfit, commit, fit_to_install, git, sums_in
+from release.note import Ready, Unfit, commit, fit, fit_to_install, git, sums_in
 from release.places import TOP, Folders
 
 #: The folders of the tarball of programs, which are those below PREFIX. The documents lie at its top.
@@ -37,7 +38,7 @@ class Archive(NamedTuple):
 
 
 def archives() -> Iterator[Archive]:
-    """The sources of the last commit, and its programs. Raises Unfit where something differs from that commit."""
+    """The sources of the last commit, and its programs, those of a build for this machine alone. Raises Unfit where something differs from that commit."""
     head = git('rev-parse', 'HEAD').decode().strip()
     if commit() != head:
         raise Unfit('there are changes that are not committed')
@@ -45,7 +46,9 @@ def archives() -> Iterator[Archive]:
     name = f'puzzles-{places.version()}'
     sources = git('-c', 'tar.umask=0022', 'archive', '--format=tar', f'--prefix={name}/', 'HEAD')
     yield Archive(f'{name}.tar.gz', compressed(sources))
-    yield Archive(f'{name}-linux-amd64.tar.gz', compressed(packed(programs, f'{name}-linux-amd64')))
+    for tree in [TREE] if programs.folder == BUILT.folder else TREES.values():
+        kind = f'{name}-{os.path.basename(tree.folder)}'
+        yield Archive(f'{kind}.tar.gz', compressed(packed(programs if tree is TREE else fit(head, tree), kind)))
 
 
 def compressed(content: bytes) -> bytes:

@@ -143,6 +143,8 @@ TRIALS = [
     Trial(['puzzles-page', '--path'], '', '/'),
     Trial(['puzzles-sheet', '--help'], '', 'usage: puzzles-sheet '),
     Trial(['puzzles-sheet', '--ids', '-'], '3:3//////3/////\n', '<!DOCTYPE html>\n'),
+    Trial(['puzzles-check', '--help'], '', 'usage: puzzles-check '),
+    Trial(['puzzles-check', '--quick'], '3:3//////3/////\n', '-:1\ttowers\tone\te\t-\t3:3//////3/////\n'),
 ]
 
 

@@ -4,10 +4,10 @@ from __future__ import annotations
 
 import re
 import subprocess
-from typing import Dict, List, NamedTuple
+from typing import Dict, List, NamedTuple, Optional
 
 from building.ready import NotReady, ready
-from building.record import NAMES, TREE
+from building.record import BUILT, NAMES, Programs, sum_of_sources
 from release.places import TOP, version
 
 
@@ -25,15 +25,16 @@ class Ready(NamedTuple):
     note: str
 
 
-def fit(at: str) -> Ready:
-    """The programs that are ready, at this commit. Raises Unfit where there are none."""
+def fit(at: str, programs: Optional[Programs] = None) -> Ready:
+    """The programs that are ready, or these, at this commit. Raises Unfit where there are none of the sources."""
     try:
-        programs = ready()
+        programs = programs or ready()
     except NotReady as error:
         raise Unfit(str(error)) from None
-    record = programs.read()
-    assert record
-    origin = 'taken from the tree' if programs is TREE else 'taken from a build'
+    record, fault = programs.read(), programs.fault(sum_of_sources())
+    if not record or fault:
+        raise Unfit(fault)
+    origin = 'taken from a build' if programs is BUILT else 'taken from the repository'
     sums = ''.join(f'{record.sums[name]}  {name}\n' for name in NAMES)
     return Ready(programs.folder, at, record.sums, f'{head(at)}proved by {record.kit}\n{origin}\n{sums}')
 

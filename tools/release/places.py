@@ -20,7 +20,7 @@ VARIABLES = ['gamesdir', 'datadir', 'mandir', 'docdir', 'bashcompdir', 'zshcompd
 COMMON = 'playing'
 
 #: The commands in Python, and the packages that they start: each lies in the folder of its package.
-FRONTS = {'puzzles-play': 'board', 'puzzles-page': 'page', 'puzzles-sheet': 'sheet'}
+FRONTS = {'puzzles-play': 'board', 'puzzles-page': 'page', 'puzzles-sheet': 'sheet', 'puzzles-check': 'check'}
 SCRIPTS = {name: f'{package}/{name}' for name, package in FRONTS.items()}
 
 COMMANDS = [*NAMES, *FRONTS]

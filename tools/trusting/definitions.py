@@ -4,21 +4,14 @@ from __future__ import annotations
 
 import re
 from pathlib import Path
-from typing import Dict, Iterator, List, NamedTuple, Optional, Set, Tuple
+from typing import Dict, Iterator, List, NamedTuple, Optional, Tuple
+
+from trusting.names import NAME, Source, imports, modules, passed_on
 
 ROOT = Path(__file__).resolve().parent.parent.parent
 
-#: Where a name comes from: the words of a path, as `Rattle.latin_board.specs.Squares`, and the name there.
-Source = Tuple[str, str]
-
-#: The words of a text, of which one after a point is a field or a member.
-WORD = re.compile(r"(?<![\w'.])[^\W\d][\w']*|\.[^\W\d][\w']*")
-
-#: An import, in a definition's file (`use`) or beside code (`ghost use`).
-USE = re.compile(r'^\s*(?:ghost |pub )?use (Rattle\.[\w.]+)\.\{(.*?)\}', re.MULTILINE | re.DOTALL)
-
-#: The head of a definition.
-HEAD = re.compile(r"^(?:abbrev |unfoldable |record |data |pub )*([^\W\d][\w']*)")
+#: The head of a definition: a name, or an operator with the places of what it stands between.
+HEAD = re.compile(rf'^(?:(?:abbrev|unfoldable|record|data|pub) )*({NAME}|◌\S+◌)')
 
 
 class Part(NamedTuple):
@@ -34,27 +27,21 @@ class Part(NamedTuple):
         """How many lines there are to read, comments with them."""
         return sum(1 for line in self.text.splitlines() if line.strip())
 
+    @property
+    def place(self) -> str:
+        """Where it stands, as documents name it."""
+        return f'{self.path.relative_to(ROOT).as_posix()}:{self.line}'
+
 
 class Meaning(NamedTuple):
-    """A part, and what its words may mean."""
+    """A part, and what its words may mean: names, whole modules, and of a trait's clauses that trait, whose ghosts stand there without a point. The head of
+    its block may name traits, whose ghosts it may have too."""
 
     part: Part
     names: Dict[str, Source]
-
-
-def words(text: str) -> Set[str]:
-    """The words of a text, without its comments; a field's with the point before it."""
-    return set(WORD.findall(re.sub(r'(--|//).*', '', text)))
-
-
-def imports(text: str) -> Dict[str, Source]:
-    """What each name that a text imports means."""
-    found: Dict[str, Source] = {}
-    for path, names in USE.findall(text):
-        for name in names.split(','):
-            there, _, here = name.strip().partition(' as ')
-            found[here or there] = (path, there)
-    return found
+    modules: Dict[str, str]
+    trait: str = ''
+    head: str = ''
 
 
 def blocks(text: str) -> Iterator[Tuple[int, str]]:
@@ -70,37 +57,58 @@ def blocks(text: str) -> Iterator[Tuple[int, str]]:
 
 
 def definitions(path: Path) -> Dict[str, Part]:
-    """The definitions in a file, by name."""
+    """The definitions in a file, by name; one by cases (`data`) also by the names of these."""
     found: Dict[str, Part] = {}
     for line, block in blocks(path.read_text(encoding='utf-8')):
         kept = [text for text in block.splitlines() if not re.match(r'(pub )?(use|mod) ', text)]
-        heads = [text for text in kept if not text.startswith('--')]
+        heads = [text for text in kept if not text.startswith(('--', 'infix'))]
         match = HEAD.match(heads[0]) if heads else None
+        if heads and not match:
+            raise ValueError(f'{path}: line {line} begins no definition')
         if match:
-            found[match[1]] = Part(path, line + len(block.splitlines()) - len(kept), match[1], '\n'.join(kept))
+            part = Part(path, line + len(block.splitlines()) - len(kept), match[1], '\n'.join(kept))
+            found[match[1]] = part
+            if ' data ' in f' {heads[0]} ':
+                found.update((case, part) for text in heads[1:] for case in re.findall(rf'^ +({NAME}) :', text))
     return found
+
+
+class File(NamedTuple):
+    """What a file of `specs/` declares, and what it passes on from others."""
+
+    meanings: Dict[str, Meaning]
+    passed_on: Dict[str, Source]
 
 
 class Specs:
     """All files of `specs/`, read as they are asked for."""
 
     def __init__(self) -> None:
-        self._files: Dict[str, Dict[str, Meaning]] = {}
+        self._files: Dict[str, Optional[File]] = {}
 
     def of(self, source: Source) -> Optional[Meaning]:
-        """The definition that a name of a file means, or nothing where it is none of this repository's."""
+        """The definition that a name of a file means, or nothing where there is none."""
         module, name = source
         if module not in self._files:
             self._files[module] = self._read(module)
-        return self._files[module].get(name)
+        file = self._files[module]
+        if not file:
+            return None
+        return file.meanings.get(name) or (self.of(file.passed_on[name]) if name in file.passed_on else None)
 
     @staticmethod
-    def _read(module: str) -> Dict[str, Meaning]:
+    def _read(module: str) -> Optional[File]:
         _, crate, *rest = module.split('.')
         path = (ROOT / 'crates' / crate).joinpath(*rest).with_suffix('.antt')
         if not path.is_file():
-            return {}
+            return None
+        text = path.read_text(encoding='utf-8')
         here = definitions(path)
         names = {name: (module, name) for name in here}
-        names.update(imports(path.read_text(encoding='utf-8')))
-        return {name: Meaning(part, names) for name, part in here.items()}
+        names.update(imports(text))
+        whole = modules(text)
+        return File({name: Meaning(part, names, whole) for name, part in here.items()}, passed_on(text))
+
+
+#: The crates of this repository.
+OWN = frozenset(path.name for path in (ROOT / 'crates').iterdir())

@@ -5,13 +5,16 @@ from __future__ import annotations
 import re
 import textwrap
 from pathlib import Path
-from typing import Dict, Iterable, Iterator, List
+from typing import Dict, Iterable, Iterator, List, Optional, Set
 
+from trusting.around import around
 from trusting.closure import Closure, in_reading_order
 from trusting.contracts import Function, Rust
-from trusting.definitions import ROOT
-from trusting.parts import parts
-from trusting.promises import PROMISES, Promise, functions_of
+from trusting.definitions import ROOT, Part
+from trusting.kit import Kit, folder, lines_of
+from trusting.names import Source
+from trusting.parts import called, parts
+from trusting.promises import PROMISES, Promise, functions_of, promise
 
 PAGE = ROOT / 'docs' / 'TRUST.md'
 README = ROOT / 'README.md'
@@ -26,59 +29,99 @@ COLUMNS = 110
 COUNT = re.compile(r'\*\*[\d,]+ lines\*\*')
 TOLD = ('solve', 'program')
 
+#: Where the page tells how many lines of the kit stand behind a list.
+OF_KIT = re.compile(r'^- \*\*(\w+)\*\*, [\d,]+ lines and ([\d,]+) of\s+the kit:', re.MULTILINE)
+
 #: What is read of the parts that no sentence of README speaks of.
 PARTS = 'parts'
 
 
-def place(path: Path) -> str:
-    """A file of this repository, as documents name it."""
-    return path.relative_to(ROOT).as_posix()
-
-
 class Listed:
-    """What there is to read of some contracts."""
+    """What there is to read of some contracts, in reading order."""
 
-    def __init__(self, functions: Iterable[Function], rust: Rust) -> None:
-        closure = Closure(rust)
-        self.contracts = closure.read(functions)
-        self.files = in_reading_order(closure)
-        self.kit = sorted(closure.kit)
-        self.lines = sum(part.lines for _, found in self.files for part in found)
+    def __init__(self, closures: Iterable[Closure]) -> None:
+        self.parts: Dict[Part, None] = {}
+        self.kit: Set[Source] = set()
+        self.left: Set[str] = set()
+        uses: Dict[Path, Dict[Path, None]] = {}
+        for one in closures:
+            self.parts.update(one.parts)
+            self.kit |= one.kit
+            self.left |= one.was_left
+            for path, used in one.uses.items():
+                uses.setdefault(path, {}).update(used)
+        self.left -= {part.name for part in self.parts}
+        self.files = in_reading_order(self.parts, uses)
+        self.lines = sum(part.lines for part in self.parts)
+
+    def of_kit(self) -> Optional[List[str]]:
+        """The definitions of the kit behind it; nothing where there is no kit."""
+        top = folder()
+        return Kit(top).behind(self.kit) if top else None
 
     def text(self) -> Iterator[str]:
         """The list itself: each file, and all that is to be read of it, with the line where it stands."""
-        for path, found in self.files:
+        for _, found in self.files:
             for part in found:
-                yield f'== {place(path)}:{part.line}'
+                yield f'== {part.place}' + (f'  {part.name}' if ' ' in part.name else '')
                 yield part.text
                 yield ''
-        yield f'{self.lines:,} lines in {len(self.files)} files; they use {len(self.kit)} words of the kit, beside its numbers and lists: {", ".join(self.kit)}'
+        behind = self.of_kit()
+        beside = f', with {lines_of(behind):,} lines behind them' if behind is not None else ''
+        names = sorted({name for _, name in self.kit})
+        yield f'{self.lines:,} lines in {len(self.files)} files; they use {len(names)} words of the kit{beside}: {", ".join(names)}'
+        if self.left:
+            yield f'Not followed, since this holds whatever they mean: {", ".join(sorted(self.left))}'
 
 
-def listed(name: str) -> Listed:
-    """What there is to read of a promise, by its name, or of all that docs/PROMISES.md names."""
-    rust = Rust()
+def listed(name: str, rust: Optional[Rust] = None) -> Listed:
+    """What there is to read of a promise, by its name, of all that docs/PROMISES.md names, or of one function with its crate."""
+    known = rust or Rust()
     if name == PARTS:
-        return Listed(parts(rust), rust)
-    return Listed(functions_of(name, rust), rust)
+        return Listed([reached(parts(known), known)])
+    if '::' in name:
+        return Listed([reached(called(name, known), known)])
+    one = promise(name)
+    if one.made_of:
+        return Listed([reached_of(promise(other), known) for other in one.made_of])
+    return Listed([reached_of(one, known)])
+
+
+def reached_of(one: Promise, rust: Rust) -> Closure:
+    return reached(functions_of(one, rust), rust, one.left)
+
+
+def reached(functions: Iterable[Function], rust: Rust, left: Iterable[str] = ()) -> Closure:
+    """All that there is to read of some functions."""
+    closure = Closure(rust, frozenset(left))
+    closure.read(functions)
+    return closure
 
 
 def all_listed() -> Dict[str, Listed]:
-    """The same of each of them."""
+    """The same of each promise."""
     rust = Rust()
-    return {one.name: Listed(functions_of(one.name, rust), rust) for one in PROMISES}
+    return {one.name: listed(one.name, rust) for one in PROMISES}
 
 
-def items(made: Dict[str, Listed]) -> Iterator[str]:
-    """The list of the page: each promise with its lines, its contracts, and the word that prints its list."""
+def items(made: Dict[str, Listed], page: str) -> Iterator[str]:
+    """The list of the page: each promise with its lines, its contracts, and the word that prints its list. Without a kit its lines are those of the page."""
+    counted = dict(OF_KIT.findall(page))
     for one in PROMISES:
         said = f'See {contracts(one)}.' if one.contracts else f'See {", ".join(one.made_of)}.'
-        yield from wrapped(f'**{one.name}**, {made[one.name].lines:,} lines: {one.sentence}. {said}')
+        behind = made[one.name].of_kit()
+        beside = f'{lines_of(behind):,}' if behind is not None else counted.get(one.name, '0')
+        yield from wrapped(f'**{one.name}**, {made[one.name].lines:,} lines and {beside} of the kit: {one.sentence}. {said}')
 
 
 def contracts(promise: Promise) -> str:
-    """The contracts of a promise: the functions of each crate, with a link to the file."""
-    return '; '.join(f'{", ".join(f"`{name}`" for name in names)} of [{where.split("/")[0]}](../crates/{where})' for where, names in promise.contracts)
+    """The contracts of a promise: the functions of each crate, with a link to the file, and the clauses that say it where not all do."""
+    return '; '.join(f'{", ".join(map(told, names))} of [{where.split("/")[0]}](../crates/{where})' for where, names in promise.contracts)
+
+
+def told(words: str) -> str:
+    name, _, clauses = words.partition(': ')
+    return f'`{name}`' + (f' ({", ".join(f"`{clause}`" for clause in clauses.split())})' if clauses else '')
 
 
 def wrapped(text: str) -> List[str]:
@@ -94,15 +137,15 @@ def pages(made: Dict[str, Listed]) -> Dict[Path, str]:
     head, begin, rest = page.partition(BEGIN)
     _, end, tail = rest.partition(END)
     if not (begin and end):
-        raise ValueError(f'{place(PAGE)} lacks the lines between which the table stands')
-    lines = '\n'.join(items(made))
+        raise ValueError(f'{PAGE} lacks the lines between which the table stands')
+    lines = '\n'.join(items(made, page))
     counts = iter(TOLD)
     return {
         PAGE: f'{head}{BEGIN}\n\n{lines}\n\n{END}{tail}',
-        README: COUNT.sub(lambda _: f'**{made[next(counts)].lines:,} lines**', readme, count=len(TOLD)),
+        README: around(COUNT.sub(lambda _: f'**{made[next(counts)].lines:,} lines**', readme, count=len(TOLD))),
     }
 
 
 def outdated(made: Dict[str, Listed]) -> List[str]:
     """The pages that aren't as they have to be."""
-    return [place(path) for path, text in pages(made).items() if path.read_text(encoding='utf-8') != text]
+    return [path.relative_to(ROOT).as_posix() for path, text in pages(made).items() if path.read_text(encoding='utf-8') != text]

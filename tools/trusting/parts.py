@@ -3,10 +3,11 @@
 from __future__ import annotations
 
 import re
-from typing import Iterator, NamedTuple, Tuple
+from typing import Iterator, List, NamedTuple, Set, Tuple
 
 from trusting.contracts import Function, Rust, crate_of
-from trusting.definitions import ROOT
+from trusting.definitions import ROOT, Part, definitions
+from trusting.names import Unknown
 
 #: The document.
 PROMISES = ROOT / 'docs' / 'PROMISES.md'
@@ -28,6 +29,14 @@ def parts(rust: Rust) -> Iterator[Function]:
         yield from named(row, rust)
 
 
+def called(name: str, rust: Rust) -> List[Function]:
+    """The functions that a name with its crate, type or trait means."""
+    found = list(named(Row((), f'`{name}`'), rust))
+    if not found:
+        raise Unknown(f'no function is {name}')
+    return found
+
+
 def rows() -> Iterator[Row]:
     """The items of the document that are carried by something."""
     for section in re.split(r'^## ', PROMISES.read_text(encoding='utf-8'), flags=re.MULTILINE):
@@ -39,13 +48,35 @@ def rows() -> Iterator[Row]:
 
 
 def named(row: Row, rust: Rust) -> Iterator[Function]:
-    """The functions that a row names: those of the name's type, trait or crate, or of the one before it, or of the row's crates. A type and a trait stand
-    for their functions. What is in parentheses names clauses."""
+    """The functions and laws that a row names: those of the name's type, trait or crate, or of the one before it, or of the row's crates. A type and a
+    trait stand for their functions, and a trait for its ghosts. What is in parentheses names clauses."""
     owner = ''
     for name in NAME.findall(re.sub(r'\([^()]*\)', '', row.carried)):
         before, _, last = name.rpartition('::')
         owner = before or owner
-        found = rust.functions.get(last, []) or [one for one in rust.owned.get(last, []) if one.is_public]
+        found = [*rust.functions.get(last, []), *rust.laws.get(last, [])] or of_owner(last, rust)
         owned = [one for one in found if owner in one.owners or owner == crate_of(one.path)]
         meant = owned or [one for one in found if not row.crates or crate_of(one.path) in row.crates]
         yield from (one for one in meant if one.has_clauses)
+
+
+def clauses(row: Row, rust: Rust) -> Set[str]:
+    """The names of the clauses of the functions that a row names, and of the fields of the records that it names."""
+    found = {name for one in named(row, rust) for name in re.findall(r'^ *ensures (\w+) \{', one.meaning.part.text, re.MULTILINE)}
+    for record in NAME.findall(row.carried):
+        found.update(name for part in records(record) for name in re.findall(r'^  pub (\w+) :', part.text, re.MULTILINE))
+    return found
+
+
+def records(name: str) -> List[Part]:
+    """The definitions of that name, of any crate."""
+    if not re.fullmatch(r'[A-Z]\w+', name):
+        return []
+    files = [path for path in (ROOT / 'crates').glob('*/specs/**/*.antt') if f' {name} ' in path.read_text(encoding='utf-8') and 'Laws' not in path.parts]
+    return [part for path in files for part in [definitions(path).get(name)] if part]
+
+
+def of_owner(name: str, rust: Rust) -> List[Function]:
+    """What a type or a trait stands for."""
+    laws = [law for found in rust.laws.values() for law in found if law.owners == (name,)]
+    return [one for one in rust.owned.get(name, []) if one.is_public] + laws

@@ -27,8 +27,9 @@ CRATE = 'web_turn'
 #: What the module is built from, besides the crates.
 SCRIPTS = [f'tools/web_build/{name}' for name in ('heap.c', 'module.py', 'retarget.py', 'sections.py')]
 
-#: What is to be done where those in the tree aren't of the sources that are here.
+#: What is to be done where those in the tree aren't of the sources that are here; and where a page is wanted, but no proof.
 ADVICE = 'make web, and commit'
+RUN = 'run make web, which proves and builds it: that needs the kit, and may take an hour'
 
 
 class Makers(NamedTuple):
@@ -83,7 +84,7 @@ def page_fault() -> str:
 
 
 def made_fault() -> str:
-    """The second of both. The page is made anew, but for how the module is packed, since other versions of zlib do that otherwise."""
+    """The second of both. The page is made anew, but for how the module is packed, since other versions of Zopfli do that otherwise."""
     try:
         found = read(PAGE_FILE)
         as_packed = packed_in(found)
@@ -103,8 +104,11 @@ def sum_fault(note: Note, path: str) -> str:
 
 
 def where() -> None:
-    """Prints the path of the page of these sources, which is made where there is none. Raises Unfit."""
-    if module_fault() or page_fault():
+    """Prints the path of the page of these sources, which is made where there is none. Raises Unfit, also where its module would have to be built."""
+    wrong = module_fault()
+    if wrong:
+        raise Unfit(f'{wrong}: {RUN}')
+    if page_fault():
         store(sys.stderr)
     print(f'{TOP}/{PAGE_FILE}')
 
@@ -117,9 +121,18 @@ def store(said: TextIO = sys.stdout) -> None:
         makers, content = made_now()
         tell(put(f'{TOP}/{MODULE_FILE}', content, 0o644), MODULE_FILE, said)
     if wrong or page_fault():
-        tell(put(f'{TOP}/{PAGE_FILE}', page_of(packed(read(MODULE_FILE))), 0o644), PAGE_FILE, said)
+        tell(put(f'{TOP}/{PAGE_FILE}', page_of(packed_there() or packed(read(MODULE_FILE))), 0o644), PAGE_FILE, said)
     sums = {path: sum_of(f'{TOP}/{path}') for path in (MODULE_FILE, PAGE_FILE)}
     tell(write(Note(makers, sums)), TREE.record, said)
+
+
+def packed_there() -> str:
+    """The module as the page has it that lies there; nothing where that has another one, or none."""
+    try:
+        text = packed_in(read(PAGE_FILE))
+        return text if unpacked(text) == read(MODULE_FILE) else ''
+    except (Unfit, OSError):
+        return ''
 
 
 def tell(is_new: bool, path: str, said: TextIO) -> None:

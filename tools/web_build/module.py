@@ -12,7 +12,7 @@ import shutil
 import subprocess
 import tempfile
 from pathlib import Path
-from typing import Any, Sequence
+from typing import Any, Sequence, Tuple
 
 from bodies.kit import NoKit, is_there, library_beside
 from building.changes import command, kit_of
@@ -27,11 +27,11 @@ HEAP = Path(__file__).with_name('heap.c')
 #: The processor that the crate is built for: the default one has more, and the text then names it.
 CPU = 'x86-64'
 
-#: What the kit has clang do for WebAssembly.
+#: What the kit has clang do for WebAssembly, but for less space: the page is a tenth smaller, and a fair game takes half as long again.
 TARGET = ['--no-default-config', '-no-canonical-prefixes', '-fintegrated-cc1', '--target=wasm64-unknown-unknown', '-mcpu=lime1']
 CODE = [
     *['-mllvm', '-expand-div-rem-bits=64', '-mllvm', '-expand-fp-convert-bits=64', '-ffunction-sections', '-fdata-sections', '-mllvm', '-trap-unreachable'],
-    *['-mllvm', '-disable-machine-licm', '-mllvm', '-disable-postra-machine-licm', '-mllvm', '-sink-common-insts=false', '-O3'],
+    *['-mllvm', '-disable-machine-licm', '-mllvm', '-disable-postra-machine-licm', '-mllvm', '-sink-common-insts=false', '-Os'],
 ]
 OF_HEAP = ['-O2', '-Wall', '-Wextra', '-Wno-unused-parameter', '-Werror', '-ffreestanding', '-nostdinc']
 
@@ -50,6 +50,15 @@ exec {clang} "$@"
 
 def built(name: str) -> bytes:
     """The module of a crate that is a static library, over the libraries that a build or the gate has left. Raises Unfit."""
+    library, crate = over_libraries(name)
+    with tempfile.TemporaryDirectory() as folder:
+        place = Path(folder)
+        made = Work(place, Path(library.KIT))
+        return made.module(made.text(library, crate))
+
+
+def over_libraries(name: str) -> Tuple[Any, Any]:
+    """The module `rtlib` of the kit, and a crate as it sees it, where the libraries below that are those of the sources here. Raises Unfit."""
     rt = command()
     if not rt:
         raise Unfit('there is no command rt, which comes with the Rattle kit')
@@ -62,10 +71,7 @@ def built(name: str) -> bytes:
     lacking = [below.name for below in crate.below() if not is_there(below, left)]
     if lacking:
         raise Unfit(f'the libraries below {name} are not there as they are now: {", ".join(lacking)}')
-    with tempfile.TemporaryDirectory() as folder:
-        place = Path(folder)
-        made = Work(place, Path(library.KIT))
-        return made.module(made.text(library, crate))
+    return library, crate
 
 
 class Work:
@@ -117,22 +123,19 @@ class Work:
         return folder
 
     def _run(self, words: Sequence[str], folder: str = '') -> None:
-        """Raises Unfit with what a command has said, where it fails."""
-        try:
-            ran = subprocess.run(
-                words,
-                cwd=folder or self._place,
-                stdin=subprocess.DEVNULL,
-                stdout=subprocess.PIPE,
-                stderr=subprocess.STDOUT,
-                encoding='utf-8',
-                errors='replace',
-                check=False,
-            )
-        except OSError as error:
-            raise Unfit(f'{words[0]}: {error.strerror}') from None
-        if ran.returncode:
-            raise Unfit(f'{Path(words[0]).name} has failed, with status {ran.returncode}:\n{ran.stdout}')
+        run(words, folder or str(self._place))
+
+
+def run(words: Sequence[str], folder: str) -> None:
+    """Raises Unfit with what a command has said, where it fails."""
+    try:
+        ran = subprocess.run(
+            words, cwd=folder, stdin=subprocess.DEVNULL, stdout=subprocess.PIPE, stderr=subprocess.STDOUT, encoding='utf-8', errors='replace', check=False
+        )
+    except OSError as error:
+        raise Unfit(f'{words[0]}: {error.strerror}') from None
+    if ran.returncode:
+        raise Unfit(f'{Path(words[0]).name} has failed, with status {ran.returncode}:\n{ran.stdout}')
 
 
 def binaryen() -> str:

@@ -5,6 +5,9 @@ from __future__ import annotations
 import base64
 import hashlib
 import re
+import shutil
+import subprocess
+import tempfile
 import zlib
 from pathlib import Path
 from typing import Dict, NamedTuple, Sequence
@@ -16,7 +19,7 @@ from web_build.scripts import Unfit, script, shorter
 SOURCES = Path(TOP) / 'page'
 
 #: The most bytes that the page may have.
-MOST_BYTES = 350_000
+MOST_BYTES = 375_000
 
 MARK = re.compile(r'\{\{(\w+)\}\}')
 
@@ -33,7 +36,7 @@ INSTEAD = ','
 #: What a browser lets the page do, besides its own scripts and style, which are named by their sums: it connects to nothing.
 RULES = {
     'default-src': "'none'",
-    'img-src': 'data: blob:',
+    'img-src': 'data:',
     'worker-src': 'blob:',
     'base-uri': "'none'",
     'form-action': "'none'",
@@ -56,7 +59,7 @@ NOTHING = Extra('', '', {})
 def page_of(packed: str, extra: Extra = NOTHING) -> bytes:
     """The page with the module that was packed so: the same bytes for the same sources. Raises Unfit."""
     parts = {
-        'style': shorter(text_of('style.css')),
+        'style': squeezed(shorter(text_of('style.css'))),
         'icon': 'data:image/svg+xml;base64,' + base64.b64encode((SOURCES / 'icon.svg').read_bytes()).decode(),
         'site': extra.head + (f'<script>{extra.script}</script>' if extra.script else ''),
         'worker': script(str(SOURCES), 'worker.js'),
@@ -66,7 +69,7 @@ def page_of(packed: str, extra: Extra = NOTHING) -> bytes:
     }
     scripts = [text for text in (extra.script, parts['script']) if text]
     parts['policy'] = policy(scripts, parts['style'], {**RULES, **extra.rules})
-    page = filled(text_of('index.html'), parts).encode()
+    page = filled(shorter(text_of('index.html')), parts).encode()
     if len(page) > MOST_BYTES:
         raise Unfit(f'the page has {len(page):,} bytes, and may have {MOST_BYTES:,}')
     return page
@@ -77,6 +80,11 @@ def write_page(module: str, file: str) -> None:
     page = page_of(packed(Path(module).read_bytes()))
     Path(file).write_bytes(page)
     print(f'{file}: {len(page):,} bytes')
+
+
+def squeezed(style: str) -> str:
+    """A style sheet without the blanks that mean nothing there: behind signs and before braces."""
+    return re.sub(r'(?<=[:;,{]) | (?=[{}])', '', style)
 
 
 def policy(scripts: Sequence[str], style: str, rules: Dict[str, str]) -> str:
@@ -102,9 +110,16 @@ def filled(template: str, parts: Dict[str, str]) -> str:
 
 
 def packed(module: bytes) -> str:
-    """The module as the page has it. Other versions of zlib may pack it otherwise."""
-    zipped = zlib.compressobj(9, zlib.DEFLATED, GZIP)
-    return base64.b85encode(zipped.compress(module) + zipped.flush()).decode().replace('<', INSTEAD)
+    """The module as the page has it, by Zopfli, which packs a twentieth closer than zlib. Its other versions may pack it otherwise. Raises Unfit."""
+    if not shutil.which('zopfli'):
+        raise Unfit("there is no command zopfli: Debian's package zopfli has it")
+    with tempfile.TemporaryDirectory() as folder:
+        file = Path(folder) / 'module'
+        file.write_bytes(module)
+        ran = subprocess.run(['zopfli', '-c', str(file)], stdin=subprocess.DEVNULL, stdout=subprocess.PIPE, stderr=subprocess.PIPE, check=False)
+    if ran.returncode:
+        raise Unfit(f'zopfli has failed: {ran.stderr.decode(errors="replace").strip()}')
+    return base64.b85encode(ran.stdout).decode().replace('<', INSTEAD)
 
 
 def unpacked(text: str) -> bytes:

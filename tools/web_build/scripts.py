@@ -99,5 +99,5 @@ def function_of(module: Module, number: int, numbers: Dict[str, int]) -> str:
     taken: Dict[str, List[str]] = {}
     for other, word in module.imports:
         taken.setdefault(other, []).append(word)
-    heads = [f'const {{{", ".join(words)}}} = module{numbers[other]};\n' for other, words in taken.items()]
-    return f'const module{number} = (() => {{\n{"".join(heads)}{module.body}return {{{", ".join(module.exports)}}};\n}})();\n'
+    heads = [f'const {{{",".join(words)}}}=m{numbers[other]};\n' for other, words in taken.items()]
+    return f'const m{number}=(()=>{{\n{"".join(heads)}{module.body}return {{{",".join(module.exports)}}};\n}})();\n'

@@ -22,7 +22,7 @@ HEAD = f'<link rel="manifest" href="{MANIFEST}">\n<link rel="apple-touch-icon" h
 
 #: What the page may do there besides: it reads these files from its own server, and none from another.
 RULES = {
-    'img-src': "data: blob: 'self'",
+    'img-src': "data: 'self'",
     'manifest-src': "'self'",
     'worker-src': "blob: 'self'",
     'trusted-types': 'puzzles puzzles-site',

@@ -8,8 +8,8 @@ use Rattle.std.proofs.lemmas.List.FromFn.{length-map-range_with_len, get_or-map-
 use Rattle.latin_board.specs.Squares.{GridValue, number_at}
 use Rattle.tower_lines.specs.TowersSeen.{seen}
 use Rattle.tower_lines.specs.LineFillings.{IsFilling}
-use Rattle.clue_rules.specs.Towers.{TowersValue, clue_of}
-use Rattle.clue_rules.specs.Views.{view_cell}
+use Rattle.towers_game.specs.Towers.{TowersValue, clue_of}
+use Rattle.line_steps.specs.Views.{view_cell}
 use Rattle.board_checks.specs.declared.spot.Spot.{Spot}
 use Rattle.board_checks.specs.declared.spot.Spot.TheVariants.{Edge}
 use Rattle.board_checks.specs.Demands.{IsBroken, numbers_of}

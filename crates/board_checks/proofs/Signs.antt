@@ -4,11 +4,11 @@ use Rattle.std.proofs.lemmas.Bool.{cases_lt, cases_eq, lt-ltb, ltb-true, eq-eqb,
 use Rattle.std.proofs.lemmas.Option.{cond_some}
 use Rattle.latin_board.specs.Squares.{GridValue, IsGrid, number_at}
 use Rattle.latin_board.proofs.Numbers.{number_within}
-use Rattle.clue_rules.specs.declared.unequal.sign.Sign.{Sign}
-use Rattle.clue_rules.specs.declared.unequal.sign.Sign.TheVariants.{Absent, FirstGreater, SecondGreater}
-use Rattle.clue_rules.specs.Unequal.{UnequalValue, IsUnequal, IsGreater, sign_between, is_present}
-use Rattle.clue_rules.specs.Laws.Neighbours.{next_order, next_inside}
-use Rattle.clue_rules.specs.Laws.Signs.{said_next, greater_next}
+use Rattle.unequal_game.specs.declared.unequal.sign.Sign.{Sign}
+use Rattle.unequal_game.specs.declared.unequal.sign.Sign.TheVariants.{Absent, FirstGreater, SecondGreater}
+use Rattle.unequal_game.specs.Unequal.{UnequalValue, IsUnequal, IsGreater, sign_between, is_present}
+use Rattle.unequal_game.specs.Laws.Neighbours.{next_order, next_inside}
+use Rattle.unequal_game.specs.Laws.Signs.{said_next, greater_next}
 use Rattle.board_checks.specs.declared.spot.Spot.TheVariants.{RightOf, Below}
 use Rattle.board_checks.specs.Demands.{IsFillingIn, IsBroken}
 use Rattle.board_checks.specs.Spots.{IsBrokenAt}

@@ -2,10 +2,10 @@
 use Rattle.std.specs.Prelude.{ℕ, ◌+◌, ◌==◌, nat_lt, if◌then◌else◌, [], ◌∷◌, map, slice_index, Option, Some, None}
 use Rattle.std.specs.List.{range_with_len}
 use Rattle.tower_lines.specs.TowersSeen.{seen}
-use Rattle.clue_rules.specs.Views.{view_cell}
-use Rattle.clue_rules.specs.Towers.{TowersValue, clue_of}
-use Rattle.clue_rules.specs.Unequal.{UnequalValue, right_sign, lower_sign, holds_sign, is_present}
-use Rattle.clue_rules.specs.declared.unequal.sign.Sign.{Sign}
+use Rattle.line_steps.specs.Views.{view_cell}
+use Rattle.towers_game.specs.Towers.{TowersValue, clue_of}
+use Rattle.unequal_game.specs.Unequal.{UnequalValue, right_sign, lower_sign, holds_sign, is_present}
+use Rattle.unequal_game.specs.declared.unequal.sign.Sign.{Sign}
 use Rattle.board_checks.specs.declared.spot.Spot.{Spot}
 use Rattle.board_checks.specs.declared.spot.Spot.TheVariants.{Edge, RightOf, Below}
 use Rattle.board_checks.specs.Demands.{Demand}

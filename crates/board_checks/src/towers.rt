@@ -2,17 +2,18 @@
 
 ghost use Rattle.std.specs.Prelude.{◌≡◌, ◌*◌, ◌<◌, ◌↔◌, IsTrue};
 ghost use Rattle.latin_board.specs.Squares.{number_at};
-ghost use Rattle.clue_rules.specs.Towers.{clue_of};
+ghost use Rattle.towers_game.specs.Towers.{clue_of};
 ghost use Rattle.board_checks.specs.Demands.{IsBroken};
 ghost use Rattle.board_checks.specs.Games.{clue_demand};
 ghost use Rattle.board_checks.specs.Inner.TowersLines.{CanHold, AreSetsFrom};
 
 use crate::demands::Demands;
 use crate::spot::Spot;
-use clue_rules::{Towers, view_cell};
 use latin_board::Grid;
+use line_steps::view_cell;
 use number_sets::NumberSet;
 use tower_lines::has_filling;
+use towers_game::Towers;
 
 /// How many squares the longest line has.
 const LINE: usize = 9;

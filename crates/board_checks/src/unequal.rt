@@ -2,14 +2,14 @@
 
 ghost use Rattle.std.specs.Prelude.{◌≡◌, ◌*◌, ◌<◌, ◌↔◌, IsTrue};
 ghost use Rattle.latin_board.specs.Squares.{number_at};
-ghost use Rattle.clue_rules.specs.Unequal.{sign_between};
+ghost use Rattle.unequal_game.specs.Unequal.{sign_between};
 ghost use Rattle.board_checks.specs.Inner.SignEnds.{IsSignBroken, NeverExceeds};
 
 use crate::demands::Demands;
 use crate::spot::Spot;
-use clue_rules::Unequal;
 use latin_board::Grid;
 use trail_solver::Rules;
+use unequal_game::Unequal;
 
 impl Demands for Unequal {
     ghost use Rattle.board_checks.specs.Games.{unequal_demand};

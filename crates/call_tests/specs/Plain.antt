@@ -30,6 +30,13 @@ free_solved givens g hopeless is_grid latin size = record {
   clues = refl;
 }
 
+-- a given that is asked for still was asked for before
+pub cut_given : (givens : GridValue) (asked keep : Bool) (cell : ℕ) → 0 < (if asked && keep then number_at givens cell else 0)
+    → (if asked && keep then number_at givens cell else 0) ≡ (if asked then number_at givens cell else 0)
+cut_given givens true true cell low = refl
+cut_given givens true false cell low = absurd (omega arith)
+cut_given givens false keep cell low = refl
+
 -- a solution stays one where a given is taken away
 pub cut_solved : (givens g : GridValue) (hopeless asked keep : Bool) → Solves (plain_puzzle givens hopeless asked) g
     → Solves (plain_puzzle givens hopeless (asked && keep)) g

@@ -5,10 +5,10 @@ use Rattle.byte_text.specs.Bytes.{digit, digit_zero, line_feed}
 use Rattle.byte_text.specs.Reading.{◌>>=◌}
 use Rattle.latin_board.specs.Squares.{GridValue, number_at}
 use Rattle.latin_board.specs.Boards.{BoardValue}
-use Rattle.clue_rules.specs.declared.id_fault.IdFault.{IdFault}
-use Rattle.clue_rules.specs.declared.id_fault.IdFault.TheVariants.{BadSquares}
+use Rattle.game_texts.specs.declared.id_fault.IdFault.{IdFault}
+use Rattle.game_texts.specs.declared.id_fault.IdFault.TheVariants.{BadSquares}
 use Rattle.clue_rules.specs.IdFaults.{exactly}
-use Rattle.clue_rules.specs.Items.{kept_items}
+use Rattle.trail_solver.specs.Items.{kept_items}
 
 -- each square may have a given
 abbrev pub items_of : ℕ → ℕ

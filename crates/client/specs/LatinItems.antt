@@ -7,9 +7,9 @@ use Rattle.latin_board.proofs.LatinLines.{latin_full}
 use Rattle.latin_board.proofs.Numbers.{number_within}
 use Rattle.trail_solver.specs.Puzzles.{Solves}
 use Rattle.clue_rules.specs.Givens.{given_puzzle}
-use Rattle.clue_rules.specs.Laws.KeptItems.{entry-kept, kept-all, kept-kept, kept-same, IsGrid-kept, still_asked}
-use Rattle.clue_rules.specs.Laws.KeptItems.{none_asked, present_kept, not_positive}
-use Rattle.clue_rules.proofs.KeptItemLemmas.{kept-but_one}
+use Rattle.trail_solver.proofs.KeptItems.{entry-kept, kept-all, kept-kept, kept-same, IsGrid-kept, still_asked}
+use Rattle.trail_solver.proofs.KeptItems.{none_asked, present_kept, not_positive, kept_number}
+use Rattle.trail_solver.proofs.ItemsLost.{kept-but_one}
 use Rattle.client.specs.Latin.{items_of, has_given, cut_givens}
 
 -- a given is at most the width
@@ -25,6 +25,11 @@ pub cut_has : (p : GridValue) (keep : ℕ → Bool) (i : ℕ) → has_given (cut
 cut_has p keep i =
     rw (entry-kept zero keep 0 p.numbers i i (omega arith))
     (present_kept (nat_lt 0) zero refl (keep i) (slice_index p.numbers i))
+
+-- a given of a cut was there
+pub cut_given : (p : GridValue) (keep : ℕ → Bool) (cell : ℕ) → 0 < slice_index (cut_givens p keep).numbers cell
+    → slice_index (cut_givens p keep).numbers cell ≡ slice_index p.numbers cell
+cut_given p keep cell = kept_number keep 0 p.numbers cell
 
 -- to keep every given changes nothing
 pub cut_all : (p : GridValue) → cut_givens p (λ i. true) ≡ p

@@ -9,14 +9,14 @@ use borrow.Author.Tests.{leb-true, le-leb}
 use Rattle.byte_text.specs.Bytes.{digit}
 use Rattle.byte_text.specs.Reading.{◌>>=◌}
 use Rattle.latin_board.specs.Squares.{GridValue, IsGrid}
-use Rattle.clue_rules.specs.declared.game.TheConstants.{MOST_ITEMS}
-use Rattle.clue_rules.specs.declared.id_fault.IdFault.{IdFault}
-use Rattle.clue_rules.specs.declared.id_fault.IdFault.TheVariants.{BadSquares, TooFew, TooMany}
+use Rattle.game_texts.specs.declared.game.TheConstants.{MOST_ITEMS}
+use Rattle.game_texts.specs.declared.id_fault.IdFault.{IdFault}
+use Rattle.game_texts.specs.declared.id_fault.IdFault.TheVariants.{BadSquares, TooFew, TooMany}
 use Rattle.clue_rules.specs.GameIds.{is_separator, LacksSeparators}
 use Rattle.clue_rules.specs.IdFaults.{NotForMemory, exactly}
-use Rattle.clue_rules.specs.Laws.Exactly.{exactly_taken, exactly_again}
-use Rattle.clue_rules.specs.Laws.KeptItems.{small_widths}
-use Rattle.clue_rules.specs.Laws.NotForMemory.{not_for_memory-then, not_for_memory-if}
+use Rattle.game_texts.specs.Laws.Exactly.{exactly_taken, exactly_again}
+use Rattle.trail_solver.proofs.KeptItems.{small_widths}
+use Rattle.game_texts.specs.Laws.NotForMemory.{not_for_memory-then, not_for_memory-if}
 use Rattle.client.specs.Latin.{items_of, latin_desc, number_of_byte, numbers_in, givens_in, latin_at}
 
 -- the widths that are generated have few squares

@@ -4,17 +4,17 @@ use Rattle.latin_board.specs.Squares.{GridValue, number_at}
 use Rattle.trail_solver.specs.Candidates.{CandidatesValue, IsOnly, IsWithin}
 use Rattle.trail_solver.specs.Pairs.{IsPair}
 use Rattle.trail_solver.specs.Puzzles.{Puzzle, Solves}
-use Rattle.clue_rules.specs.Left.{IsLeft, IsFewer, all_of, without}
-use Rattle.clue_rules.specs.Chains.{StepValue, IsChain, AreOfGrade, left_by}
-use Rattle.clue_rules.specs.Settled.{IsClosure}
+use Rattle.line_steps.specs.Left.{IsLeft, IsFewer, all_of, without}
+use Rattle.line_steps.specs.Chains.{StepValue, IsChain, AreOfGrade, left_by}
+use Rattle.line_steps.specs.Settled.{IsClosure}
 use Rattle.named_steps.specs.Following.{Follows}
 use Rattle.named_steps.proofs.Antitone.{chain_settled}
-use Rattle.clue_rules.proofs.Chains.{IsAntitone, chain_less, left_size}
-use Rattle.clue_rules.proofs.KeptSolutions.{IsSoundFor, number_left, chain_keeps}
-use Rattle.clue_rules.specs.declared.reason.Reason.{Reason}
-use Rattle.clue_rules.specs.declared.grade.Grade.{Grade}
+use Rattle.line_steps.proofs.Chains.{IsAntitone, chain_less, left_size}
+use Rattle.line_steps.proofs.KeptSolutions.{IsSoundFor, number_left, chain_keeps}
+use Rattle.line_steps.specs.declared.reason.Reason.{Reason}
+use Rattle.line_steps.specs.declared.grade.Grade.{Grade}
 use Rattle.fair_games.specs.Inner.Bases.{IsBase}
-use Rattle.clue_rules.specs.Reasons.{Striking}
+use Rattle.line_steps.specs.Reasons.{Striking}
 
 -- all pairs are one
 pub base_all : (Struck : Striking) (grade : Grade) (g : GridValue) (c : CandidatesValue) → c.size ≡ g.size

@@ -6,14 +6,15 @@ use Rattle.trail_solver.specs.Puzzles.{Puzzle}
 use Rattle.trail_solver.specs.Solutions.{IsOnlySolution}
 use Rattle.trail_solver.specs.declared.rules.Rules.{Ghosts}
 use Rattle.rand_core.specs.Stream.{Stream}
-use Rattle.puzzle_gen.proofs.ItemLaws.{ItemLaws, cuts_of_full}
+use Rattle.needed_items.proofs.ItemLaws.{ItemLaws}
+use Rattle.puzzle_gen.proofs.FullCuts.{cuts_of_full}
 use Rattle.named_steps.specs.Following.{Follows}
-use Rattle.clue_rules.specs.Grades.{rank}
+use Rattle.line_steps.specs.Grades.{rank}
 use Rattle.named_steps.specs.Graded.{FollowsBy, IsGradeOf}
 use Rattle.named_steps.proofs.Followed.{follows_only}
 use Rattle.named_steps.proofs.Solutions.{graded_next}
-use Rattle.clue_rules.specs.declared.grade.Grade.{Grade}
-use Rattle.clue_rules.specs.declared.grade.Grade.TheVariants.{Latin, Easy, Hard}
+use Rattle.line_steps.specs.declared.grade.Grade.{Grade}
+use Rattle.line_steps.specs.declared.grade.Grade.TheVariants.{Latin, Easy, Hard}
 use Rattle.puzzle_gen.specs.SeededSquares.{drawn_order, square_of}
 use Rattle.fair_games.specs.Squares.{drawn_rows, first_row, with_first_row}
 use Rattle.fair_games.proofs.RowSteps.{with_row_size}
@@ -26,7 +27,7 @@ use Rattle.fair_games.specs.declared.fair_fault.FairFault.{FairFault}
 use Rattle.fair_games.specs.declared.fair_fault.FairFault.TheVariants.{NotOffered, NoneFound}
 use Rattle.fair_games.proofs.PrunedOnce.{needed_by, pruned_once}
 use Rattle.fair_games.proofs.PruneSteps.{HasSteps, IsCutOf, cut_of, fewer_fail}
-use Rattle.clue_rules.specs.Reasons.{Striking}
+use Rattle.line_steps.specs.Reasons.{Striking}
 
 -- ---- draws
 

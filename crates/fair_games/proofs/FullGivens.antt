@@ -7,16 +7,16 @@ use Rattle.latin_board.proofs.LatinLines.{latin_full}
 use Rattle.trail_solver.specs.Candidates.{CandidatesValue, may_be}
 use Rattle.trail_solver.specs.Pairs.{has_pair}
 use Rattle.trail_solver.specs.declared.rules.Rules.{Ghosts}
-use Rattle.puzzle_gen.proofs.ItemLaws.{ItemLaws}
-use Rattle.clue_rules.specs.Reasons.{IsByGiven, Striking}
-use Rattle.clue_rules.specs.Left.{IsLeft, all_of, without}
+use Rattle.needed_items.proofs.ItemLaws.{ItemLaws}
+use Rattle.line_steps.specs.Reasons.{IsByGiven, Striking}
+use Rattle.line_steps.specs.Left.{IsLeft, all_of, without}
 use Rattle.named_steps.specs.Following.{Follows}
-use Rattle.clue_rules.specs.Takes.{Takes}
-use Rattle.clue_rules.proofs.Chains.{IsAntitone, higher_has}
-use Rattle.clue_rules.specs.declared.grade.Grade.TheVariants.{Latin}
-use Rattle.clue_rules.proofs.Leads.{leads_taken}
-use Rattle.clue_rules.specs.declared.reason.Reason.TheVariants.{Given}
-use Rattle.clue_rules.specs.declared.grade.Grade.{Grade}
+use Rattle.line_steps.specs.Takes.{Takes}
+use Rattle.line_steps.proofs.Chains.{IsAntitone, higher_has}
+use Rattle.line_steps.specs.declared.grade.Grade.TheVariants.{Latin}
+use Rattle.line_steps.proofs.Leads.{leads_taken}
+use Rattle.line_steps.specs.declared.reason.Reason.TheVariants.{Given}
+use Rattle.line_steps.specs.declared.grade.Grade.{Grade}
 
 -- the pairs of a square and the numbers from 1 on, but for one of them
 abbrev others_of : ℕ → ℕ → ℕ → List (ℕ × ℕ)

@@ -6,4 +6,5 @@ pub mod Trials
 pub mod RowSteps
 pub mod FullGivens
 pub mod PruneSteps
+pub mod GradeThinned
 pub mod FairSteps

@@ -1,28 +1,32 @@
 -- The steps of the pruning, for puzzles whose steps have names.
-use Rattle.std.proofs.Common.{◌≡◌, ℕ, ◌*◌, ◌<◌, ◌≤◌, Bool, true, false, ◌&&◌, List, inl, inr, refl, sym, ◌∙◌, ap, subst, arith}
+use Rattle.std.proofs.Common.{◌≡◌, ◌≢◌, ℕ, ◌*◌, ◌<◌, ◌≤◌, Bool, true, false, ◌&&◌, List, inl, inr, refl, sym, ◌∙◌, ap, subst, arith}
 use Rattle.std.proofs.lemmas.Bool.{cases_lt}
 use Rattle.latin_board.specs.Squares.{GridValue, IsGrid, IsLatin, number_at}
-use Rattle.trail_solver.specs.Candidates.{CandidatesValue, IsOnly}
+use Rattle.trail_solver.specs.Candidates.{CandidatesValue, IsOnly, IsWithin}
 use Rattle.trail_solver.specs.Puzzles.{Solves}
 use Rattle.trail_solver.specs.declared.rules.Rules.{Ghosts}
 use Rattle.puzzle_gen.specs.Orders.{place_in}
-use Rattle.puzzle_gen.proofs.ItemLaws.{AreCuts, ItemLaws, cuts_of_full}
-use Rattle.clue_rules.specs.Settled.{IsClosure}
+use Rattle.needed_items.proofs.ItemLaws.{ItemLaws}
+use Rattle.puzzle_gen.proofs.FullCuts.{AreCuts, cuts_of_full}
+use Rattle.line_steps.specs.Settled.{IsClosure}
 use Rattle.named_steps.specs.Following.{Follows}
-use Rattle.clue_rules.specs.Left.{IsEmptied}
-use Rattle.clue_rules.specs.Chains.{LeadsTo}
-use Rattle.clue_rules.proofs.Emptied.{solved_holds}
-use Rattle.clue_rules.proofs.Chains.{IsAntitone}
-use Rattle.clue_rules.proofs.KeptSolutions.{IsSoundFor}
+use Rattle.line_steps.specs.Left.{IsEmptied, IsFewer}
+use Rattle.line_steps.specs.Chains.{LeadsTo}
+use Rattle.line_steps.proofs.Emptied.{solved_holds}
+use Rattle.line_steps.proofs.Chains.{IsAntitone}
+use Rattle.line_steps.proofs.KeptSolutions.{IsSoundFor}
 use Rattle.named_steps.proofs.Followed.{follows_more}
-use Rattle.clue_rules.specs.declared.reason.Reason.{Reason}
-use Rattle.clue_rules.specs.declared.grade.Grade.{Grade}
+use Rattle.line_steps.specs.declared.reason.Reason.{Reason}
+use Rattle.line_steps.specs.declared.grade.Grade.{Grade}
 use Rattle.fair_games.specs.Fair.{FailsBy}
 use Rattle.fair_games.specs.Inner.PrunedTo.{outside, IsPrunedTo}
 use Rattle.fair_games.specs.Inner.Bases.{IsBase}
 use Rattle.fair_games.proofs.PrunedItems.{cut_again, kept_of_cut, outside_before, outside_within, outside_after, pruned_goes}
 use Rattle.fair_games.proofs.Bases.{base_more, base_settled, base_follows, follows_base}
-use Rattle.clue_rules.specs.Reasons.{Striking}
+use Rattle.line_steps.specs.Reasons.{StruckBy, Striking}
+use Rattle.line_steps.specs.Laws.Cuts.{all_whole}
+use Rattle.line_steps.specs.Laws.Less.{all_less}
+use Rattle.line_steps.specs.Laws.Sound.{all_sound}
 
 -- what a game owes of its items and of its steps
 pub record HasSteps {P : Type 0} (f : Ghosts P) (Struck : P → Striking) : Type 0 where
@@ -31,6 +35,22 @@ pub record HasSteps {P : Type 0} (f : Ghosts P) (Struck : P → Striking) : Type
   pub sound : (p : P) → f.valid p → IsSoundFor (f.puzzle p) (Struck p)
   pub cut : (p : P) (keep : ℕ → Bool) (c : CandidatesValue) (reason : Reason) (cell value : ℕ)
       → Struck (f.cut p keep) c reason cell value → Struck p c reason cell value
+
+-- a game owes these of its steps where it owes them of its own reasons
+pub steps_of : {P : Type 0} (f : Ghosts P) (Own : P → Striking) → ItemLaws f
+    → ((p : P) (c d : CandidatesValue) (reason : Reason) (cell value : ℕ) → IsFewer c d → Own p c reason cell value → Own p d reason cell value)
+    → ((p : P) (c : CandidatesValue) (reason : Reason) (cell value : ℕ) (g : GridValue) → f.valid p → c.size ≡ (f.puzzle p).size
+    → Solves (f.puzzle p) g → IsWithin c g → Own p c reason cell value → number_at g cell ≢ value)
+    → ((p : P) (keep : ℕ → Bool) (c : CandidatesValue) (reason : Reason) (cell value : ℕ) → Own (f.cut p keep) c reason cell value
+    → Own p c reason cell value)
+    → HasSteps f (StruckBy f.puzzle Own)
+steps_of f Own items less sound whole = record {
+  items = items;
+  less = λ p. all_less (f.puzzle p) (Own p) (less p);
+  sound = λ p valid. all_sound (f.puzzle p) (Own p) (λ c reason cell value g. sound p c reason cell value g valid);
+  cut = λ p keep. all_whole (f.puzzle (f.cut p keep)) (f.puzzle p) (Own (f.cut p keep)) (Own p) (items.cut_size p keep) (items.givens_cut p keep)
+      (whole p keep);
+}
 
 -- what fails with some items fails with fewer
 pub fewer_fail : {P : Type 0} (f : Ghosts P) (Struck : P → Striking) → HasSteps f Struck → (grade : Grade) (g : GridValue)
@@ -51,7 +71,7 @@ cut_of {P} f g p keep laws grid latin is_cut =
     let full_valid = laws.full_valid g grid latin in
     subst (IsCutOf f g) (sym is_cut) (record {
       valid = laws.cut_valid (f.full_of g) keep full_valid;
-      size = laws.cut_size (f.full_of g) keep full_valid ∙ laws.full_size g grid latin;
+      size = laws.cut_size (f.full_of g) keep ∙ laws.full_size g grid latin;
       solves = laws.cut_solved (f.full_of g) keep g full_valid (laws.full_solved g grid latin);
     })
 

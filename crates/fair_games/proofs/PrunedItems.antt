@@ -4,8 +4,10 @@ use Rattle.std.proofs.lemmas.Bool.{both_ways, cases_eq, cases_lt, ne_eqb, lt-ltb
 use Rattle.latin_board.specs.Squares.{GridValue}
 use Rattle.trail_solver.specs.declared.rules.Rules.{Ghosts}
 use Rattle.puzzle_gen.specs.Orders.{place_in}
-use Rattle.puzzle_gen.specs.Pruning.{all_but, rest, rest_puzzle}
-use Rattle.puzzle_gen.proofs.ItemLaws.{AreCuts, ItemLaws}
+use Rattle.needed_items.specs.Needed.{all_but}
+use Rattle.puzzle_gen.specs.Pruning.{rest, rest_puzzle}
+use Rattle.needed_items.proofs.ItemLaws.{ItemLaws}
+use Rattle.puzzle_gen.proofs.FullCuts.{AreCuts}
 use Rattle.fair_games.specs.Pruned.{IsTrial}
 use Rattle.fair_games.specs.Inner.PrunedTo.{outside, IsPrunedTo}
 

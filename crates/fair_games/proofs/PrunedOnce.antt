@@ -5,7 +5,7 @@ use Rattle.latin_board.specs.Squares.{GridValue}
 use Rattle.trail_solver.specs.declared.rules.Rules.{Ghosts}
 use Rattle.puzzle_gen.specs.Orders.{place_in}
 use Rattle.puzzle_gen.specs.Pruning.{rest, rest_puzzle}
-use Rattle.puzzle_gen.proofs.ItemLaws.{AreCuts}
+use Rattle.puzzle_gen.proofs.FullCuts.{AreCuts}
 use Rattle.fair_games.specs.Pruned.{IsTrial, IsTried, IsPrunedBy}
 use Rattle.fair_games.proofs.PrunedItems.{rest_before, rest_after, rest_agrees}
 

@@ -1,4 +1,4 @@
--- Orders of some items, put together of orders of the givens and of the marks.
+-- Orders of some items, put together of orders of the givens and of the clues (or signs).
 use Rattle.std.proofs.Common.{◌≡◌, ℕ, zero, suc, ◌+◌, ◌-◌, ◌/◌, ◌<◌, ◌≤◌, ◌==◌, List, [], ◌∷◌, ◌++◌, length, map, take, drop, slice_index, IsPermutation, inl, inr, refl, sym, ◌∙◌, ap, subst, arith, append-nil, append_assoc, length-append, eq-eqb}
 use Rattle.std.proofs.Math.ListN.{get_or-append}
 use Rattle.std.proofs.lemmas.List.{take-append-drop, length-map, map-append}
@@ -87,48 +87,48 @@ range_both m (suc n) =
 
 -- the items that aren't tried
 abbrev left_out : Trial → List ℕ → List ℕ
-left_out GivensAlone signs = signs
-left_out GivensFirst signs = []
-left_out HalfFirst signs = []
+left_out GivensAlone clues = clues
+left_out GivensFirst clues = []
+left_out HalfFirst clues = []
 
 -- the items that a trial has, and those that it leaves out, are all items
-moved : (trial : Trial) (m n : ℕ) (signs givens : List ℕ) → IsPermutation (range_with_len 0 m) signs → IsPermutation (range_with_len 0 n) givens
-    → IsPermutation (range_with_len 0 (m + n)) (in_turn trial m signs givens ++ left_out trial signs)
-moved trial m n signs givens first second = turn trial
+moved : (trial : Trial) (m n : ℕ) (clues givens : List ℕ) → IsPermutation (range_with_len 0 m) clues → IsPermutation (range_with_len 0 n) givens
+    → IsPermutation (range_with_len 0 (m + n)) (in_turn trial m clues givens ++ left_out trial clues)
+moved trial m n clues givens first second = turn trial
   where
     further : List ℕ
     further = map (λ i. m + i) givens
 
-    all : IsPermutation (range_with_len 0 (m + n)) (signs ++ further)
-    all = subst (λ (xs : List ℕ). IsPermutation xs (signs ++ further)) (sym (range_both m n))
-        (IsPermutation-append (range_with_len 0 m) signs (map (λ i. m + i) (range_with_len 0 n)) further first
+    all : IsPermutation (range_with_len 0 (m + n)) (clues ++ further)
+    all = subst (λ (xs : List ℕ). IsPermutation xs (clues ++ further)) (sym (range_both m n))
+        (IsPermutation-append (range_with_len 0 m) clues (map (λ i. m + i) (range_with_len 0 n)) further first
         (IsPermutation-map (λ i. m + i) (range_with_len 0 n) givens second))
 
-    turned : IsPermutation (range_with_len 0 (m + n)) (further ++ signs)
-    turned = IsPermutation-trans (range_with_len 0 (m + n)) (signs ++ further) (further ++ signs) all (IsPermutation-append_comm signs further)
+    turned : IsPermutation (range_with_len 0 (m + n)) (further ++ clues)
+    turned = IsPermutation-trans (range_with_len 0 (m + n)) (clues ++ further) (further ++ clues) all (IsPermutation-append_comm clues further)
 
     half : ℕ
     half = m / 2
 
-    halves : IsPermutation (range_with_len 0 (m + n)) ((take half signs ++ further) ++ drop half signs)
-    halves = subst (IsPermutation (range_with_len 0 (m + n))) (sym (append_assoc (take half signs) further (drop half signs)))
-        (IsPermutation-trans (range_with_len 0 (m + n)) (signs ++ further) (take half signs ++ (further ++ drop half signs)) all
-        (subst (λ (xs : List ℕ). IsPermutation xs (take half signs ++ (further ++ drop half signs)))
-        (sym (append_assoc (take half signs) (drop half signs) further) ∙ ap (λ (xs : List ℕ). xs ++ further) (take-append-drop half signs))
-        (IsPermutation-append_right (take half signs) (drop half signs ++ further) (further ++ drop half signs)
-        (IsPermutation-append_comm (drop half signs) further))))
+    halves : IsPermutation (range_with_len 0 (m + n)) ((take half clues ++ further) ++ drop half clues)
+    halves = subst (IsPermutation (range_with_len 0 (m + n))) (sym (append_assoc (take half clues) further (drop half clues)))
+        (IsPermutation-trans (range_with_len 0 (m + n)) (clues ++ further) (take half clues ++ (further ++ drop half clues)) all
+        (subst (λ (xs : List ℕ). IsPermutation xs (take half clues ++ (further ++ drop half clues)))
+        (sym (append_assoc (take half clues) (drop half clues) further) ∙ ap (λ (xs : List ℕ). xs ++ further) (take-append-drop half clues))
+        (IsPermutation-append_right (take half clues) (drop half clues ++ further) (further ++ drop half clues)
+        (IsPermutation-append_comm (drop half clues) further))))
 
-    turn : (t : Trial) → IsPermutation (range_with_len 0 (m + n)) (in_turn t m signs givens ++ left_out t signs)
+    turn : (t : Trial) → IsPermutation (range_with_len 0 (m + n)) (in_turn t m clues givens ++ left_out t clues)
     turn GivensAlone = turned
-    turn GivensFirst = subst (IsPermutation (range_with_len 0 (m + n))) (sym (append-nil (further ++ signs))) turned
-    turn HalfFirst = subst (IsPermutation (range_with_len 0 (m + n))) (sym (append-nil ((take half signs ++ further) ++ drop half signs))) halves
+    turn GivensFirst = subst (IsPermutation (range_with_len 0 (m + n))) (sym (append-nil (further ++ clues))) turned
+    turn HalfFirst = subst (IsPermutation (range_with_len 0 (m + n))) (sym (append-nil ((take half clues ++ further) ++ drop half clues))) halves
 
 -- what is put together is an order of some items
-pub trial_in_turn : (trial : Trial) (m n : ℕ) (signs givens : List ℕ) → IsPermutation (range_with_len 0 m) signs
-    → IsPermutation (range_with_len 0 n) givens → IsTrial (m + n) (in_turn trial m signs givens)
-trial_in_turn trial m n signs givens first second =
-    trial_front (m + n) (in_turn trial m signs givens) (left_out trial signs)
-    (order_of_permutation (m + n) (in_turn trial m signs givens ++ left_out trial signs) (moved trial m n signs givens first second))
+pub trial_in_turn : (trial : Trial) (m n : ℕ) (clues givens : List ℕ) → IsPermutation (range_with_len 0 m) clues
+    → IsPermutation (range_with_len 0 n) givens → IsTrial (m + n) (in_turn trial m clues givens)
+trial_in_turn trial m n clues givens first second =
+    trial_front (m + n) (in_turn trial m clues givens) (left_out trial clues)
+    (order_of_permutation (m + n) (in_turn trial m clues givens ++ left_out trial clues) (moved trial m n clues givens first second))
 
 -- ---- lists that are put together one after the other
 
@@ -145,16 +145,16 @@ put_three a b c d first second third none one two three =
     ∙ ap (λ (xs : List ℕ). (first ++ second) ++ xs) (map_zero third)
 
 -- what is put together of lists that are the two orders
-pub turn_made : (trial : Trial) (m : ℕ) (lent_signs lent_givens signs givens order : List ℕ) → length signs ≡ m → lent_signs ≡ signs
-    → lent_givens ≡ givens → order ≡ in_turn trial (length lent_signs) lent_signs lent_givens → order ≡ in_turn trial m signs givens
-turn_made trial m lent_signs lent_givens signs givens order count first second put =
-    put ∙ ap (λ (xs : List ℕ). in_turn trial (length xs) xs lent_givens) first ∙ ap (λ (xs : List ℕ). in_turn trial (length signs) signs xs) second
-    ∙ ap (λ (n : ℕ). in_turn trial n signs givens) count
+pub turn_made : (trial : Trial) (m : ℕ) (lent_clues lent_givens clues givens order : List ℕ) → length clues ≡ m → lent_clues ≡ clues
+    → lent_givens ≡ givens → order ≡ in_turn trial (length lent_clues) lent_clues lent_givens → order ≡ in_turn trial m clues givens
+turn_made trial m lent_clues lent_givens clues givens order count first second put =
+    put ∙ ap (λ (xs : List ℕ). in_turn trial (length xs) xs lent_givens) first ∙ ap (λ (xs : List ℕ). in_turn trial (length clues) clues xs) second
+    ∙ ap (λ (n : ℕ). in_turn trial n clues givens) count
 
 -- and the stream that is left
-pub turn_drawn : (trial : Trial) (m n : ℕ) (s middle end : Stream) (signs givens order : List ℕ) → (givens, middle) ≡ drawn_order n s
-    → (signs, end) ≡ drawn_order m middle → order ≡ in_turn trial m signs givens → (order, end) ≡ drawn_trial trial m n s
-turn_drawn trial m n s middle end signs givens order first second put =
+pub turn_drawn : (trial : Trial) (m n : ℕ) (s middle end : Stream) (clues givens order : List ℕ) → (givens, middle) ≡ drawn_order n s
+    → (clues, end) ≡ drawn_order m middle → order ≡ in_turn trial m clues givens → (order, end) ≡ drawn_trial trial m n s
+turn_drawn trial m n s middle end clues givens order first second put =
     ap (λ (xs : List ℕ). (xs, end)) put
     ∙ ap (λ (p : List ℕ × Stream). (in_turn trial m p.0 givens, p.1)) second
     ∙ ap (λ (p : List ℕ × Stream). (in_turn trial m (drawn_order m p.1).0 p.0, (drawn_order m p.1).1)) first
@@ -169,19 +169,19 @@ place_further m j (x ∷ xs) = elim (cases_eq j x) [
       rw (ne_eqb j x apart, ne_eqb (m + j) (m + x) (λ same. apart (omega (arith, same)))) (ap suc (place_further m j xs))
 ]
 
-tried_whole : (trial : Trial) (m n : ℕ) (signs givens : List ℕ) → IsPermutation (range_with_len 0 m) signs
-    → IsPermutation (range_with_len 0 n) givens → (i : ℕ) → i < m + n → left_out trial signs ≡ [] → IsTried i (in_turn trial m signs givens)
-tried_whole trial m n signs givens first second i below none =
-    let xs = in_turn trial m signs givens in
-    let order = order_of_permutation (m + n) (xs ++ left_out trial signs) (moved trial m n signs givens first second) in
+tried_whole : (trial : Trial) (m n : ℕ) (clues givens : List ℕ) → IsPermutation (range_with_len 0 m) clues
+    → IsPermutation (range_with_len 0 n) givens → (i : ℕ) → i < m + n → left_out trial clues ≡ [] → IsTried i (in_turn trial m clues givens)
+tried_whole trial m n clues givens first second i below none =
+    let xs = in_turn trial m clues givens in
+    let order = order_of_permutation (m + n) (xs ++ left_out trial clues) (moved trial m n clues givens first second) in
     let count : length xs ≡ m + n =
     ap length (sym (append-nil xs) ∙ ap (λ (ys : List ℕ). xs ++ ys) (sym none)) ∙ order.count in
-    place_back i xs (left_out trial signs) (omega (arith, order.inside i below, count))
+    place_back i xs (left_out trial clues) (omega (arith, order.inside i below, count))
 
 -- each given is tried, and each mark but where the givens alone are
-pub tried_in_turn : (trial : Trial) (m n : ℕ) (signs givens : List ℕ) → IsPermutation (range_with_len 0 m) signs
-    → IsPermutation (range_with_len 0 n) givens → (i : ℕ) → i < m + n → (trial ≡ GivensAlone → m ≤ i) → IsTried i (in_turn trial m signs givens)
-tried_in_turn GivensAlone m n signs givens first second i below low =
+pub tried_in_turn : (trial : Trial) (m n : ℕ) (clues givens : List ℕ) → IsPermutation (range_with_len 0 m) clues
+    → IsPermutation (range_with_len 0 n) givens → (i : ℕ) → i < m + n → (trial ≡ GivensAlone → m ≤ i) → IsTried i (in_turn trial m clues givens)
+tried_in_turn GivensAlone m n clues givens first second i below low =
     let from : m ≤ i = low refl in
     let order = order_of_permutation n givens second in
     let place : place_in i (map (λ j. m + j) givens) ≡ place_in (i - m) givens =
@@ -190,5 +190,5 @@ tried_in_turn GivensAlone m n signs givens first second i below low =
   where
     back : (a b : ℕ) → a ≤ b → a + (b - a) ≡ b
     back a b h = omega (arith, h)
-tried_in_turn GivensFirst m n signs givens first second i below low = tried_whole GivensFirst m n signs givens first second i below refl
-tried_in_turn HalfFirst m n signs givens first second i below low = tried_whole HalfFirst m n signs givens first second i below refl
+tried_in_turn GivensFirst m n clues givens first second i below low = tried_whole GivensFirst m n clues givens first second i below refl
+tried_in_turn HalfFirst m n clues givens first second i below low = tried_whole HalfFirst m n clues givens first second i below refl

@@ -7,19 +7,19 @@ use Rattle.fair_games.specs.Squares.{drawn_latin}
 use Rattle.fair_games.specs.declared.trial.Trial.{Trial}
 use Rattle.fair_games.specs.declared.trial.Trial.TheVariants.{GivensAlone, GivensFirst, HalfFirst}
 
--- the items of a trial, from orders of the marks (clues or signs) and of the givens, which are the items from a place
+-- the items of a trial, from orders of the clues (or signs) and of the givens, which are the items from a place
 -- on
 abbrev pub in_turn : Trial → ℕ → List ℕ → List ℕ → List ℕ
-in_turn GivensAlone marks signs givens = map (λ i. marks + i) givens
-in_turn GivensFirst marks signs givens = map (λ i. marks + i) givens ++ signs
-in_turn HalfFirst marks signs givens = take (marks / 2) signs ++ map (λ i. marks + i) givens ++ drop (marks / 2) signs
+in_turn GivensAlone count clues givens = map (λ i. count + i) givens
+in_turn GivensFirst count clues givens = map (λ i. count + i) givens ++ clues
+in_turn HalfFirst count clues givens = take (count / 2) clues ++ map (λ i. count + i) givens ++ drop (count / 2) clues
 
--- an order of the givens is drawn, and then one of the marks; and the stream that is left
+-- an order of the givens is drawn, and then one of the clues; and the stream that is left
 abbrev pub drawn_trial : Trial → ℕ → ℕ → Stream → List ℕ × Stream
-drawn_trial trial marks cells s =
+drawn_trial trial count cells s =
     let givens = drawn_order cells s in
-    let signs = drawn_order marks givens.1 in
-    (in_turn trial marks signs.0 givens.0, signs.1)
+    let clues = drawn_order count givens.1 in
+    (in_turn trial count clues.0 givens.0, clues.1)
 
 -- a draw: a square, and an order of its items, of which the givens are the last; and the stream that is left
 abbrev pub drawn_game : Trial → ℕ → ℕ → Stream → (GridValue × List ℕ) × Stream

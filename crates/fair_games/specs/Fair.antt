@@ -4,12 +4,12 @@ use Rattle.std.specs.Prelude.{◌≡◌, ℕ, ◌<◌, Bool, true, false, List, 
 use Rattle.latin_board.specs.Squares.{GridValue}
 use Rattle.trail_solver.specs.declared.rules.Rules.{Ghosts}
 use Rattle.named_steps.specs.Following.{Follows}
-use Rattle.clue_rules.specs.declared.grade.Grade.{Grade}
+use Rattle.line_steps.specs.declared.grade.Grade.{Grade}
 use Rattle.fair_games.specs.FairGames.{IsOfGrade}
 use Rattle.fair_games.specs.Pruned.{IsPrunedBy}
 use Rattle.fair_games.specs.declared.fair_fault.FairFault.{FairFault}
 use Rattle.fair_games.specs.declared.fair_fault.FairFault.TheVariants.{NotOffered, NoneFound}
-use Rattle.clue_rules.specs.Reasons.{Striking}
+use Rattle.line_steps.specs.Reasons.{Striking}
 
 -- the square doesn't follow by the puzzle's steps of the grade
 abbrev pub FailsBy : {P : Type 0} → (P → Striking) → Grade → GridValue → P → Type 0

@@ -4,20 +4,24 @@ use Rattle.std.specs.Prelude.{◌≡◌, ℕ, ◌-◌, ◌*◌, ◌<◌, ◌≤�
 use Rattle.latin_board.specs.Squares.{GridValue}
 use Rattle.trail_solver.specs.Solutions.{IsOnlySolution}
 use Rattle.trail_solver.specs.declared.rules.Rules.{Ghosts}
-use Rattle.clue_rules.specs.Reasons.{Striking}
+use Rattle.line_steps.specs.Reasons.{Striking}
 use Rattle.named_steps.specs.Following.{Follows}
 use Rattle.named_steps.specs.Graded.{FollowsBy, IsGradeOf}
-use Rattle.clue_rules.specs.declared.grade.Grade.{Grade}
+use Rattle.line_steps.specs.declared.grade.Grade.{Grade}
 use Rattle.fair_games.specs.declared.trial.Trial.{Trial}
 use Rattle.fair_games.specs.declared.trial.Trial.TheVariants.{GivensAlone}
+
+-- the puzzle follows by the grade
+abbrev pub IsByGrade : {P : Type 0} → Ghosts P → (P → Striking) → Grade → P → Type 0
+IsByGrade f Struck grade p = FollowsBy (f.puzzle p) (Struck p) grade
 
 -- the puzzle follows by the grade, and not by the one below
 abbrev pub IsOfGrade : {P : Type 0} → Ghosts P → (P → Striking) → Grade → P → Type 0
 IsOfGrade f Struck grade p = IsGradeOf (f.puzzle p) (Struck p) (Some grade)
 
--- the item is tried: each given is, and so is each of the marks, which come before the givens, but where these are alone
+-- the item is tried: each given is, and so is each clue or sign, which come before the givens, but where these are alone
 abbrev pub IsTriedIn : Trial → ℕ → ℕ → Type 0
-IsTriedIn trial marks i = trial ≡ GivensAlone → marks ≤ i
+IsTriedIn trial count i = trial ≡ GivensAlone → count ≤ i
 
 -- without any set of its items that has one that is tried, the puzzle doesn't follow by the grade
 abbrev pub NeedsItems : {P : Type 0} → Ghosts P → (P → Striking) → Grade → Trial → ℕ → P → Type 0

@@ -2,10 +2,10 @@
 use Rattle.std.specs.Prelude.{◌≡◌, ℕ, ◌<◌, Bool, false, List, IsTrue}
 use Rattle.latin_board.specs.Squares.{GridValue}
 use Rattle.trail_solver.specs.declared.rules.Rules.{Ghosts}
-use Rattle.clue_rules.specs.declared.grade.Grade.{Grade}
+use Rattle.line_steps.specs.declared.grade.Grade.{Grade}
 use Rattle.fair_games.specs.Pruned.{IsTried}
 use Rattle.fair_games.specs.Fair.{FailsBy, IsPrunedGame}
-use Rattle.clue_rules.specs.Reasons.{Striking}
+use Rattle.line_steps.specs.Reasons.{Striking}
 
 -- without any set of items that has one that was tried, the pruned puzzle of a draw doesn't follow
 abbrev pub ItemsAreNeeded : {P : Type 0} → Ghosts P → (P → Striking) → Type 0

@@ -1,7 +1,7 @@
 -- The letters of the grades, and the orders of trial.
 use Rattle.std.specs.Prelude.{ℕ, Option, Some, None}
-use Rattle.clue_rules.specs.declared.grade.Grade.{Grade}
-use Rattle.clue_rules.specs.declared.grade.Grade.TheVariants.{Latin, Easy, Hard}
+use Rattle.line_steps.specs.declared.grade.Grade.{Grade}
+use Rattle.line_steps.specs.declared.grade.Grade.TheVariants.{Latin, Easy, Hard}
 use Rattle.fair_games.specs.declared.trial.Trial.{Trial}
 use Rattle.fair_games.specs.declared.trial.Trial.TheVariants.{GivensAlone, GivensFirst, HalfFirst}
 

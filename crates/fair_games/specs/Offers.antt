@@ -1,7 +1,7 @@
 -- Which sizes and grades are offered.
 use Rattle.std.specs.Prelude.{ℕ, Bool, true, false, nat_lt, Option, Some, None}
-use Rattle.clue_rules.specs.declared.grade.Grade.{Grade}
-use Rattle.clue_rules.specs.declared.grade.Grade.TheVariants.{Latin, Easy, Hard}
+use Rattle.line_steps.specs.declared.grade.Grade.{Grade}
+use Rattle.line_steps.specs.declared.grade.Grade.TheVariants.{Latin, Easy, Hard}
 
 -- the game has a letter for the grade, and the highest grade is of sizes above 3
 abbrev pub is_offered : ℕ → Option ℕ → Grade → Bool

@@ -66,43 +66,43 @@ fn first_numbers(count: usize) -> ArrayVec<u8, MOST>
     numbers
 }
 
-/// Draws an order of the givens and one of the marks, the clues or signs, and puts them together.
+/// Draws an order of the givens and one of the clues (or signs), and puts them together.
 pub(crate) fn draw_trial<R: Rng>(
     rng: &mut R,
     trial: Trial,
-    marks: usize,
+    clue_count: usize,
     cells: usize,
 ) -> ArrayVec<u8, MOST>
-    requires marks { marks ≤ 144 }
+    requires clues { clue_count ≤ 144 }
     requires cells { cells ≤ 81 }
-    ensures trial { IsTrial (marks + cells) result.items }
-    ensures tried { (i : ℕ) → i < marks + cells → IsTriedIn trial marks i → IsTried i result.items }
-    ensures drawn { (result.items, R.stream rng.new) ≡ drawn_trial trial marks cells (R.stream rng.old) }
+    ensures trial { IsTrial (clue_count + cells) result.items }
+    ensures tried { (i : ℕ) → i < clue_count + cells → IsTriedIn trial clue_count i → IsTried i result.items }
+    ensures drawn { (result.items, R.stream rng.new) ≡ drawn_trial trial clue_count cells (R.stream rng.old) }
 {
     let givens = draw_numbers(rng, cells);
-    let signs = draw_numbers(rng, marks);
-    put_in_turn(trial, signs.as_slice(), givens.as_slice())
+    let clues = draw_numbers(rng, clue_count);
+    put_in_turn(trial, clues.as_slice(), givens.as_slice())
 }
 
-// The items of a trial, from orders of the marks and of the givens.
-fn put_in_turn(trial: Trial, signs: &[u8], givens: &[u8]) -> ArrayVec<u8, MOST>
-    requires marks { length signs.now ≤ 144 }
+// The items of a trial, from orders of the clues (or signs) and of the givens.
+fn put_in_turn(trial: Trial, clues: &[u8], givens: &[u8]) -> ArrayVec<u8, MOST>
+    requires clues { length clues.now ≤ 144 }
     requires cells { length givens.now ≤ 81 }
     requires givens { (k : ℕ) → k < length givens.now → slice_index givens.now k < length givens.now }
-    ensures { result.items ≡ in_turn trial (length signs.now) signs.now givens.now }
+    ensures { result.items ≡ in_turn trial (length clues.now) clues.now givens.now }
 {
-    let marks = signs.len();
+    let count = clues.len();
     let mut order = ArrayVec::new();
     match trial {
-        Trial::GivensAlone => add_items(&mut order, givens, marks),
+        Trial::GivensAlone => add_items(&mut order, givens, count),
         Trial::GivensFirst => {
-            add_items(&mut order, givens, marks);
-            add_items(&mut order, signs, 0);
+            add_items(&mut order, givens, count);
+            add_items(&mut order, clues, 0);
         }
         Trial::HalfFirst => {
-            let (first, others) = signs.split_at(marks / 2);
+            let (first, others) = clues.split_at(count / 2);
             add_items(&mut order, first, 0);
-            add_items(&mut order, givens, marks);
+            add_items(&mut order, givens, count);
             add_items(&mut order, others, 0);
         }
     }

@@ -1,12 +1,14 @@
 //! What fair games ask of a game: a letter for each grade, and an order in which items are tried.
 
 ghost use Rattle.std.specs.Prelude.{◌≡◌, ℕ, ◌+◌, ◌*◌, ◌≤◌, Option};
-ghost use Rattle.clue_rules.specs.declared.grade.Grade.{Grade};
+ghost use Rattle.line_steps.specs.declared.grade.Grade.{Grade};
 ghost use Rattle.fair_games.specs.declared.trial.Trial.{Trial};
 
 use crate::trial::Trial;
-use clue_rules::{Game, Towers, Unequal};
+use game_texts::Game;
 use named_steps::{Grade, Steps};
+use towers_game::Towers;
+use unequal_game::Unequal;
 
 /// A game of which fair games are drawn.
 pub trait FairGame: Game + Steps {

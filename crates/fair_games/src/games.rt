@@ -1,8 +1,9 @@
 //! Fair games: drawn until one is of the grade.
 
+ghost use Rattle.line_steps.specs.Reasons.{StruckBy};
 ghost use Rattle.std.specs.Prelude.{◌≡◌, ◌≢◌, ℕ, ◌<◌, ◌↔◌, Result, IfOk, IfSome, IsTrue, MatchOption, Some};
 ghost use Rattle.named_steps.specs.Graded.{FollowsBy};
-ghost use Rattle.clue_rules.specs.declared.grade.Grade.{Grade};
+ghost use Rattle.line_steps.specs.declared.grade.Grade.{Grade};
 ghost use Rattle.fair_games.specs.declared.fair_fault.FairFault.{FairFault};
 ghost use Rattle.fair_games.specs.FairGames.{IsFairGame, IsOfGrade, NeedsItems};
 ghost use Rattle.fair_games.specs.Squares.{fair_stream};
@@ -71,17 +72,17 @@ fn has_letter<P: FairGame>(grade: Grade, letter: u8) -> bool
 /// below; and no item that is tried can be spared. Refused as `NotOffered`, or otherwise as `NoneFound` where no draw gives a game of the
 /// grade. It takes no memory.
 pub fn fair<P: FairGame>(size: Size, grade: Grade, seed: u64) -> Result<P, FairFault>
-    ensures promised { IfOk result (IsFairGame ⟦<P as Rules>⟧ P.struck_by grade (P.trial_of grade) size) }
+    ensures promised { IfOk result (IsFairGame ⟦<P as Rules>⟧ (StruckBy P.puzzle P.own) grade (P.trial_of grade) size) }
     ensures valid { IfOk result (λ p. P.valid p) }
 
     // Which of such games the seed gives.
-    ensures fair { IsFairResult ⟦<P as Rules>⟧ P.struck_by grade (is_offered size (P.letter_of grade) grade)
+    ensures fair { IsFairResult ⟦<P as Rules>⟧ (StruckBy P.puzzle P.own) grade (is_offered size (P.letter_of grade) grade)
         (draw_at (P.trial_of grade) size (P.items_of size)
         (fair_stream size (letter_code (P.letter_of grade)) P.initial_code seed)) result }
 
     // There is no other.
     ensures just_one { (other : Result P FairFault)
-        → IsFairResult ⟦<P as Rules>⟧ P.struck_by grade (is_offered size (P.letter_of grade) grade)
+        → IsFairResult ⟦<P as Rules>⟧ (StruckBy P.puzzle P.own) grade (is_offered size (P.letter_of grade) grade)
         (draw_at (P.trial_of grade) size (P.items_of size)
         (fair_stream size (letter_code (P.letter_of grade)) P.initial_code seed)) other
         → other ≡ result }
@@ -97,12 +98,12 @@ pub fn fair<P: FairGame>(size: Size, grade: Grade, seed: u64) -> Result<P, FairF
 
 /// The puzzle of the first draw of a seed that gives one of the grade: the fair game, where its size and grade are offered.
 pub fn seeded<P: FairGame>(size: Size, grade: Grade, seed: u64) -> Option<P>
-    ensures promised { IfSome result (IsFairGame ⟦<P as Rules>⟧ P.struck_by grade (P.trial_of grade) size) }
+    ensures promised { IfSome result (IsFairGame ⟦<P as Rules>⟧ (StruckBy P.puzzle P.own) grade (P.trial_of grade) size) }
     ensures fair { MatchOption result
-        ((n : ℕ) → n < most_draws → IsPassedOver ⟦<P as Rules>⟧ P.struck_by grade
+        ((n : ℕ) → n < most_draws → IsPassedOver ⟦<P as Rules>⟧ (StruckBy P.puzzle P.own) grade
         (draw_at (P.trial_of grade) size (P.items_of size)
         (fair_stream size (letter_code (P.letter_of grade)) P.initial_code seed) n))
-        (IsFair ⟦<P as Rules>⟧ P.struck_by grade
+        (IsFair ⟦<P as Rules>⟧ (StruckBy P.puzzle P.own) grade
         (draw_at (P.trial_of grade) size (P.items_of size)
         (fair_stream size (letter_code (P.letter_of grade)) P.initial_code seed))) }
 {
@@ -122,12 +123,12 @@ fn letter_byte<P: FairGame>(grade: Grade) -> u8
 
 // The same by a stream of random words. `known` serves all draws.
 fn find_game<P: FairGame, R: Rng>(rng: &mut R, size: Size, grade: Grade) -> Option<P>
-    ensures needed { IfSome result (NeedsItems ⟦<P as Rules>⟧ P.struck_by grade (P.trial_of grade) size) }
+    ensures needed { IfSome result (NeedsItems ⟦<P as Rules>⟧ (StruckBy P.puzzle P.own) grade (P.trial_of grade) size) }
     ensures fair { MatchOption result
         ((n : ℕ) → n < most_draws
-        → IsPassedOver ⟦<P as Rules>⟧ P.struck_by grade
+        → IsPassedOver ⟦<P as Rules>⟧ (StruckBy P.puzzle P.own) grade
         (draw_at (P.trial_of grade) size (P.items_of size) (R.stream rng.old) n))
-        (IsFair ⟦<P as Rules>⟧ P.struck_by grade
+        (IsFair ⟦<P as Rules>⟧ (StruckBy P.puzzle P.own) grade
         (draw_at (P.trial_of grade) size (P.items_of size) (R.stream rng.old))) }
 {
     let mut known = P::Known::default();
@@ -142,10 +143,10 @@ fn find_game<P: FairGame, R: Rng>(rng: &mut R, size: Size, grade: Grade) -> Opti
 
 // Draws a square and an order, and prunes by the grade.
 fn draw_game<P: FairGame, R: Rng>(rng: &mut R, size: Size, grade: Grade, known: &mut P::Known) -> P
-    ensures pruned { IsPrunedGame ⟦<P as Rules>⟧ P.struck_by grade
+    ensures pruned { IsPrunedGame ⟦<P as Rules>⟧ (StruckBy P.puzzle P.own) grade
         (drawn_game (P.trial_of grade) size (P.items_of size) (R.stream rng.old)).0 result }
-    ensures follows { FollowsBy (P.puzzle result) (P.struck_by result) grade }
-    ensures needed { NeedsItems ⟦<P as Rules>⟧ P.struck_by grade (P.trial_of grade) size result }
+    ensures follows { FollowsBy (P.puzzle result) (StruckBy P.puzzle P.own result) grade }
+    ensures needed { NeedsItems ⟦<P as Rules>⟧ (StruckBy P.puzzle P.own) grade (P.trial_of grade) size result }
     ensures left { R.stream rng.new ≡ (drawn_game (P.trial_of grade) size (P.items_of size) (R.stream rng.old)).1 }
 {
     let width = size.get() as usize;
@@ -157,8 +158,8 @@ fn draw_game<P: FairGame, R: Rng>(rng: &mut R, size: Size, grade: Grade, known: 
 
 // Whether a puzzle that follows by a grade doesn't follow by the one below.
 fn is_of_grade<P: Steps>(puzzle: &P, grade: Grade, known: &mut P::Known) -> bool
-    requires { FollowsBy (P.puzzle puzzle.now) (P.struck_by puzzle.now) grade }
-    ensures { IsTrue result ↔ IsOfGrade ⟦<P as Rules>⟧ P.struck_by grade puzzle.now }
+    requires { FollowsBy (P.puzzle puzzle.now) (StruckBy P.puzzle P.own puzzle.now) grade }
+    ensures { IsTrue result ↔ IsOfGrade ⟦<P as Rules>⟧ (StruckBy P.puzzle P.own) grade puzzle.now }
 {
     match grade {
         Grade::Latin => true,

@@ -1,5 +1,6 @@
 //! The laws of fair games. They speak of values alone, so the function here does nothing.
 
+ghost use Rattle.line_steps.specs.Reasons.{StruckBy};
 ghost use Rattle.fair_games.specs.FairLaws.{ItemsAreNeeded};
 
 use crate::fair_game::FairGame;
@@ -7,5 +8,5 @@ use trail_solver::Rules;
 
 /// Of the pruned puzzle of a draw no set of items can be dropped that has one that was tried: without it, it doesn't follow.
 pub fn fair_laws<P: FairGame>()
-    ensures needed { ItemsAreNeeded ⟦<P as Rules>⟧ P.struck_by }
+    ensures needed { ItemsAreNeeded ⟦<P as Rules>⟧ (StruckBy P.puzzle P.own) }
 {}

@@ -19,10 +19,12 @@ mod games;
 mod laws_of_games;
 mod pruning;
 mod square;
+mod thinning;
 mod trial;
 
 pub use fair_fault::FairFault;
 pub use fair_game::FairGame;
 pub use games::{fair, grade_of_letter, is_offered, seeded};
 pub use laws_of_games::fair_laws;
+pub use thinning::{is_spare_by, thinned_by};
 pub use trial::Trial;

@@ -1,7 +1,7 @@
 //! The removal of items: each is tried once, and goes where the rest still follows by the grade.
 
-ghost use Rattle.std.specs.Prelude.{◌≡◌, ◌≢◌, ◌↔◌, ℕ, ◌+◌, ◌*◌, ◌<◌, ◌≤◌, length, slice_index, IfSome, IsTrue};
-ghost use Rattle.std.specs.Prelude.{MatchOption};
+ghost use Rattle.line_steps.specs.Reasons.{StruckBy};
+ghost use Rattle.std.specs.Prelude.{◌≡◌, ◌↔◌, ℕ, ◌+◌, ◌*◌, ◌<◌, ◌≤◌, length, IfSome, IsTrue, MatchOption};
 ghost use Rattle.latin_board.specs.Squares.{IsLatin, number_at};
 ghost use Rattle.trail_solver.specs.Candidates.{IsEarlier, IsOnly};
 ghost use Rattle.puzzle_gen.specs.Orders.{place_in};
@@ -27,8 +27,8 @@ struct Trying<'a> {
 pub(crate) fn pruned<P: Steps>(grid: &Grid, order: &[u8], grade: Grade, known: &mut P::Known) -> P
     requires latin { IsLatin grid.now }
     requires trial { IsTrial (P.items_of grid.now.size) order.now }
-    ensures pruned { IsPrunedBy ⟦<P as Rules>⟧ (FailsBy P.struck_by grade grid.now) grid.now order.now result }
-    ensures follows { Follows (P.struck_by result) grade grid.now }
+    ensures pruned { IsPrunedBy ⟦<P as Rules>⟧ (FailsBy (StruckBy P.puzzle P.own) grade grid.now) grid.now order.now result }
+    ensures follows { Follows (StruckBy P.puzzle P.own result) grade grid.now }
 {
     let full = P::full(grid);
     let last = order.len();
@@ -55,20 +55,20 @@ fn without_all<P: Steps>(
     requires trial { IsTrial (P.items_of trying.now.grid.now.size) trying.now.order.now }
     requires ordered { first ≤ last }
     requires inside { last ≤ length trying.now.order.now }
-    requires pruned { IsPrunedTo ⟦<P as Rules>⟧ (FailsBy P.struck_by trying.now.grade trying.now.grid.now)
+    requires pruned { IsPrunedTo ⟦<P as Rules>⟧ (FailsBy (StruckBy P.puzzle P.own) trying.now.grade trying.now.grid.now)
         trying.now.grid.now trying.now.order.now first puzzle }
-    requires base { IsBase (P.struck_by (P.cut puzzle (outside trying.now.order.now first last)))
+    requires base { IsBase (StruckBy P.puzzle P.own (P.cut puzzle (outside trying.now.order.now first last)))
         trying.now.grade trying.now.grid.now left.old }
     ensures cut { IfSome result (λ fewer. fewer ≡ P.cut puzzle (outside trying.now.order.now first last)) }
     ensures pruned { MatchOption result
-        (FailsBy P.struck_by trying.now.grade trying.now.grid.now
+        (FailsBy (StruckBy P.puzzle P.own) trying.now.grade trying.now.grid.now
         (P.cut puzzle (outside trying.now.order.now first last)))
-        (IsPrunedTo ⟦<P as Rules>⟧ (FailsBy P.struck_by trying.now.grade trying.now.grid.now) trying.now.grid.now
+        (IsPrunedTo ⟦<P as Rules>⟧ (FailsBy (StruckBy P.puzzle P.own) trying.now.grade trying.now.grid.now) trying.now.grid.now
         trying.now.order.now last) }
-    ensures follows { IfSome result (λ fewer. Follows (P.struck_by fewer) trying.now.grade trying.now.grid.now) }
+    ensures follows { IfSome result (λ fewer. Follows (StruckBy P.puzzle P.own fewer) trying.now.grade trying.now.grid.now) }
     ensures earlier { IfSome result (λ fewer. (i : ℕ) → i < P.items_of trying.now.grid.now.size
         → place_in i trying.now.order.now < first → P.has fewer i ≡ P.has puzzle i) }
-    ensures base { IsBase (P.struck_by (P.cut puzzle (outside trying.now.order.now first last)))
+    ensures base { IsBase (StruckBy P.puzzle P.own (P.cut puzzle (outside trying.now.order.now first last)))
         trying.now.grade trying.now.grid.now left.new }
     ensures later { IsEarlier left.old left.new }
 {
@@ -100,16 +100,16 @@ fn split<P: Steps>(
     requires trial { IsTrial (P.items_of trying.now.grid.now.size) trying.now.order.now }
     requires ordered { first ≤ last }
     requires inside { last ≤ length trying.now.order.now }
-    requires pruned { IsPrunedTo ⟦<P as Rules>⟧ (FailsBy P.struck_by trying.now.grade trying.now.grid.now)
+    requires pruned { IsPrunedTo ⟦<P as Rules>⟧ (FailsBy (StruckBy P.puzzle P.own) trying.now.grade trying.now.grid.now)
         trying.now.grid.now trying.now.order.now first puzzle }
-    requires follows { Follows (P.struck_by puzzle) trying.now.grade trying.now.grid.now }
-    requires fails { FailsBy P.struck_by trying.now.grade trying.now.grid.now
+    requires follows { Follows (StruckBy P.puzzle P.own puzzle) trying.now.grade trying.now.grid.now }
+    requires fails { FailsBy (StruckBy P.puzzle P.own) trying.now.grade trying.now.grid.now
         (P.cut puzzle (outside trying.now.order.now first last)) }
-    requires base { IsBase (P.struck_by (P.cut puzzle (outside trying.now.order.now first last)))
+    requires base { IsBase (StruckBy P.puzzle P.own (P.cut puzzle (outside trying.now.order.now first last)))
         trying.now.grade trying.now.grid.now left.old }
-    ensures pruned { IsPrunedTo ⟦<P as Rules>⟧ (FailsBy P.struck_by trying.now.grade trying.now.grid.now)
+    ensures pruned { IsPrunedTo ⟦<P as Rules>⟧ (FailsBy (StruckBy P.puzzle P.own) trying.now.grade trying.now.grid.now)
         trying.now.grid.now trying.now.order.now last result }
-    ensures follows { Follows (P.struck_by result) trying.now.grade trying.now.grid.now }
+    ensures follows { Follows (StruckBy P.puzzle P.own result) trying.now.grade trying.now.grid.now }
     ensures earlier { (i : ℕ) → i < P.items_of trying.now.grid.now.size → place_in i trying.now.order.now < first
         → P.has result i ≡ P.has puzzle i }
     ensures later { IsEarlier left.old left.new }

@@ -8,23 +8,21 @@ use Rattle.trail_solver.specs.Puzzles.{Puzzle, Solves}
 use Rattle.trail_solver.specs.Completions.{Keeps}
 use Rattle.trail_solver.proofs.FilledGrids.{solution_pair}
 use Rattle.named_steps.specs.Chains.{IsView}
-use Rattle.named_steps.specs.Following.{Follows}
+use Rattle.named_steps.specs.Following.{Follows, IsRefuted}
 use Rattle.named_steps.specs.StepLaws.{GradesAreNested}
 use Rattle.named_steps.specs.declared.goal.Goal.TheVariants.{OnlyValue}
-use Rattle.clue_rules.specs.declared.grade.Grade.{Grade}
-use Rattle.clue_rules.specs.declared.grade.Grade.TheVariants.{Latin, Easy, Hard}
-use Rattle.clue_rules.proofs.Chains.{IsAntitone}
+use Rattle.line_steps.specs.declared.grade.Grade.{Grade}
+use Rattle.line_steps.specs.declared.grade.Grade.TheVariants.{Latin, Easy, Hard}
+use Rattle.line_steps.proofs.Chains.{IsAntitone}
 use Rattle.named_steps.proofs.Followed.{boards_lead, boards_refuted}
-use Rattle.step_chains.specs.Explanations.{NothingIsShown, IsRefutedGrid}
 use Rattle.step_chains.specs.declared.hints.NextHint.{NextHint}
 use Rattle.step_chains.specs.declared.hints.NextHint.TheVariants.{Follows as Found, Refuted, Nothing}
-use Rattle.clue_rules.specs.Grades.{IsLower, rank}
-use Rattle.step_chains.specs.NextHints.{NoneBelowShows}
+use Rattle.line_steps.specs.Grades.{IsLower, rank}
+use Rattle.step_chains.specs.NextHints.{NothingFollows, IsHint, IsHintFrom}
 use Rattle.puzzle_cli.specs.GameFacts.{GameFacts}
 use Rattle.json_replies.specs.FairLaws.{IsContradiction, IsExplainedBy, IsWrongAt, HintsLeadOn}
 use Rattle.json_replies.specs.FurtherLines.{BoardFacts}
-use Rattle.json_replies.specs.ToldHints.{IsHint}
-use Rattle.clue_rules.specs.Reasons.{Striking}
+use Rattle.line_steps.specs.Reasons.{Striking}
 
 module _ (p : Puzzle) (Struck : Striking) (less : IsAntitone Struck)
     (nested : (lower higher : Grade) (h : GridValue) → IsLower lower higher → Follows Struck lower h → Follows Struck higher h)
@@ -37,13 +35,13 @@ module _ (p : Puzzle) (Struck : Striking) (less : IsAntitone Struck)
   by_all Hard follows = follows
 
   -- some number is shown
-  leads : (grade : Grade) → Follows Struck grade s → NothingIsShown Struck grade g → ⊥
+  leads : (grade : Grade) → Follows Struck grade s → NothingFollows Struck grade g view → ⊥
   leads grade follows none =
       let (steps, shows) = boards_lead Struck less grade s g view cell follows size in_view (subst (λ (w : ℕ). cell < w * w) size inside) in
       let pair : IsPair g.size cell (number_at s cell) =
       subst (λ (w : ℕ). IsPair w cell (number_at s cell)) (sym size)
       (solution_pair p s s.size cell solves solves.same_size (subst (λ (w : ℕ). cell < w * w) size inside)) in
-      none view steps (OnlyValue cell (number_at s cell)) in_view pair empty shows
+      none steps (OnlyValue cell (number_at s cell)) pair empty shows
 
   -- where no square is wrong the solution keeps the numbers
   keeps : ((wrong : ℕ) → IsWrongAt g s wrong → ⊥) → Keeps g s
@@ -52,27 +50,25 @@ module _ (p : Puzzle) (Struck : Striking) (less : IsAntitone Struck)
       elim (cases_eq (number_at s at) (number_at g at)) [ inl same ↦ same | inr other ↦ absurd (right at (within, apart, λ e. other (sym e))) ]
 
   -- a grade below which nothing is shown is no greater than that of the puzzle
-  least : (grade own : Grade) → Follows Struck grade s → NoneBelowShows Struck own g → rank own ≤ rank grade
+  least : (grade own : Grade) → Follows Struck grade s → ((lower : Grade) → IsLower lower own → NothingFollows Struck lower g view)
+      → rank own ≤ rank grade
   least grade own follows none = elim (cases_lt (rank grade) (rank own)) [
     | inl below ↦ absurd (leads grade follows (none grade below))
     | inr within ↦ within
   ]
 
-  right_hint : (grade : Grade) (hint : NextHint) → Follows Struck grade s → IsHint p Struck g hint
+  right_hint : (grade : Grade) (hint : NextHint) → Follows Struck grade s → IsHintFrom p Struck g view hint
       → ((wrong : ℕ) → IsWrongAt g s wrong → ⊥) → IsExplainedBy grade hint
   right_hint grade (Found own chain) follows is right = least grade own follows is.least.1
   right_hint grade (Refuted own refutation) follows is right = is.right s (solves, keeps right)
   right_hint grade Nothing follows is right = leads Hard (by_all grade follows) is.least.0
 
   -- a wrong square is refuted
-  wrong_refuted : (grade : Grade) → Follows Struck grade s → (wrong : ℕ) → IsWrongAt g s wrong → IsRefutedGrid Struck Hard g
-  wrong_refuted grade follows wrong (within, some, other) = (
-    view,
-    in_view,
-    boards_refuted Struck less Hard s g view wrong (by_all grade follows) size in_view (subst (λ (w : ℕ). wrong < w * w) size within) some other,
-  )
+  wrong_refuted : (grade : Grade) → Follows Struck grade s → (wrong : ℕ) → IsWrongAt g s wrong → IsRefuted Struck Hard view
+  wrong_refuted grade follows wrong (within, some, other) =
+      boards_refuted Struck less Hard s g view wrong (by_all grade follows) size in_view (subst (λ (w : ℕ). wrong < w * w) size within) some other
 
-  wrong_hint : (grade : Grade) (hint : NextHint) → Follows Struck grade s → IsHint p Struck g hint → (wrong : ℕ) → IsWrongAt g s wrong
+  wrong_hint : (grade : Grade) (hint : NextHint) → Follows Struck grade s → IsHintFrom p Struck g view hint → (wrong : ℕ) → IsWrongAt g s wrong
       → IsContradiction hint
   wrong_hint grade (Found own chain) follows is wrong so = is.least.2 (wrong_refuted grade follows wrong so)
   wrong_hint grade (Refuted own refutation) follows is wrong so = tt
@@ -80,8 +76,8 @@ module _ (p : Puzzle) (Struck : Striking) (less : IsAntitone Struck)
 
 pub hints_lead_on : {P : Type 0} (f : GameFacts P) (b : BoardFacts P) → ((p : P) → IsAntitone (b.struck_by p)) → GradesAreNested b.struck_by
     → HintsLeadOn f b
-hints_lead_on f b less nested p grade s g view cell hint solves follows size in_view inside empty is =
+hints_lead_on f b less nested p grade s g cell hint solves follows size inside empty is =
     let puzzle = f.rules.puzzle p in (
-      right_hint puzzle (b.struck_by p) (less p) (nested p) s g view cell solves size in_view inside empty grade hint follows is,
-      wrong_hint puzzle (b.struck_by p) (less p) (nested p) s g view cell solves size in_view inside empty grade hint follows is,
+      right_hint puzzle (b.struck_by p) (less p) (nested p) s g is.view cell solves size is.in_view inside empty grade hint follows is.is_hint,
+      wrong_hint puzzle (b.struck_by p) (less p) (nested p) s g is.view cell solves size is.in_view inside empty grade hint follows is.is_hint,
     )

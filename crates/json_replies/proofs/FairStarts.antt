@@ -1,10 +1,10 @@
 -- The session that a line `fair` begins.
 use Rattle.std.proofs.Common.{◌≡◌, ◌⊎◌, ℕ, List, Option, Some, None, Ok, Err, IfSome, Contains, refl, sym, ap, subst, ◌∙◌, inl, inr}
 use Rattle.std.specs.Option.{IsSomeAnd}
-use Rattle.clue_rules.specs.declared.params.Params.{Params}
-use Rattle.clue_rules.specs.Parameters.{IsParams}
+use Rattle.game_texts.specs.declared.params.Params.{Params}
+use Rattle.game_texts.specs.Parameters.{IsParams}
 use Rattle.play_midend.specs.Histories.{History}
-use Rattle.clue_rules.specs.declared.grade.Grade.{Grade}
+use Rattle.line_steps.specs.declared.grade.Grade.{Grade}
 use Rattle.fair_games.proofs.PruneSteps.{HasSteps}
 use Rattle.fair_games.proofs.FairSteps.{fair_puzzle, fair_solved, draw_size}
 use Rattle.puzzle_cli.specs.declared.reply.refusal.Refusal.TheVariants.{Memory}
@@ -16,15 +16,18 @@ use Rattle.puzzle_cli.specs.Replies.{LineGives, left}
 use Rattle.puzzle_cli.specs.RunLaws.{described_line}
 use Rattle.puzzle_cli.proofs.RepliesOnce.{IdsAreReadOnce}
 use Rattle.puzzle_cli.proofs.DescribedReplies.{AreCanonical, described_lines_begin}
+use Rattle.json_replies.specs.declared.begin_line.BeginLine.{BeginLine}
+use Rattle.json_replies.specs.declared.begin_line.BeginLine.TheVariants.{Fair}
 use Rattle.json_replies.specs.declared.fair_words.FairWords.{FairWords}
 use Rattle.json_replies.specs.declared.fair_request.FairRequest.{FairRequest}
 use Rattle.json_replies.specs.FairLines.{IsFairLine, IsAsked, AreFairLetters}
-use Rattle.json_replies.specs.FairReplies.{fair_params, IsGameOfRequest, FairGives}
+use Rattle.json_replies.specs.FairReplies.{fair_params, IsGameOfRequest}
+use Rattle.json_replies.specs.BeginReplies.{BeginGives}
 use Rattle.json_replies.specs.FairLaws.{IsFairStart, FairLinesBegin}
 use Rattle.json_replies.specs.FurtherLines.{BoardFacts, further_at}
 use Rattle.json_replies.specs.JsonReplies.{AnswerGives, TellsLine}
 use Rattle.json_replies.specs.Replies.{Answer, session_left}
-use Rattle.json_replies.proofs.FairReading.{line_again}
+use Rattle.json_replies.proofs.BeginReading.{line_again}
 
 -- the letter of a grade is one of the game's
 known_letter : (letters : List ℕ) (own : Option ℕ) (code : ℕ) → own ≡ Some code → Contains letters code → IfSome own (Contains letters)
@@ -69,7 +72,7 @@ module _ {P : Type 0} (f : GameFacts P) (b : BoardFacts P) (steps : HasSteps f.r
       inr (r, asked, subst (λ (o : Option (History P)). IsSomeAnd o (IsFairStart f b r)) (sym begun) (fair_start r p game))
   outcome_begins old new words r p outcome asked game (inr is) leaves = inl (leaves ∙ ap (left old) is)
 
-  answer_begins : (old new : Option (History P)) (words : FairWords (List ℕ)) (answer : Answer P) → FairGives f b old words answer
+  answer_begins : (old new : Option (History P)) (words : FairWords (List ℕ)) (answer : Answer P) → BeginGives f b old (Fair words) answer
       → new ≡ session_left old answer → Begins old words new
   answer_begins old new words (Ok outcome) (params, p, (r, asked, is, game), gives) leaves =
       let same : LineGives f old (described_line f (fair_params b r) p) outcome =
@@ -80,13 +83,13 @@ module _ {P : Type 0} (f : GameFacts P) (b : BoardFacts P) (steps : HasSteps f.r
   line_begins : (old new : Option (History P)) (line : Line) (words : FairWords (List ℕ)) (answer : Answer P) → IsFairLine words line
       → AnswerGives f b old line answer → new ≡ session_left old answer → Begins old words new
   line_begins old new line words answer is (inl (own, so, gives)) leaves =
-      let both : Some own ≡ Some words = sym (line_again line own so) ∙ line_again line words is in
-      let same : own ≡ words = cc both in
-      answer_begins old new words answer (subst (λ (w : FairWords (List ℕ)). FairGives f b old w answer) same gives) leaves
-  line_begins old new line words answer is (inr (other, gives)) leaves = absurd (other words is)
+      let both : Some own ≡ Some (Fair words) = sym (line_again line own so) ∙ line_again line (Fair words) is in
+      let same : own ≡ Fair words = cc both in
+      answer_begins old new words answer (subst (λ (w : BeginLine (List ℕ)). BeginGives f b old w answer) same gives) leaves
+  line_begins old new line words answer is (inr (other, gives)) leaves = absurd (other (Fair words) is)
 
   pub fair_lines_begin : FairLinesBegin f b
   fair_lines_begin old new line words bytes is reply =
-      let none : further_at line ≡ None = ap further_at is.spelled in
+      let none : further_at b.fair_letter line ≡ None = ap (further_at b.fair_letter) is.spelled in
       let (answer, gives, leaves, told) = subst (λ w. TellsLine f b old line w bytes new) none reply.told in
       line_begins old new line words answer is gives leaves

@@ -11,11 +11,11 @@ use Rattle.serde_json.specs.Data.{Data, null, number, string}
 use Rattle.serde_json.specs.Find.{of_integer}
 use Rattle.serde_json.specs.Written.{has_float}
 use Rattle.named_steps.specs.Chains.{goal_cell, goal_value}
-use Rattle.clue_rules.specs.declared.reason.Reason.{Reason}
-use Rattle.clue_rules.specs.declared.reason.Reason.TheVariants.{Given, Peer, Place, Bound, Stand, Clue, Sign, Set}
+use Rattle.line_steps.specs.declared.reason.Reason.{Reason}
+use Rattle.line_steps.specs.declared.reason.Reason.TheVariants.{Given, Peer, Place, Bound, Stand, Clue, Sign, Set}
 use Rattle.named_steps.specs.declared.goal.Goal.{Goal}
 use Rattle.named_steps.specs.declared.goal.Goal.TheVariants.{OnlyValue, OnlyPlace}
-use Rattle.clue_rules.specs.declared.grade.Grade.{Grade}
+use Rattle.line_steps.specs.declared.grade.Grade.{Grade}
 use Rattle.step_chains.specs.declared.hints.NextHint.{NextHint}
 use Rattle.step_chains.specs.declared.hints.NextHint.TheVariants.{Follows, Refuted, Nothing}
 use Rattle.step_texts.specs.declared.told.Strike.{Strike}
@@ -30,7 +30,7 @@ use Rattle.json_replies.specs.Reasons.{ReasonParts, one_data, squares_data, part
 use Rattle.json_replies.specs.Steps.{x_data, y_data, edge_clue_data, greater_data, less_data, shows_data, strike_data, look_data, step_data, steps_data}
 use Rattle.json_replies.specs.HintObjects.{SaidData, by_word, goal_line_data, grade_data, said_of, left_data, view_data, hint_data, IsHintValue}
 use Rattle.json_replies.specs.Laws.Spellings.{no_float_or, list_fits, listed_fits, when_fits, text_fits}
-use Rattle.clue_rules.specs.Reasons.{Striking}
+use Rattle.line_steps.specs.Reasons.{Striking}
 
 -- what fits fits deeper down
 pub deeper : (m n : ℕ) (d : Data) → IsShallow m d → m ≤ n → IsShallow n d

@@ -5,11 +5,13 @@ pub mod ViewsAlike
 pub mod Spellings
 pub mod HintSpellings
 pub mod ToldReplies
-pub mod FairReading
+pub mod BeginReading
 pub mod ToldResponses
 pub mod Listed
+pub mod ListedItems
 pub mod WholeReplies
 pub mod ToldOnce
 pub mod AnswersLeave
 pub mod FairStarts
 pub mod FairHints
+pub mod HintsToEnd

@@ -1,5 +1,5 @@
 -- The text of an object: what each member adds, and what the whole reads as.
-use Rattle.std.proofs.Common.{◌≡◌, ℕ, suc, ◌≤◌, Bool, true, false, List, [], ◌∷◌, ◌++◌, map, codes, Option, Some, None, option_map, option_and_then, refl, sym, ap, ap₂, ◌∙◌, append_assoc, append-nil, arith}
+use Rattle.std.proofs.Common.{◌≡◌, ℕ, suc, ◌≤◌, Bool, true, false, List, [], ◌∷◌, ◌++◌, map, codes, Option, Some, None, option_map, option_and_then, refl, sym, ap, ap₂, subst, if◌then◌else◌, ◌∙◌, append_assoc, append-nil, arith}
 use Rattle.std.specs.Prelude.{max, Result, Ok, Err, IfOk}
 use Rattle.byte_text.specs.Cuts.{Lacks}
 use Rattle.json.specs.Token.{Token, string as string_token}
@@ -17,10 +17,10 @@ use Rattle.serde_json.specs.View.{items_of}
 use Rattle.serde_json.specs.Written.{outline, items_outline, members_outline, IsInOrder, comma_if, compact_text, items_text, members_text}
 use Rattle.serde_json.proofs.Texts.{tokens_from_order, print-outline}
 use Rattle.json_replies.specs.declared.further_line.FurtherLine.{FurtherLine}
-use Rattle.json_replies.specs.declared.further_line.FurtherLine.TheVariants.{Board, Completable, Hint, Grade}
+use Rattle.json_replies.specs.declared.further_line.FurtherLine.TheVariants.{Board, Completable, Hint, Grade, Solutions, Spare, SpareBy}
 use Rattle.json_replies.specs.Texts.{text_data, lines_of, lines_data}
-use Rattle.json_replies.specs.FurtherLines.{further_key}
-use Rattle.json_replies.specs.Replies.{name_data, reply_members, reply_data}
+use Rattle.json_replies.specs.FurtherLines.{further_key, is_last_key, further_data}
+use Rattle.json_replies.specs.Replies.{name_data, reply_members, reply_members_then, reply_data}
 use Rattle.json_replies.specs.ObjectLines.{IsShallow, IsSpelled, IsLineOfData}
 use Rattle.json_replies.specs.Inner.ObjectTexts.{key_text, AddsMember, IsPlain, IsPlainText}
 use Rattle.json_replies.specs.Laws.Spellings.{spelled_reply}
@@ -30,6 +30,11 @@ use Rattle.json_replies.proofs.ReplyLines.{lines_of-front, lines_of-none}
 pub both_ok : {A E : Type 0} (r : Result A E) (P Q R : A → Type 0) → ((a : A) → P a → Q a → R a) → IfOk r P → IfOk r Q → IfOk r R
 both_ok (Ok a) P Q R both p q = both a p q
 both_ok (Err e) P Q R both p q = tt
+
+-- one thing that holds of a value, and what follows from it
+pub then_ok : {A E : Type 0} (r : Result A E) (P Q : A → Type 0) → ((a : A) → P a → Q a) → IfOk r P → IfOk r Q
+then_ok (Ok a) P Q after p = after a p
+then_ok (Err e) P Q after p = tt
 
 -- ---- what is written
 
@@ -67,17 +72,17 @@ pub adds_value : (later : Bool) (key : List ℕ) (d : Data) (text keyed new valu
     → IsPlainText d value → new ≡ keyed ++ value → AddsMember later key d text new
 adds_value later key d text keyed new value first plain second = adds_member later key d text keyed new first (second ∙ ap (λ l. keyed ++ l) plain.text)
 
--- all that an object of a reply has, its end and LF
-pub members_added : (later : Bool) (refused : Option (List ℕ)) (reply : List ℕ) (name session : Data) (line one two three four five new : List ℕ)
+-- what each object has, before these members
+pub members_added : (later : Bool) (refused : Option (List ℕ)) (reply : List ℕ) (name session : Data) (line one two three new : List ℕ)
     → name ≡ name_data refused → AddsMember later (codes "refused") name line one → two ≡ one ++ key_text true (codes "reply")
-    → three ≡ two ++ compact_text (lines_data reply) → AddsMember true (codes "session") session three four → five ≡ four ++ 125 ∷ []
-    → new ≡ five ++ 10 ∷ [] → new ≡ (line ++ members_text later (reply_members refused reply session)) ++ 10 ∷ []
-members_added later refused reply name session line one two three four five new named add_name key lines add_session end feed =
-    let last = member (codes "session") session no_members in
+    → three ≡ two ++ compact_text (lines_data reply) → AddsMember true (codes "session") session three new
+    → (rest : Members) → new ++ members_text true rest ≡ line ++ members_text later (reply_members_then refused reply session rest)
+members_added later refused reply name session line one two three new named add_name key lines add_session rest =
+    let last = member (codes "session") session rest in
     let middle = member (codes "reply") (lines_data reply) last in
     let add_lines = adds_member true (codes "reply") (lines_data reply) one two three key lines in
-    feed ∙ ap (λ l. l ++ 10 ∷ []) (end ∙ add_session no_members ∙ add_lines last ∙ add_name middle
-    ∙ ap (λ d. line ++ members_text later (member (codes "refused") d middle)) named)
+    add_session rest ∙ add_lines last ∙ add_name middle
+    ∙ ap (λ d. line ++ members_text later (member (codes "refused") d middle)) named
 
 -- ---- the lines of a reply, one by one
 
@@ -176,41 +181,69 @@ read_first : (key : List ℕ) (d : Data) (rest before : Members) → of_json (ou
     → of_members (members_outline (member key d rest)) before ≡ of_members (members_outline rest) (put key d before)
 read_first key d rest before reads = ap (option_and_then (λ e. of_members (members_outline rest) (put key e before))) reads
 
--- what each object has, after these members
-members_read : (refused : Option (List ℕ)) (reply : List ℕ) (session : Data) (before : Members) → IsPlain session
-    → of_members (members_outline (reply_members refused reply session)) before
-    ≡ Some (put (codes "session") session (put (codes "reply") (lines_data reply) (put (codes "refused") (name_data refused) before)))
-members_read refused reply session before plain =
-    let last = member (codes "session") session no_members in
+-- what each object has, between those that were read and the rest
+members_read : (refused : Option (List ℕ)) (reply : List ℕ) (session : Data) (rest before : Members) → IsPlain session
+    → of_members (members_outline (reply_members_then refused reply session rest)) before
+    ≡ of_members (members_outline rest)
+    (put (codes "session") session (put (codes "reply") (lines_data reply) (put (codes "refused") (name_data refused) before)))
+members_read refused reply session rest before plain =
+    let last = member (codes "session") session rest in
     let middle = member (codes "reply") (lines_data reply) last in
     let first = put (codes "refused") (name_data refused) before in
     read_first (codes "refused") (name_data refused) middle before (plain_name refused).reads
     ∙ read_first (codes "reply") (lines_data reply) last first (plain_lines reply).reads
-    ∙ read_first (codes "session") session no_members (put (codes "reply") (lines_data reply) first) plain.reads
+    ∙ read_first (codes "session") session rest (put (codes "reply") (lines_data reply) first) plain.reads
 
 plain_reply : (refused : Option (List ℕ)) (reply : List ℕ) (session : Data) → IsPlain session → IsPlain (reply_data refused reply session)
 plain_reply refused reply session plain = record {
   numbers = ((plain_name refused).numbers, ((plain_lines reply).numbers, (plain.numbers, tt)));
-  reads = ap (option_map object) (members_read refused reply session no_members plain);
+  reads = ap (option_map object) (members_read refused reply session no_members no_members plain);
 }
 
-put_answer : (which : FurtherLine) (answer game : Data)
+-- the members of an answer, before what each object has
+abbrev answer_first : FurtherLine → Data → Data → Members
+answer_first which answer session = member (further_key which) answer (reply_members None [] session)
+
+-- and after it
+abbrev answer_last : FurtherLine → Data → Data → Members
+answer_last which answer session = reply_members_then None [] session (member (further_key which) answer no_members)
+
+-- each stands in the order of the keys
+put_first : (which : FurtherLine) (answer game : Data) → is_last_key which ≡ false
     → put (codes "session") game (put (codes "reply") (lines_data []) (put (codes "refused") (name_data None) (member (further_key which) answer no_members)))
-    ≡ member (further_key which) answer (reply_members None [] game)
-put_answer Board answer game = refl
-put_answer Completable answer game = refl
-put_answer Hint answer game = refl
-put_answer Grade answer game = refl
+    ≡ answer_first which answer game
+put_first Board answer game is = refl
+put_first Completable answer game is = refl
+put_first Hint answer game is = refl
+put_first Grade answer game is = refl
+put_first Solutions answer game is = let e : true ≡ false = is in cc
+put_first Spare answer game is = let e : true ≡ false = is in cc
+put_first (SpareBy grade) answer game is = let e : true ≡ false = is in cc
 
--- the object of an answer, with the session after it
-abbrev answer_data : FurtherLine → Data → Data → Data
-answer_data which answer session = object (member (further_key which) answer (reply_members None [] session))
+put_last : (which : FurtherLine) (answer game : Data) → is_last_key which ≡ true
+    → put (further_key which) answer (reply_members None [] game) ≡ answer_last which answer game
+put_last Board answer game is = let e : false ≡ true = is in cc
+put_last Completable answer game is = let e : false ≡ true = is in cc
+put_last Hint answer game is = let e : false ≡ true = is in cc
+put_last Grade answer game is = let e : false ≡ true = is in cc
+put_last Solutions answer game is = refl
+put_last Spare answer game is = refl
+put_last (SpareBy grade) answer game is = refl
 
-plain_answer : (which : FurtherLine) (answer session : Data) → IsPlain answer → IsPlain session → IsPlain (answer_data which answer session)
-plain_answer which answer session told plain = record {
+plain_first : (which : FurtherLine) (answer session : Data) → is_last_key which ≡ false → IsPlain answer → IsPlain session
+    → IsPlain (object (answer_first which answer session))
+plain_first which answer session first told plain = record {
   numbers = (told.numbers, ((plain_name None).numbers, ((plain_lines []).numbers, (plain.numbers, tt))));
   reads = ap (option_map object) (read_first (further_key which) answer (reply_members None [] session) no_members told.reads
-      ∙ members_read None [] session (member (further_key which) answer no_members) plain ∙ ap Some (put_answer which answer session));
+      ∙ members_read None [] session no_members (member (further_key which) answer no_members) plain ∙ ap Some (put_first which answer session first));
+}
+
+plain_last : (which : FurtherLine) (answer session : Data) → is_last_key which ≡ true → IsPlain answer → IsPlain session
+    → IsPlain (object (answer_last which answer session))
+plain_last which answer session last told plain = record {
+  numbers = ((plain_name None).numbers, ((plain_lines []).numbers, (plain.numbers, (told.numbers, tt))));
+  reads = ap (option_map object) (members_read None [] session (member (further_key which) answer no_members) no_members plain
+      ∙ read_first (further_key which) answer no_members (reply_members None [] session) told.reads ∙ ap Some (put_last which answer session last));
 }
 
 -- ---- whole lines
@@ -227,19 +260,51 @@ reply_is_line refused reply session start line new fits empty opened whole plain
     (spelled_reply refused reply session fits).flat
     (ap (λ l. l ++ members_text false (reply_members refused reply session)) (opened ∙ ap (λ (l : List ℕ). l ++ 123 ∷ []) empty)) whole
 
-answer_flat : (which : FurtherLine) (answer session : Data) → IsShallow 7 answer → IsShallow 1 session → depth (answer_data which answer session) ≤ max_depth
-answer_flat which answer session told fits =
+first_flat : (which : FurtherLine) (answer session : Data) → IsShallow 7 answer → IsShallow 1 session
+    → depth (object (answer_first which answer session)) ≤ max_depth
+first_flat which answer session told fits =
     let a = told.flat in
     let b = fits.flat in
     omega arith
 
-pub answer_is_line : (which : FurtherLine) (key : List ℕ) (d session : Data) (start line keyed answer one new : List ℕ) → key ≡ further_key which
-    → IsShallow 7 d → IsShallow 1 session → start ≡ [] → line ≡ start ++ 123 ∷ [] → keyed ≡ line ++ key_text false key → one ≡ keyed ++ answer
-    → IsPlainText d answer → new ≡ (one ++ members_text true (reply_members None [] session)) ++ 10 ∷ [] → IsPlain session
-    → IsLineOfData (object (member (further_key which) d (reply_members None [] session))) new
-answer_is_line which key d session start line keyed answer one new is told fits empty opened follows whole_answer plain_text whole plain =
+last_flat : (which : FurtherLine) (answer session : Data) → IsShallow 7 answer → IsShallow 1 session
+    → depth (object (answer_last which answer session)) ≤ max_depth
+last_flat which answer session told fits =
+    let a = told.flat in
+    let b = fits.flat in
+    omega arith
+
+-- the text of members behind the brace that opens it
+opened_text : (ms : Members) (start line body : List ℕ) → start ≡ [] → line ≡ start ++ 123 ∷ [] → body ≡ line ++ members_text false ms
+    → body ≡ compact_text (object ms)
+opened_text ms start line body empty opened is =
+    is ∙ ap (λ l. l ++ members_text false ms) (opened ∙ ap (λ (l : List ℕ). l ++ 123 ∷ []) empty)
+
+-- the answer, and then what each object has
+pub first_is_line : (which : FurtherLine) (key : List ℕ) (d session : Data) (start line answer one new : List ℕ) → is_last_key which ≡ false
+    → key ≡ further_key which → IsShallow 7 d → IsShallow 1 session → start ≡ [] → line ≡ start ++ 123 ∷ [] → IsPlainText d answer
+    → AddsMember false key d line one → new ≡ (one ++ members_text true (reply_members None [] session)) ++ 10 ∷ [] → IsPlain session
+    → IsLineOfData (further_data which d session) new
+first_is_line which key d session start line answer one new first is told fits empty opened plain_text add whole plain =
     let rest = reply_members None [] session in
-    let add = adds_value false key d line keyed one answer follows plain_text whole_answer in
-    line_is (answer_data which d session) (one ++ members_text true rest) new (plain_answer which d session plain_text.plain plain)
-    (answer_flat which d session told fits)
-    (add rest ∙ ap₂ (λ (l k : List ℕ). l ++ members_text false (member k d rest)) (opened ∙ ap (λ (l : List ℕ). l ++ 123 ∷ []) empty) is) whole
+    let ms = answer_first which d session in
+    let text = opened_text ms start line (one ++ members_text true rest) empty opened
+    (add rest ∙ ap (λ (k : List ℕ). line ++ members_text false (member k d rest)) is) in
+    subst (λ (b : Bool). IsLineOfData (if b then object (answer_last which d session) else object ms) new) (sym first)
+    (line_is (object ms) (one ++ members_text true rest) new (plain_first which d session first plain_text.plain plain)
+    (first_flat which d session told fits) text whole)
+
+-- what each object has, and then the answer
+pub last_is_line : (which : FurtherLine) (key : List ℕ) (d session : Data) (start line answer one two new : List ℕ) → is_last_key which ≡ true
+    → key ≡ further_key which → IsShallow 7 d → IsShallow 1 session → start ≡ [] → line ≡ start ++ 123 ∷ [] → IsPlainText d answer
+    → ((rest : Members) → one ++ members_text true rest ≡ line ++ members_text false (reply_members_then None [] session rest))
+    → AddsMember true key d one two → new ≡ (two ++ 125 ∷ []) ++ 10 ∷ [] → IsPlain session
+    → IsLineOfData (further_data which d session) new
+last_is_line which key d session start line answer one two new last is told fits empty opened plain_text members add whole plain =
+    let ms = answer_last which d session in
+    let text = opened_text ms start line (two ++ 125 ∷ []) empty opened
+    (add no_members ∙ members (member key d no_members)
+    ∙ ap (λ (k : List ℕ). line ++ members_text false (reply_members_then None [] session (member k d no_members))) is) in
+    subst (λ (b : Bool). IsLineOfData (if b then object ms else object (answer_first which d session)) new) (sym last)
+    (line_is (object ms) (two ++ 125 ∷ []) new (plain_last which d session last plain_text.plain plain)
+    (last_flat which d session told fits) text whole)

@@ -16,14 +16,14 @@ use Rattle.puzzle_cli.specs.RunLaws.{PicturesAreWholeLines, described_line}
 use Rattle.puzzle_cli.specs.WholeLines.{AreWholeLines}
 use Rattle.puzzle_cli.proofs.WholeReplies.{answers_are_whole}
 use Rattle.json_replies.specs.declared.further_line.FurtherLine.{FurtherLine}
-use Rattle.json_replies.specs.declared.further_line.FurtherLine.TheVariants.{Board, Completable, Hint, Grade}
+use Rattle.json_replies.specs.declared.further_line.FurtherLine.TheVariants.{Board, Completable, Hint, Grade, Solutions, Spare, SpareBy}
 use Rattle.json_replies.specs.Texts.{latin_text, text_data, lines_of, lines_text}
 use Rattle.json_replies.specs.ObjectLines.{IsLineOfData, lost_line}
 use Rattle.json_replies.specs.Sessions.{game_data, session_data}
 use Rattle.json_replies.specs.Replies.{Answer, answer_name, answer_text, name_data, reply_members, reply_data}
-use Rattle.json_replies.specs.FairRefusals.{fair_refusal_name}
+use Rattle.json_replies.specs.BeginRefusals.{begin_refusal_name}
 use Rattle.json_replies.specs.JsonReplies.{AnswerGives}
-use Rattle.json_replies.specs.FurtherLines.{BoardFacts, further_key, IsFurtherLine}
+use Rattle.json_replies.specs.FurtherLines.{BoardFacts, Further, further_data, IsFurtherLine}
 use Rattle.json_replies.specs.ReplyLaws.{ObjectsTellOneReply, ObjectsAreNotLost}
 use Rattle.json_replies.proofs.WholeReplies.{lines_are_the_reply}
 
@@ -86,10 +86,10 @@ refusal_whole name = inr (codes "refused: " ++ name, sym (append_assoc (codes "r
 
 answer_whole : {P : Type 0} (f : GameFacts P) (b : BoardFacts P) → PicturesAreWholeLines f.drawing → (old : Option (History P)) (line : Line)
     (answer : Answer P) → AnswerGives f b old line answer → AreWholeLines (answer_text answer)
-answer_whole f b drawn old line (Ok outcome) (inl (words, is, (params, p, asked, gives))) =
+answer_whole f b drawn old line (Ok outcome) (inl (begun, is, (params, p, asked, gives))) =
     answers_are_whole f drawn old (described_line f params p) outcome gives
 answer_whole f b drawn old line (Ok outcome) (inr (other, gives)) = answers_are_whole f drawn old line outcome gives
-answer_whole f b drawn old line (Err refusal) gives = refusal_whole (fair_refusal_name refusal)
+answer_whole f b drawn old line (Err refusal) gives = refusal_whole (begin_refusal_name refusal)
 
 pub objects_tell_one_reply : {P : Type 0} (f : GameFacts P) (b : BoardFacts P) → ObjectsTellOneReply f b
 objects_tell_one_reply f b drawn old before line earlier one other new last bytes gives answers tells says =
@@ -135,19 +135,27 @@ first_letter Board = 98
 first_letter Completable = 99
 first_letter Hint = 104
 first_letter Grade = 103
+first_letter Solutions = 114
+first_letter Spare = 114
+first_letter (SpareBy grade) = 114
 
-answer_begins : (which : FurtherLine) (answer : Data) (others : Members)
-    → get_or (first_key (object (member (further_key which) answer others))) 0 0 ≡ first_letter which
-answer_begins Board answer others = refl
-answer_begins Completable answer others = refl
-answer_begins Hint answer others = refl
-answer_begins Grade answer others = refl
+answer_begins : (which : FurtherLine) (answer session : Data) → get_or (first_key (further_data which answer session)) 0 0 ≡ first_letter which
+answer_begins Board answer session = refl
+answer_begins Completable answer session = refl
+answer_begins Hint answer session = refl
+answer_begins Grade answer session = refl
+answer_begins Solutions answer session = refl
+answer_begins Spare answer session = refl
+answer_begins (SpareBy grade) answer session = refl
 
 other_letter : (which : FurtherLine) → first_letter which ≡ 108 → ⊥
 other_letter Board is = omega arith
 other_letter Completable is = omega arith
 other_letter Hint is = omega arith
 other_letter Grade is = omega arith
+other_letter Solutions is = omega arith
+other_letter Spare is = omega arith
+other_letter (SpareBy grade) is = omega arith
 
 r_is_no_l : (b : ℕ) → b ≡ 114 → b ≡ 108 → ⊥
 r_is_no_l b is other = omega arith
@@ -157,13 +165,15 @@ reply_not_lost : (refused : Option (List ℕ)) (reply : List ℕ) (session : Dat
 reply_not_lost refused reply session bytes told lost =
     r_is_no_l 114 refl (key_apart (reply_data refused reply session) 114 bytes told refl lost)
 
-further_not_lost : {P : Type 0} (f : GameFacts P) (b : BoardFacts P) (which : FurtherLine) (new : Option (History P)) (bytes : List ℕ)
-    → IsFurtherLine f b which new bytes → bytes ≡ lost_line → ⊥
-further_not_lost f b which None bytes told lost =
+further_not_lost : {P : Type 0} (f : GameFacts P) (b : BoardFacts P) (asked : Further) (new : Option (History P)) (bytes : List ℕ)
+    → IsFurtherLine f b asked new bytes → bytes ≡ lost_line → ⊥
+further_not_lost f b asked None bytes told lost =
     reply_not_lost (Some (codes "NoGame")) (refusal_line (codes "NoGame")) null bytes told lost
-further_not_lost f b which (Some h) bytes (answer, is, line) lost =
-    let others = reply_members None [] (game_data f h) in
-    other_letter which (key_apart (object (member (further_key which) answer others)) (first_letter which) bytes line (answer_begins which answer others) lost)
+further_not_lost f b (Err refusal) (Some h) bytes told lost =
+    reply_not_lost (Some (begin_refusal_name refusal)) (refusal_line (begin_refusal_name refusal)) (game_data f h) bytes told lost
+further_not_lost f b (Ok which) (Some h) bytes (answer, is, line) lost =
+    let told = further_data which answer (game_data f h) in
+    other_letter which (key_apart told (first_letter which) bytes line (answer_begins which answer (game_data f h)) lost)
 
 pub objects_are_not_lost : {P : Type 0} (f : GameFacts P) (b : BoardFacts P) → ObjectsAreNotLost f b
 objects_are_not_lost f b = record {

@@ -1,7 +1,7 @@
 -- What is said to a line by what comes of it.
 use Rattle.std.proofs.Common.{◌≡◌, ℕ, Bool, false, List, [], Option, Some, None, Result, Ok, Err, IfOk, IfErr, OnErr, refl, sym, ap, subst, ◌∙◌, inl, inr}
 use Rattle.play_midend.specs.Histories.{History}
-use Rattle.clue_rules.specs.declared.params.Params.{Params}
+use Rattle.game_texts.specs.declared.params.Params.{Params}
 use Rattle.puzzle_cli.specs.declared.line.machine.Response.{Response}
 use Rattle.puzzle_cli.specs.declared.line.machine.Response.TheVariants.{Reply, Silence, Quit}
 use Rattle.puzzle_cli.specs.declared.command.line_fault.LineFault.TheVariants.{LongLine}
@@ -16,17 +16,18 @@ use Rattle.puzzle_cli.specs.Replies.{LineGives, left, refusal_line}
 use Rattle.puzzle_cli.specs.RunLaws.{described_line}
 use Rattle.puzzle_cli.specs.SessionReplies.{Outcome}
 use Rattle.puzzle_cli.specs.Texts.{text_bytes}
-use Rattle.json_replies.specs.declared.fair_words.FairWords.{FairWords}
-use Rattle.json_replies.specs.declared.fair_request.FairRefusal.{FairRefusal}
-use Rattle.json_replies.specs.FairLines.{IsFairLine}
-use Rattle.json_replies.specs.FairReplies.{AskFor, AskInVain, FairGives}
+use Rattle.json_replies.specs.declared.begin_line.BeginLine.{BeginLine}
+use Rattle.json_replies.specs.declared.begin_line.BeginLine.TheVariants.{Fair, Blank, Item, Thin, ThinBy}
+use Rattle.json_replies.specs.declared.begin_refusal.BeginRefusal.{BeginRefusal}
+use Rattle.json_replies.specs.BeginLines.{IsBeginLine}
+use Rattle.json_replies.specs.BeginReplies.{AskFor, AskInVain, BeginGives}
 use Rattle.json_replies.specs.FurtherLines.{BoardFacts, further_at}
 use Rattle.json_replies.specs.JsonReplies.{TellsOutcome, TellsLine, JsonReply}
 use Rattle.json_replies.specs.Replies.{Answer, session_left, reply_data}
-use Rattle.json_replies.specs.FairRefusals.{fair_refusal_name}
+use Rattle.json_replies.specs.BeginRefusals.{begin_refusal_name}
 use Rattle.json_replies.specs.ObjectLines.{IsLineOfData, OrLost}
 use Rattle.json_replies.specs.Sessions.{session_data}
-use Rattle.json_replies.specs.Inner.ToldResponses.{TellsResponse, TellsFair}
+use Rattle.json_replies.specs.Inner.ToldResponses.{TellsResponse, TellsBegun}
 
 -- what `obey` owes of a line
 abbrev pub Obeys : {P : Type 0} → GameFacts P → Option (History P) → Line → Option (History P) → Result Response Refusal → Type 0
@@ -69,56 +70,64 @@ responds f old new asked line rule quit (Err refusal) Quit same tells obeys told
 
 module _ {P : Type 0} (f : GameFacts P) (b : BoardFacts P) where
   -- what is told to a line that is no other kind
-  pub plain_told : (old new : Option (History P)) (line : Line) (outcome : Outcome P) (bytes : List ℕ) → further_at line ≡ None
-      → ((words : FairWords (List ℕ)) → IsFairLine words line → ⊥) → LineGives f old line outcome → new ≡ left old outcome
+  pub plain_told : (old new : Option (History P)) (line : Line) (outcome : Outcome P) (bytes : List ℕ) → further_at b.fair_letter line ≡ None
+      → ((begun : BeginLine (List ℕ)) → IsBeginLine begun line → ⊥) → LineGives f old line outcome → new ≡ left old outcome
       → TellsOutcome f outcome new bytes → JsonReply f b old line bytes new
   plain_told old new line outcome bytes is other gives leaves told = record {
     leaves = (line, (outcome, gives, leaves));
     told = subst (λ w. TellsLine f b old line w bytes new) (sym is) (Ok outcome, inr (other, gives), leaves, told);
   }
 
-  -- a game that the words ask for is told as `new` is
-  pub game_told : (old new : Option (History P)) (words : FairWords (List ℕ)) (params : Params) (p : P) (outcome : Outcome P) (bytes : List ℕ)
-      → AskFor f b words params p → LineGives f old (described_line f params p) outcome → new ≡ left old outcome
-      → TellsOutcome f outcome new bytes → TellsFair f b old words bytes new
-  game_told old new words params p outcome bytes asked gives leaves told = (Ok outcome, (params, p, asked, gives), leaves, told)
+  -- a game that a line asks for is told as `new` is
+  pub game_told : (old new : Option (History P)) (begun : BeginLine (List ℕ)) (params : Params) (p : P) (outcome : Outcome P) (bytes : List ℕ)
+      → AskFor f b old begun params p → LineGives f old (described_line f params p) outcome → new ≡ left old outcome
+      → TellsOutcome f outcome new bytes → TellsBegun f b old begun bytes new
+  game_told old new begun params p outcome bytes asked gives leaves told = (Ok outcome, (params, p, asked, gives), leaves, told)
 
-  -- and so is a refusal of them
-  pub refused_told : (old : Option (History P)) (words : FairWords (List ℕ)) (refusal : FairRefusal) (name bytes : List ℕ)
-      → AskInVain f b words refusal → name ≡ fair_refusal_name refusal
-      → OrLost (IsLineOfData (reply_data (Some name) (refusal_line name) (session_data f old))) bytes → TellsFair f b old words bytes old
-  refused_told old words refusal name bytes refused is told = (
+  -- and so is a refusal of it
+  pub refused_told : (old : Option (History P)) (begun : BeginLine (List ℕ)) (refusal : BeginRefusal) (name bytes : List ℕ)
+      → AskInVain f b old begun refusal → name ≡ begin_refusal_name refusal
+      → OrLost (IsLineOfData (reply_data (Some name) (refusal_line name) (session_data f old))) bytes → TellsBegun f b old begun bytes old
+  refused_told old begun refusal name bytes refused is told = (
     Err refusal,
     refused,
     refl,
     subst (λ (n : List ℕ). OrLost (IsLineOfData (reply_data (Some n) (refusal_line n) (session_data f old))) bytes) is told,
   )
 
-  -- what comes of `fair` leaves what an answer to some line does
-  some_leaves : (old new : Option (History P)) (words : FairWords (List ℕ)) (answer : Answer P) → FairGives f b old words answer
+  -- what comes of it leaves what an answer to some line does
+  some_leaves : (old new : Option (History P)) (begun : BeginLine (List ℕ)) (answer : Answer P) → BeginGives f b old begun answer
       → new ≡ session_left old answer → (asked : Line) × Leaves f old asked new
-  some_leaves old new words (Ok outcome) (params, p, asked, gives) leaves = (described_line f params p, (outcome, gives, leaves))
-  some_leaves old new words (Err refusal) gives leaves = (None, (Err (OfLine LongLine), (Err LongLine, refl, inl refl), leaves))
+  some_leaves old new begun (Ok outcome) (params, p, asked, gives) leaves = (described_line f params p, (outcome, gives, leaves))
+  some_leaves old new begun (Err refusal) gives leaves = (None, (Err (OfLine LongLine), (Err LongLine, refl, inl refl), leaves))
 
-  -- `fair` and words are none of the lines beside the commands
-  not_further : (line : Line) (words : FairWords (List ℕ)) → IsFairLine words line → further_at line ≡ None
-  not_further line words is = ap further_at is.spelled
+  -- such a line is none of the lines beside the commands
+  not_further : (line : Line) (begun : BeginLine (List ℕ)) → IsBeginLine begun line → further_at b.fair_letter line ≡ None
+  not_further line (Fair words) is = ap (further_at b.fair_letter) is.spelled
+  not_further line (Blank word) is = ap (further_at b.fair_letter) is.0
+  not_further line (Item numbers) is = ap (further_at b.fair_letter) is.1
+  not_further line Thin is = ap (further_at b.fair_letter) is
+  not_further line (ThinBy word) is = ap (further_at b.fair_letter) is.0
 
-  not_quit : (line : Line) (words : FairWords (List ℕ)) → IsFairLine words line → is_quit line ≡ false
-  not_quit line words is = ap is_quit is.spelled
+  not_quit : (line : Line) (begun : BeginLine (List ℕ)) → IsBeginLine begun line → is_quit line ≡ false
+  not_quit line (Fair words) is = ap is_quit is.spelled
+  not_quit line (Blank word) is = ap is_quit is.0
+  not_quit line (Item numbers) is = ap is_quit is.1
+  not_quit line Thin is = ap is_quit is
+  not_quit line (ThinBy word) is = ap is_quit is.0
 
-  fair_reply : (old new : Option (History P)) (line : Line) (words : FairWords (List ℕ)) (bytes : List ℕ) → IsFairLine words line
-      → TellsFair f b old words bytes new → JsonReply f b old line bytes new
-  fair_reply old new line words bytes is (answer, gives, leaves, told) = record {
-    leaves = some_leaves old new words answer gives leaves;
-    told = subst (λ w. TellsLine f b old line w bytes new) (sym (not_further line words is))
-        (answer, inl (words, is, gives), leaves, told);
+  begin_reply : (old new : Option (History P)) (line : Line) (begun : BeginLine (List ℕ)) (bytes : List ℕ) → IsBeginLine begun line
+      → TellsBegun f b old begun bytes new → JsonReply f b old line bytes new
+  begin_reply old new line begun bytes is (answer, gives, leaves, told) = record {
+    leaves = some_leaves old new begun answer gives leaves;
+    told = subst (λ w. TellsLine f b old line w bytes new) (sym (not_further line begun is))
+        (answer, inl (begun, is, gives), leaves, told);
   }
 
-  -- so the response to the words is one to the line
-  pub fair_told : (old new : Option (History P)) (line : Line) (words : FairWords (List ℕ)) (result : Response) → IsFairLine words line
-      → IsResponse (λ before read bytes after. TellsFair f b before words bytes after) (λ read. false) old None result new
+  -- so the response to what it asks for is one to the line
+  pub begin_told : (old new : Option (History P)) (line : Line) (begun : BeginLine (List ℕ)) (result : Response) → IsBeginLine begun line
+      → IsResponse (λ before read bytes after. TellsBegun f b before begun bytes after) (λ read. false) old None result new
       → IsResponse (JsonReply f b) is_quit old line result new
-  fair_told old new line words (Reply text) is said = (not_quit line words is, fair_reply old new line words (text_bytes text) is said.1)
-  fair_told old new line words Silence is said = (not_quit line words is, fair_reply old new line words [] is said.1)
-  fair_told old new line words Quit is said = absurd (cc (said.0))
+  begin_told old new line begun (Reply text) is said = (not_quit line begun is, begin_reply old new line begun (text_bytes text) is said.1)
+  begin_told old new line begun Silence is said = (not_quit line begun is, begin_reply old new line begun [] is said.1)
+  begin_told old new line begun Quit is said = absurd (cc (said.0))

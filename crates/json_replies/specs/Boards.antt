@@ -4,7 +4,7 @@ use Rattle.std.specs.List.{range_with_len, flat_map}
 use Rattle.serde_json.specs.Data.{Data, boolean, array, object, no_members, member}
 use Rattle.serde_json.specs.View.{items_of}
 use Rattle.number_sets.specs.Sets.{has_number}
-use Rattle.latin_board.specs.Squares.{number_at}
+use Rattle.latin_board.specs.Squares.{GridValue, number_at}
 use Rattle.latin_board.specs.Boards.{BoardValue, grid_of, marks_at}
 use Rattle.trail_solver.specs.Puzzles.{Puzzle}
 use Rattle.board_checks.specs.Errors.{ErrorsValue, has_repeated}
@@ -23,8 +23,8 @@ abbrev pub squares : ℕ → List ℕ
 squares w = range_with_len 0 (w * w)
 
 -- the number of each square, 0 where it is blank
-abbrev pub numbers_data : BoardValue → Data
-numbers_data b = listed_data (λ cell. count_data (number_at (grid_of b) cell) ∷ []) (squares b.size)
+abbrev pub grid_data : GridValue → Data
+grid_data g = listed_data (λ cell. count_data (number_at g cell) ∷ []) (squares g.size)
 
 -- the given number of each square, 0 where there is none
 abbrev pub givens_data : Puzzle → Data
@@ -51,7 +51,7 @@ board_data p b e clues signs = object
     (member (codes "errors") (repeats_data b.size e)
     (member (codes "givens") (givens_data p)
     (member (codes "marks") (marks_data b)
-    (member (codes "numbers") (numbers_data b)
+    (member (codes "numbers") (grid_data (grid_of b))
     (member (codes "signs") signs
     (member (codes "size") (count_data b.size)
     no_members)))))))))

@@ -5,8 +5,8 @@ use Rattle.serde_json.specs.Data.{Data, boolean, number, object, no_members, mem
 use Rattle.serde_json.specs.Find.{of_integer}
 use Rattle.latin_board.specs.Boards.{BoardValue, is_done}
 use Rattle.latin_board.specs.Edges.{edge_xy}
-use Rattle.clue_rules.specs.Towers.{TowersValue, clue_of}
-use Rattle.clue_rules.specs.Unequal.{UnequalValue, is_greater}
+use Rattle.towers_game.specs.Towers.{TowersValue, clue_of}
+use Rattle.unequal_game.specs.Unequal.{UnequalValue, is_greater}
 use Rattle.board_checks.specs.Errors.{ErrorsValue, has_broken}
 use Rattle.board_checks.specs.declared.spot.Spot.TheVariants.{Edge, RightOf, Below}
 use Rattle.json_replies.specs.Counts.{count_data}

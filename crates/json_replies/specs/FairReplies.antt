@@ -1,22 +1,18 @@
--- What comes of a line `fair`: what comes of `new` with the ID of the fair game.
-use Rattle.std.specs.Prelude.{◌≡◌, ◌<◌, ℕ, List, Option, Ok, Err}
+-- The fair game that the words of a line `fair` ask for.
+use Rattle.std.specs.Prelude.{◌≡◌, ◌<◌, ℕ, List, Ok, Err}
 use Rattle.latin_board.specs.Squares.{GridValue}
-use Rattle.clue_rules.specs.declared.params.Params.{Params}
-use Rattle.play_midend.specs.Histories.{History}
+use Rattle.game_texts.specs.declared.params.Params.{Params}
 use Rattle.fair_games.specs.Squares.{fair_stream}
 use Rattle.fair_games.specs.Draws.{draw_at}
 use Rattle.fair_games.specs.Offers.{letter_code}
 use Rattle.fair_games.specs.Fair.{IsFair, IsPassedOver, most_draws}
 use Rattle.puzzle_cli.specs.GameFacts.{GameFacts}
-use Rattle.puzzle_cli.specs.Replies.{LineGives}
-use Rattle.puzzle_cli.specs.RunLaws.{described_line}
 use Rattle.json_replies.specs.declared.fair_words.FairWords.{FairWords}
 use Rattle.json_replies.specs.declared.fair_request.FairRequest.{FairRequest}
-use Rattle.json_replies.specs.declared.fair_request.FairRefusal.{FairRefusal}
-use Rattle.json_replies.specs.declared.fair_request.FairRefusal.TheVariants.{NoneFound}
+use Rattle.json_replies.specs.declared.begin_refusal.BeginRefusal.{BeginRefusal}
+use Rattle.json_replies.specs.declared.begin_refusal.BeginRefusal.TheVariants.{NoneFound}
 use Rattle.json_replies.specs.FairLines.{IsAsked}
 use Rattle.json_replies.specs.FurtherLines.{BoardFacts}
-use Rattle.json_replies.specs.Replies.{Answer}
 
 -- the parameters of a request: its size, and the letter of its grade
 abbrev pub fair_params : {P : Type 0} → BoardFacts P → FairRequest → Params
@@ -37,19 +33,11 @@ abbrev pub HasNoFairGame : {P : Type 0} → GameFacts P → BoardFacts P → Fai
 HasNoFairGame f b r = (n : ℕ) → n < most_draws → IsPassedOver f.rules b.struck_by r.grade (fair_draws f b r n)
 
 -- the words ask for a game with these parameters, and this is its puzzle
-abbrev pub AskFor : {P : Type 0} → GameFacts P → BoardFacts P → FairWords (List ℕ) → Params → P → Type 0
-AskFor f b words params p =
+abbrev pub AskForFair : {P : Type 0} → GameFacts P → BoardFacts P → FairWords (List ℕ) → Params → P → Type 0
+AskForFair f b words params p =
     (r : FairRequest) × IsAsked b.fair_letter words (Ok r) × (params ≡ fair_params b r) × IsGameOfRequest f b r p
 
 -- the words are refused, or they ask for a game and there is none
-abbrev pub AskInVain : {P : Type 0} → GameFacts P → BoardFacts P → FairWords (List ℕ) → FairRefusal → Type 0
-AskInVain f b words NoneFound = (r : FairRequest) × IsAsked b.fair_letter words (Ok r) × HasNoFairGame f b r
-AskInVain f b words refusal = IsAsked b.fair_letter words (Err refusal)
-
--- What `fair` with these words makes of a session or none: a refusal, or what the line `new` with the written form of
--- the fair game makes of it
-abbrev pub FairGives : {P : Type 0} → GameFacts P → BoardFacts P → Option (History P) → FairWords (List ℕ) → Answer P
-    → Type 0
-FairGives {P} f b old words (Ok outcome) =
-    (params : Params) × (p : P) × AskFor f b words params p × LineGives f old (described_line f params p) outcome
-FairGives f b old words (Err refusal) = AskInVain f b words refusal
+abbrev pub AskFairInVain : {P : Type 0} → GameFacts P → BoardFacts P → FairWords (List ℕ) → BeginRefusal → Type 0
+AskFairInVain f b words NoneFound = (r : FairRequest) × IsAsked b.fair_letter words (Ok r) × HasNoFairGame f b r
+AskFairInVain f b words refusal = IsAsked b.fair_letter words (Err refusal)

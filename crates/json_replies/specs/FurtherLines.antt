@@ -1,12 +1,14 @@
 -- The lines beside the commands, and what is told to each.
-use Rattle.std.specs.Prelude.{◌≡◌, ◌↔◌, ℕ, Bool, List, [], ◌∷◌, codes, IsTrue, Option, Some, None, Err}
-use Rattle.serde_json.specs.Data.{Data, string, object, member}
+use Rattle.std.specs.Prelude.{◌≡◌, ◌↔◌, ℕ, Bool, true, false, if◌then◌else◌, List, [], ◌∷◌, codes, IsTrue, Option, Some, None, Result, Ok, Err, ok_or}
+use Rattle.std.specs.Prelude.{option_map, option_and_then}
+use Rattle.std.specs.Option.{option_or}
+use Rattle.serde_json.specs.Data.{Data, string, object, member, no_members}
 use Rattle.latin_board.specs.Boards.{BoardValue, grid_of}
 use Rattle.latin_board.specs.Squares.{GridValue}
 use Rattle.trail_solver.specs.declared.answer.Answer.{Answer}
 use Rattle.trail_solver.specs.declared.answer.Answer.TheVariants.{None as NoSolution, One, Several}
 use Rattle.trail_solver.specs.Candidates.{CandidatesValue}
-use Rattle.trail_solver.specs.Puzzles.{Puzzle}
+use Rattle.trail_solver.specs.Puzzles.{Puzzle, Solves}
 use Rattle.trail_solver.specs.Completions.{Completes}
 use Rattle.trail_solver.specs.Answers.{Fits}
 use Rattle.play_midend.specs.Histories.{History}
@@ -15,36 +17,53 @@ use Rattle.board_checks.specs.Spots.{IsBrokenAt}
 use Rattle.board_checks.specs.Errors.{ErrorsValue, has_repeated, has_broken}
 use Rattle.board_checks.specs.declared.spot.Spot.{Spot}
 use Rattle.named_steps.specs.Graded.{IsGradeOf}
-use Rattle.clue_rules.specs.declared.reason.Reason.{Reason}
-use Rattle.clue_rules.specs.declared.grade.Grade.{Grade}
+use Rattle.line_steps.specs.declared.reason.Reason.{Reason}
+use Rattle.line_steps.specs.declared.grade.Grade.{Grade}
 use Rattle.fair_games.specs.declared.trial.Trial.{Trial}
 use Rattle.puzzle_cli.specs.declared.command.line_fault.LineFault.TheVariants.{NoGame}
 use Rattle.puzzle_cli.specs.declared.reply.refusal.Refusal.TheVariants.{Line as OfLine}
 use Rattle.puzzle_cli.specs.Lines.{Line}
 use Rattle.puzzle_cli.specs.GameFacts.{GameFacts}
-use Rattle.puzzle_cli.specs.Inner.CommandReading.{entry_at}
+use Rattle.needed_items.specs.declared.items.Items.{Ghosts as OfItems}
+use Rattle.puzzle_cli.specs.Inner.CommandReading.{entry_at, rest_behind}
 use Rattle.puzzle_cli.specs.SessionReplies.{shown_board}
 use Rattle.json_replies.specs.declared.further_line.FurtherLine.{FurtherLine}
-use Rattle.json_replies.specs.declared.further_line.FurtherLine.TheVariants.{Board, Completable, Hint as AskHint, Grade as AskGrade}
-use Rattle.json_replies.specs.Boards.{board_data}
+use Rattle.json_replies.specs.declared.further_line.FurtherLine.TheVariants.{Board, Completable, Hint as AskHint, Grade as AskGrade, Solutions, Spare, SpareBy}
+use Rattle.json_replies.specs.declared.begin_refusal.BeginRefusal.{BeginRefusal}
+use Rattle.json_replies.specs.declared.begin_refusal.BeginRefusal.TheVariants.{BadLetter}
+use Rattle.json_replies.specs.declared.listed_items.Listing.TheVariants.{ByAnswer, ByGrade}
+use Rattle.json_replies.specs.Boards.{board_data, grid_data}
+use Rattle.json_replies.specs.FairLines.{letter_at, one_word_at}
+use Rattle.json_replies.specs.ListedItems.{AreItemsListed}
+use Rattle.json_replies.specs.Texts.{list_data}
 use Rattle.step_chains.specs.declared.hints.NextHint.{NextHint}
 use Rattle.json_replies.specs.HintObjects.{IsHintValue, grade_data}
-use Rattle.json_replies.specs.ToldHints.{IsHint}
+use Rattle.step_chains.specs.NextHints.{IsHint}
 use Rattle.json_replies.specs.ObjectLines.{IsLineOfData}
-use Rattle.json_replies.specs.Replies.{reply_members, IsReplyLine}
+use Rattle.json_replies.specs.Replies.{reply_members, reply_members_then, IsAnswerLine, IsReplyLine}
 use Rattle.json_replies.specs.Sessions.{game_data}
-use Rattle.clue_rules.specs.Reasons.{Striking}
+use Rattle.line_steps.specs.Reasons.{Striking}
 
 -- each of these lines by its word
 abbrev pub further_words : List (List ℕ × FurtherLine)
 further_words =
     (codes "board", Board) ∷ (codes "completable", Completable) ∷ (codes "hint", AskHint) ∷ (codes "grade", AskGrade)
-    ∷ []
+    ∷ (codes "solutions", Solutions) ∷ (codes "spare", Spare) ∷ []
 
--- which of them a line is, if any
-abbrev pub further_at : Line → Option FurtherLine
-further_at None = None
-further_at (Some text) = entry_at further_words text
+-- one of these lines, or why it isn't answered: the word after `spare` is no letter
+abbrev pub Further : Type 0
+Further = Result FurtherLine BeginRefusal
+
+-- `spare` and this word
+abbrev pub spare_at : (Grade → Option ℕ) → List ℕ → Further
+spare_at letter word = ok_or (option_map SpareBy (letter_at letter word)) BadLetter
+
+-- which of them a line is, if any, where the game's grades have these letters
+abbrev pub further_at : (Grade → Option ℕ) → Line → Option Further
+further_at letter None = None
+further_at letter (Some text) =
+    option_or (option_map Ok (entry_at further_words text))
+    (option_map (spare_at letter) (option_and_then one_word_at (rest_behind (codes "spare ") text)))
 
 -- under which key its answer stands
 abbrev pub further_key : FurtherLine → List ℕ
@@ -52,10 +71,27 @@ further_key Board = codes "board"
 further_key Completable = codes "completable"
 further_key AskHint = codes "hint"
 further_key AskGrade = codes "grade"
+further_key Solutions = codes "solutions"
+further_key Spare = codes "spare"
+further_key (SpareBy grade) = codes "spare"
+
+-- whether that key comes after those of all members
+abbrev pub is_last_key : FurtherLine → Bool
+is_last_key Solutions = true
+is_last_key Spare = true
+is_last_key (SpareBy grade) = true
+is_last_key which = false
+
+-- the object of an answer, beside what each object has, in the order of the keys
+abbrev pub further_data : FurtherLine → Data → Data → Data
+further_data which answer session =
+    if is_last_key which
+    then object (reply_members_then None [] session (member (further_key which) answer no_members))
+    else object (member (further_key which) answer (reply_members None [] session))
 
 -- what these answers know of a game: what it demands at which spots, its clues and signs as data; what its steps
 -- strike, the letters of its grades, the clue at a place of the edge, and which signs it has; and of its fair games the
--- letters of their grades, the orders of trial, and the game's initial
+-- letters of their grades, the orders of trial, and the game's initial; and what each item says
 pub record BoardFacts (P : Type 0) : Type 1 where
   pub demand : P → Spot → Option Demand
   pub clues : P → BoardValue → ErrorsValue → Data
@@ -67,6 +103,7 @@ pub record BoardFacts (P : Type 0) : Type 1 where
   pub fair_letter : Grade → Option ℕ
   pub trial : Grade → Trial
   pub initial : ℕ
+  pub items : OfItems P
 
 -- the errors are those of the grid: the squares that are repeated, and the spots whose demand is broken
 pub record AreErrors (demand : Spot → Option Demand) (g : GridValue) (e : ErrorsValue) : Type 0 where
@@ -78,6 +115,12 @@ abbrev pub answer_data : Answer → Data
 answer_data NoSolution = string (codes "none")
 answer_data (One g) = string (codes "one")
 answer_data (Several g h) = string (codes "several")
+
+-- the solutions that were found
+abbrev pub solutions_data : Answer → Data
+solutions_data NoSolution = list_data grid_data []
+solutions_data (One g) = list_data grid_data (g ∷ [])
+solutions_data (Several g h) = list_data grid_data (g ∷ h ∷ [])
 
 -- a hint of a grid is told in this answer
 abbrev pub IsHintAnswer : Puzzle → (Grade → List ℕ) → Striking → (ℕ → ℕ) → (ℕ → ℕ → Bool) → GridValue → Data
@@ -101,11 +144,20 @@ IsAnswer f b h AskHint answer =
 IsAnswer f b h AskGrade answer =
     (grade : Option Grade) × IsGradeOf (f.rules.puzzle h.puzzle) (b.struck_by h.puzzle) grade
     × (answer ≡ grade_data b.letter grade)
+IsAnswer f b h Solutions answer =
+    (found : Answer) × Fits (Completes (f.rules.puzzle h.puzzle) (grid_of (shown_board f h))) found
+    × (answer ≡ solutions_data found)
+IsAnswer f b h Spare answer =
+    (found : Answer) × Fits (Solves (f.rules.puzzle h.puzzle)) found
+    × AreItemsListed f.rules b.struck_by b.items (b.says_greater h.puzzle) h.puzzle (ByAnswer found) answer
+IsAnswer f b h (SpareBy grade) answer =
+    AreItemsListed f.rules b.struck_by b.items (b.says_greater h.puzzle) h.puzzle (ByGrade grade) answer
 
--- the line of the object: NoGame where there is no session, otherwise the answer beside what each object has
-abbrev pub IsFurtherLine : {P : Type 0} → GameFacts P → BoardFacts P → FurtherLine → Option (History P) → List ℕ
-    → Type 0
-IsFurtherLine f b which None bytes = IsReplyLine f (Err (OfLine NoGame)) None bytes
-IsFurtherLine f b which (Some h) bytes =
+-- the line of the object: NoGame where there is no session, then why it isn't answered, otherwise the answer beside what
+-- each object has
+abbrev pub IsFurtherLine : {P : Type 0} → GameFacts P → BoardFacts P → Further → Option (History P) → List ℕ → Type 0
+IsFurtherLine f b asked None bytes = IsReplyLine f (Err (OfLine NoGame)) None bytes
+IsFurtherLine f b (Err refusal) (Some h) bytes = IsAnswerLine f (Err refusal) (Some h) bytes
+IsFurtherLine f b (Ok which) (Some h) bytes =
     (answer : Data) × IsAnswer f b h which answer
-    × IsLineOfData (object (member (further_key which) answer (reply_members None [] (game_data f h)))) bytes
+    × IsLineOfData (further_data which answer (game_data f h)) bytes

@@ -1,5 +1,5 @@
 -- Words that the contracts of private functions alone use.
 pub mod ObjectTexts
 pub mod WrittenData
-pub mod FairReading
+pub mod LineReading
 pub mod ToldResponses

@@ -1,7 +1,8 @@
 -- What is told as JSON. Bytes, lines and counts: Texts, Counts; an object's line: ObjectLines; the session that is
 -- left: Sessions; a reply: Replies; the board, its clues and signs: Boards, ClueLists; a hint, with the steps that
--- explain it: Reasons, Steps, ToldHints, HintObjects; the lines beside the commands: FurtherLines; the line `fair`:
--- FairLines, FairRefusals, FairReplies; what may be said to a line: JsonReplies; its laws: ReplyLaws, FairLaws.
+-- explain it: Reasons, Steps, HintObjects; the lines beside the commands: FurtherLines; the line `fair`:
+-- FairLines, FairReplies; a setter's lines: ItemChanges, DeskReplies, ListedItems; all lines that begin a game:
+-- BeginLines, BeginRefusals, BeginReplies; what may be said to a line: JsonReplies; its laws: ReplyLaws, FairLaws.
 pub mod Texts
 pub mod Counts
 pub mod ObjectLines
@@ -11,12 +12,16 @@ pub mod Boards
 pub mod ClueLists
 pub mod Reasons
 pub mod Steps
-pub mod ToldHints
 pub mod HintObjects
+pub mod ListedItems
 pub mod FurtherLines
 pub mod FairLines
-pub mod FairRefusals
+pub mod BeginLines
+pub mod BeginRefusals
 pub mod FairReplies
+pub mod ItemChanges
+pub mod DeskReplies
+pub mod BeginReplies
 pub mod JsonReplies
 pub mod ReplyLaws
 pub mod FairLaws

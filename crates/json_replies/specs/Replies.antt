@@ -6,8 +6,8 @@ use Rattle.puzzle_cli.specs.GameFacts.{GameFacts}
 use Rattle.puzzle_cli.specs.Refusals.{refusal_name}
 use Rattle.puzzle_cli.specs.SessionReplies.{Outcome}
 use Rattle.puzzle_cli.specs.Replies.{plain_text, left, refusal_line}
-use Rattle.json_replies.specs.declared.fair_request.FairRefusal.{FairRefusal}
-use Rattle.json_replies.specs.FairRefusals.{fair_refusal_name}
+use Rattle.json_replies.specs.declared.begin_refusal.BeginRefusal.{BeginRefusal}
+use Rattle.json_replies.specs.BeginRefusals.{begin_refusal_name}
 use Rattle.json_replies.specs.ObjectLines.{IsLineOfData}
 use Rattle.json_replies.specs.Sessions.{session_data}
 use Rattle.json_replies.specs.Texts.{text_data, lines_data}
@@ -17,12 +17,16 @@ abbrev pub name_data : Option (List ℕ) → Data
 name_data (Some name) = text_data name
 name_data None = null
 
--- what each object has: the refusal, the lines of the reply, the session that is left
-abbrev pub reply_members : Option (List ℕ) → List ℕ → Data → Members
-reply_members refused reply session =
+-- what each object has, the refusal, the lines of the reply, the session that is left, and then these members
+abbrev pub reply_members_then : Option (List ℕ) → List ℕ → Data → Members → Members
+reply_members_then refused reply session rest =
     member (codes "refused") (name_data refused)
     (member (codes "reply") (lines_data reply)
-    (member (codes "session") session no_members))
+    (member (codes "session") session rest))
+
+-- what each object has
+abbrev pub reply_members : Option (List ℕ) → List ℕ → Data → Members
+reply_members refused reply session = reply_members_then refused reply session no_members
 
 -- the object of a reply
 abbrev pub reply_data : Option (List ℕ) → List ℕ → Data → Data
@@ -33,19 +37,19 @@ abbrev pub refused_name : {P : Type 0} → Outcome P → Option (List ℕ)
 refused_name (Ok said) = None
 refused_name (Err refusal) = Some (refusal_name refusal)
 
--- what answers a line: an outcome as the plain program has it, or why `fair` begins nothing
+-- what answers a line: an outcome as the plain program has it, or why a line begins no game
 abbrev pub Answer : Type 0 → Type 0
-Answer P = Result (Outcome P) FairRefusal
+Answer P = Result (Outcome P) BeginRefusal
 
 -- the name of the refusal that an answer is, if it is one
 abbrev pub answer_name : {P : Type 0} → Answer P → Option (List ℕ)
 answer_name (Ok outcome) = refused_name outcome
-answer_name (Err refusal) = Some (fair_refusal_name refusal)
+answer_name (Err refusal) = Some (begin_refusal_name refusal)
 
 -- its lines of text
 abbrev pub answer_text : {P : Type 0} → Answer P → List ℕ
 answer_text (Ok outcome) = plain_text outcome
-answer_text (Err refusal) = refusal_line (fair_refusal_name refusal)
+answer_text (Err refusal) = refusal_line (begin_refusal_name refusal)
 
 -- the session that is left: a refusal leaves the one before
 abbrev pub session_left : {P : Type 0} → Option (History P) → Answer P → Option (History P)

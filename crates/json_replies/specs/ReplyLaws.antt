@@ -9,8 +9,7 @@ use Rattle.json_replies.specs.Texts.{lines_of, lines_text}
 use Rattle.json_replies.specs.ObjectLines.{lost_line, OrLost}
 use Rattle.json_replies.specs.Replies.{Answer, answer_name, answer_text, IsAnswerLine}
 use Rattle.json_replies.specs.Sessions.{session_data}
-use Rattle.json_replies.specs.declared.further_line.FurtherLine.{FurtherLine}
-use Rattle.json_replies.specs.FurtherLines.{BoardFacts, further_key, IsFurtherLine}
+use Rattle.json_replies.specs.FurtherLines.{BoardFacts, Further, further_at, IsFurtherLine}
 use Rattle.json_replies.specs.JsonReplies.{AnswerGives, JsonReply}
 
 -- the lines that are told of a reply of whole lines, each with LF, are the reply
@@ -33,12 +32,12 @@ ObjectsTellOneReply {P} f b =
 pub record ObjectsAreNotLost {P : Type 0} (f : GameFacts P) (b : BoardFacts P) : Type 0 where
   pub replies : (answer : Answer P) (new : Option (History P)) (bytes : List ℕ) → IsAnswerLine f answer new bytes
       → bytes ≢ lost_line
-  pub answers : (which : FurtherLine) (new : Option (History P)) (bytes : List ℕ) → IsFurtherLine f b which new bytes
+  pub answers : (asked : Further) (new : Option (History P)) (bytes : List ℕ) → IsFurtherLine f b asked new bytes
       → bytes ≢ lost_line
 
 -- the lines beside the commands leave the session, and are answered from it
 abbrev pub AnswersLeave : {P : Type 0} → GameFacts P → BoardFacts P → Type 0
 AnswersLeave {P} f b =
-    (which : FurtherLine) (old new : Option (History P)) (bytes : List ℕ)
-    → JsonReply f b old (Some (further_key which)) bytes new
-    → (new ≡ old) × OrLost (IsFurtherLine f b which old) bytes
+    (line : Line) (asked : Further) (old new : Option (History P)) (bytes : List ℕ)
+    → further_at b.fair_letter line ≡ Some asked → JsonReply f b old line bytes new
+    → (new ≡ old) × OrLost (IsFurtherLine f b asked old) bytes

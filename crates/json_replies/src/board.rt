@@ -3,12 +3,12 @@
 ghost use Rattle.std.specs.Prelude.{◌≡◌, ◌≤◌, IfOk};
 ghost use Rattle.latin_board.specs.Marks.{IsMarkSet};
 ghost use Rattle.serde_json.specs.View.{view};
-ghost use Rattle.json_replies.specs.Boards.{numbers_data, givens_data, mark_set_data, marks_data, repeats_data};
+ghost use Rattle.json_replies.specs.Boards.{grid_data, givens_data, mark_set_data, marks_data, repeats_data};
 ghost use Rattle.json_replies.specs.Boards.{board_data};
 
 use crate::lists::{push_value, push_when, square_count};
 use board_checks::BoardErrors;
-use latin_board::{Board, Marks, Size};
+use latin_board::{Board, Grid, Marks, Size};
 use serde_json::{Map, Value, put};
 use std::alloc::{AllocError, Global};
 use trail_solver::Rules;
@@ -28,7 +28,8 @@ pub(crate) fn board_value<P: Rules>(
     let mut members = Map::new(alloc);
     put(&mut members, alloc, "size", Value::from(board.size().get()))?;
     put(&mut members, alloc, "signs", signs)?;
-    put(&mut members, alloc, "numbers", numbers_value(alloc, board)?)?;
+    let numbers = grid_value(alloc, board.grid())?;
+    put(&mut members, alloc, "numbers", numbers)?;
     put(&mut members, alloc, "marks", marks_value(alloc, board)?)?;
     put(&mut members, alloc, "givens", givens_value(alloc, puzzle)?)?;
     put(
@@ -48,13 +49,13 @@ pub(crate) fn board_value<P: Rules>(
     Ok(Value::from(members))
 }
 
-// The number of each square, 0 where it is blank.
-fn numbers_value(alloc: Global, board: &Board) -> Result<Value, AllocError>
-    ensures { IfOk result (λ list. view list ≡ numbers_data board.now) }
+/// The number of each square, 0 where it is blank.
+pub(crate) fn grid_value(alloc: Global, grid: &Grid) -> Result<Value, AllocError>
+    ensures { IfOk result (λ list. view list ≡ grid_data grid.now) }
 {
     let mut list = Vec::new(alloc);
-    for cell in 0..square_count(board.size()) {
-        push_value(&mut list, Value::from(board.digit(cell)))?;
+    for cell in 0..square_count(grid.size()) {
+        push_value(&mut list, Value::from(grid.get(cell)))?;
     }
     Ok(Value::from(list))
 }

@@ -2,17 +2,18 @@
 
 ghost use Rattle.std.specs.Prelude.{◌≡◌, ◌*◌, ◌<◌, ◌++◌, nat_lt, map, IfOk, OnOk};
 ghost use Rattle.serde_json.specs.View.{view};
-ghost use Rattle.clue_rules.specs.Towers.{clue_of};
+ghost use Rattle.towers_game.specs.Towers.{clue_of};
 ghost use Rattle.json_replies.specs.Boards.{when};
 ghost use Rattle.json_replies.specs.ClueLists.{clue_data, clues_data, sign_data, later_sign, signs_at, signs_data};
 
 use crate::lists::{push_value, square_count};
 use board_checks::{BoardErrors, Spot};
-use clue_rules::{Towers, Unequal};
 use latin_board::{Board, edge_xy};
 use serde_json::{Map, Value, put};
 use std::alloc::{AllocError, Global};
+use towers_game::Towers;
 use trail_solver::Rules;
+use unequal_game::Unequal;
 
 /// The clues that the puzzle has, in the order of descriptions.
 pub(crate) fn clues_value(

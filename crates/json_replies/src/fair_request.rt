@@ -1,14 +1,14 @@
-//! What a line `fair` asks for, and why it is refused.
+//! What a line `fair` asks for.
 
-ghost use Rattle.std.specs.Prelude.{◌≡◌, ◌≤◌, ℕ, length, MatchOption, IfOk, IfErr, Ok, Err};
-ghost use Rattle.clue_rules.specs.declared.grade.Grade.{Grade};
-ghost use Rattle.json_replies.specs.FairLines.{IsSizeWord, IsGradeWord, IsSeedWord, IsAsked, words_copied};
-ghost use Rattle.json_replies.specs.FairRefusals.{fair_refusal_name};
+ghost use Rattle.std.specs.Prelude.{◌≡◌, ℕ, MatchOption};
+ghost use Rattle.line_steps.specs.declared.grade.Grade.{Grade};
+ghost use Rattle.json_replies.specs.FairLines.{IsSizeWord, IsGradeWord, IsSeedWord, IsAsked, is_letter, letter_at, words_copied};
 
+use crate::begin_refusal::BeginRefusal;
 use crate::fair_words::FairWords;
 use crate::shown::Shows;
 use byte_text::number;
-use fair_games::{grade_of_letter, is_offered};
+use fair_games::{FairGame, grade_of_letter, is_offered};
 use latin_board::Size;
 use named_steps::Grade;
 
@@ -20,54 +20,26 @@ pub(crate) struct FairRequest {
     pub(crate) seed: u64,
 }
 
-/// Why a line `fair` begins no game, where that isn't for want of memory.
-#[derive(Clone, Copy)]
-pub(crate) enum FairRefusal {
-    /// The first word is no size.
-    BadSize,
-    /// The second is no letter of a grade that fair games of this size have.
-    BadLetter,
-    /// The third is no seed.
-    BadSeed,
-    /// No draw gives a game of the grade.
-    NoneFound,
-}
-
-impl FairRefusal {
-    /// The word by which the refusal is told.
-    pub(crate) fn name(self) -> &'static str
-        ensures name { result.now ≡ fair_refusal_name self }
-        ensures short { length result.now ≤ 9 }
-    {
-        match self {
-            FairRefusal::BadSize => "BadSize",
-            FairRefusal::BadLetter => "BadLetter",
-            FairRefusal::BadSeed => "BadSeed",
-            FairRefusal::NoneFound => "NoneFound",
-        }
-    }
-}
-
 /// What the words ask for, of the game `P`.
 ///
 /// Refused, in this order, as `BadSize`, `BadLetter`, `BadSeed`.
-pub(crate) fn read_request<P: Shows>(words: FairWords<&[u8]>) -> Result<FairRequest, FairRefusal>
+pub(crate) fn read_request<P: Shows>(words: FairWords<&[u8]>) -> Result<FairRequest, BeginRefusal>
     ensures { IsAsked P.letter_of (words_copied words.entry) result }
 {
     let Some(size) = read_size(words.size) else {
-        return Err(FairRefusal::BadSize);
+        return Err(BeginRefusal::BadSize);
     };
     let Some(grade) = read_grade::<P>(size, words.grade) else {
-        return Err(FairRefusal::BadLetter);
+        return Err(BeginRefusal::BadLetter);
     };
     match number(words.seed, u64::MAX) {
         Some(seed) => Ok(FairRequest { size, grade, seed }),
-        None => Err(FairRefusal::BadSeed),
+        None => Err(BeginRefusal::BadSeed),
     }
 }
 
-// The size that a word says.
-fn read_size(word: &[u8]) -> Option<Size>
+/// The size that a word says.
+pub(crate) fn read_size(word: &[u8]) -> Option<Size>
     ensures { MatchOption result ((size : ℕ) → IsSizeWord size word.now → ⊥)
         (λ size. IsSizeWord size word.now) }
 {
@@ -90,5 +62,30 @@ fn read_grade<P: Shows>(size: Size, word: &[u8]) -> Option<Grade>
         Some(grade)
     } else {
         None
+    }
+}
+
+/// The grade of which a word is the letter.
+pub(crate) fn read_letter<P: Shows>(word: &[u8]) -> Option<Grade>
+    ensures { result ≡ letter_at P.letter_of word.now }
+{
+    if is_letter::<P>(Grade::Latin, word) {
+        Some(Grade::Latin)
+    } else if is_letter::<P>(Grade::Easy, word) {
+        Some(Grade::Easy)
+    } else if is_letter::<P>(Grade::Hard, word) {
+        Some(Grade::Hard)
+    } else {
+        None
+    }
+}
+
+// Whether the word is the letter of the grade.
+fn is_letter<P: Shows>(grade: Grade, word: &[u8]) -> bool
+    ensures { result ≡ is_letter (P.letter_of grade) word.now }
+{
+    match (<P as FairGame>::letter(grade), word) {
+        (Some(own), [letter]) => own == *letter,
+        _ => false,
     }
 }

@@ -5,16 +5,17 @@ ghost use Rattle.std.specs.Option.{option_copied};
 ghost use Rattle.puzzle_cli.specs.Machines.{IsResponse};
 ghost use Rattle.puzzle_cli.specs.Replies.{refusal_line};
 ghost use Rattle.puzzle_cli.specs.Texts.{text_bytes};
-ghost use Rattle.json_replies.specs.FairLines.{words_copied};
+ghost use Rattle.json_replies.specs.BeginLines.{begin_copied};
 ghost use Rattle.json_replies.specs.FurtherLines.{IsFurtherLine};
-ghost use Rattle.json_replies.specs.Inner.ToldResponses.{TellsFair, TellsResponse};
+ghost use Rattle.json_replies.specs.Inner.ToldResponses.{TellsBegun, TellsResponse};
 ghost use Rattle.json_replies.specs.JsonReplies.{JsonReply, TellsOutcome};
 ghost use Rattle.json_replies.specs.ObjectLines.{IsLineOfData, OrLost, lost_line};
 ghost use Rattle.json_replies.specs.Replies.{reply_data};
 ghost use Rattle.json_replies.specs.Sessions.{session_data};
 
-use crate::fair::{begin_fair, fair_game};
-use crate::fair_words::{FairWords, read_fair};
+use crate::begin::{asked_game, begin_puzzle};
+use crate::begin_line::{BeginLine, read_begin};
+use crate::begin_refusal::BeginRefusal;
 use crate::further::answer_line;
 use crate::further_line::{FurtherLine, read_further};
 use crate::object_line::reply_object;
@@ -26,7 +27,8 @@ use puzzle_cli::{Draw, Facts, Format, LineFault, Refusal, Response, Text, obey};
 use std::alloc::Global;
 
 /// Each reply is one JSON object on one line: the refusal or null, the lines that the plain program says, and the session that is left;
-/// or the answer to one of the lines beside the commands. `fair` and three words are answered as `new` with the ID of the fair game.
+/// or the answer to one of the lines beside the commands. `fair`, `blank`, `item` and `thin` are answered as `new` with the ID of the game
+/// that they ask for.
 ///
 /// Where the object can't be made for want of memory, the line is `{"lost":"OutOfMemory"}`, and the session is left as the plain
 /// program leaves it.
@@ -38,10 +40,10 @@ impl<P: Shows> Format<P> for Json {
     ghost leaves_as_answers = { λ old new line bytes said. said.leaves };
 
     fn answer(alloc: Global, session: &mut Option<Session<P>>, line: Option<&[u8]>) -> Response {
-        match read_further(line) {
-            Some(which) => Response::Reply(further_object(alloc, session, which)),
-            None => match read_fair(line) {
-                Some(words) => fair_response(alloc, session, words),
+        match read_further::<P>(line) {
+            Some(asked) => Response::Reply(further_object(alloc, session, asked)),
+            None => match read_begin(line) {
+                Some(asked) => begin_response(alloc, session, asked),
                 None => {
                     let answer = obey(alloc, session, line);
                     told(alloc, session, answer)
@@ -51,19 +53,19 @@ impl<P: Shows> Format<P> for Json {
     }
 }
 
-// The answer to `fair` and these words.
-fn fair_response<P: Shows>(
+// The answer to a line that begins this game.
+fn begin_response<P: Shows>(
     alloc: Global,
     session: &mut Option<Session<P>>,
-    words: FairWords<&[u8]>,
+    asked: BeginLine<&[u8]>,
 ) -> Response
     ensures { IsResponse
-        (λ old line bytes new. TellsFair ⟦<P as Facts>⟧.facts ⟦<P as ShownFacts>⟧.board_facts old
-        (words_copied words.entry) bytes new) (λ _. false) session.old None result session.new }
+        (λ old line bytes new. TellsBegun ⟦<P as Facts>⟧.facts ⟦<P as ShownFacts>⟧.board_facts old
+        (begin_copied asked.entry) bytes new) (λ _. false) session.old None result session.new }
 {
-    match fair_game(words) {
+    match asked_game(session, asked) {
         Ok((params, puzzle)) => {
-            let answer = begin_fair(alloc, session, params, puzzle);
+            let answer = begin_puzzle(alloc, session, params, puzzle);
             told(alloc, session, answer)
         }
         Err(refusal) => Response::Reply(refused_object(alloc, session, refusal.name())),
@@ -88,17 +90,24 @@ fn told<P: Draw>(
     }
 }
 
-// The object that answers one of the lines beside the commands: NoGame where there is no session.
-fn further_object<P: Shows>(alloc: Global, session: &Option<Session<P>>, which: FurtherLine) -> Text
+// The object that answers one of the lines beside the commands: NoGame where there is no session, then why it is none.
+fn further_object<P: Shows>(
+    alloc: Global,
+    session: &Option<Session<P>>,
+    asked: Result<FurtherLine, BeginRefusal>,
+) -> Text
     ensures { OrLost (IsFurtherLine ⟦<P as Facts>⟧.facts ⟦<P as ShownFacts>⟧.board_facts
-        which session.now) (text_bytes result) }
+        asked session.now) (text_bytes result) }
 {
     let Some(shown) = session else {
         return refused_object(alloc, session, Refusal::Line(LineFault::NoGame).name());
     };
-    match answer_line(alloc, shown, which) {
-        Ok(line) => Text::Long(line),
-        Err(_) => lost(),
+    match asked {
+        Ok(which) => match answer_line(alloc, shown, which) {
+            Ok(line) => Text::Long(line),
+            Err(_) => lost(),
+        },
+        Err(refusal) => refused_object(alloc, session, refusal.name()),
     }
 }
 

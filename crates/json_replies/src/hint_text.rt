@@ -1,5 +1,6 @@
 //! The text of the object of a hint.
 
+ghost use Rattle.line_steps.specs.Reasons.{StruckBy};
 ghost use Rattle.std.specs.Prelude.{◌≡◌, ◌*◌, ◌<◌, ◌∷◌, [], OnOk, IfOk};
 ghost use Rattle.std.specs.Option.{option_copied};
 ghost use Rattle.step_texts.specs.Lines.{line_texts};
@@ -32,7 +33,7 @@ pub(crate) fn hint_text<P: StepNames>(
     requires size { grid.now.size ≡ (P.Rules.puzzle p.now).size }
     requires goal { IsGoalTold grid.now.size hint.now }
     ensures { IfOk result (λ text. IsTextWhere (IsHintValue (P.Rules.puzzle p.now).size P.grade_letter
-        (P.edge_clue_of p.now) (P.says_greater_of p.now) (P.Steps.struck_by p.now) grid.now hint.now) text.items) }
+        (P.edge_clue_of p.now) (P.says_greater_of p.now) (StruckBy P.puzzle P.own p.now) grid.now hint.now) text.items) }
 {
     let told = told_steps(alloc, p, view_of(grid), steps_in(hint))?;
     let lines = text_of(alloc, grid, told.as_slice(), hint)?;

@@ -3,8 +3,12 @@
 //! [`Json`] is a format of the program: what a line makes of a session ([`obey`](puzzle_cli::obey)) is told as one object on one line.
 #![tactic(auto)]
 
+mod begin;
+mod begin_line;
+mod begin_refusal;
 mod board;
 mod clue_lists;
+mod desk;
 mod fair;
 mod fair_request;
 mod fair_words;
@@ -12,6 +16,8 @@ mod format;
 mod further;
 mod further_line;
 mod hint_text;
+mod item_words;
+mod listed_items;
 mod lists;
 mod object_line;
 mod reason_parts;

@@ -1,16 +1,16 @@
 //! The line of an object, member by member: it has the text of each once, and that of a reply grows line by line, since a reply
 //! can have millions.
 
-ghost use Rattle.std.specs.Prelude.{◌≡◌, ◌∷◌, ◌++◌, [], None, IfOk};
+ghost use Rattle.std.specs.Prelude.{◌≡◌, ◌∷◌, ◌++◌, [], true, IfOk};
 ghost use Rattle.std.specs.Option.{option_copied};
 ghost use Rattle.byte_text.specs.Bytes.{line_feed};
 ghost use Rattle.json.specs.Print.{quoted};
-ghost use Rattle.serde_json.specs.Data.{Data, object, member};
+ghost use Rattle.serde_json.specs.Data.{Data, Members};
 ghost use Rattle.serde_json.specs.View.{view};
 ghost use Rattle.serde_json.specs.Written.{comma_if, compact_text, members_text};
 ghost use Rattle.json_replies.specs.Texts.{text_data, lines_data};
-ghost use Rattle.json_replies.specs.FurtherLines.{further_key};
-ghost use Rattle.json_replies.specs.Replies.{name_data, reply_members, reply_data};
+ghost use Rattle.json_replies.specs.FurtherLines.{further_data};
+ghost use Rattle.json_replies.specs.Replies.{name_data, reply_members, reply_members_then, reply_data};
 ghost use Rattle.json_replies.specs.ObjectLines.{IsShallow, IsSpelled, IsLineOfData};
 ghost use Rattle.json_replies.specs.Inner.ObjectTexts.{key_text, AddsMember, IsPlain, IsPlainText};
 
@@ -38,7 +38,8 @@ pub(crate) fn reply_object(
     reply_members_after(alloc, line, false, refused, reply, session)
 }
 
-/// The line of the object that answers one of the lines beside the commands: the answer's text, and what each object has.
+/// The line of the object that answers one of the lines beside the commands: the answer's text, and what each object has. The members
+/// come in the order of their keys, as they are read back.
 pub(crate) fn answer_object(
     alloc: Global,
     which: FurtherLine,
@@ -47,12 +48,15 @@ pub(crate) fn answer_object(
 ) -> Result<Vec<u8>, AllocError>
     requires { IsShallow 1 (view session.now) }
     ensures { IfOk result (λ line. (d : Data) → IsPlainText d answer.now → IsShallow 7 d → IsLineOfData
-        (object (member (further_key which) d (reply_members None [] (view session.now)))) line.items) }
+        (further_data which d (view session.now)) line.items) }
 {
     let mut line = Vec::with_capacity(alloc, answer.len())?;
     line.push(b'{')?;
-    let mut line = key_after(line, false, which.key())?;
-    line.extend_from_slice(answer)?;
+    if which.is_last() {
+        let line = members_after(alloc, line, false, None, b"", session)?;
+        return ended(text_member_after(line, true, which.key(), answer)?);
+    }
+    let line = text_member_after(line, false, which.key(), answer)?;
     reply_members_after(alloc, line, true, None, b"", session)
 }
 
@@ -71,14 +75,39 @@ fn reply_members_after(
         ++ line_feed ∷ []) }
     ensures plain { IfOk result (λ _. IsPlain (view session.now)) }
 {
+    ended(members_after(alloc, line, later, refused, reply, session)?)
+}
+
+// The line with its end and LF.
+fn ended(line: Vec<u8>) -> Result<Vec<u8>, AllocError>
+    ensures { IfOk result (λ new. new.items ≡ (line.items ++ 125 ∷ []) ++ line_feed ∷ []) }
+{
+    let mut line = line;
+    line.push(b'}')?;
+    line.push(b'\n')?;
+    Ok(line)
+}
+
+// The line with what each object has: it can go on with further members.
+fn members_after(
+    alloc: Global,
+    line: Vec<u8>,
+    later: bool,
+    refused: Option<&[u8]>,
+    reply: &[u8],
+    session: &Value,
+) -> Result<Vec<u8>, AllocError>
+    requires { IsShallow 1 (view session.now) }
+    ensures text { IfOk result (λ new. (rest : Members) → new.items ++ members_text true rest
+        ≡ line.items ++ members_text later
+        (reply_members_then (option_copied refused.entry) reply.now (view session.now) rest)) }
+    ensures plain { IfOk result (λ _. IsPlain (view session.now)) }
+{
     let name = name_value(alloc, refused)?;
     let line = member_after(alloc, line, later, "refused", &name)?;
     let line = key_after(line, true, "reply")?;
     let line = lines_after(alloc, line, reply)?;
-    let mut line = member_after(alloc, line, true, "session", session)?;
-    line.push(b'}')?;
-    line.push(b'\n')?;
-    Ok(line)
+    member_after(alloc, line, true, "session", session)
 }
 
 // The name of a refusal, or null.
@@ -91,8 +120,23 @@ fn name_value(alloc: Global, name: Option<&[u8]>) -> Result<Value, AllocError>
     }
 }
 
-// The text with a member.
+// The text with a member that has this text.
 #[tactic(auto, using(crate::proofs::ObjectTexts::adds_value))]
+fn text_member_after(
+    text: Vec<u8>,
+    later: bool,
+    key: &str,
+    value: &[u8],
+) -> Result<Vec<u8>, AllocError>
+    ensures { IfOk result (λ new. (d : Data) → IsPlainText d value.now
+        → AddsMember later key.now d text.items new.items) }
+{
+    let mut text = key_after(text, later, key)?;
+    text.extend_from_slice(value)?;
+    Ok(text)
+}
+
+// The text with a member.
 fn member_after(
     alloc: Global,
     text: Vec<u8>,
@@ -104,9 +148,8 @@ fn member_after(
     ensures adds { IfOk result (λ new. AddsMember later key.now (view value.now) text.items new.items) }
     ensures plain { IfOk result (λ _. IsPlain (view value.now)) }
 {
-    let mut text = key_after(text, later, key)?;
-    text.extend_from_slice(&value_text(alloc, value)?)?;
-    Ok(text)
+    let value = value_text(alloc, value)?;
+    text_member_after(text, later, key, &value)
 }
 
 /// The text of a value.

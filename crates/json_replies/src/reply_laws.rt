@@ -2,7 +2,7 @@
 //! would have to carry: they are the contract of a function that does nothing.
 
 ghost use Rattle.json_replies.specs.ReplyLaws.{LinesAreTheReply, ObjectsTellOneReply, ObjectsAreNotLost, AnswersLeave};
-ghost use Rattle.json_replies.specs.FairLaws.{FairLinesBegin, HintsLeadOn};
+ghost use Rattle.json_replies.specs.FairLaws.{FairLinesBegin, HintsLeadOn, HintsLeadToTheEnd};
 
 use crate::shown::{ShownFacts, Shows};
 use puzzle_cli::Facts;
@@ -14,7 +14,8 @@ use puzzle_cli::Facts;
 /// leave is the same. No object's line is
 /// `{"lost":"OutOfMemory"}`. The lines `board`, `completable`, `hint` and `grade` leave the session, and are answered from it. `fair` and
 /// three words leave it, or begin that of the very puzzle that they ask for, which has one solution and is of the grade. In such a puzzle
-/// hints lead on while a square is empty: by that grade at most, or to a contradiction where a number is wrong.
+/// hints lead on while a square is empty: by that grade at most, or to a contradiction where a number is wrong. Where none is, the hinted
+/// numbers lead one after another to the solution.
 pub fn laws<P: Shows>()
     ensures lines { LinesAreTheReply }
     ensures one_reply { ObjectsTellOneReply ⟦<P as Facts>⟧.facts ⟦<P as ShownFacts>⟧.board_facts }
@@ -22,6 +23,7 @@ pub fn laws<P: Shows>()
     ensures answers { AnswersLeave ⟦<P as Facts>⟧.facts ⟦<P as ShownFacts>⟧.board_facts }
     ensures fair { FairLinesBegin ⟦<P as Facts>⟧.facts ⟦<P as ShownFacts>⟧.board_facts }
     ensures hints { HintsLeadOn ⟦<P as Facts>⟧.facts ⟦<P as ShownFacts>⟧.board_facts }
+    ensures hints_end { HintsLeadToTheEnd ⟦<P as Facts>⟧.facts ⟦<P as ShownFacts>⟧.board_facts }
 {
     named_steps::laws::<P>();
 }

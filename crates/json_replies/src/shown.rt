@@ -1,5 +1,6 @@
 //! What a game adds to be told as JSON: the clues and signs of its boards, and laws of its letters.
 
+ghost use Rattle.line_steps.specs.Reasons.{StruckBy};
 ghost use Rattle.std.specs.Prelude.{◌≡◌, IfOk};
 ghost use Rattle.latin_board.specs.Boards.{BoardValue};
 ghost use Rattle.serde_json.specs.Data.{Data, array, no_items};
@@ -11,17 +12,20 @@ ghost use Rattle.json_replies.specs.FurtherLines.{BoardFacts};
 
 use crate::clue_lists::{clues_value, signs_value};
 use board_checks::{BoardErrors, Demands};
-use clue_rules::{Game, Towers, Unequal};
 use fair_games::FairGame;
+use game_texts::Game;
 use latin_board::Board;
+use needed_items::Items;
 use puzzle_cli::Draw;
 use serde_json::Value;
 use std::alloc::{AllocError, Global};
 use step_texts::StepNames;
+use towers_game::Towers;
 use trail_solver::Rules;
+use unequal_game::Unequal;
 
 /// A game whose boards can be told.
-pub trait Shows: Draw + Demands + StepNames + FairGame {
+pub trait Shows: Draw + Demands + StepNames + FairGame + Items {
     // The clues that stand at the edges of a board, and the signs between its squares.
     ghost clues: { Self → BoardValue → ErrorsValue → Data };
 
@@ -134,12 +138,13 @@ impl<P: Shows> ShownFacts for P {
       demand = P.demand;
       clues = P.clues;
       signs = P.signs;
-      struck_by = P.struck_by;
+      struck_by = (StruckBy P.puzzle P.own);
       letter = P.grade_letter;
       edge_clue = P.edge_clue_of;
       says_greater = P.says_greater_of;
       fair_letter = P.letter_of;
       trial = P.trial_of;
       initial = P.initial_code;
+      items = P.Items.own;
     } };
 }

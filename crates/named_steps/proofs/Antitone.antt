@@ -3,14 +3,14 @@ use Rattle.std.proofs.Common.{◌≡◌, true, List, [], ◌∷◌}
 use Rattle.std.proofs.lemmas.Bool.{both_ways, false_from_ne_true}
 use Rattle.trail_solver.specs.Pairs.{has_pair}
 use Rattle.trail_solver.specs.Candidates.{CandidatesValue, may_be}
-use Rattle.clue_rules.specs.Left.{IsFewer, AreAlike, without}
-use Rattle.clue_rules.proofs.Takes.{still_left}
-use Rattle.clue_rules.specs.Grades.{has_reason}
-use Rattle.clue_rules.specs.Chains.{StepValue, IsStep, IsChain, left_by, AreOfGrade}
-use Rattle.clue_rules.specs.Settled.{IsSettled, IsClosure}
-use Rattle.clue_rules.specs.declared.grade.Grade.{Grade}
-use Rattle.clue_rules.specs.Reasons.{Striking}
-use Rattle.clue_rules.proofs.Chains.{IsAntitone, left_fewer}
+use Rattle.line_steps.specs.Left.{IsFewer, AreAlike, without}
+use Rattle.line_steps.proofs.Takes.{still_left}
+use Rattle.line_steps.specs.Grades.{has_reason}
+use Rattle.line_steps.specs.Chains.{StepValue, IsStep, IsChain, left_by, AreOfGrade}
+use Rattle.line_steps.specs.Settled.{IsSettled, IsClosure}
+use Rattle.line_steps.specs.declared.grade.Grade.{Grade}
+use Rattle.line_steps.specs.Reasons.{Striking}
+use Rattle.line_steps.proofs.Chains.{IsAntitone, left_fewer}
 
 -- ---- candidates without some pairs
 

@@ -7,18 +7,18 @@ use Rattle.trail_solver.specs.Pairs.{IsPair}
 use Rattle.trail_solver.specs.Puzzles.{Puzzle, Solves}
 use Rattle.trail_solver.specs.Solutions.{IsOnlySolution}
 use Rattle.trail_solver.specs.Completions.{Completes}
-use Rattle.clue_rules.specs.Left.{IsLeft, IsFewer, all_of, without}
-use Rattle.clue_rules.specs.Grades.{IsLower, has_reason, rank}
+use Rattle.line_steps.specs.Left.{IsLeft, IsFewer, all_of, without}
+use Rattle.line_steps.specs.Grades.{IsLower, has_reason, rank}
 use Rattle.named_steps.specs.Chains.{Shows, IsView}
-use Rattle.clue_rules.specs.Chains.{StepValue, IsChain, left_by, AreOfGrade}
+use Rattle.line_steps.specs.Chains.{StepValue, IsChain, left_by, AreOfGrade}
 use Rattle.named_steps.specs.Following.{Follows, IsRefuted}
-use Rattle.clue_rules.proofs.Chains.{IsAntitone, chain_less, left_fewer, left_size, higher_has}
+use Rattle.line_steps.proofs.Chains.{IsAntitone, chain_less, left_fewer, left_size, higher_has}
 use Rattle.named_steps.proofs.Kept.{completion_in_view}
-use Rattle.clue_rules.proofs.KeptSolutions.{IsSoundFor, number_left, chain_keeps}
-use Rattle.clue_rules.specs.declared.reason.Reason.{Reason}
-use Rattle.clue_rules.specs.declared.grade.Grade.{Grade}
+use Rattle.line_steps.proofs.KeptSolutions.{IsSoundFor, number_left, chain_keeps}
+use Rattle.line_steps.specs.declared.reason.Reason.{Reason}
+use Rattle.line_steps.specs.declared.grade.Grade.{Grade}
 use Rattle.named_steps.specs.declared.goal.Goal.TheVariants.{OnlyValue}
-use Rattle.clue_rules.specs.Reasons.{Striking}
+use Rattle.line_steps.specs.Reasons.{Striking}
 
 -- ---- the only solution
 

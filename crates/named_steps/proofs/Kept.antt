@@ -8,15 +8,15 @@ use Rattle.trail_solver.specs.Candidates.{CandidatesValue, IsWithin}
 use Rattle.trail_solver.specs.Puzzles.{Puzzle, Solves}
 use Rattle.trail_solver.specs.Completions.{Completes}
 use Rattle.trail_solver.proofs.FilledGrids.{solution_pair}
-use Rattle.clue_rules.specs.Left.{IsLeft}
+use Rattle.line_steps.specs.Left.{IsLeft}
 use Rattle.named_steps.specs.Chains.{IsShown, IsView, IsGoalOf, goal_cell, goal_value, IsExplained}
-use Rattle.clue_rules.specs.Chains.{StepValue, left_by}
-use Rattle.clue_rules.proofs.Chains.{left_size}
-use Rattle.clue_rules.specs.declared.grade.Grade.{Grade}
+use Rattle.line_steps.specs.Chains.{StepValue, left_by}
+use Rattle.line_steps.proofs.Chains.{left_size}
+use Rattle.line_steps.specs.declared.grade.Grade.{Grade}
 use Rattle.named_steps.specs.declared.goal.Goal.{Goal}
 use Rattle.named_steps.specs.declared.goal.Goal.TheVariants.{OnlyValue, OnlyPlace}
-use Rattle.clue_rules.specs.Reasons.{Striking}
-use Rattle.clue_rules.proofs.KeptSolutions.{IsSoundFor, number_left, chain_keeps}
+use Rattle.line_steps.specs.Reasons.{Striking}
+use Rattle.line_steps.proofs.KeptSolutions.{IsSoundFor, number_left, chain_keeps}
 
 -- what candidates show is so in each solution within them
 pub shown_right : (p : Puzzle) (c : CandidatesValue) (goal : Goal) (g : GridValue) → c.size ≡ p.size → Solves p g → IsWithin c g
@@ -52,8 +52,8 @@ pub explained_right : (p : Puzzle) (Struck : Striking) → IsSoundFor p Struck �
     → number_at h (goal_cell g.size goal) ≡ goal_value goal
 explained_right p Struck sound grade g h steps goal size e done =
     let view_size : e.view.size ≡ p.size = e.in_view.size ∙ size in
-    let within = chain_keeps p Struck sound e.view steps h view_size e.shows.chain done.0 (completion_in_view p g h e.view size e.in_view done) in
+    let within = chain_keeps p Struck sound e.view steps h view_size e.explains.shows.chain done.0 (completion_in_view p g h e.view size e.in_view done) in
     let end_size : (left_by e.view steps).size ≡ g.size = left_size e.view steps ∙ e.in_view.size in
-    let is : IsGoalOf (left_by e.view steps).size goal = subst (λ (w : ℕ). IsGoalOf w goal) (sym end_size) e.goal_of in
+    let is : IsGoalOf (left_by e.view steps).size goal = subst (λ (w : ℕ). IsGoalOf w goal) (sym end_size) e.explains.goal_of in
     subst (λ (w : ℕ). number_at h (goal_cell w goal) ≡ goal_value goal) end_size
-    (shown_right p (left_by e.view steps) goal h (end_size ∙ size) done.0 within is e.shows.shown)
+    (shown_right p (left_by e.view steps) goal h (end_size ∙ size) done.0 within is e.explains.shows.shown)

@@ -1,16 +1,16 @@
 -- Where no single step of a chain can be left out, no several steps can.
 use Rattle.std.proofs.Common.{◌≡◌, List, [], ◌∷◌, ◌++◌, inl, inr, ◌⊎◌, refl, sym, ap, ◌∙◌, subst}
 use Rattle.trail_solver.specs.Candidates.{CandidatesValue}
-use Rattle.clue_rules.specs.Left.{IsFewer, without}
+use Rattle.line_steps.specs.Left.{IsFewer, without}
 use Rattle.named_steps.specs.Chains.{Shows, IsTight}
-use Rattle.clue_rules.specs.Chains.{StepValue, left_by, AreOfGrade}
+use Rattle.line_steps.specs.Chains.{StepValue, left_by, AreOfGrade}
 use Rattle.named_steps.specs.StepLaws.{IsPart}
-use Rattle.clue_rules.proofs.Chains.{IsAntitone, chain_less, left_size, fewer_without, left_append, chain_split, chain_joined}
-use Rattle.clue_rules.proofs.Takes.{without_fewer}
+use Rattle.line_steps.proofs.Chains.{IsAntitone, chain_less, left_size, fewer_without, left_append, chain_split, chain_joined}
+use Rattle.line_steps.proofs.Takes.{without_fewer}
 use Rattle.named_steps.proofs.Shown.{shown_less}
-use Rattle.clue_rules.specs.declared.grade.Grade.{Grade}
+use Rattle.line_steps.specs.declared.grade.Grade.{Grade}
 use Rattle.named_steps.specs.declared.goal.Goal.{Goal}
-use Rattle.clue_rules.specs.Reasons.{Striking}
+use Rattle.line_steps.specs.Reasons.{Striking}
 
 -- the last step that a part lacks: after it the part has all
 record LacksLast (part steps : List StepValue) : Type 0 where

@@ -2,16 +2,16 @@
 use Rattle.std.proofs.Common.{◌≡◌, ℕ, ◌<◌, List, subst, sym, ◌∙◌}
 use Rattle.latin_board.specs.Lines.{line_cell}
 use Rattle.trail_solver.specs.Candidates.{CandidatesValue}
-use Rattle.clue_rules.specs.Left.{IsLeft, IsFewer, HasNoOtherPlace}
+use Rattle.line_steps.specs.Left.{IsLeft, IsFewer, HasNoOtherPlace}
 use Rattle.named_steps.specs.Chains.{IsShown, Shows}
-use Rattle.clue_rules.specs.Chains.{StepValue, left_by}
-use Rattle.clue_rules.specs.Settled.{IsClosure}
+use Rattle.line_steps.specs.Chains.{StepValue, left_by}
+use Rattle.line_steps.specs.Settled.{IsClosure}
 use Rattle.named_steps.proofs.Antitone.{chain_settled, closure_fewer}
-use Rattle.clue_rules.proofs.Chains.{IsAntitone, left_size}
-use Rattle.clue_rules.specs.declared.grade.Grade.{Grade}
+use Rattle.line_steps.proofs.Chains.{IsAntitone, left_size}
+use Rattle.line_steps.specs.declared.grade.Grade.{Grade}
 use Rattle.named_steps.specs.declared.goal.Goal.{Goal}
 use Rattle.named_steps.specs.declared.goal.Goal.TheVariants.{OnlyValue, OnlyPlace}
-use Rattle.clue_rules.specs.Reasons.{Striking}
+use Rattle.line_steps.specs.Reasons.{Striking}
 
 no_place_less : (c d : CandidatesValue) (line value index : ℕ) → c.size ≡ d.size → IsFewer c d → HasNoOtherPlace c line value index
     → HasNoOtherPlace d line value index

@@ -5,21 +5,21 @@ use Rattle.latin_board.proofs.Numbers.{same_numbers}
 use Rattle.trail_solver.specs.Candidates.{CandidatesValue, IsOnly, IsWithin}
 use Rattle.trail_solver.specs.Puzzles.{Puzzle, Solves}
 use Rattle.trail_solver.specs.Inner.Squares.{IsFilled}
-use Rattle.clue_rules.specs.Left.{IsLeft, all_of, IsEmptied}
-use Rattle.clue_rules.specs.Chains.{left_by, LeadsTo}
-use Rattle.clue_rules.specs.Settled.{IsClosure}
+use Rattle.line_steps.specs.Left.{IsLeft, all_of, IsEmptied}
+use Rattle.line_steps.specs.Chains.{left_by, LeadsTo}
+use Rattle.line_steps.specs.Settled.{IsClosure}
 use Rattle.named_steps.specs.Following.{Follows}
-use Rattle.clue_rules.proofs.Emptied.{solved_holds}
-use Rattle.clue_rules.specs.Grades.{rank}
+use Rattle.line_steps.proofs.Emptied.{solved_holds}
+use Rattle.line_steps.specs.Grades.{rank}
 use Rattle.named_steps.specs.Graded.{IsSolutionBy, IsGradeOf, FollowsBy}
 use Rattle.named_steps.specs.Inner.Fills.{HasOpen}
 use Rattle.named_steps.proofs.Antitone.{chain_settled, closure_fewer}
-use Rattle.clue_rules.proofs.Chains.{IsAntitone, left_size}
+use Rattle.line_steps.proofs.Chains.{IsAntitone, left_size}
 use Rattle.named_steps.proofs.Followed.{follows_up}
-use Rattle.clue_rules.proofs.KeptSolutions.{IsSoundFor, number_left, chain_keeps}
-use Rattle.clue_rules.specs.declared.grade.Grade.{Grade}
-use Rattle.clue_rules.specs.declared.grade.Grade.TheVariants.{Latin, Easy, Hard}
-use Rattle.clue_rules.specs.Reasons.{Striking}
+use Rattle.line_steps.proofs.KeptSolutions.{IsSoundFor, number_left, chain_keeps}
+use Rattle.line_steps.specs.declared.grade.Grade.{Grade}
+use Rattle.line_steps.specs.declared.grade.Grade.TheVariants.{Latin, Easy, Hard}
+use Rattle.line_steps.specs.Reasons.{Striking}
 
 all_pairs : (c : CandidatesValue) (w : ℕ) → c.size ≡ w → c.trail ≡ [] → c ≡ all_of w
 all_pairs c w size none = λ i. record { size = size i; trail = none i }

@@ -3,9 +3,9 @@ use Rattle.std.specs.Prelude.{Option, Some, None}
 use Rattle.latin_board.specs.Squares.{GridValue}
 use Rattle.trail_solver.specs.Puzzles.{Puzzle, Solves}
 use Rattle.named_steps.specs.Following.{Follows}
-use Rattle.clue_rules.specs.Grades.{IsLower}
-use Rattle.clue_rules.specs.declared.grade.Grade.{Grade}
-use Rattle.clue_rules.specs.Reasons.{Striking}
+use Rattle.line_steps.specs.Grades.{IsLower}
+use Rattle.line_steps.specs.declared.grade.Grade.{Grade}
+use Rattle.line_steps.specs.Reasons.{Striking}
 
 -- the grid is a solution that follows by the grade
 pub record IsSolutionBy (p : Puzzle) (Struck : Striking) (grade : Grade) (g : GridValue) : Type 0 where

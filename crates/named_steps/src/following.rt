@@ -1,25 +1,26 @@
 //! Which puzzles follow by a grade.
+ghost use Rattle.line_steps.specs.Reasons.{StruckBy};
 ghost use Rattle.std.specs.Prelude.{◌↔◌, ◌*◌, ◌<◌, IsTrue, MatchOption};
 ghost use Rattle.named_steps.specs.Graded.{FollowsBy, IsGradeOf, IsSolutionBy};
 ghost use Rattle.trail_solver.specs.Inner.Squares.{IsFilled};
 ghost use Rattle.named_steps.specs.Inner.Fills.{HasOpen};
 
-use clue_rules::{Grade, Steps, settle};
 use latin_board::Grid;
+use line_steps::{Grade, Steps, settle};
 use trail_solver::{Candidates, Rules, solves};
 
 /// The solution of a puzzle, where it follows by the reasons of a grade: they leave nothing else of all pairs.
 pub fn solution_by<P: Steps>(p: &P, grade: Grade) -> Option<Grid>
-    ensures { MatchOption result (FollowsBy (P.puzzle p.now) (P.struck_by p.now) grade → ⊥)
-        (IsSolutionBy (P.puzzle p.now) (P.struck_by p.now) grade) }
+    ensures { MatchOption result (FollowsBy (P.puzzle p.now) (StruckBy P.puzzle P.own p.now) grade → ⊥)
+        (IsSolutionBy (P.puzzle p.now) (StruckBy P.puzzle P.own p.now) grade) }
 {
     solution_knowing(p, grade, &mut P::Known::default())
 }
 
 // The same with `known`.
 fn solution_knowing<P: Steps>(p: &P, grade: Grade, known: &mut P::Known) -> Option<Grid>
-    ensures { MatchOption result (FollowsBy (P.puzzle p.now) (P.struck_by p.now) grade → ⊥)
-        (IsSolutionBy (P.puzzle p.now) (P.struck_by p.now) grade) }
+    ensures { MatchOption result (FollowsBy (P.puzzle p.now) (StruckBy P.puzzle P.own p.now) grade → ⊥)
+        (IsSolutionBy (P.puzzle p.now) (StruckBy P.puzzle P.own p.now) grade) }
 {
     let mut candidates = Candidates::all(p.size());
     if !settle(p, grade, &mut candidates, known) {
@@ -33,21 +34,21 @@ fn solution_knowing<P: Steps>(p: &P, grade: Grade, known: &mut P::Known) -> Opti
 
 /// Whether a puzzle follows by the reasons of a grade.
 pub fn follows<P: Steps>(p: &P, grade: Grade) -> bool
-    ensures { IsTrue result ↔ FollowsBy (P.puzzle p.now) (P.struck_by p.now) grade }
+    ensures { IsTrue result ↔ FollowsBy (P.puzzle p.now) (StruckBy P.puzzle P.own p.now) grade }
 {
     follows_knowing(p, grade, &mut P::Known::default())
 }
 
 /// As `follows`, with `known`, which is used and added to.
 pub fn follows_knowing<P: Steps>(p: &P, grade: Grade, known: &mut P::Known) -> bool
-    ensures { IsTrue result ↔ FollowsBy (P.puzzle p.now) (P.struck_by p.now) grade }
+    ensures { IsTrue result ↔ FollowsBy (P.puzzle p.now) (StruckBy P.puzzle P.own p.now) grade }
 {
     solution_knowing(p, grade, known).is_some()
 }
 
 /// The least grade by which a puzzle follows, if it follows by any.
 pub fn grade_of<P: Steps>(p: &P) -> Option<Grade>
-    ensures { IsGradeOf (P.puzzle p.now) (P.struck_by p.now) result }
+    ensures { IsGradeOf (P.puzzle p.now) (StruckBy P.puzzle P.own p.now) result }
 {
     let mut known = P::Known::default();
     if follows_knowing(p, Grade::Latin, &mut known) {

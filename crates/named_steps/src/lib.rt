@@ -1,7 +1,7 @@
 //! Named steps: the least grade by which a puzzle follows, goals of chains of steps, and the laws of steps.
 //!
 //! A `Reason` is a kind of step and the place where it looks, a `Grade` has some kinds of reasons, and `settle` takes away all that
-//! they strike: these are of `clue_rules`. A puzzle follows by a grade where its solution alone is left of all pairs (`follows`,
+//! they strike: these are of `line_steps`. A puzzle follows by a grade where its solution alone is left of all pairs (`follows`,
 //! `follows_knowing`, `solution_by`), and `grade_of` is the least such grade. Nothing here takes memory from the heap.
 //!
 //! ```
@@ -17,9 +17,7 @@ mod following;
 mod goal;
 mod step_laws;
 
-pub use clue_rules::{
-    Grade, Look, Reason, Steps, given_strikes, line_strikes, looked_row, settle, strike,
-};
 pub use following::{follows, follows_knowing, grade_of, solution_by};
 pub use goal::Goal;
+pub use line_steps::{Grade, Reason, Steps, settle, strike};
 pub use step_laws::laws;

@@ -1,10 +1,9 @@
 -- What is in the set that a call makes, where that set is known as a number.
-use Rattle.std.proofs.Common.{◌≡◌, ℕ, ◌+◌, ◌-◌, ◌*◌, ◌/◌, ◌%◌, ◌^◌, ◌<◌, ◌↔◌, arith, true, not, ◌&&◌, ◌||◌, eqb, leb, cond, bit_and, bit_or, bit_xor, w16}
+use Rattle.std.proofs.Common.{◌≡◌, ℕ, ◌+◌, ◌-◌, ◌*◌, ◌/◌, ◌%◌, ◌^◌, ◌<◌, arith, true, not, ◌&&◌, ◌||◌, eqb, leb, cond, bit_and, bit_or, bit_xor, w16}
 use Rattle.std.specs.Int.{bit_not}
 use Rattle.std.proofs.lemmas.Nat.{one_shl}
-use Rattle.number_sets.specs.Sets.{has_number, IsGreatest}
+use Rattle.number_sets.specs.Sets.{has_number}
 use Rattle.number_sets.proofs.Members.{has_number-one, has_number-numbers_to, has_number-or, has_number-and, has_number-without, has_number-half, has_number-at_most, has_number-flip, raised_only, raised_all}
-use Rattle.number_sets.proofs.Ends.{below_is}
 
 pub one_has : (n k : ℕ) → n < 16 → has_number (1 * 2 ^ n % 65536) k ≡ eqb k n
 one_has n k small = rw (one_shl n 16 small) (has_number-one n k)
@@ -37,7 +36,3 @@ raised_has_only set m c is e = raised_only m c (rw is at e)
 
 pub raised_has_all : (set m b : ℕ) → set ≡ m * 2 % 65536 → b < 15 → has_number m b ≡ true → has_number set (b + 1) ≡ true
 raised_has_all set m b is low e = rw is (raised_all m b low e)
-
-pub below_greatest_has : (set k n : ℕ) → k < 16 → IsGreatest set k
-    → (has_number (1 * 2 ^ k % 65536 - 1) n ≡ true) ↔ ((m : ℕ) × (n < m) × (has_number set m ≡ true))
-below_greatest_has set k n small greatest = rw (one_shl k 16 small) (below_is set k n greatest)

@@ -1,17 +1,17 @@
 -- The least and the greatest number of a set, and sets of one number.
-use Rattle.std.proofs.Common.{◌≡◌, ◌≢◌, ℕ, ◌+◌, ◌-◌, ◌*◌, ◌/◌, ◌%◌, ◌^◌, ◌<◌, ◌≤◌, ◌↔◌, inl, inr, true, false, not, ◌&&◌, eqb, leb, refl, sym, ap, ◌∙◌, subst, arith, add-zero, add-one, bit_and, w16, w64}
+use Rattle.std.proofs.Common.{◌≡◌, ◌≢◌, ℕ, ◌+◌, ◌-◌, ◌*◌, ◌/◌, ◌%◌, ◌^◌, ◌<◌, ◌≤◌, inl, inr, true, false, not, eqb, refl, sym, ap, ◌∙◌, subst, arith, add-zero, add-one, bit_and, w16, w64}
 use Rattle.std.specs.Bool.{MatchBool}
 use Rattle.std.specs.Int.{trailing_zeros}
 use Rattle.std.specs.Int.Bits.{and_self}
 use Rattle.std.proofs.Math.Nat.{pow-suc}
-use Rattle.std.proofs.lemmas.Bool.{cases_Bool, cases_lt, cases_eq, both_ways, false_from_ne_true, and_parts, and_from, eq-eqb, ne_eqb, ltb-true, lt-ltb, le-leb, leb-true, not_from_false, not-true}
+use Rattle.std.proofs.lemmas.Bool.{cases_Bool, cases_lt, cases_eq, both_ways, false_from_ne_true, eq-eqb, ne_eqb}
 use Rattle.std.proofs.lemmas.Nat.{pow_pos, shr_split, div-add-mod', mod_below, and_le_l, and_block}
 use Rattle.std.proofs.lemmas.Nat.Bits.{bit_at-trailing_zeros}
 use Rattle.number_sets.specs.Sets.{has_number, IsSingle, IsLeast, IsGreatest}
-use Rattle.number_sets.proofs.Members.{number-from_bit, no_number-from_bit, has_number-above, has_number-mod, has_number-one, has_number-one_same, number_of_one, has_number-below, none_from_numbers, below_from_numbers, same_set}
+use Rattle.number_sets.proofs.Members.{number-from_bit, no_number-from_bit, has_number-above, has_number-mod, has_number-one, has_number-one_same, number_of_one, none_from_numbers, below_from_numbers, same_set}
 use Rattle.number_sets.proofs.OneMore.{odd_multiple}
 
--- ---- the least number, and what is above it
+-- ---- the least number
 
 pub least_is : (set : ℕ) → set ≢ 0 → set < 2 ^ 16 → IsLeast set (trailing_zeros w16 set)
 least_is set some small =
@@ -25,21 +25,7 @@ least_is set some small =
       ];
     }
 
-pub above_is : (set from kept k n : ℕ) → IsLeast set k → has_number from n ≡ leb k n
-    → has_number kept n ≡ (has_number from n && not (eqb n k))
-    → (has_number kept n ≡ true) ↔ ((m : ℕ) × (m < n) × (has_number set m ≡ true))
-above_is set from kept k n least from_is kept_is = (
-  λ e.
-      let both = and_parts _ _ (sym kept_is ∙ e) in
-      let above : k ≤ n = leb-true k n (sym from_is ∙ both.0) in
-      let apart : n ≢ k = λ same. both_ways (eqb n k) (not-true _ both.1) (eq-eqb n k same) in
-      (k, omega arith, least.has),
-  λ (m, above, has).
-      let below = least.least m has in
-      kept_is ∙ and_from _ _ (from_is ∙ le-leb k n (omega arith)) (not_from_false _ (ne_eqb n k (λ same. omega arith))),
-)
-
--- ---- the greatest number, and what is below it
+-- ---- the greatest number
 
 pow_next : (k : ℕ) → 2 ^ (k + 1) ≡ 2 ^ k * 2
 pow_next k = rw add-one (pow-suc 2 k)
@@ -61,13 +47,6 @@ greatest_is set k low high = record {
     | inr below ↦ below
   ];
 }
-
-pub below_is : (set k n : ℕ) → IsGreatest set k
-    → (has_number (2 ^ k - 1) n ≡ true) ↔ ((m : ℕ) × (n < m) × (has_number set m ≡ true))
-below_is set k n greatest = (
-  λ e. (k, ltb-true n k (sym (has_number-below k n) ∙ e), greatest.has),
-  λ (m, below, has). has_number-below k n ∙ lt-ltb n k (omega (arith, greatest.greatest m has)),
-)
 
 -- ---- one number alone
 

@@ -227,34 +227,4 @@ impl NumberSet {
         }
         Some(bits.ilog2() as u8)
     }
-
-    /// The numbers below the greatest of the set.
-    #[tactic(auto, using(crate::proofs::Calls::below_greatest_has))]
-    pub fn below_greatest(self) -> NumberSet
-        ensures { (n : ℕ) → (has_number result n ≡ true)
-            ↔ ((m : ℕ) × (n < m) × (has_number self m ≡ true)) }
-    {
-        match self.greatest() {
-            Some(greatest) => NumberSet {
-                bits: (1 << greatest) - 1,
-            },
-            None => self,
-        }
-    }
-
-    /// The numbers below 16 that are above the least of the set.
-    pub fn above_least(self) -> NumberSet
-        ensures { (n : ℕ) → n < 16
-            → (has_number result n ≡ true) ↔ ((m : ℕ) × (m < n) × (has_number self m ≡ true)) }
-    {
-        match self.least() {
-            Some(least) => {
-                let from_least = NumberSet {
-                    bits: u16::MAX << least,
-                };
-                from_least.difference(NumberSet::one(least))
-            }
-            None => self,
-        }
-    }
 }

@@ -16,3 +16,5 @@ pub mod MoveListLaws
 pub mod StorableLaws
 pub mod LegalMoves
 pub mod NotForMemory
+pub mod Flagging
+pub mod FlagLaws

@@ -12,6 +12,7 @@ text_taken text m is = let read : Result Move PlayFault = Ok m in read_found tex
 pub text_again : (text : List ℕ) (m : Move) → IsMoveText m text → move_at text ≡ Ok m
 text_again text m is = read_only text (move_at text) refl m is
 
+-- a text is one move's
 pub same_move : (text : List ℕ) (m other : Move) → IsMoveText m text → IsMoveText other text → m ≡ other
 same_move text m other is other_is =
     let read = text_again text m is in

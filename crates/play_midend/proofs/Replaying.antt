@@ -22,6 +22,7 @@ pub ArePlayable-append : (p : Puzzle) (b : BoardValue) (ms ns : List Move) → A
 ArePlayable-append p b [] ns h more = more
 ArePlayable-append p b (m ∷ ms) ns h more = (h.0, ArePlayable-append p (after_move p b m) ms ns h.1 more)
 
+-- the first so many of them
 pub ArePlayable-take : (p : Puzzle) (b : BoardValue) (n : ℕ) (ms : List Move) → ArePlayable p b ms → ArePlayable p b (take n ms)
 ArePlayable-take p b zero ms h = tt
 ArePlayable-take p b (suc n) [] h = tt

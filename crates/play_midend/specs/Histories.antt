@@ -6,8 +6,8 @@ use Rattle.latin_board.specs.Squares.{GridValue}
 use Rattle.latin_board.specs.Boards.{BoardValue}
 use Rattle.trail_solver.specs.Puzzles.{Puzzle}
 use Rattle.trail_solver.specs.Solutions.{HasNoSolution, HasSeveralSolutions, IsOnlySolution}
-use Rattle.clue_rules.specs.declared.params.Params.{Params}
-use Rattle.clue_rules.specs.Parameters.{IsParams}
+use Rattle.game_texts.specs.declared.params.Params.{Params}
+use Rattle.game_texts.specs.Parameters.{IsParams}
 use Rattle.play_midend.specs.declared.extras.Extras.{Extras}
 use Rattle.play_midend.specs.declared.moves.Move.{Move}
 use Rattle.play_midend.specs.declared.moves.Move.TheVariants.{Solve, Restart}

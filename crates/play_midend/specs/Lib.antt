@@ -9,6 +9,8 @@ pub mod Extras
 pub mod Steps
 pub mod Histories
 pub mod MoveLists
+-- what the two flags of a board mean
+pub mod Flags
 -- the laws of a session's calls
 pub mod Laws
 -- words that the invariants and the contracts of private functions alone use

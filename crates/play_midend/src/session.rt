@@ -11,7 +11,7 @@ use crate::extras::Extras;
 use crate::fault::PlayFault;
 use crate::moves::Move;
 use crate::step::{Effect, change_for, effect_of, start};
-use clue_rules::{Game, Params};
+use game_texts::{Game, Params};
 use latin_board::{Board, Change};
 use std::alloc::{AllocError, Global};
 use std::marker::Model;

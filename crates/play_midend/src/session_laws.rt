@@ -4,8 +4,9 @@ ghost use Rattle.play_midend.specs.Laws.{SolutionsAreFilledIn, GivensStay, RunsS
 ghost use Rattle.play_midend.specs.Laws.{RunsStayStorable, UndoTakesBack, UndoTakesRestartBack, UndoTakesSolveBack};
 ghost use Rattle.play_midend.specs.Laws.{RedoTakesUndoBack, LegalListsPlay, AcceptedListsAreLegal, UndoLeadsBack};
 ghost use Rattle.play_midend.specs.Laws.{HistoriesAreReached};
+ghost use Rattle.play_midend.specs.Flags.{HelpIsFlagged, CompletionIsFlagged, HelpCompletes};
 
-use clue_rules::Game;
+use game_texts::Game;
 
 /// The laws of `play`, `restart`, `solve`, `undo` and `redo` on every valid session of a game, as the contracts of these calls see it.
 ///
@@ -14,6 +15,10 @@ use clue_rules::Game;
 /// file, whatever calls follow. A move, a restart or a solution that is accepted and then undone gives back the puzzle, the
 /// parameters, the kept bytes, the past, the position and the board. What is undone and then made again is the whole session
 /// as it was, later moves included.
+///
+/// The flag `cheated` of the board that is shown is set exactly if a solution that was filled in stands among the past moves, by `solve` or
+/// by `play`, and no restart after it; `completed` exactly if a number or such a solution left the puzzle solved since then,
+/// and so wherever `cheated` is.
 #[tactic(auto, using(crate::proofs::StorableLaws::laws))]
 pub fn laws<P: Game>()
     ensures solutions { SolutionsAreFilledIn }
@@ -25,6 +30,9 @@ pub fn laws<P: Game>()
     ensures restart_undone { UndoTakesRestartBack P.puzzle }
     ensures solve_undone { UndoTakesSolveBack P.puzzle }
     ensures undo_redone { RedoTakesUndoBack P.puzzle }
+    ensures help_flagged { HelpIsFlagged P.puzzle }
+    ensures completion_flagged { CompletionIsFlagged P.puzzle P.valid }
+    ensures help_completes { HelpCompletes P.puzzle }
 {}
 
 /// The laws of a list of moves that is played in turn from a new session of a game, as a saved game is loaded.

@@ -10,7 +10,7 @@ ghost use Rattle.play_midend.specs.Inner.Effects.{effect_on, IsOfBoard, IsOfSqua
 
 use crate::fault::PlayFault;
 use crate::moves::Move;
-use clue_rules::Game;
+use game_texts::Game;
 use latin_board::{Board, Change, Grid, Marks, OutOfMemory, edge_place};
 use std::alloc::Global;
 use trail_solver::{Rules, solves};

@@ -4,8 +4,8 @@ use Rattle.std.proofs.lemmas.Bool.{cond_both}
 use Rattle.std.proofs.lemmas.Option.{cond_some}
 use Rattle.std.proofs.lemmas.Slice.Eq.{bytes_eq-Decides}
 use Rattle.trail_solver.specs.declared.rules.Rules.{Ghosts as RulesGhosts}
-use Rattle.clue_rules.specs.declared.game.Game.{Ghosts as GameGhosts}
-use Rattle.clue_rules.proofs.GameIdLemmas.{ReadsGrammar, game_reads}
+use Rattle.game_texts.specs.declared.game.Game.{Ghosts as GameGhosts}
+use Rattle.game_texts.proofs.GameIdLemmas.{ReadsGrammar, game_reads}
 use Rattle.play_midend.specs.declared.moves.Move.{Move}
 use Rattle.play_midend.specs.declared.moves.Move.TheVariants.{Restart}
 use Rattle.play_save.specs.SaveTexts.{SavedGame, saves_of}

@@ -9,9 +9,9 @@ use Rattle.std.proofs.lemmas.Slice.Eq.{bytes_eq-Decides}
 use borrow.Author.Tests.{le-leb}
 use Rattle.std.proofs.lemmas.Bool.Decides.{nat_tests}
 use Rattle.byte_text.specs.Reading.{◌>>=◌}
-use Rattle.clue_rules.specs.declared.params.Params.{Params}
-use Rattle.clue_rules.specs.Parameters.{IsParamText}
-use Rattle.clue_rules.proofs.ParameterLemmas.{params_again}
+use Rattle.game_texts.specs.declared.params.Params.{Params}
+use Rattle.game_texts.specs.Parameters.{IsParamText}
+use Rattle.game_texts.proofs.ParameterLemmas.{params_again}
 use Rattle.play_midend.specs.declared.moves.Move.{Move}
 use Rattle.play_midend.specs.Histories.{History, IsValid, started}
 use Rattle.play_midend.specs.MoveLists.{with_moves}

@@ -7,9 +7,9 @@ use Rattle.std.specs.List.{AllByRecursion}
 use Rattle.byte_text.specs.Bytes.{line_feed}
 use Rattle.byte_text.specs.Reading.{GivesUnless}
 use Rattle.trail_solver.specs.Puzzles.{Puzzle}
-use Rattle.clue_rules.specs.declared.params.Params.{Params}
-use Rattle.clue_rules.specs.Parameters.{IsParams, params_text}
-use Rattle.clue_rules.proofs.ParameterLemmas.{same_params}
+use Rattle.game_texts.specs.declared.params.Params.{Params}
+use Rattle.game_texts.specs.Parameters.{IsParams, params_text}
+use Rattle.game_texts.proofs.ParameterLemmas.{same_params}
 use Rattle.play_midend.proofs.MoveTextsRead.{same_move}
 use Rattle.play_midend.specs.declared.moves.Move.{Move}
 use Rattle.play_midend.specs.declared.moves.Move.TheVariants.{Solve, Restart}

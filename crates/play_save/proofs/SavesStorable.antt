@@ -1,9 +1,9 @@
 -- A session that a text is a save of can be stored.
 use Rattle.std.proofs.Common.{List, ℕ}
 use Rattle.trail_solver.specs.declared.rules.Rules.{Ghosts as RulesGhosts}
-use Rattle.clue_rules.specs.declared.game.Game.{Ghosts as GameGhosts}
-use Rattle.clue_rules.specs.declared.params.Params.{Params}
-use Rattle.clue_rules.specs.Parameters.{IsParams, IsParamText}
+use Rattle.game_texts.specs.declared.game.Game.{Ghosts as GameGhosts}
+use Rattle.game_texts.specs.declared.params.Params.{Params}
+use Rattle.game_texts.specs.Parameters.{IsParams, IsParamText}
 use Rattle.play_save.specs.declared.key.WhoseParams.TheVariants.{Next, Current}
 use Rattle.play_save.specs.declared.key.HeaderKey.TheVariants.{ParamsOf, Desc}
 use Rattle.play_save.specs.KeyedRecords.{IsOne}

@@ -3,7 +3,7 @@ use Rattle.std.proofs.Common.{◌≡◌, ◌≢◌, ℕ, suc, add-zero, ◌+◌,
 use Rattle.std.specs.Result.{result_ok}
 use Rattle.std.proofs.lemmas.Option.{cond_some}
 use Rattle.byte_text.proofs.ReadingLaws.{bind_taken, bind_again}
-use Rattle.clue_rules.specs.declared.id_fault.IdFault.{IdFault}
+use Rattle.game_texts.specs.declared.id_fault.IdFault.{IdFault}
 use Rattle.play_midend.specs.declared.moves.Move.{Move}
 use Rattle.play_midend.specs.MoveTexts.{move_at}
 use Rattle.play_midend.specs.Histories.{History, played}

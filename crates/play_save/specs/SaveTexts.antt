@@ -3,11 +3,11 @@ use Rattle.std.specs.Prelude.{◌≡◌, ℕ, ◌+◌, ◌≤◌, Bool, true, fa
 use Rattle.std.specs.Fmt.{decimal}
 use Rattle.trail_solver.specs.Puzzles.{Puzzle}
 use Rattle.trail_solver.specs.declared.rules.Rules.{Ghosts as RulesGhosts}
-use Rattle.clue_rules.specs.declared.game.Game.{Ghosts as GameGhosts}
-use Rattle.clue_rules.specs.declared.id_fault.IdFault.{IdFault}
-use Rattle.clue_rules.specs.declared.params.Params.{Params}
-use Rattle.clue_rules.specs.Parameters.{IsParamText, has_adjacent_mode}
-use Rattle.clue_rules.specs.GameIds.{describes_at}
+use Rattle.game_texts.specs.declared.game.Game.{Ghosts as GameGhosts}
+use Rattle.game_texts.specs.declared.id_fault.IdFault.{IdFault}
+use Rattle.game_texts.specs.declared.params.Params.{Params}
+use Rattle.game_texts.specs.Parameters.{IsParamText, has_adjacent_mode}
+use Rattle.game_texts.specs.GameIds.{describes_at}
 use Rattle.play_midend.specs.declared.moves.Move.{Move}
 use Rattle.play_midend.specs.declared.moves.Move.TheVariants.{Solve, Restart}
 use Rattle.play_midend.specs.MoveTexts.{IsMoveText}

@@ -2,7 +2,7 @@
 use Rattle.std.specs.Prelude.{ℕ, List, [], ◌∷◌, ◌++◌, length, map, codes, if◌then◌else◌, Option, Some, None}
 use Rattle.std.specs.List.{flat_map}
 use Rattle.std.specs.Fmt.{decimal}
-use Rattle.clue_rules.specs.Parameters.{params_text}
+use Rattle.game_texts.specs.Parameters.{params_text}
 use Rattle.play_midend.specs.declared.moves.Move.{Move}
 use Rattle.play_midend.specs.MoveTexts.{move_text}
 use Rattle.play_midend.specs.Steps.{is_restart}

@@ -17,7 +17,7 @@ use crate::key::{HeaderKey, KeptKey, Key, StateKey, WhichCount, WhoseParams};
 use crate::met::{Met, StateRecord};
 use crate::record::next_record;
 use crate::save_format::{COLLECTION, MOST_BYTES, is_solve};
-use clue_rules::{Game, Params};
+use game_texts::{Game, Params};
 use latin_board::Size;
 use play_midend::{Extras, Move, PlayFault, Session, read_move};
 use std::alloc::{AllocError, Global};

@@ -11,7 +11,7 @@ ghost use Rattle.play_save.specs.Inner.Headers.{count_in};
 use crate::fault::LoadFault;
 use crate::key::{HeaderKey, Key, StateKey, WhichCount, WhoseParams};
 use byte_text::number;
-use clue_rules::{Game, Params};
+use game_texts::{Game, Params};
 use play_midend::{MOST_STATES, PlayFault, read_move};
 use std::alloc::Global;
 

@@ -4,7 +4,7 @@ ghost use Rattle.play_save.specs.SaveTexts.{saves_of};
 ghost use Rattle.play_save.specs.Laws.{SavesOneSession, FaultsWhereNone, SavesAreStorable, WrittenIsSaved};
 ghost use Rattle.play_save.specs.Laws.{WrittenSavesNoOther};
 
-use clue_rules::Game;
+use game_texts::Game;
 
 /// The laws of save texts of a game, as the contracts of `save` and `load` see them.
 ///

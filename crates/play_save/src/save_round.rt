@@ -8,7 +8,7 @@ ghost use Rattle.play_save.specs.Written.{save_of};
 use crate::fault::LoadFault;
 use crate::loading::load;
 use crate::saving::save;
-use clue_rules::Game;
+use game_texts::Game;
 use play_midend::Session;
 use std::alloc::Global;
 use trail_solver::Rules;

@@ -13,7 +13,7 @@ ghost use Rattle.play_save.specs.Written.{key_records, state_record, save_of};
 use crate::fault::LoadFault;
 use crate::key::{HeaderKey, KEYS, KeptKey, Key, StateKey, WhichCount, WhoseParams};
 use crate::save_format::{COLLECTION, is_solve};
-use clue_rules::Game;
+use game_texts::Game;
 use play_midend::{Move, Session, write_move};
 use std::alloc::{AllocError, Global};
 

@@ -1,10 +1,10 @@
 -- The line `new` with the written form of a puzzle begins a game of that puzzle.
 use Rattle.std.proofs.Common.{◌≡◌, ℕ, List, ◌∷◌, ◌++◌, codes, Option, Some, Ok, Err, refl, sym, inr}
 use Rattle.byte_text.specs.Bytes.{colon}
-use Rattle.clue_rules.specs.declared.game_id.GameId.TheVariants.{Described}
-use Rattle.clue_rules.specs.declared.params.Params.{Params}
-use Rattle.clue_rules.specs.Parameters.{IsParams, params_text}
-use Rattle.puzzle_gen.proofs.ItemLaws.{ItemLaws}
+use Rattle.game_texts.specs.declared.game_id.GameId.TheVariants.{Described}
+use Rattle.game_texts.specs.declared.params.Params.{Params}
+use Rattle.game_texts.specs.Parameters.{IsParams, params_text}
+use Rattle.needed_items.proofs.ItemLaws.{ItemLaws}
 use Rattle.play_midend.specs.Histories.{History}
 use Rattle.puzzle_cli.specs.declared.command.Command.TheVariants.{New}
 use Rattle.puzzle_cli.specs.declared.reply.refusal.Refusal.TheVariants.{Memory}

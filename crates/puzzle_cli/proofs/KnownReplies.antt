@@ -1,6 +1,6 @@
 -- An answer that is known is the one, but for Memory.
 use Rattle.std.proofs.Common.{◌≡◌, ◌⊎◌, ℕ, List, Option, Some, Ok, Err, inl, inr}
-use Rattle.puzzle_gen.proofs.ItemLaws.{ItemLaws}
+use Rattle.needed_items.proofs.ItemLaws.{ItemLaws}
 use Rattle.play_midend.specs.Histories.{History}
 use Rattle.puzzle_cli.specs.declared.command.Command.TheVariants.{Ask}
 use Rattle.puzzle_cli.specs.declared.command.Request.{Request}

@@ -26,4 +26,8 @@ pub mod LinesAnswered
 pub mod PlainReplies
 pub mod WholePictures
 pub mod WholeReplies
+pub mod SymbolsShown
+pub mod OptionalLines
+pub mod BoardsTold
+pub mod ViewsTold
 pub mod CommandLines

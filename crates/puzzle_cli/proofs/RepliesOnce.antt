@@ -2,12 +2,12 @@
 use Rattle.std.proofs.Common.{◌≡◌, ℕ, ◌++◌, List, [], ◌∷◌, Option, Some, Result, Ok, Err, sym, ap, ◌∙◌, subst, inl, inr}
 use Rattle.latin_board.specs.Squares.{GridValue}
 use Rattle.trail_solver.specs.Puzzles.{Puzzle, Solves}
-use Rattle.clue_rules.specs.declared.id_fault.IdFault.{IdFault}
-use Rattle.clue_rules.specs.declared.game_id.GameId.{GameId}
-use Rattle.clue_rules.specs.declared.game_id.GameId.TheVariants.{Described, Seeded}
-use Rattle.clue_rules.specs.GameIds.{IsIdText, id_at, describes_at}
+use Rattle.game_texts.specs.declared.id_fault.IdFault.{IdFault}
+use Rattle.game_texts.specs.declared.game_id.GameId.{GameId}
+use Rattle.game_texts.specs.declared.game_id.GameId.TheVariants.{Described, Seeded}
+use Rattle.game_texts.specs.GameIds.{IsIdText, id_at, describes_at}
 use Rattle.puzzle_gen.specs.declared.gen_fault.GenFault.{GenFault}
-use Rattle.puzzle_gen.proofs.ItemLaws.{ItemLaws}
+use Rattle.needed_items.proofs.ItemLaws.{ItemLaws}
 use Rattle.puzzle_gen.proofs.GeneratedOnce.{generates_once}
 use Rattle.play_midend.specs.declared.fault.PlayFault.{PlayFault}
 use Rattle.play_midend.specs.declared.moves.Move.TheVariants.{Solve as Filling}

@@ -1,7 +1,7 @@
 -- The answer to `save` begins the session again.
 use Rattle.std.proofs.Common.{◌≡◌, ◌<◌, length, codes, Some, Result, Ok, Err, inl, inr, refl, ap, ◌∙◌}
 use Rattle.std.proofs.lemmas.Bool.{cases_lt}
-use Rattle.puzzle_gen.proofs.ItemLaws.{ItemLaws}
+use Rattle.needed_items.proofs.ItemLaws.{ItemLaws}
 use Rattle.play_midend.specs.Histories.{History, IsStorable}
 use Rattle.play_save.specs.declared.fault.LoadFault.{LoadFault}
 use Rattle.play_save.specs.declared.fault.LoadFault.TheVariants.{TooLarge}

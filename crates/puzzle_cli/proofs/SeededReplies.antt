@@ -9,15 +9,15 @@ use Rattle.latin_board.specs.Squares.{GridValue}
 use Rattle.trail_solver.specs.Puzzles.{Solves}
 use Rattle.trail_solver.specs.Solutions.{IsOnlySolution}
 use Rattle.trail_solver.proofs.ListedSolutions.{AreFirst-only}
-use Rattle.clue_rules.specs.declared.id_fault.IdFault.{IdFault}
-use Rattle.clue_rules.specs.declared.game_id.GameId.{GameId}
-use Rattle.clue_rules.specs.declared.game_id.GameId.TheVariants.{Seeded}
-use Rattle.clue_rules.specs.declared.params.Params.{Params}
-use Rattle.clue_rules.specs.Parameters.{params_text}
+use Rattle.game_texts.specs.declared.id_fault.IdFault.{IdFault}
+use Rattle.game_texts.specs.declared.game_id.GameId.{GameId}
+use Rattle.game_texts.specs.declared.game_id.GameId.TheVariants.{Seeded}
+use Rattle.game_texts.specs.declared.params.Params.{Params}
+use Rattle.game_texts.specs.Parameters.{params_text}
 use Rattle.puzzle_gen.specs.declared.gen_fault.GenFault.{GenFault}
 use Rattle.puzzle_gen.specs.Generating.{Generates}
 use Rattle.puzzle_gen.specs.SeededSquares.{square_of}
-use Rattle.puzzle_gen.proofs.ItemLaws.{ItemLaws}
+use Rattle.needed_items.proofs.ItemLaws.{ItemLaws}
 use Rattle.puzzle_gen.proofs.GeneratedOnce.{generated_only, generated_needed}
 use Rattle.play_midend.specs.declared.moves.Move.TheVariants.{Solve as Filling}
 use Rattle.play_midend.specs.Histories.{History, with_move, refusal_in, played}

@@ -1,7 +1,7 @@
 -- A run that begins with a session that can be stored, or with none, ends so, in any format.
 use Rattle.std.proofs.Common.{ℕ, List, [], ◌∷◌, Bool, Option, sym, subst, inl, inr}
 use Rattle.play_midend.specs.Histories.{History}
-use Rattle.puzzle_gen.proofs.ItemLaws.{ItemLaws}
+use Rattle.needed_items.proofs.ItemLaws.{ItemLaws}
 use Rattle.puzzle_cli.specs.declared.run_end.End.{End}
 use Rattle.puzzle_cli.specs.declared.run_end.End.TheVariants.{Finished, ReadFault, WriteFault}
 use Rattle.puzzle_cli.specs.Lines.{Line, ReplyRule}

@@ -5,8 +5,8 @@ use Rattle.std.proofs.lemmas.List.{append_assoc}
 use Rattle.std.proofs.lemmas.List.Concat.{flat_map-cons}
 use Rattle.byte_text.specs.Bytes.{line_feed, space}
 use Rattle.latin_board.specs.Boards.{BoardValue}
-use Rattle.clue_rules.specs.Towers.{TowersValue}
-use Rattle.clue_rules.specs.Unequal.{UnequalValue}
+use Rattle.towers_game.specs.Towers.{TowersValue}
+use Rattle.unequal_game.specs.Unequal.{UnequalValue}
 use Rattle.puzzle_cli.specs.Symbols.{square_at, spaced_line}
 use Rattle.puzzle_cli.specs.TowersPicture.{clue_row, towers_row, towers_picture}
 use Rattle.puzzle_cli.specs.UnequalPicture.{sign_before, sign_above, squares_line, signs_line, unequal_picture}

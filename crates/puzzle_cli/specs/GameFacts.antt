@@ -1,9 +1,9 @@
 -- What the replies know of a game, in one record.
 use Rattle.std.specs.Prelude.{ℕ, Bool, List, [], Result}
 use Rattle.latin_board.specs.Boards.{BoardValue}
-use Rattle.clue_rules.specs.declared.id_fault.IdFault.{IdFault}
-use Rattle.clue_rules.specs.Parameters.{has_adjacent_mode}
-use Rattle.clue_rules.specs.declared.game.Game.{Ghosts as OfGame}
+use Rattle.game_texts.specs.declared.id_fault.IdFault.{IdFault}
+use Rattle.game_texts.specs.Parameters.{has_adjacent_mode}
+use Rattle.game_texts.specs.declared.game.Game.{Ghosts as OfGame}
 use Rattle.trail_solver.specs.declared.rules.Rules.{Ghosts}
 use Rattle.puzzle_cli.specs.declared.draw.Draw.{Ghosts as OfDraw}
 

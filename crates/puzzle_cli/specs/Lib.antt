@@ -29,4 +29,5 @@ pub mod Stages
 pub mod GameFiles
 pub mod Programs
 pub mod RunLaws
+pub mod Faithful
 pub mod Inner

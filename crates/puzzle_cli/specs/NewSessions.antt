@@ -1,11 +1,11 @@
 -- What a game ID gives as a session: that of the puzzle that is described, or of the one that is generated from a seed.
 use Rattle.std.specs.Prelude.{◌≡◌, ◌⊎◌, List, ℕ, None, Result, Ok, Err}
-use Rattle.clue_rules.specs.declared.id_fault.IdFault.{IdFault}
-use Rattle.clue_rules.specs.declared.id_fault.IdFault.TheVariants.{OutOfMemory as IdOutOfMemory}
-use Rattle.clue_rules.specs.declared.params.Params.{Params}
-use Rattle.clue_rules.specs.declared.game_id.GameId.{GameId}
-use Rattle.clue_rules.specs.declared.game_id.GameId.TheVariants.{Described, Seeded}
-use Rattle.clue_rules.specs.GameIds.{IsIdText, id_at, describes_at}
+use Rattle.game_texts.specs.declared.id_fault.IdFault.{IdFault}
+use Rattle.game_texts.specs.declared.id_fault.IdFault.TheVariants.{OutOfMemory as IdOutOfMemory}
+use Rattle.game_texts.specs.declared.params.Params.{Params}
+use Rattle.game_texts.specs.declared.game_id.GameId.{GameId}
+use Rattle.game_texts.specs.declared.game_id.GameId.TheVariants.{Described, Seeded}
+use Rattle.game_texts.specs.GameIds.{IsIdText, id_at, describes_at}
 use Rattle.puzzle_gen.specs.declared.gen_fault.GenFault.{GenFault}
 use Rattle.puzzle_gen.specs.Generating.{Generates}
 use Rattle.play_midend.specs.declared.extras.Extras.{Extras}

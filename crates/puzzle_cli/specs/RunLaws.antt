@@ -7,12 +7,12 @@ use Rattle.byte_text.specs.Bytes.{colon, exclamation}
 use Rattle.latin_board.specs.Squares.{GridValue}
 use Rattle.latin_board.specs.Boards.{BoardValue}
 use Rattle.trail_solver.specs.Solutions.{HasSeveralSolutions, IsOnlySolution}
-use Rattle.clue_rules.specs.declared.params.Params.{Params}
-use Rattle.clue_rules.specs.Parameters.{IsParams, params_text}
+use Rattle.game_texts.specs.declared.params.Params.{Params}
+use Rattle.game_texts.specs.Parameters.{IsParams, params_text}
 use Rattle.puzzle_gen.specs.declared.gen_fault.GenFault.{GenFault}
 use Rattle.puzzle_gen.specs.Generating.{Generates}
 use Rattle.puzzle_gen.specs.SeededSquares.{square_of}
-use Rattle.puzzle_gen.specs.Pruning.{all_but}
+use Rattle.needed_items.specs.Needed.{all_but}
 use Rattle.play_midend.specs.declared.fault.PlayFault.{PlayFault}
 use Rattle.play_midend.specs.declared.moves.Move.TheVariants.{Solve as Filling}
 use Rattle.play_midend.specs.Histories.{History, IsValid, IsStorable}

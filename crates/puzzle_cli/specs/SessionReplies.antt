@@ -3,7 +3,7 @@ use Rattle.std.specs.Prelude.{◌≡◌, ℕ, ◌+◌, List, [], ◌∷◌, ◌+
 use Rattle.std.specs.Prelude.{Err}
 use Rattle.latin_board.specs.Squares.{GridValue}
 use Rattle.latin_board.specs.Boards.{BoardValue}
-use Rattle.clue_rules.specs.Parameters.{params_text}
+use Rattle.game_texts.specs.Parameters.{params_text}
 use Rattle.trail_solver.specs.Puzzles.{Puzzle, Solves}
 use Rattle.trail_solver.specs.Listings.{AreFirst}
 use Rattle.play_midend.specs.declared.fault.PlayFault.{PlayFault}

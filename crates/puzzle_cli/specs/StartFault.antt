@@ -1,7 +1,7 @@
 -- The numbers and the names of the refusals of a first session, and what the program makes of each.
 use Rattle.std.specs.Prelude.{ℕ, List, [], ◌++◌, codes}
 use Rattle.std.specs.Fmt.{decimal}
-use Rattle.clue_rules.specs.IdFaults.{id_fault_name}
+use Rattle.game_texts.specs.IdFaults.{id_fault_name}
 use Rattle.puzzle_gen.specs.GenFaults.{gen_fault_name}
 use Rattle.play_save.specs.declared.fault.LoadFault.TheVariants.{BadState}
 use Rattle.play_save.specs.Faults.{load_fault_name}

@@ -2,7 +2,7 @@
 use Rattle.std.specs.Prelude.{ℕ, ◌+◌, ◌-◌, ◌*◌, if◌then◌else◌, List, [], ◌∷◌, ◌++◌, map}
 use Rattle.std.specs.List.{range_with_len, flat_map}
 use Rattle.latin_board.specs.Boards.{BoardValue}
-use Rattle.clue_rules.specs.Unequal.{UnequalValue, is_greater}
+use Rattle.unequal_game.specs.Unequal.{UnequalValue, is_greater}
 use Rattle.puzzle_cli.specs.Symbols.{square_at, spaced_line}
 use Rattle.byte_text.specs.Bytes.{line_feed, space, dash}
 

@@ -8,7 +8,7 @@ pub(crate) mod symbols;
 pub(crate) mod towers_picture;
 pub(crate) mod unequal_picture;
 
-use clue_rules::Game;
+use game_texts::Game;
 use latin_board::{Board, OutOfMemory};
 use play_midend::Session;
 use std::alloc::Global;

@@ -14,9 +14,10 @@ use crate::program::game_files::{GameFiles, load_file, save_file};
 use crate::program::game_text::game_text;
 use crate::reply::facts::Facts;
 use crate::start::command_line::{Args, GameName};
-use clue_rules::{Towers, Unequal};
 use puzzle_io::{Sink, Source};
 use std::alloc::Global;
+use towers_game::Towers;
+use unequal_game::Unequal;
 
 /// Plays the game that the words name, from the file to load to the file to save to, with replies in this format.
 ///

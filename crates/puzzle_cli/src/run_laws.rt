@@ -5,6 +5,7 @@ ghost use Rattle.puzzle_cli.specs.RunLaws.{BothPicturesAreWholeLines, RepliesAre
 ghost use Rattle.puzzle_cli.specs.RunLaws.{AnswersStayStorable, LinesAreCalls, OtherRequestsLeave, UndoLineTakesBack};
 ghost use Rattle.puzzle_cli.specs.RunLaws.{RedoLineTakesUndoBack, SaveLineLoadsBack, DescribedLinesBegin};
 ghost use Rattle.puzzle_cli.specs.RunLaws.{SeededLinesHaveOne};
+ghost use Rattle.puzzle_cli.specs.Faithful.{BothPicturesShowNumbers, ViewsTellBoards};
 
 use crate::draw::Draw;
 use crate::reply::facts::Facts;
@@ -23,6 +24,9 @@ use crate::reply::facts::Facts;
 /// What `save` answers of a session that can be stored begins that session again, as a file does; only want of memory, or more
 /// bytes than a save may have, refuse it. `new` with the written form of a puzzle begins a game of that puzzle. The puzzle of a game that `new` began from a seed has one solution, and several
 /// without any one of its items; `solve` answers that solution, and `list 2` has it alone.
+///
+/// Two sessions of a puzzle of which `show`, `marks`, `done` and `status` tell the same show the same board, both flags included, where a
+/// game's pictures show the numbers, and those of both games do.
 pub fn laws<P: Draw>()
     ensures read_once { LinesAreReadOnce }
     ensures refused { RefusedLinesLeave ⟦<P as Facts>⟧.facts }
@@ -39,4 +43,6 @@ pub fn laws<P: Draw>()
     ensures loads_back { SaveLineLoadsBack ⟦<P as Facts>⟧.facts }
     ensures described { DescribedLinesBegin ⟦<P as Facts>⟧.facts }
     ensures seeded { SeededLinesHaveOne ⟦<P as Facts>⟧.facts }
+    ensures numbers { BothPicturesShowNumbers }
+    ensures boards { ViewsTellBoards ⟦<P as Facts>⟧.facts }
 {}

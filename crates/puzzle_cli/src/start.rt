@@ -18,7 +18,7 @@ pub(crate) mod start_fault;
 
 use crate::reply::new_session::new_session;
 use crate::start::start_fault::StartFault;
-use clue_rules::Game;
+use game_texts::Game;
 use play_midend::Session;
 use play_save::load;
 use std::alloc::Global;

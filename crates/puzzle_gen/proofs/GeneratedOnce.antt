@@ -2,13 +2,15 @@
 use Rattle.std.proofs.Common.{◌≡◌, ℕ, ◌<◌, true, false, Result, Ok, Err, None, Option, IsSome, IsTrue, refl, sym, ◌∙◌, ap, subst, arith}
 use Rattle.trail_solver.specs.Solutions.{HasSeveralSolutions, IsOnlySolution}
 use Rattle.trail_solver.specs.declared.rules.Rules.{Ghosts}
-use Rattle.clue_rules.specs.declared.params.Params.{Params}
+use Rattle.game_texts.specs.declared.params.Params.{Params}
 use Rattle.puzzle_gen.specs.declared.gen_fault.GenFault.{GenFault}
 use Rattle.puzzle_gen.specs.declared.gen_fault.GenFault.TheVariants.{SizeTooLarge, Graded}
 use Rattle.puzzle_gen.specs.SeededSquares.{square_of, trial_order}
-use Rattle.puzzle_gen.specs.Pruning.{IsPruned, all_but}
+use Rattle.needed_items.specs.Needed.{all_but}
+use Rattle.puzzle_gen.specs.Pruning.{IsPruned}
 use Rattle.puzzle_gen.specs.Generating.{Generates}
-use Rattle.puzzle_gen.proofs.ItemLaws.{ItemLaws, cuts_of_full}
+use Rattle.needed_items.proofs.ItemLaws.{ItemLaws}
+use Rattle.puzzle_gen.proofs.FullCuts.{cuts_of_full}
 use Rattle.puzzle_gen.proofs.PruningSteps.{pruned_one, pruned_only, pruned_needed}
 
 no_letter : (letter : Option ℕ) → letter ≡ None → IsSome letter → ⊥
@@ -43,7 +45,7 @@ generated_valid {P} f params seed p laws (small, none, pruned) =
     let full = laws.full_valid g pruned.is_grid pruned.is_latin in
     let Sized : P → Type 0 = λ q. (f.puzzle q).size ≡ params.size in (
       subst f.valid (sym pruned.is_cut) (laws.cut_valid (f.full_of g) (f.has p) full),
-      subst Sized (sym pruned.is_cut) (laws.cut_size (f.full_of g) (f.has p) full ∙ laws.full_size g pruned.is_grid pruned.is_latin),
+      subst Sized (sym pruned.is_cut) (laws.cut_size (f.full_of g) (f.has p) ∙ laws.full_size g pruned.is_grid pruned.is_latin),
     )
 
 -- the seed's square is its only solution

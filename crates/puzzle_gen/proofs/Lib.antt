@@ -1,7 +1,6 @@
 pub mod OrderPlaces
 pub mod CombinedSquares
-pub mod ItemLaws
+pub mod FullCuts
 pub mod PruningSteps
-pub mod SecondSolutions
 pub mod GeneratedOnce
 pub mod ForcedNumbers

@@ -7,11 +7,10 @@ use Rattle.trail_solver.specs.Puzzles.{Puzzle, Solves}
 use Rattle.trail_solver.specs.declared.rules.Rules.{Ghosts}
 use Rattle.puzzle_gen.specs.Orders.{place_in, IsOrder}
 use Rattle.trail_solver.specs.Solutions.{HasSeveralSolutions, IsOnlySolution}
-use Rattle.puzzle_gen.specs.Pruning.{all_but, IsPruned, rest, rest_puzzle}
-use Rattle.puzzle_gen.proofs.ItemLaws.{AreCuts, ItemLaws}
-
-all_but_itself : (i : ℕ) → all_but i i ≡ false
-all_but_itself i = ap not (eq-eqb i i refl)
+use Rattle.needed_items.specs.Needed.{all_but}
+use Rattle.puzzle_gen.specs.Pruning.{IsPruned, rest, rest_puzzle}
+use Rattle.needed_items.proofs.ItemLaws.{ItemLaws, all_but_itself}
+use Rattle.puzzle_gen.proofs.FullCuts.{AreCuts}
 
 all_but_other : (i j : ℕ) → j ≢ i → all_but i j ≡ true
 all_but_other i j other = ap not (ne_eqb j i other)

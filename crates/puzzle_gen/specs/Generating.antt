@@ -1,7 +1,7 @@
 -- What is generated from parameters and a seed: a puzzle, or a refusal.
 use Rattle.std.specs.Prelude.{◌≡◌, ℕ, ◌<◌, ◌≤◌, Result, Ok, Err, None, IsSome}
 use Rattle.trail_solver.specs.declared.rules.Rules.{Ghosts}
-use Rattle.clue_rules.specs.declared.params.Params.{Params}
+use Rattle.game_texts.specs.declared.params.Params.{Params}
 use Rattle.puzzle_gen.specs.declared.gen_fault.GenFault.{GenFault}
 use Rattle.puzzle_gen.specs.declared.gen_fault.GenFault.TheVariants.{SizeTooLarge, Graded}
 use Rattle.puzzle_gen.specs.SeededSquares.{square_of, trial_order}

@@ -1,13 +1,9 @@
 -- The pruned puzzle of a Latin square and an order of the items, over the ghost members of `Rules`.
-use Rattle.std.specs.Prelude.{◌≡◌, ◌↔◌, ℕ, ◌<◌, ◌==◌, Bool, not, nat_lt, if◌then◌else◌, List, IsTrue}
+use Rattle.std.specs.Prelude.{◌≡◌, ◌↔◌, ℕ, ◌<◌, Bool, nat_lt, if◌then◌else◌, List, IsTrue}
 use Rattle.latin_board.specs.Squares.{GridValue, IsGrid, IsLatin}
 use Rattle.trail_solver.specs.Solutions.{HasSeveralSolutions}
 use Rattle.trail_solver.specs.declared.rules.Rules.{Ghosts}
 use Rattle.puzzle_gen.specs.Orders.{place_in, IsOrder}
-
--- all items but one
-abbrev pub all_but : ℕ → ℕ → Bool
-all_but i j = not (j == i)
 
 -- of the items that were tried before i those that are kept, and all that are tried after it
 abbrev pub rest : List ℕ → (ℕ → Bool) → ℕ → ℕ → Bool

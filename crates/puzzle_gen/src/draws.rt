@@ -3,12 +3,12 @@
 ghost use Rattle.std.specs.Prelude.{◌≡◌, ◌≤◌, length};
 ghost use Rattle.std.specs.List.{range_with_len};
 ghost use Rattle.rand_chacha.specs.ChaCha.{of_seed};
-ghost use Rattle.clue_rules.specs.declared.game.TheConstants.{MOST_ITEMS};
+ghost use Rattle.game_texts.specs.declared.game.TheConstants.{MOST_ITEMS};
 ghost use Rattle.puzzle_gen.specs.Orders.{IsOrder};
 ghost use Rattle.puzzle_gen.specs.SeededSquares.{key_bytes, drawn_order};
 
 use arrayvec::ArrayVec;
-use clue_rules::MOST_ITEMS;
+use game_texts::MOST_ITEMS;
 use rand::seq::SliceRandom;
 use rand_chacha::ChaCha20Rng;
 use rand_core::{Rng, SeedableRng};

@@ -3,7 +3,7 @@
 ghost use Rattle.std.specs.Prelude.{◌≡◌, ℕ, ◌<◌, ◌≤◌, Result, IfOk, IsTrue};
 ghost use Rattle.puzzle_gen.specs.SeededSquares.{square_of, trial_order};
 ghost use Rattle.trail_solver.specs.Solutions.{HasSeveralSolutions, IsOnlySolution};
-ghost use Rattle.puzzle_gen.specs.Pruning.{all_but};
+ghost use Rattle.needed_items.specs.Needed.{all_but};
 ghost use Rattle.puzzle_gen.specs.Inner.OnePruned.{IsOnePruned};
 ghost use Rattle.puzzle_gen.specs.declared.gen_fault.GenFault.{GenFault};
 ghost use Rattle.puzzle_gen.specs.Generating.{Generates};
@@ -12,7 +12,7 @@ use crate::draws::{draw_items, rng_of};
 use crate::gen_fault::GenFault;
 use crate::pruning::pruned;
 use crate::seeded_square::draw_square;
-use clue_rules::{Game, Params};
+use game_texts::{Game, Params};
 use latin_board::Size;
 use trail_solver::Rules;
 

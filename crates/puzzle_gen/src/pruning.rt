@@ -1,16 +1,16 @@
 //! The removal of items: each is tried once, and goes where the rest still has just one solution.
 
 ghost use Rattle.std.specs.Prelude.{◌≡◌, ◌<◌, ◌⊎◌, length, slice_index};
-ghost use Rattle.std.specs.Bool.{OnTrue, OnFalse};
 ghost use Rattle.latin_board.specs.Squares.{IsLatin};
 ghost use Rattle.puzzle_gen.specs.Orders.{IsOrder};
 ghost use Rattle.trail_solver.specs.Solutions.{HasSeveralSolutions, IsOnlySolution};
-ghost use Rattle.puzzle_gen.specs.Pruning.{all_but};
+ghost use Rattle.needed_items.specs.Needed.{all_but};
 ghost use Rattle.puzzle_gen.specs.Inner.OnePruned.{IsOnePruned};
 
 use crate::forced_squares::is_forced;
 use latin_board::Grid;
-use trail_solver::{Candidates, Rules, has_other};
+use needed_items::is_needed;
+use trail_solver::Rules;
 
 /// The pruned puzzle of a Latin square, where the items are tried in this order.
 pub(crate) fn pruned<P: Rules>(grid: &Grid, order: &[u8]) -> P
@@ -53,17 +53,4 @@ fn tried<P: Rules>(puzzle: P, grid: &Grid, item: usize) -> P
     } else {
         fewer
     }
-}
-
-// Whether two different grids solve the puzzle without the item; the grid is the only solution with it. A second one doesn't
-// meet the item, so it is sought where the item is denied.
-fn is_needed<P: Rules>(puzzle: &P, grid: &Grid, item: usize) -> bool
-    requires inside { item < P.items_of (P.puzzle puzzle.now).size }
-    requires only { IsOnlySolution (P.puzzle puzzle.now) grid.now }
-    ensures several { OnTrue result (HasSeveralSolutions (P.puzzle (P.cut puzzle.now (all_but item)))) }
-    ensures one { OnFalse result (HasSeveralSolutions (P.puzzle (P.cut puzzle.now (all_but item))) → ⊥) }
-{
-    let mut candidates = Candidates::all(puzzle.size());
-    let denied = puzzle.deny_item(item, &mut candidates);
-    has_other(&denied, candidates, grid)
 }

@@ -18,9 +18,16 @@ Commands, one per line:
   completable  whether none, one or several solutions keep its numbers
   hint         a number that follows from its numbers, and by which steps
   grade        by which steps the puzzle follows, as a letter, or null
+  solutions    two solutions that keep the numbers of the board, or as many as there are
+  spare [LETTER]  the items each of which could be left out, by uniqueness or by that grade; or
+                  of which one is to blame that there is no solution
 
   fair SIZE GRADE SEED  begins a game that follows by the steps of the grade; grades are
                         e and h of Towers, t, e and k of Unequal, h and k from size 4 on
+  blank SIZE            begins the puzzle without clues, signs and givens
+  item X,Y,N            begins the puzzle with a clue or a given of N, 0 for none
+  item X,Y,U,V,N        begins it with a sign: the first square is the greater; none where N is 0
+  thin [LETTER]         begins the puzzle without what it can do without, also by a grade
 
 Each reply is one object on one line:
   refused    null, or the refusal's name

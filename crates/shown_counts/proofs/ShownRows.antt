@@ -1,14 +1,14 @@
 -- What the counts of a row's fillings say of a reason's line.
 use Rattle.std.proofs.Common.{◌≡◌, ◌↔◌, ℕ, ◌<◌, ◌≤◌, true, List, take, slice_index, sym, ap, ◌∙◌, subst}
 use Rattle.number_sets.specs.Sets.{has_number}
-use Rattle.clue_rules.specs.Views.{view_cell}
-use Rattle.clue_rules.specs.Laws.LineSquares.{view_cell_once}
+use Rattle.line_steps.specs.Views.{view_cell}
+use Rattle.line_steps.specs.Laws.LineSquares.{view_cell_once}
 use Rattle.trail_solver.specs.Candidates.{CandidatesValue}
-use Rattle.clue_rules.specs.Left.{IsLeft}
-use Rattle.clue_rules.specs.Fillings.{Anything, Standing}
-use Rattle.clue_rules.proofs.Supports.{filled_supported}
-use Rattle.clue_rules.specs.declared.reason.Reason.{Reason}
-use Rattle.clue_rules.specs.declared.reason.Reason.TheVariants.{Given, Peer, Place, Bound, Stand, Clue, Sign, Set}
+use Rattle.line_steps.specs.Left.{IsLeft}
+use Rattle.towers_game.specs.Fillings.{Anything, Standing}
+use Rattle.towers_game.proofs.Supports.{filled_supported}
+use Rattle.line_steps.specs.declared.reason.Reason.{Reason}
+use Rattle.line_steps.specs.declared.reason.Reason.TheVariants.{Given, Peer, Place, Bound, Stand, Clue, Sign, Set}
 use Rattle.shown_counts.specs.Shown.{CanShow, AreShown, ClueRow, IsRowFrom, IsRowOf}
 use Rattle.shown_counts.specs.Inner.Counted.{AreCountsOf}
 

@@ -3,21 +3,22 @@ ghost use Rattle.std.specs.Prelude.{◌≡◌, ◌≢◌, ◌↔◌, ℕ, ◌+�
 ghost use Rattle.std.specs.Prelude.{◌||◌, ◌&&◌, IsTrue, MatchOption, slice_index_or, []};
 ghost use Rattle.number_sets.specs.Sets.{has_number};
 ghost use Rattle.tower_lines.specs.LineFillings.{IsFilling, IsSupported};
-ghost use Rattle.clue_rules.specs.Views.{view_cell};
+ghost use Rattle.line_steps.specs.Views.{view_cell};
 ghost use Rattle.trail_solver.specs.Candidates.{CandidatesValue};
-ghost use Rattle.clue_rules.specs.declared.reason.Reason.{Reason};
-ghost use Rattle.clue_rules.specs.Rows.{May};
-ghost use Rattle.shown_counts.specs.Shown.{AreShown, IsRowFrom, IsRowOf, IsLineOf};
+ghost use Rattle.line_steps.specs.declared.reason.Reason.{Reason};
+ghost use Rattle.towers_game.specs.Rows.{May};
+ghost use Rattle.shown_counts.specs.Shown.{AreShown, IsRowFrom, IsRowOf, IsLineOf, IsRowWith, IsRowKnowing, IsKnownIn};
 ghost use Rattle.shown_counts.specs.Inner.Counted.{IsFilled, HasAlone, AreCounts, AreCountsOf, AreKeptBelow};
 
 use crate::lone_numbers::without_lone;
 use crate::possible_counts::possible_counts;
-use clue_rules::view_cell;
 use latin_board::Size;
-use named_steps::{Look, Reason, looked_row};
+use line_steps::view_cell;
+use named_steps::Reason;
 use number_sets::NumberSet;
 use std::marker::Model;
 use tower_lines::{has_filling, supported};
+use towers_game::{Look, looked_row};
 use trail_solver::Candidates;
 
 // For so many numbers of a line or more it takes less time to go over the line once for each count.
@@ -69,8 +70,52 @@ impl ClueCounts {
         }
     }
 
-    // Which square from the place on it is.
-    fn index_of(&self, cell: u8) -> Option<u8>
+    /// How many squares the line has.
+    pub fn width(&self) -> u8
+        ensures value { result ≡ self.now.size }
+        ensures range { result ≤ 9 }
+    {
+        self.size.get()
+    }
+
+    /// What may stand in a square of the line, by what is known of it. The squares are counted from 0, from the clue on.
+    pub fn may(&self, index: u8) -> NumberSet
+        requires { index < self.now.size }
+        ensures { result ≡ slice_index self.now.row index }
+    {
+        let _size = self.size.get();
+        self.row[index as usize]
+    }
+
+    /// The same line with a number alone in one of its squares.
+    pub fn with(&self, index: u8, number: u8) -> ClueCounts
+        requires index { index < self.now.size }
+        requires number { number < 16 }
+        ensures { IsRowWith self.now index number result }
+    {
+        let _size = self.size.get();
+        counts_of(
+            self.size,
+            self.place,
+            with_alone(&self.row, index, number),
+            1,
+        )
+    }
+
+    /// The same line where only these squares of it are known: anything may stand in the others.
+    pub fn knowing(&self, squares: NumberSet) -> ClueCounts
+        ensures { IsRowKnowing self.now squares result }
+    {
+        counts_of(
+            self.size,
+            self.place,
+            known_row(&self.row, self.size.get(), squares),
+            1,
+        )
+    }
+
+    /// Which square of the line a cell is, counted from 0, from the clue on.
+    pub fn index_of(&self, cell: u8) -> Option<u8>
         ensures { MatchOption result ((k : ℕ) → k < self.now.size → view_cell self.now.size self.now.place k ≢ cell)
             (λ k. (k < self.now.size) × (view_cell self.now.size self.now.place k ≡ cell)) }
     {
@@ -96,8 +141,8 @@ impl ClueCounts {
         shows
     }
 
-    // The counts with a value at an index of the row.
-    fn counts(&self, index: u8, value: u8) -> NumberSet
+    /// The counts of towers that are shown with a value in a square of the line.
+    pub fn counts(&self, index: u8, value: u8) -> NumberSet
         requires index { index < self.now.size }
         requires value { value < 16 }
         ensures { (count : ℕ)
@@ -246,6 +291,30 @@ fn with_alone(row: &[NumberSet; 9], index: u8, value: u8) -> [NumberSet; 9]
     let mut alone = *row;
     alone[index as usize] = NumberSet::one(value);
     alone
+}
+
+// The row where only these squares are known.
+fn known_row(row: &[NumberSet; 9], width: u8, squares: NumberSet) -> [NumberSet; 9]
+    requires { width ≤ 9 }
+    ensures { (k : ℕ) → k < width → IsKnownIn width (slice_index row.now k) (has_number squares k) (slice_index result k) }
+{
+    let mut known = *row;
+    for k in 0..width {
+        known[k as usize] = known_in(row[k as usize], squares.has(k), width);
+    }
+    known
+}
+
+// What may stand in a square if it is known, and otherwise any number.
+fn known_in(may: NumberSet, is_known: bool, width: u8) -> NumberSet
+    requires { width ≤ 9 }
+    ensures { IsKnownIn width may is_known result }
+{
+    if is_known {
+        may
+    } else {
+        NumberSet::up_to(width)
+    }
 }
 
 // The counts with one more, if it is shown.

@@ -2,22 +2,21 @@
 use Rattle.std.proofs.Common.{◌≡◌, ◌↔◌, ℕ, ◌+◌, ◌-◌, ◌≤◌, Bool, true, false, not, List, ◌++◌, length, take, drop, sym, ap, ◌∙◌, subst, arith}
 use Rattle.std.specs.Bool.{IsTrue, OnTrue}
 use Rattle.std.proofs.lemmas.Bool.{false≢true}
-use Rattle.std.specs.List.{remove}
-use Rattle.std.proofs.lemmas.List.{map-append, length-map, take-append-drop, drop-take, take-take}
+use Rattle.std.proofs.lemmas.List.{map-append, take-append-drop, drop-take, take-take}
 use Rattle.trail_solver.specs.Candidates.{CandidatesValue}
-use Rattle.clue_rules.specs.Left.{IsFewer, AreAlike}
-use Rattle.clue_rules.specs.Chains.{StepValue, left_by}
-use Rattle.named_steps.specs.Chains.{IsShown, Shows}
-use Rattle.clue_rules.proofs.Chains.{IsAntitone, step_less, chain_less, left_size}
-use Rattle.clue_rules.proofs.Chains.{left_append, chain_split}
+use Rattle.line_steps.specs.Left.{IsFewer, AreAlike}
+use Rattle.line_steps.specs.Chains.{StepValue, left_by}
+use Rattle.named_steps.specs.Chains.{Shows}
+use Rattle.line_steps.proofs.Chains.{IsAntitone, step_less, chain_less, left_size}
+use Rattle.line_steps.proofs.Chains.{left_append, chain_split}
 use Rattle.named_steps.proofs.Shown.{shown_less}
-use Rattle.clue_rules.specs.declared.grade.Grade.{Grade}
+use Rattle.line_steps.specs.declared.grade.Grade.{Grade}
 use Rattle.named_steps.specs.declared.goal.Goal.{Goal}
-use Rattle.clue_rules.specs.Reasons.{Striking}
+use Rattle.line_steps.specs.Reasons.{Striking}
 use Rattle.step_chains.specs.declared.chain.Step.{Step}
 use Rattle.step_chains.specs.ChainValues.{step_value, steps_of}
 use Rattle.step_chains.specs.Inner.Replays.{IsGradeStep, IsGradeChain, Leads}
-use Rattle.step_chains.proofs.Followed.{allowed_split, leads_joined, leads_known, shows_where, from_place, none_removed}
+use Rattle.step_chains.proofs.Followed.{allowed_split, leads_joined, leads_known, shows_where, from_place}
 
 -- the steps before a place and those after it
 parts_of : (steps : List Step) (place : ℕ) → steps_of (take place steps) ++ steps_of (drop place steps) ≡ steps_of steps
@@ -100,29 +99,13 @@ broken_shows Struck less grade c d steps place goal first none shows =
     (subst (IsGradeChain Struck grade c) (sym (from_place steps place)) (shows.chain, shows.allowed)))
 
 -- the test of the others is that of all
-pub rest_tested : (Struck : Striking) → IsAntitone Struck → (grade : Grade) (c d : CandidatesValue) (steps : List Step) (place n : ℕ) (goal : Goal)
-    (b : Bool) → Leads Struck grade c (steps_of (take place steps)) d → length (take (length steps - place) (drop place steps)) ≡ n
-    → (IsTrue b ↔ Shows Struck grade d (remove (steps_of (take (length steps - place) (drop place steps))) n) goal)
+pub rest_tested : (Struck : Striking) → IsAntitone Struck → (grade : Grade) (c d : CandidatesValue) (steps : List Step) (place : ℕ) (goal : Goal)
+    (b : Bool) → Leads Struck grade c (steps_of (take place steps)) d
+    → (IsTrue b ↔ Shows Struck grade d (steps_of (take (length steps - place) (drop place steps))) goal)
     → IsTrue b ↔ Shows Struck grade c (steps_of steps) goal
-rest_tested Struck less grade c d steps place n goal b first long is =
+rest_tested Struck less grade c d steps place goal b first is =
     let rest = take (length steps - place) (drop place steps) in
-    let whole : remove (steps_of rest) n ≡ steps_of rest = none_removed (steps_of rest) n (omega (arith, length-map rest step_value, long)) in
     let both = rest_shows Struck less grade c d (steps_of (take place steps)) (steps_of rest) goal first in (
-      λ e. subst (λ xs. Shows Struck grade c xs goal) (from_place steps place) (both.0 (subst (λ xs. Shows Struck grade d xs goal) whole (is.0 e))),
-      λ shows. is.1 (subst (λ xs. Shows Struck grade d xs goal) (sym whole) (both.1 (subst (λ xs. Shows Struck grade c xs goal) (sym (from_place steps place)) shows))),
+      λ e. subst (λ xs. Shows Struck grade c xs goal) (from_place steps place) (both.0 (is.0 e)),
+      λ shows. is.1 (both.1 (subst (λ xs. Shows Struck grade c xs goal) (sym (from_place steps place)) shows)),
     )
-
--- where what the steps leave doesn't show the goal, they don't
-pub missed_by : (c d : CandidatesValue) (steps : List StepValue) (goal : Goal) (b : Bool) → d.size ≡ c.size → AreAlike (left_by c steps) d
-    → IsTrue b ↔ IsShown d goal → OnTrue (not b) (IsShown (left_by c steps) goal → ⊥)
-missed_by c d steps goal true size alike is = tt
-missed_by c d steps goal false size alike is = λ shown.
-    false≢true (is.1 (shown_less (left_by c steps) d goal (left_size c steps ∙ sym size) alike.0 shown))
-
--- where the others show nothing, all show nothing
-pub missed_shows : (Struck : Striking) → IsAntitone Struck → (grade : Grade) (c d : CandidatesValue) (steps : List Step) (place : ℕ) (goal : Goal)
-    → Leads Struck grade c (steps_of (take place steps)) d
-    → (IsShown (left_by d (steps_of (take (length steps - place) (drop place steps)))) goal → ⊥) → Shows Struck grade c (steps_of steps) goal → ⊥
-missed_shows Struck less grade c d steps place goal first none shows =
-    none ((rest_shows Struck less grade c d (steps_of (take place steps)) (steps_of (take (length steps - place) (drop place steps))) goal first).1
-    (subst (λ xs. Shows Struck grade c xs goal) (sym (from_place steps place)) shows)).shown

@@ -1,27 +1,26 @@
 -- Chains that are followed step by step on candidates that stand for what they leave.
-use Rattle.std.proofs.Common.{◌≡◌, ◌↔◌, ℕ, zero, suc, ◌+◌, ◌-◌, ◌*◌, ◌^◌, ◌<◌, ◌≤◌, Bool, true, false, ◌==◌, List, [], ◌∷◌, ◌++◌, length, take, drop, refl, sym, ap, ◌∙◌, subst, arith, append-nil, append_assoc}
-use Rattle.std.specs.Bool.{IsTrue, OnTrue, OnFalse, MatchBool}
-use Rattle.std.specs.List.{remove}
-use Rattle.std.proofs.lemmas.List.{take-map, drop-map, map-append, take-append-drop, take_rest}
+use Rattle.std.proofs.Common.{◌≡◌, ◌↔◌, ℕ, ◌+◌, ◌-◌, ◌*◌, ◌^◌, ◌<◌, Bool, true, false, ◌==◌, List, [], ◌∷◌, ◌++◌, length, take, drop, refl, sym, ap, ◌∙◌, subst, append-nil, append_assoc}
+use Rattle.std.specs.Bool.{IsTrue, MatchBool}
+use Rattle.std.proofs.lemmas.List.{map-append, take-append-drop, take_rest}
 use Rattle.std.proofs.lemmas.Bool.{both_ways, and_parts, and_from, eq-eqb, eqb-true, false_from_ne_true, false≢true}
 use Rattle.number_sets.specs.Sets.{has_number, IsSubset}
 use Rattle.trail_solver.specs.Pairs.{IsPair, has_pair, pairs_of}
 use Rattle.trail_solver.specs.Candidates.{CandidatesValue, may_be}
 use Rattle.trail_solver.proofs.SetPairs.{has_pair-pairs_of}
-use Rattle.clue_rules.specs.Left.{IsLeft, AreAlike, without}
-use Rattle.clue_rules.specs.Grades.{has_reason}
+use Rattle.line_steps.specs.Left.{IsLeft, AreAlike, without}
+use Rattle.line_steps.specs.Grades.{has_reason}
 use Rattle.named_steps.specs.Chains.{IsShown, Shows}
-use Rattle.clue_rules.specs.Chains.{StepValue, IsStep, AreOfGrade, left_by}
-use Rattle.clue_rules.specs.Takes.{Strikes, Takes}
-use Rattle.clue_rules.proofs.Chains.{IsAntitone, chain_less, left_size, left_append, chain_split, chain_joined}
-use Rattle.clue_rules.proofs.Takes.{was_left, still_left, takes_struck, takes_map}
+use Rattle.line_steps.specs.Chains.{StepValue, IsStep, AreOfGrade, left_by}
+use Rattle.line_steps.specs.Takes.{Strikes, Takes}
+use Rattle.line_steps.proofs.Chains.{IsAntitone, chain_less, left_size, left_append, chain_split, chain_joined}
+use Rattle.line_steps.proofs.Takes.{was_left, still_left, takes_struck, takes_map}
 use Rattle.named_steps.proofs.Shown.{shown_less}
-use Rattle.clue_rules.specs.declared.grade.Grade.{Grade}
+use Rattle.line_steps.specs.declared.grade.Grade.{Grade}
 use Rattle.named_steps.specs.declared.goal.Goal.{Goal}
 use Rattle.step_chains.specs.declared.chain.Step.{Step}
 use Rattle.step_chains.specs.ChainValues.{step_value, steps_of}
 use Rattle.step_chains.specs.Inner.Replays.{IsGradeStep, IsGradeChain, Leads}
-use Rattle.clue_rules.specs.Reasons.{Striking}
+use Rattle.line_steps.specs.Reasons.{Striking}
 
 -- ---- one step
 
@@ -127,12 +126,6 @@ leads_one Struck grade d e s step t = record {
   alike = taken_alike d d e (step_value s).strikes refl (λ cell v h. h, λ cell v h. h) t;
 }
 
--- where a piece of them is no chain, they are none
-pub front_breaks : (Struck : Striking) (grade : Grade) (c : CandidatesValue) (front back : List StepValue)
-    → (IsGradeChain Struck grade c front → ⊥) → IsGradeChain Struck grade c (front ++ back) → ⊥
-front_breaks Struck grade c front back none h =
-    none ((chain_split Struck c front back h.0).0, (allowed_split grade front back h.1).0)
-
 pub back_breaks : (Struck : Striking) → IsAntitone Struck → (grade : Grade) (c d : CandidatesValue) (front back : List StepValue)
     → Leads Struck grade c front d → (IsGradeChain Struck grade d back → ⊥) → IsGradeChain Struck grade c (front ++ back) → ⊥
 back_breaks Struck less grade c d front back first none h =
@@ -161,23 +154,7 @@ step_tested Struck grade c w s set false low size is sub has = (
   λ h. absurd (sub ((step_by_set Struck c w s set low size is).1 h.1)),
 )
 
--- ---- steps without one of them
-
--- beyond the last step there is none that could go
-pub none_removed : (steps : List StepValue) (place : ℕ) → length steps ≤ place → remove steps place ≡ steps
-none_removed [] zero high = refl
-none_removed [] (suc place) high = refl
-none_removed (step ∷ steps) zero high = absurd (omega (arith, high))
-none_removed (step ∷ steps) (suc place) high = ap (λ xs. step ∷ xs) (none_removed steps place (omega (arith, high)))
-
--- the steps before one and those after it
-pub two_pieces : (steps : List Step) (place : ℕ)
-    → steps_of (take place steps) ++ steps_of (take (length steps - (place + 1)) (drop (place + 1) steps)) ≡ remove (steps_of steps) place
-two_pieces steps place =
-    let next : place + 1 ≡ suc place = omega arith in
-    let behind : steps_of (take (length steps - (place + 1)) (drop (place + 1) steps)) ≡ drop (suc place) (steps_of steps) =
-    ap steps_of (take_rest steps (place + 1)) ∙ ap (λ (n : ℕ). steps_of (drop n steps)) next ∙ sym (drop-map step_value (suc place) steps) in
-    (λ i. sym (take-map step_value place steps) i ++ behind i)
+-- ---- chains in two pieces
 
 -- the steps before a place and those from it on
 pub from_place : (steps : List Step) (place : ℕ) → steps_of (take place steps) ++ steps_of (take (length steps - place) (drop place steps)) ≡ steps_of steps
@@ -189,19 +166,6 @@ from_place steps place =
 pub leads_known : (Struck : Striking) (grade : Grade) (c d : CandidatesValue) (steps : List StepValue)
     → IsGradeChain Struck grade c steps → d.size ≡ c.size → AreAlike (left_by c steps) d → Leads Struck grade c steps d
 leads_known Struck grade c d steps chain size alike = record { chain = chain.0; allowed = chain.1; size = size; alike = alike }
-
--- where the second piece leads on, or breaks, all does
-pub both_lead : (Struck : Striking) → IsAntitone Struck → (grade : Grade) (c d e : CandidatesValue)
-    (front back : List StepValue) (b : Bool) → Leads Struck grade c front d → OnTrue b (Leads Struck grade d back e) → OnTrue b (Leads Struck grade c (front ++ back) e)
-both_lead Struck less grade c d e front back true first second = leads_joined Struck less grade c d e front back first second
-both_lead Struck less grade c d e front back false first second = tt
-
--- where the second piece is no chain, all is none
-pub both_break : (Struck : Striking) → IsAntitone Struck → (grade : Grade) (c d : CandidatesValue)
-    (front back : List StepValue) (b : Bool) → Leads Struck grade c front d → OnFalse b (IsGradeChain Struck grade d back → ⊥)
-    → OnFalse b (IsGradeChain Struck grade c (front ++ back) → ⊥)
-both_break Struck less grade c d front back true first second = tt
-both_break Struck less grade c d front back false first second = back_breaks Struck less grade c d front back first second
 
 -- the test of the goal after them
 pub shows_tested : (Struck : Striking) (grade : Grade) (c d : CandidatesValue) (steps : List StepValue) (goal : Goal) (b : Bool)

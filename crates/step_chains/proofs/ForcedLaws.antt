@@ -5,14 +5,11 @@ use Rattle.latin_board.specs.Squares.{GridValue, number_at}
 use Rattle.trail_solver.specs.Pairs.{IsPair}
 use Rattle.trail_solver.specs.Candidates.{CandidatesValue}
 use Rattle.trail_solver.specs.Completions.{AreOfGrid}
-use Rattle.clue_rules.specs.Towers.{TowersValue}
-use Rattle.clue_rules.specs.Unequal.{UnequalValue}
-use Rattle.clue_rules.specs.Struck.{IsNarrowed, IsTowersStruck, IsUnequalStruck}
-use Rattle.clue_rules.specs.Left.{IsFewer}
+use Rattle.line_steps.specs.Struck.{IsNarrowed}
+use Rattle.line_steps.specs.Left.{IsFewer}
 use Rattle.named_steps.specs.Chains.{IsView}
-use Rattle.clue_rules.specs.Reasons.{IsTowersStruckBy, IsUnequalStruckBy, Striking}
-use Rattle.clue_rules.specs.Laws.Less.{towers_less, unequal_less}
-use Rattle.clue_rules.proofs.Chains.{IsAntitone}
+use Rattle.line_steps.specs.Reasons.{Striking}
+use Rattle.line_steps.proofs.Chains.{IsAntitone}
 use Rattle.step_chains.specs.ForcedLaws.{ForcesMore}
 
 -- what is in view of a grid is among its candidates
@@ -27,18 +24,13 @@ view_fewer g c view of in_view = λ cell value left.
       ]);
     }
 
-forced_by : (w : ℕ) (Struck : Striking) → IsAntitone Struck → ForcesMore w (IsNarrowed Struck) Struck
-forced_by w Struck less g c cell size of f = record {
+-- what narrowing forces is forced, where reasons strike the same from fewer candidates
+pub forced_by : (w : ℕ) (Struck : Striking) → IsAntitone Struck → ForcesMore w (IsNarrowed Struck) Struck
+forced_by w Struck less g c view cell size of in_view f = record {
   inside = f.inside;
   empty = f.empty;
   number = f.number;
-  others = λ view in_view other pair apart.
+  others = λ other pair apart.
       let (reason, is, struck) = f.others other pair apart in
       (reason, less c view reason cell other (view_fewer g c view of in_view) struck);
 }
-
-pub towers_forced : (v : TowersValue) → ForcesMore v.size (IsTowersStruck v) (IsTowersStruckBy v)
-towers_forced v = forced_by v.size (IsTowersStruckBy v) (towers_less v)
-
-pub unequal_forced : (v : UnequalValue) → ForcesMore v.size (IsUnequalStruck v) (IsUnequalStruckBy v)
-unequal_forced v = forced_by v.size (IsUnequalStruckBy v) (unequal_less v)

@@ -1,6 +1,5 @@
 pub mod Unseen
 pub mod Followed
-pub mod Barred
 pub mod Blocks
 pub mod Tight
 pub mod Idle
@@ -11,3 +10,4 @@ pub mod Live
 pub mod NextHints
 pub mod ForcedLaws
 pub mod Spare
+pub mod BoundHints

@@ -6,24 +6,24 @@ use Rattle.std.proofs.lemmas.Bool.{and_parts, and_from, eqb-true, eq-eqb, both_w
 use Rattle.number_sets.specs.Sets.{has_number, IsSubset, IsEmpty}
 use Rattle.trail_solver.specs.Pairs.{has_pair, pairs_of, IsPrefix}
 use Rattle.trail_solver.specs.Candidates.{CandidatesValue, IsSetOf, IsEarlier}
-use Rattle.clue_rules.specs.Left.{IsLeft, IsFewer, AreAlike, without}
-use Rattle.clue_rules.specs.Chains.{StepValue, left_by}
-use Rattle.clue_rules.proofs.Takes.{without_fewer}
-use Rattle.clue_rules.proofs.Chains.{fewer_without, left_size, left_append}
+use Rattle.line_steps.specs.Left.{IsLeft, IsFewer, AreAlike, without}
+use Rattle.line_steps.specs.Chains.{StepValue, left_by}
+use Rattle.line_steps.proofs.Takes.{without_fewer}
+use Rattle.line_steps.proofs.Chains.{fewer_without, left_size, left_append}
 use Rattle.trail_solver.proofs.Removals.{set_below}
 use Rattle.trail_solver.proofs.SetPairs.{has_pair-pairs_of}
 use Rattle.std.specs.Prelude.{◌==◌}
-use Rattle.clue_rules.specs.declared.grade.Grade.{Grade}
+use Rattle.line_steps.specs.declared.grade.Grade.{Grade}
 use Rattle.step_chains.specs.Inner.Quiet.{IsNew}
 use Rattle.step_chains.specs.Inner.Replays.{Leads}
 use Rattle.step_chains.specs.declared.chain.Step.{Step}
 use Rattle.step_chains.specs.ChainValues.{step_value, steps_of, AreLive, IsLiveStep}
 use Rattle.std.specs.Bool.{IsTrue, MatchBool}
 use Rattle.trail_solver.proofs.Earlier.{prefix-append}
-use Rattle.clue_rules.specs.Takes.{Takes}
+use Rattle.line_steps.specs.Takes.{Takes}
 use Rattle.step_chains.proofs.Followed.{taken_alike}
 use Rattle.step_chains.proofs.Tight.{parted, remove_at, steps_removed}
-use Rattle.clue_rules.specs.Reasons.{Striking}
+use Rattle.line_steps.specs.Reasons.{Striking}
 
 -- what is left of fewer candidates is left of more
 pub live_more : (c d : CandidatesValue) (steps : List StepValue) → IsFewer c d → AreLive d steps → AreLive c steps

@@ -4,31 +4,32 @@ use Rattle.std.proofs.lemmas.Bool.{cases_eq, both_ways}
 use Rattle.latin_board.specs.Squares.{GridValue}
 use Rattle.trail_solver.specs.Pairs.{IsPair}
 use Rattle.trail_solver.specs.Candidates.{CandidatesValue, may_be}
-use Rattle.clue_rules.specs.Left.{IsLeft, IsEmptied}
-use Rattle.clue_rules.specs.Grades.{has_reason, IsLower, rank}
+use Rattle.line_steps.specs.Left.{IsLeft, IsEmptied, IsFewer}
+use Rattle.line_steps.specs.Grades.{has_reason, IsLower, rank}
 use Rattle.named_steps.specs.Chains.{IsView}
-use Rattle.clue_rules.specs.Chains.{StepValue, LeadsTo}
-use Rattle.clue_rules.specs.Settled.{IsClosure, IsSettled}
+use Rattle.line_steps.specs.Chains.{StepValue, LeadsTo}
+use Rattle.line_steps.specs.Settled.{IsClosure, IsSettled}
 use Rattle.named_steps.specs.Following.{IsRefuted}
-use Rattle.clue_rules.proofs.Leads.{leads_on, leads_size, leads_wider}
-use Rattle.clue_rules.proofs.Rounds.{closure_reached}
+use Rattle.line_steps.proofs.Leads.{leads_on, leads_size, leads_wider}
+use Rattle.line_steps.proofs.Rounds.{closure_reached}
 use Rattle.std.specs.Bool.{OnTrue, OnFalse}
 use Rattle.std.specs.Option.{MatchOption}
 use Rattle.named_steps.proofs.Antitone.{closure_fewer}
-use Rattle.clue_rules.proofs.Chains.{IsAntitone, higher_has}
-use Rattle.clue_rules.specs.declared.reason.Reason.{Reason}
-use Rattle.clue_rules.specs.declared.reason.Reason.TheVariants.{Given, Peer, Place, Bound, Stand, Clue, Sign, Set}
-use Rattle.clue_rules.specs.declared.grade.Grade.{Grade}
-use Rattle.clue_rules.specs.declared.grade.Grade.TheVariants.{Latin, Easy, Hard}
+use Rattle.line_steps.proofs.Chains.{IsAntitone, higher_has}
+use Rattle.line_steps.specs.declared.reason.Reason.{Reason}
+use Rattle.line_steps.specs.declared.reason.Reason.TheVariants.{Given, Peer, Place, Bound, Stand, Clue, Sign, Set}
+use Rattle.line_steps.specs.declared.grade.Grade.{Grade}
+use Rattle.line_steps.specs.declared.grade.Grade.TheVariants.{Latin, Easy, Hard}
 use Rattle.named_steps.specs.declared.goal.Goal.{Goal}
 use Rattle.named_steps.specs.declared.goal.Goal.TheVariants.{OnlyValue}
 use Rattle.step_chains.specs.declared.aims.Aim.TheVariants.{Number, Nothing}
-use Rattle.step_chains.specs.Explanations.{IsRefutation, IsRefutedGrid, NothingIsShown}
-use Rattle.step_chains.specs.NextHints.{IsForcedSquare, NoneBelowRefutes, NoneBelowShows}
+use Rattle.step_chains.specs.Explanations.{IsRefutation}
+use Rattle.step_chains.specs.NextHints.{IsForcedSquare}
+use Rattle.step_chains.specs.Inner.FromEachView.{IsRefutedGrid, NothingIsShown, NoneBelowRefutes, NoneBelowShows}
 use Rattle.step_chains.specs.Inner.Aims.{AreLeftBy, HasSome, IsLeastBy, IsLeftNothing, IsOver, LeadNowhere}
 use Rattle.step_chains.specs.Inner.Goals.{IsOpenShown}
-use Rattle.step_chains.proofs.Explanations.{empty_shown, none_refuted, nothing_shown, shown_by_all}
-use Rattle.clue_rules.specs.Reasons.{Striking}
+use Rattle.step_chains.proofs.Explanations.{empty_shown, none_refuted, nothing_shown, shown_by_all, views_fewer}
+use Rattle.line_steps.specs.Reasons.{Striking}
 
 -- ---- one grade after another
 
@@ -122,17 +123,19 @@ hard_all (Set line squares values) = refl
 
 -- where the hardest grade leaves something of each square and shows no number, no square is forced
 pub none_forced : (Struck : Striking) → IsAntitone Struck → (g : GridValue) (view d : CandidatesValue) → IsView g view
-    → IsClosure Struck Hard view d → HasSome d → ((goal : Goal) → IsOpenShown g d goal → ⊥) → (cell : ℕ) → IsForcedSquare Struck g cell → ⊥
-none_forced Struck less g view d is closed some none cell f =
+    → IsClosure Struck Hard view d → HasSome d → ((goal : Goal) → IsOpenShown g d goal → ⊥) → (other : CandidatesValue) (cell : ℕ) → IsView g other
+    → IsForcedSquare Struck g other cell → ⊥
+none_forced Struck less g view d is closed some none other cell other_is f =
     let size : d.size ≡ g.size = closed.size ∙ is.size in
+    let fewer : IsFewer other d = λ k v left. views_fewer g other view other_is is k v (closure_fewer Struck Hard view d closed k v left) in
     let only : (u : ℕ) → IsLeft d cell u → u ≡ f.number = λ u left.
     elim (cases_eq u f.number) [
       | inl same ↦ same
       | inr apart ↦
           let pair : IsPair g.size cell u = subst (λ (w : ℕ). IsPair w cell u) size left.pair in
-          let (reason, struck) = f.others view is u pair apart in
+          let (reason, struck) = f.others u pair apart in
           absurd (both_ways (may_be d cell u)
-          (closed.settled reason cell u (hard_all reason) left.pair (less view d reason cell u (closure_fewer Struck Hard view d closed) struck)) left.may)
+          (closed.settled reason cell u (hard_all reason) left.pair (less other d reason cell u fewer struck)) left.may)
     ] in
     let (value, left) = some cell (subst (λ (w : ℕ). cell < w * w) (sym size) f.inside) in
     none (OnlyValue cell value) (record {
@@ -145,6 +148,7 @@ none_forced Struck less g view d is closed some none cell f =
 pub nowhere_left : (Struck : Striking) → IsAntitone Struck → (g : GridValue) (d : CandidatesValue) → IsOver Struck Hard g d
     → ((goal : Goal) → IsOpenShown g d goal → ⊥) → LeadNowhere Struck g
 nowhere_left Struck less g d (view, is, closed, some) none = record {
+  live = (view, is, tt);
   shown = nothing_shown Struck less Hard g view d is closed none;
   holds = none_refuted Struck less Hard g view d is closed some;
   forced = none_forced Struck less g view d is closed some none;
@@ -157,9 +161,9 @@ pub refuted_grid : (Struck : Striking) (grade : Grade) (g : GridValue) (steps : 
     (r : IsRefutation Struck grade g steps cell) → IsRefuted Struck grade r.view
 refuted_grid Struck grade g steps cell r = record {
   steps = steps;
-  chain = r.leaves.chain;
-  allowed = r.leaves.allowed;
+  chain = r.refutes.leaves.chain;
+  allowed = r.refutes.leaves.allowed;
   cell = cell;
-  inside = r.leaves.inside;
-  nothing = r.leaves.nothing;
+  inside = r.refutes.leaves.inside;
+  nothing = r.refutes.leaves.nothing;
 }

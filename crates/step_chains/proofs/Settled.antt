@@ -13,21 +13,22 @@ use Rattle.trail_solver.specs.Candidates.{CandidatesValue}
 use Rattle.trail_solver.specs.Puzzles.{Puzzle}
 use Rattle.trail_solver.proofs.Removals.{set_below}
 use Rattle.trail_solver.proofs.SetPairs.{has_pair-pairs_of}
-use Rattle.clue_rules.specs.Left.{without}
-use Rattle.clue_rules.specs.Along.{LooksAlong, StandsAlong}
-use Rattle.clue_rules.specs.Grades.{IsLower, is_of_clues, rank}
-use Rattle.clue_rules.proofs.LinePasses.{latin_has}
-use Rattle.clue_rules.specs.declared.grade.Grade.TheVariants.{Easy}
-use Rattle.clue_rules.specs.Reasons.{IsByPeer, IsByPlace, IsBySet, Striking}
-use Rattle.clue_rules.specs.Settled.{AreCluesSettled, AreGivensSettled, IsSettled}
-use Rattle.clue_rules.specs.Inner.LineStrikes.{IsRestQuiet}
-use Rattle.clue_rules.specs.Inner.Groups.{IsGroupQuiet}
-use Rattle.clue_rules.proofs.Chains.{IsAntitone}
-use Rattle.clue_rules.proofs.Rounds.{settled_all}
-use Rattle.clue_rules.proofs.SharedReasons.{IsShared}
-use Rattle.clue_rules.specs.declared.reason.Reason.{Reason}
-use Rattle.clue_rules.specs.declared.reason.Reason.TheVariants.{Given, Peer, Place, Bound, Stand, Clue, Sign, Set}
-use Rattle.clue_rules.specs.declared.grade.Grade.{Grade}
+use Rattle.line_steps.specs.Left.{without}
+use Rattle.line_steps.specs.Along.{LooksAlong, StandsAlong}
+use Rattle.line_steps.specs.Grades.{IsLower, rank}
+use Rattle.line_steps.proofs.LinePasses.{latin_has}
+use Rattle.line_steps.specs.declared.grade.Grade.TheVariants.{Easy}
+use Rattle.line_steps.specs.Laws.Along.{clue_own}
+use Rattle.line_steps.specs.Reasons.{AllStrikes, IsByPeer, IsByPlace, IsBySet, Striking}
+use Rattle.line_steps.specs.Settled.{AreCluesSettled, AreGivensSettled, IsSettled}
+use Rattle.line_steps.specs.Inner.LineStrikes.{IsRestQuiet}
+use Rattle.line_steps.specs.Inner.Groups.{IsGroupQuiet}
+use Rattle.line_steps.proofs.Chains.{IsAntitone}
+use Rattle.line_steps.proofs.Rounds.{settled_all}
+use Rattle.line_steps.proofs.LineLooks.{StandOnLines}
+use Rattle.line_steps.specs.declared.reason.Reason.{Reason}
+use Rattle.line_steps.specs.declared.reason.Reason.TheVariants.{Given, Peer, Place, Bound, Stand, Clue, Sign, Set}
+use Rattle.line_steps.specs.declared.grade.Grade.{Grade}
 use Rattle.step_chains.specs.declared.chain.Step.{Step}
 use Rattle.step_chains.specs.ChainValues.{step_value, steps_of}
 use Rattle.step_chains.specs.Inner.Replays.{Leads}
@@ -37,11 +38,6 @@ use Rattle.step_chains.specs.declared.reasons.Part.{Part}
 use Rattle.step_chains.specs.declared.reasons.Part.TheVariants.{Squares, Places, Clues, Signs, Groups}
 use Rattle.step_chains.proofs.Idle.{group_inside}
 use Rattle.step_chains.proofs.Followed.{leads_joined}
-
--- what is known of a game's reasons: givens, rows and columns strike the same in each game, and its clues and signs look along lines
-pub record IsGame (p : Puzzle) (Struck : Striking) : Type 0 where
-  pub shared : IsShared p Struck
-  pub stands : (c : CandidatesValue) (reason : Reason) (cell value : ℕ) → is_of_clues reason ≡ true → Struck c reason cell value → StandsAlong p.size reason cell
 
 -- no reason of the list strikes anything more
 abbrev pub AreAllIdle : Striking → Grade → CandidatesValue → Type 0
@@ -62,12 +58,12 @@ found_idle : (Struck : Striking) (grade : Grade) (c : CandidatesValue) (part : P
 found_idle Struck grade c part place reason idle low there =
     let (found, is, none) = idle part place low in subst (λ x. IfSome x (IsIdle Struck grade c)) (there found is) none
 
-givens_settled : (p : Puzzle) (Struck : Striking) → IsGame p Struck → (grade : Grade) (c : CandidatesValue)
-    → AreAllIdle Struck grade c → AreGivensSettled p c
-givens_settled p Struck game grade c idle = λ at cell value pair h.
+givens_settled : (p : Puzzle) (Own : Striking) (grade : Grade) (c : CandidatesValue)
+    → AreAllIdle (AllStrikes p Own) grade c → AreGivensSettled p c
+givens_settled p Own grade c idle = λ at cell value pair h.
     let inside : at < c.size * c.size = subst (λ (n : ℕ). n < c.size * c.size) h.here pair.inside in
-    found_idle Struck grade c Squares (2 * at) (Given at) idle (omega (arith, inside)) (λ found is. is.0 at refl)
-    cell value (latin_has grade (Given at) refl) pair ((game.shared.given c at cell value).0 h)
+    found_idle (AllStrikes p Own) grade c Squares (2 * at) (Given at) idle (omega (arith, inside)) (λ found is. is.0 at refl)
+    cell value (latin_has grade (Given at) refl) pair h
 
 peer_idle : (Struck : Striking) (grade : Grade) (c : CandidatesValue) (by : ℕ) → AreAllIdle Struck grade c
     → by < c.size * c.size → IsIdle Struck grade c (Peer by)
@@ -82,24 +78,24 @@ place_idle Struck grade c line index other idle line_is index_is low =
     found_idle Struck grade c Places ((line * c.size + index) * c.size + other) (Place line index (other + 1)) idle below
     (λ found is. is line index other index_is low refl)
 
-rest_settled : (p : Puzzle) (Struck : Striking) → IsGame p Struck → (grade : Grade) (c : CandidatesValue) → p.size ≡ c.size
-    → AreAllIdle Struck grade c → (line : ℕ) → line < 2 * c.size → IsRestQuiet line c
-rest_settled p Struck game grade c size idle line line_is = λ k v low pair h. elim h [
+rest_settled : (p : Puzzle) (Own : Striking) (grade : Grade) (c : CandidatesValue) → p.size ≡ c.size
+    → AreAllIdle (AllStrikes p Own) grade c → (line : ℕ) → line < 2 * c.size → IsRestQuiet line c
+rest_settled p Own grade c size idle line line_is = λ k v low pair h. elim h [
   | inl peer ↦
       let by = line_cell c.size line peer.0 in
       let cell = line_cell c.size line k in
       let is : IsByPeer c.size c by cell v = record { peers = line_peers c.size line peer.0 k line_is peer.1 low peer.2; alone = peer.3 } in
-      peer_idle Struck grade c by idle (line_cell_inside c.size line peer.0 line_is peer.1) cell v (latin_has grade (Peer by) refl) pair
-      ((game.shared.line c (Peer by) cell v refl).0 (subst (λ (w : ℕ). IsByPeer w c by cell v) (sym size) is))
+      peer_idle (AllStrikes p Own) grade c by idle (line_cell_inside c.size line peer.0 line_is peer.1) cell v (latin_has grade (Peer by) refl) pair
+      (subst (λ (w : ℕ). IsByPeer w c by cell v) (sym size) is)
   | inr place ↦
       let cell = line_cell c.size line k in
       let is : IsByPlace c.size c line k place.0 cell v =
       record { line_is = line_is; index_is = low; low = place.1; high = place.2; here = refl; apart = place.3; alone = place.4 } in
       let same : place.0 - 1 + 1 ≡ place.0 = omega (arith, place.1) in
-      subst (λ (u : ℕ). IsIdle Struck grade c (Place line k u)) same
-      (place_idle Struck grade c line k (place.0 - 1) idle line_is low (omega (arith, place.1, place.2))) cell v
+      subst (λ (u : ℕ). IsIdle (AllStrikes p Own) grade c (Place line k u)) same
+      (place_idle (AllStrikes p Own) grade c line k (place.0 - 1) idle line_is low (omega (arith, place.1, place.2))) cell v
       (latin_has grade (Place line k place.0) refl) pair
-      ((game.shared.line c (Place line k place.0) cell v refl).0 (subst (λ (w : ℕ). IsByPlace w c line k place.0 cell v) (sym size) is))
+      (subst (λ (w : ℕ). IsByPlace w c line k place.0 cell v) (sym size) is)
 ]
 
 -- squares that follow each other on a line are neighbours
@@ -145,15 +141,16 @@ along_idle Struck grade c idle line (Sign from to) cell low (here, inr (k, insid
     ]
 along_idle Struck grade c idle line (Set at squares values) cell low along = absurd along
 
-clues_settled : (p : Puzzle) (Struck : Striking) → IsGame p Struck → (grade : Grade) (c : CandidatesValue) → p.size ≡ c.size
-    → AreAllIdle Struck grade c → AreCluesSettled Struck grade c
-clues_settled p Struck game grade c size idle = λ reason cell value is has pair h.
-    let (line, low, along) = subst (λ (w : ℕ). StandsAlong w reason cell) size (game.stands c reason cell value is h) in
-    along_idle Struck grade c idle line reason cell low along cell value has pair h
+clues_settled : (p : Puzzle) (Own : Striking) → StandOnLines p Own → (grade : Grade) (c : CandidatesValue) → p.size ≡ c.size
+    → AreAllIdle (AllStrikes p Own) grade c → AreCluesSettled (AllStrikes p Own) grade c
+clues_settled p Own stand grade c size idle = λ reason cell value is has pair h.
+    let stands = stand c reason cell value (clue_own p Own c reason cell value is h) in
+    let (line, low, along) = subst (λ (w : ℕ). StandsAlong w reason cell) size stands in
+    along_idle (AllStrikes p Own) grade c idle line reason cell low along cell value has pair h
 
-groups_settled : (p : Puzzle) (Struck : Striking) → IsGame p Struck → (grade : Grade) (c : CandidatesValue) → p.size ≡ c.size
-    → AreAllIdle Struck grade c → IsLower Easy grade → (line : ℕ) → line < 2 * c.size → IsGroupQuiet line c
-groups_settled p Struck game grade c size idle past line line_is = λ cell value pair h.
+groups_settled : (p : Puzzle) (Own : Striking) (grade : Grade) (c : CandidatesValue) → p.size ≡ c.size
+    → AreAllIdle (AllStrikes p Own) grade c → IsLower Easy grade → (line : ℕ) → line < 2 * c.size → IsGroupQuiet line c
+groups_settled p Own grade c size idle past line line_is = λ cell value pair h.
     let is : IsBySet c.size c line h.squares h.union cell value = record {
       line_is = line_is;
       inside = group_inside c.size h.squares h.below;
@@ -167,16 +164,16 @@ groups_settled p Struck game grade c size idle past line line_is = λ cell value
     } in
     let at = line * 2 ^ c.size + h.squares in
     let low : at < 2 * c.size * 2 ^ c.size = omega (arith, mul-add-lt line (2 ^ c.size) h.squares (2 * c.size) line_is h.below) in
-    found_idle Struck grade c Groups at (Set line h.squares h.union) idle low
+    found_idle (AllStrikes p Own) grade c Groups at (Set line h.squares h.union) idle low
     (λ found there. there line h.squares h.union line_is h.below refl (h.is, h.same)) cell value (le-leb 2 (rank grade) (omega (arith, past))) pair
-    ((game.shared.line c (Set line h.squares h.union) cell value refl).0 (subst (λ (w : ℕ). IsBySet w c line h.squares h.union cell value) (sym size) is))
+    (subst (λ (w : ℕ). IsBySet w c line h.squares h.union cell value) (sym size) is)
 
 -- then no reason of the grade does
-pub idle_settled : (p : Puzzle) (Struck : Striking) → IsGame p Struck → (grade : Grade) (c : CandidatesValue) → c.size ≤ 9
-    → c.size ≡ p.size → AreAllIdle Struck grade c → IsSettled Struck grade c
-idle_settled p Struck game grade c small size idle =
-    settled_all p Struck game.shared grade c small size (givens_settled p Struck game grade c idle) (rest_settled p Struck game grade c (sym size) idle)
-    (clues_settled p Struck game grade c (sym size) idle) (groups_settled p Struck game grade c (sym size) idle)
+pub idle_settled : (p : Puzzle) (Own : Striking) → StandOnLines p Own → (grade : Grade) (c : CandidatesValue) → c.size ≤ 9
+    → c.size ≡ p.size → AreAllIdle (AllStrikes p Own) grade c → IsSettled (AllStrikes p Own) grade c
+idle_settled p Own stand grade c small size idle =
+    settled_all p Own grade c small size (givens_settled p Own grade c idle) (rest_settled p Own grade c (sym size) idle)
+    (clues_settled p Own stand grade c (sym size) idle) (groups_settled p Own grade c (sym size) idle)
 
 -- ---- one step after another
 

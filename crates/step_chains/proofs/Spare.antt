@@ -9,22 +9,22 @@ use Rattle.number_sets.specs.Sets.{has_number}
 use Rattle.trail_solver.specs.Pairs.{IsPair, has_pair}
 use Rattle.trail_solver.specs.Candidates.{CandidatesValue}
 use Rattle.trail_solver.proofs.SetPairs.{has_pair-pairs_of}
-use Rattle.clue_rules.specs.Left.{IsFewer, without}
-use Rattle.clue_rules.specs.Grades.{has_reason}
+use Rattle.line_steps.specs.Left.{IsFewer, without}
+use Rattle.line_steps.specs.Grades.{has_reason}
 use Rattle.named_steps.specs.Chains.{Shows}
-use Rattle.clue_rules.specs.Chains.{StepValue, IsStep, IsChain, AreOfGrade, left_by}
-use Rattle.clue_rules.proofs.Chains.{IsAntitone, chain_less, left_size, left_append, chain_split, chain_joined}
-use Rattle.clue_rules.proofs.Takes.{was_left, still_left, without_fewer}
+use Rattle.line_steps.specs.Chains.{StepValue, IsStep, IsChain, AreOfGrade, left_by}
+use Rattle.line_steps.proofs.Chains.{IsAntitone, chain_less, left_size, left_append, chain_split, chain_joined}
+use Rattle.line_steps.proofs.Takes.{was_left, still_left, without_fewer}
 use Rattle.named_steps.proofs.Shown.{shown_less}
-use Rattle.clue_rules.specs.declared.reason.Reason.{Reason}
-use Rattle.clue_rules.specs.declared.grade.Grade.{Grade}
+use Rattle.line_steps.specs.declared.reason.Reason.{Reason}
+use Rattle.line_steps.specs.declared.grade.Grade.{Grade}
 use Rattle.named_steps.specs.declared.goal.Goal.{Goal}
 use Rattle.step_chains.specs.declared.chain.Step.{Step}
 use Rattle.step_chains.specs.ChainValues.{step_value, steps_of, AreLive, StrikesLess}
 use Rattle.step_chains.specs.Inner.Tight.{IsTightFrom, IsNeededFrom, IsNeededBelow, IsNeededAt, IsStepWithout, IsLeftOut, IsNarrowedBelow, IsDoneFrom}
 use Rattle.step_chains.proofs.Live.{live_more}
 use Rattle.step_chains.proofs.Tight.{fronts_part, parted, remove_at, shows_with, steps_removed, tight_without}
-use Rattle.clue_rules.specs.Reasons.{Striking}
+use Rattle.line_steps.specs.Reasons.{Striking}
 
 -- the pair is one of the size's, and the reason strikes it
 abbrev IsPairStruck : Striking → CandidatesValue → Reason → ℕ → ℕ → Type 0
@@ -197,16 +197,6 @@ parts_at steps place s low is =
     let at = parted steps place low in
     let same : s ≡ at.1 = is ∙ (λ i. slice_index_or (at.3 i) (sym at.4 i) s) ∙ get_or-append_seam at.0 at.1 at.2 s in
     (at.0, at.2, at.3 ∙ ap (λ (x : Step). at.0 ++ x ∷ at.2) (sym same), at.4)
-
--- a step that goes leaves those before it
-pub kept_front : (steps front back rest : List Step) (s : Step) (from place : ℕ) → from ≤ place → steps ≡ front ++ s ∷ back → length front ≡ place
-    → rest ≡ remove steps place → (take from rest ≡ take from steps) × (length rest + 1 ≡ length steps)
-kept_front steps front back rest s from place order is at gone =
-    let rest_is : rest ≡ front ++ back = gone ∙ (λ i. remove (is i) (sym at i)) ∙ remove_at front back s in
-    let short : from ≤ length front = omega (arith, order, at) in (
-      ap (take from) rest_is ∙ take-append-le from front back short ∙ sym (take-append-le from front (s ∷ back) short) ∙ ap (take from) (sym is),
-      omega (arith, ap length rest_is, ap length is, length-append front back, length-append front (s ∷ back)),
-    )
 
 -- the step doesn't strike the number
 pub left_none : (Struck : Striking) (grade : Grade) (c : CandidatesValue) (place value : ℕ) (steps : List Step) (s : Step)

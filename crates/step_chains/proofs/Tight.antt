@@ -4,18 +4,18 @@ use Rattle.std.specs.List.{remove}
 use Rattle.std.proofs.Math.Seq.{take-append_seam, drop-append-add}
 use Rattle.std.proofs.lemmas.List.{take-map, drop-map, map-append}
 use Rattle.trail_solver.specs.Candidates.{CandidatesValue}
-use Rattle.clue_rules.specs.Left.{IsFewer, without}
-use Rattle.named_steps.specs.Chains.{Shows, IsTight}
-use Rattle.clue_rules.specs.Chains.{StepValue, AreOfGrade, left_by}
-use Rattle.clue_rules.proofs.Chains.{IsAntitone, chain_less, left_size, left_append, chain_split, chain_joined}
-use Rattle.clue_rules.proofs.Takes.{without_fewer}
+use Rattle.line_steps.specs.Left.{IsFewer, without}
+use Rattle.named_steps.specs.Chains.{Shows}
+use Rattle.line_steps.specs.Chains.{StepValue, AreOfGrade, left_by}
+use Rattle.line_steps.proofs.Chains.{IsAntitone, chain_less, left_size, left_append, chain_split, chain_joined}
+use Rattle.line_steps.proofs.Takes.{without_fewer}
 use Rattle.named_steps.proofs.Shown.{shown_less}
-use Rattle.clue_rules.specs.declared.grade.Grade.{Grade}
+use Rattle.line_steps.specs.declared.grade.Grade.{Grade}
 use Rattle.named_steps.specs.declared.goal.Goal.{Goal}
 use Rattle.step_chains.specs.declared.chain.Step.{Step}
 use Rattle.step_chains.specs.ChainValues.{step_value, steps_of}
 use Rattle.step_chains.specs.Inner.Tight.{IsTightFrom}
-use Rattle.clue_rules.specs.Reasons.{Striking}
+use Rattle.line_steps.specs.Reasons.{Striking}
 
 -- ---- a list without one of its elements
 
@@ -108,17 +108,3 @@ tight_without Struck less grade c steps place goal low whole tight = λ front ba
     (at.3 ∙ ap (λ xs. at.0 ++ at.1 ∷ xs) more.2 ∙ sym (append_assoc at.0 (at.1 ∷ more.0) (step ∷ back)))
     (omega (arith, at.4, length-append at.0 (at.1 ∷ more.0)))
     (subst (λ xs. Shows Struck grade c xs goal) (sym (append_assoc at.0 (at.1 ∷ more.0) back)) with_it)
-
--- in other words: where it isn't shown without any one of them
-pub tight_from_each : (Struck : Striking) (grade : Grade) (c : CandidatesValue) (steps : List StepValue) (goal : Goal)
-    → ((place : ℕ) → place < length steps → Shows Struck grade c (remove steps place) goal → ⊥) → IsTight Struck grade c steps goal
-tight_from_each Struck grade c steps goal none = λ front back step is shows.
-    let rest : remove steps (length front) ≡ front ++ back = ap (λ xs. remove xs (length front)) is ∙ remove_at front back step in
-    none (length front) (omega (arith, ap length is, length-append front (step ∷ back))) (subst (λ xs. Shows Struck grade c xs goal) (sym rest) shows)
-
-pub each_from_tight : (Struck : Striking) (grade : Grade) (c : CandidatesValue) (steps : List StepValue) (place : ℕ) (goal : Goal)
-    → IsTight Struck grade c steps goal → place < length steps → Shows Struck grade c (remove steps place) goal → ⊥
-each_from_tight Struck grade c steps place goal tight low shows =
-    let at = parted steps place low in
-    let rest : remove steps place ≡ at.0 ++ at.2 = (λ i. remove (at.3 i) (sym at.4 i)) ∙ remove_at at.0 at.2 at.1 in
-    tight at.0 at.2 at.1 at.3 (subst (λ xs. Shows Struck grade c xs goal) rest shows)

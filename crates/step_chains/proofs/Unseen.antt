@@ -8,9 +8,9 @@ use Rattle.latin_board.specs.Lines.{line_cell, ArePeers}
 use Rattle.latin_board.proofs.LatinLines.{some_width, line_cell_of_row}
 use Rattle.latin_board.proofs.PeerLines.{line_cell_of_column, line_peers}
 use Rattle.trail_solver.specs.Candidates.{CandidatesValue}
-use Rattle.clue_rules.specs.Left.{all_of}
-use Rattle.clue_rules.specs.Takes.{Strikes, Takes}
-use Rattle.clue_rules.proofs.Takes.{takes_next}
+use Rattle.line_steps.specs.Left.{all_of}
+use Rattle.line_steps.specs.Takes.{Strikes, Takes}
+use Rattle.line_steps.proofs.Takes.{takes_next}
 use Rattle.step_chains.specs.Inner.Views.{IsUnseen, IsUnseenSet}
 
 -- some square of the line has the number

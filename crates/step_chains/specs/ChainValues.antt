@@ -2,13 +2,13 @@
 use Rattle.std.specs.Prelude.{◌≡◌, ℕ, ◌*◌, ◌<◌, true, false, List, [], ◌∷◌, ◌++◌, map}
 use Rattle.trail_solver.specs.Pairs.{pairs_of, has_pair}
 use Rattle.trail_solver.specs.Candidates.{CandidatesValue}
-use Rattle.clue_rules.specs.Left.{IsLeft, without}
+use Rattle.line_steps.specs.Left.{IsLeft, without}
 use Rattle.named_steps.specs.Chains.{Shows}
-use Rattle.clue_rules.specs.Chains.{StepValue, IsChain, AreOfGrade, left_by}
-use Rattle.clue_rules.specs.declared.grade.Grade.{Grade}
+use Rattle.line_steps.specs.Chains.{StepValue, IsChain, AreOfGrade, left_by}
+use Rattle.line_steps.specs.declared.grade.Grade.{Grade}
 use Rattle.named_steps.specs.declared.goal.Goal.{Goal}
 use Rattle.step_chains.specs.declared.chain.Step.{Step}
-use Rattle.clue_rules.specs.Reasons.{Striking}
+use Rattle.line_steps.specs.Reasons.{Striking}
 
 -- a step, with the pairs of its square and its values
 abbrev pub step_value : Step → StepValue
@@ -42,9 +42,16 @@ pub record StrikesLess (cell value : ℕ) (less step : StepValue) : Type 0 where
   pub has : has_pair step.strikes cell value ≡ true
   pub lacks : has_pair less.strikes cell value ≡ false
 
--- no step can strike less, so that no number of a step can be left out
+-- no step can strike less and the goal still be shown, so that no number of a step can be left out
 abbrev pub AreAllNeeded :
     Striking → Grade → CandidatesValue → List StepValue → Goal → Type 0
 AreAllNeeded Struck grade c steps goal =
     (front back : List StepValue) (step less : StepValue) (cell value : ℕ) → steps ≡ front ++ step ∷ back
     → StrikesLess cell value less step → Shows Struck grade c (front ++ less ∷ back) goal → ⊥
+
+-- no step can strike less, so that the steps still leave the square nothing
+abbrev pub AreNeededForNothing :
+    Striking → Grade → CandidatesValue → List StepValue → ℕ → Type 0
+AreNeededForNothing Struck grade c steps emptied =
+    (front back : List StepValue) (step less : StepValue) (cell value : ℕ) → steps ≡ front ++ step ∷ back
+    → StrikesLess cell value less step → LeavesNothing Struck grade c (front ++ less ∷ back) emptied → ⊥

@@ -4,10 +4,10 @@ use Rattle.latin_board.specs.Squares.{GridValue, number_at}
 use Rattle.trail_solver.specs.Pairs.{IsPair}
 use Rattle.trail_solver.specs.Candidates.{CandidatesValue}
 use Rattle.trail_solver.specs.Completions.{AreOfGrid}
-use Rattle.clue_rules.specs.Towers.{TowersValue}
-use Rattle.clue_rules.specs.Unequal.{UnequalValue}
-use Rattle.clue_rules.specs.Struck.{IsTowersStruck, IsUnequalStruck}
-use Rattle.clue_rules.specs.Reasons.{IsTowersStruckBy, IsUnequalStruckBy, Striking}
+use Rattle.trail_solver.specs.Puzzles.{Puzzle}
+use Rattle.line_steps.specs.Reasons.{Striking}
+use Rattle.line_steps.specs.Struck.{IsNarrowed}
+use Rattle.named_steps.specs.Chains.{IsView}
 use Rattle.step_chains.specs.NextHints.{IsForcedSquare}
 
 -- the square is empty, and narrowing strikes all its numbers but one at once from these candidates
@@ -21,13 +21,9 @@ pub record IsForcedAtOnce (Strikes : CandidatesValue → ℕ → ℕ → Type 0)
 -- what narrowing forces from the candidates that a grid's numbers leave, reasons force from what is in view
 abbrev pub ForcesMore : ℕ → (CandidatesValue → ℕ → ℕ → Type 0) → Striking → Type 0
 ForcesMore w Strikes Struck =
-    (g : GridValue) (c : CandidatesValue) (cell : ℕ) → g.size ≡ w → AreOfGrid g c → IsForcedAtOnce Strikes g c cell
-    → IsForcedSquare Struck g cell
+    (g : GridValue) (c view : CandidatesValue) (cell : ℕ) → g.size ≡ w → AreOfGrid g c → IsView g view
+    → IsForcedAtOnce Strikes g c cell → IsForcedSquare Struck g view cell
 
--- in Towers
-abbrev pub TowersForcesMore : Type 0
-TowersForcesMore = (v : TowersValue) → ForcesMore v.size (IsTowersStruck v) (IsTowersStruckBy v)
-
--- in Unequal
-abbrev pub UnequalForcesMore : Type 0
-UnequalForcesMore = (v : UnequalValue) → ForcesMore v.size (IsUnequalStruck v) (IsUnequalStruckBy v)
+-- in each puzzle of a game
+abbrev pub NarrowingForcesMore : {P : Type 0} → (P → Puzzle) → (P → Striking) → Type 0
+NarrowingForcesMore {P} puzzle Struck = (p : P) → ForcesMore (puzzle p).size (IsNarrowed (Struck p)) (Struck p)

@@ -2,8 +2,8 @@
 pub mod Views
 pub mod Replays
 pub mod Tight
-pub mod Barred
 pub mod Goals
 pub mod Aims
 pub mod Listed
 pub mod Quiet
+pub mod FromEachView

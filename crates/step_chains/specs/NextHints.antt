@@ -1,52 +1,54 @@
--- What the next hint of a grid says: by the steps of the least grade that lead to one.
-use Rattle.std.specs.Prelude.{◌≡◌, ◌≢◌, ℕ, ◌*◌, ◌<◌}
+-- What the next hint of a grid says: by the steps of the least grade that lead to one, from what is in view of the grid.
+use Rattle.std.specs.Prelude.{◌≡◌, ◌≢◌, ℕ, ◌*◌, ◌<◌, List}
 use Rattle.latin_board.specs.Squares.{GridValue, number_at}
 use Rattle.trail_solver.specs.Pairs.{IsPair}
 use Rattle.trail_solver.specs.Candidates.{CandidatesValue}
 use Rattle.trail_solver.specs.Completions.{Completes}
 use Rattle.trail_solver.specs.Puzzles.{Puzzle}
-use Rattle.named_steps.specs.Chains.{IsExplained, IsView, goal_cell, goal_value}
-use Rattle.clue_rules.specs.Grades.{IsLower}
-use Rattle.clue_rules.specs.declared.reason.Reason.{Reason}
-use Rattle.clue_rules.specs.declared.grade.Grade.{Grade}
-use Rattle.clue_rules.specs.declared.grade.Grade.TheVariants.{Hard}
-use Rattle.named_steps.specs.declared.goal.Goal.TheVariants.{OnlyValue}
+use Rattle.named_steps.specs.Chains.{Explains, IsGoalOf, IsView, Shows, goal_cell, goal_value}
+use Rattle.named_steps.specs.Following.{IsRefuted}
+use Rattle.line_steps.specs.Chains.{StepValue}
+use Rattle.line_steps.specs.Grades.{IsLower}
+use Rattle.line_steps.specs.declared.reason.Reason.{Reason}
+use Rattle.line_steps.specs.declared.grade.Grade.{Grade}
+use Rattle.line_steps.specs.declared.grade.Grade.TheVariants.{Hard}
+use Rattle.named_steps.specs.declared.goal.Goal.{Goal}
 use Rattle.step_chains.specs.declared.hints.NextHint.{NextHint}
 use Rattle.step_chains.specs.declared.hints.NextHint.TheVariants.{Follows, Refuted, Nothing}
-use Rattle.step_chains.specs.ChainValues.{steps_of}
-use Rattle.step_chains.specs.Explanations.{AreNeededFrom, IsLiveFrom, IsRefutation, IsRefutedGrid, NothingIsShown}
-use Rattle.clue_rules.specs.Reasons.{Striking}
+use Rattle.step_chains.specs.ChainValues.{AreAllNeeded, AreLive, AreNeededForNothing, steps_of}
+use Rattle.step_chains.specs.Explanations.{Refutes}
+use Rattle.line_steps.specs.Reasons.{Striking}
 
--- the steps of no grade below show a number
-abbrev pub NoneBelowShows : Striking → Grade → GridValue → Type 0
-NoneBelowShows Struck grade g = (lower : Grade) → IsLower lower grade → NothingIsShown Struck lower g
-
--- the steps of no grade below refute the grid's numbers
-abbrev pub NoneBelowRefutes : Striking → Grade → GridValue → Type 0
-NoneBelowRefutes Struck grade g = (lower : Grade) → IsLower lower grade → IsRefutedGrid Struck lower g → ⊥
+-- no chain of the grade's steps from these candidates shows a number of an empty square
+abbrev pub NothingFollows : Striking → Grade → GridValue → CandidatesValue → Type 0
+NothingFollows Struck grade g c =
+    (steps : List StepValue) (goal : Goal) → IsGoalOf g.size goal → number_at g (goal_cell g.size goal) ≡ 0
+    → Shows Struck grade c steps goal → ⊥
 
 -- its steps of that grade show the number, those of no grade below show any, and no steps refute the grid's numbers;
 -- or its steps refute them, and those of no grade below do; or no steps show a number, and none refute the grid's
-abbrev pub IsNextHint : Striking → GridValue → NextHint → Type 0
-IsNextHint Struck g (Follows grade chain) =
-    IsExplained Struck grade g (steps_of chain.steps.items) chain.goal
-    × NoneBelowShows Struck grade g × (IsRefutedGrid Struck Hard g → ⊥)
-IsNextHint Struck g (Refuted grade refutation) =
-    IsRefutation Struck grade g (steps_of refutation.steps.items) refutation.cell × NoneBelowRefutes Struck grade g
-IsNextHint Struck g Nothing = NothingIsShown Struck Hard g × (IsRefutedGrid Struck Hard g → ⊥)
+abbrev pub IsLeastFrom : Striking → GridValue → CandidatesValue → NextHint → Type 0
+IsLeastFrom Struck g view (Follows grade chain) =
+    Explains Struck grade g view (steps_of chain.steps.items) chain.goal
+    × ((lower : Grade) → IsLower lower grade → NothingFollows Struck lower g view) × (IsRefuted Struck Hard view → ⊥)
+IsLeastFrom Struck g view (Refuted grade refutation) =
+    Refutes Struck grade view (steps_of refutation.steps.items) refutation.cell
+    × ((lower : Grade) → IsLower lower grade → IsRefuted Struck lower view → ⊥)
+IsLeastFrom Struck g view Nothing = NothingFollows Struck Hard g view × (IsRefuted Struck Hard view → ⊥)
 
--- each of its steps strikes only what those before it leave of what is in view
-abbrev pub IsLiveHint : GridValue → NextHint → Type 0
-IsLiveHint g (Follows grade chain) = IsLiveFrom g (steps_of chain.steps.items)
-IsLiveHint g (Refuted grade refutation) = IsLiveFrom g (steps_of refutation.steps.items)
-IsLiveHint g Nothing = Unit {0}
+-- each of its steps strikes only what those before it leave
+abbrev pub HasLiveSteps : CandidatesValue → NextHint → Type 0
+HasLiveSteps view (Follows grade chain) = AreLive view (steps_of chain.steps.items)
+HasLiveSteps view (Refuted grade refutation) = AreLive view (steps_of refutation.steps.items)
+HasLiveSteps view Nothing = Unit {0}
 
 -- and no number of a step can be left out
-abbrev pub IsNeededHint : Striking → GridValue → NextHint → Type 0
-IsNeededHint Struck g (Follows grade chain) = AreNeededFrom Struck grade g (steps_of chain.steps.items) chain.goal
-IsNeededHint Struck g (Refuted grade refutation) =
-    AreNeededFrom Struck grade g (steps_of refutation.steps.items) (OnlyValue refutation.cell 0)
-IsNeededHint Struck g Nothing = Unit {0}
+abbrev pub HasNeededSteps : Striking → CandidatesValue → NextHint → Type 0
+HasNeededSteps Struck view (Follows grade chain) =
+    AreAllNeeded Struck grade view (steps_of chain.steps.items) chain.goal
+HasNeededSteps Struck view (Refuted grade refutation) =
+    AreNeededForNothing Struck grade view (steps_of refutation.steps.items) refutation.cell
+HasNeededSteps Struck view Nothing = Unit {0}
 
 -- each solution that keeps the grid's numbers has its number; or there is no such solution
 abbrev pub IsRightHint : Puzzle → GridValue → NextHint → Type 0
@@ -55,14 +57,27 @@ IsRightHint p g (Follows grade chain) =
 IsRightHint p g (Refuted grade refutation) = (h : GridValue) → Completes p g h → ⊥
 IsRightHint p g Nothing = Unit {0}
 
--- the square is empty, and from what is in view of the grid reasons strike all its numbers but one at once
-pub record IsForcedSquare (Struck : Striking) (g : GridValue) (cell : ℕ) : Type 0 where
+-- the square is empty, and reasons strike all its numbers but one at once from these candidates
+pub record IsForcedSquare (Struck : Striking) (g : GridValue) (c : CandidatesValue) (cell : ℕ) : Type 0 where
   pub inside : cell < g.size * g.size
   pub empty : number_at g cell ≡ 0
   pub number : ℕ
-  pub others : (view : CandidatesValue) → IsView g view → (other : ℕ) → IsPair g.size cell other → other ≢ number
-      → (reason : Reason) × Struck view reason cell other
+  pub others : (other : ℕ) → IsPair g.size cell other → other ≢ number
+      → (reason : Reason) × Struck c reason cell other
 
--- where a square is forced, the hint says something
-abbrev pub SaysForced : Striking → GridValue → NextHint → Type 0
-SaysForced Struck g hint = (cell : ℕ) → IsForcedSquare Struck g cell → hint ≢ Nothing
+-- The hint from these candidates: the steps of the least grade lead to it, each strikes only numbers that are left
+-- before it, no number of a step can be left out, what they say is so of each solution that keeps the grid's numbers,
+-- and where reasons strike all numbers but one from an empty square at once, something is said.
+pub record IsHintFrom (p : Puzzle) (Struck : Striking) (g : GridValue) (view : CandidatesValue) (hint : NextHint)
+    : Type 0 where
+  pub least : IsLeastFrom Struck g view hint
+  pub live : HasLiveSteps view hint
+  pub needed : HasNeededSteps Struck view hint
+  pub right : IsRightHint p g hint
+  pub forced : (cell : ℕ) → IsForcedSquare Struck g view cell → hint ≢ Nothing
+
+-- the hint of a grid: there is a view, it is what is in view of the grid, and the hint is the one from it
+pub record IsHint (p : Puzzle) (Struck : Striking) (g : GridValue) (hint : NextHint) : Type 0 where
+  pub view : CandidatesValue
+  pub in_view : IsView g view
+  pub is_hint : IsHintFrom p Struck g view hint

@@ -1,4 +1,5 @@
-//! Steps by clues and signs that don't hold any more once a number comes back, looked for where they look at its square.
+//! Steps that don't hold any more once a number comes back, looked for where they look at its square.
+ghost use Rattle.line_steps.specs.Reasons.{StruckBy};
 ghost use Rattle.std.specs.Prelude.{◌≡◌};
 ghost use Rattle.std.specs.Bool.{OnTrue};
 ghost use Rattle.trail_solver.specs.Candidates.{IsEarlier};
@@ -20,7 +21,7 @@ pub(crate) struct Spared {
     pub(crate) value: u8,
 }
 
-/// Whether one of the steps by clues and signs that look where a number is spared isn't one of the grade's. Where none of these is broken,
+/// Whether one of the steps that look where a number is spared isn't one of the grade's. Where none of these is broken,
 /// another may be. The candidates are afterwards what they were, and the sizes are equal. `known` is used and added to.
 #[inline(never)]
 pub(crate) fn has_broken<P: Steps>(
@@ -34,7 +35,7 @@ pub(crate) fn has_broken<P: Steps>(
     requires { candidates.old.size ≡ (P.puzzle p.now).size }
     ensures same { candidates.new ≡ candidates.old }
     ensures broken { OnTrue result
-        (IsGradeChain (P.struck_by p.now) grade candidates.old (steps_of steps.now) → ⊥) }
+        (IsGradeChain (StruckBy P.puzzle P.own p.now) grade candidates.old (steps_of steps.now) → ⊥) }
 {
     let mark = candidates.mark();
     let broken = find_broken(p, grade, candidates, steps, spared, known);
@@ -54,7 +55,7 @@ fn find_broken<P: Steps>(
     requires { candidates.old.size ≡ (P.puzzle p.now).size }
     ensures earlier { IsEarlier candidates.old candidates.new }
     ensures broken { OnTrue result
-        (IsGradeChain (P.struck_by p.now) grade candidates.old (steps_of steps.now) → ⊥) }
+        (IsGradeChain (StruckBy P.puzzle P.own p.now) grade candidates.old (steps_of steps.now) → ⊥) }
 {
     let size = candidates.size();
     let mut taken = 0;
@@ -81,7 +82,7 @@ fn is_broken<P: Steps>(
 ) -> bool
     requires { candidates.old.size ≡ (P.puzzle p.now).size }
     ensures same { candidates.new ≡ candidates.old }
-    ensures broken { OnTrue result (IsGradeStep (P.struck_by p.now) grade candidates.old (step_value step.now) → ⊥) }
+    ensures broken { OnTrue result (IsGradeStep (StruckBy P.puzzle P.own p.now) grade candidates.old (step_value step.now) → ⊥) }
 {
     let Reason::Clue { place } = step.reason else {
         return !is_step(p, grade, candidates, step, known);
@@ -105,7 +106,7 @@ fn breaks_clue<P: Steps>(
 ) -> bool
     requires { candidates.old.size ≡ (P.puzzle p.now).size }
     ensures earlier { IsEarlier candidates.old candidates.new }
-    ensures broken { OnTrue result (IsGradeStep (P.struck_by p.now) grade candidates.old (step_value step.now) → ⊥) }
+    ensures broken { OnTrue result (IsGradeStep (StruckBy P.puzzle P.own p.now) grade candidates.old (step_value step.now) → ⊥) }
 {
     keep_in(candidates, spared.cell, single(spared.value));
     keep_in(candidates, step.cell, step.values);
@@ -115,13 +116,22 @@ fn breaks_clue<P: Steps>(
     !is_step(p, grade, candidates, step, known)
 }
 
-// Whether a step by a clue or a sign looks where a number is spared, and may need that it isn't. Nothing is ensured of it, as nothing
+// Whether a step looks where a number is spared, and may need that it isn't. Nothing is ensured of it, as nothing
 // stands on it but time.
 #[inline(always)]
 fn looks_at(size: Size, step: &Step, spared: Spared) -> bool {
     let place = match step.reason {
         Reason::Stand { place } | Reason::Clue { place } => place,
         Reason::Sign { from, .. } => return from == spared.cell as usize,
+        Reason::Peer { cell } => return cell == spared.cell as usize,
+        Reason::Place { line, value, .. } => {
+            return value == spared.value
+                && step.cell != spared.cell
+                && is_on(size, line, spared.cell);
+        }
+        Reason::Set { line, values, .. } => {
+            return values.is_disjoint(single(spared.value)) && is_on(size, line, spared.cell);
+        }
         _ => return false,
     };
     step.cell != spared.cell

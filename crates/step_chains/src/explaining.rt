@@ -1,9 +1,11 @@
-//! The chains of hints: to a number of an empty square, or to a square that is left nothing; and whether a chain is such.
-ghost use Rattle.std.specs.Prelude.{◌≡◌, ◌↔◌, ◌*◌, ◌<◌, IsTrue, IfOk, IfSome};
-ghost use Rattle.named_steps.specs.Chains.{IsExplained, IsTight};
+//! The chains of hints: to a number of an empty square, or to a square that is left nothing.
+ghost use Rattle.line_steps.specs.Reasons.{StruckBy};
+ghost use Rattle.std.specs.Prelude.{◌≡◌, ◌*◌, ◌<◌, IfOk, IfSome};
+ghost use Rattle.named_steps.specs.Chains.{IsExplained};
 ghost use Rattle.named_steps.specs.declared.goal.Goal.TheVariants.{OnlyValue};
 ghost use Rattle.step_chains.specs.ChainValues.{steps_of};
-ghost use Rattle.step_chains.specs.Explanations.{AreNeededFrom, IsRefutation, IsLiveFrom};
+ghost use Rattle.step_chains.specs.Explanations.{IsRefutation};
+ghost use Rattle.step_chains.specs.Inner.FromEachView.{AreNeededFrom, IsLiveFrom};
 ghost use Rattle.step_chains.specs.Inner.Aims.{IsAimOf, IsReached, aim_goal};
 ghost use Rattle.step_chains.specs.Inner.Goals.{IsOfEmptySquare, IsShownByAll};
 
@@ -12,14 +14,13 @@ use crate::chain::{Chain, Refutation, Step};
 use crate::goals::is_open;
 use crate::kinds::Sought;
 use crate::next_steps::all_steps;
-use crate::replays::shows_without;
 use crate::shortest::short_chain;
 use crate::tightening::tighten;
 use crate::view::view_of;
 use latin_board::{Grid, OutOfMemory};
 use named_steps::{Goal, Grade, Steps};
 use std::alloc::Global;
-use trail_solver::{Candidates, Rules};
+use trail_solver::Rules;
 
 /// A chain that shows a number of an empty square, and rather a short one. All steps together show this one.
 #[inline(never)]
@@ -33,12 +34,12 @@ pub(crate) fn chain_to<P: Steps>(
 ) -> Result<Chain, OutOfMemory>
     requires size { grid.now.size ≡ (P.puzzle p.now).size }
     requires open { IsOfEmptySquare grid.now goal }
-    requires shown { IsShownByAll (P.struck_by p.now) grade grid.now goal }
+    requires shown { IsShownByAll (StruckBy P.puzzle P.own p.now) grade grid.now goal }
     ensures is { IfOk result
-        (λ chain. IsExplained (P.struck_by p.now) grade grid.now (steps_of chain.steps.items) chain.goal) }
+        (λ chain. IsExplained (StruckBy P.puzzle P.own p.now) grade grid.now (steps_of chain.steps.items) chain.goal) }
     ensures live { IfOk result (λ chain. IsLiveFrom grid.now (steps_of chain.steps.items)) }
     ensures needed { IfOk result
-        (λ chain. AreNeededFrom (P.struck_by p.now) grade grid.now (steps_of chain.steps.items) chain.goal) }
+        (λ chain. AreNeededFrom (StruckBy P.puzzle P.own p.now) grade grid.now (steps_of chain.steps.items) chain.goal) }
 {
     if let Some(chain) = short_number(alloc, p, grid, grade, known)? {
         return Ok(chain);
@@ -57,10 +58,10 @@ fn short_number<P: Steps>(
 ) -> Result<Option<Chain>, OutOfMemory>
     requires { grid.now.size ≡ (P.puzzle p.now).size }
     ensures is { IfOk result (λ found. IfSome found
-        (λ chain. IsExplained (P.struck_by p.now) grade grid.now (steps_of chain.steps.items) chain.goal)) }
+        (λ chain. IsExplained (StruckBy P.puzzle P.own p.now) grade grid.now (steps_of chain.steps.items) chain.goal)) }
     ensures live { IfOk result (λ found. IfSome found (λ chain. IsLiveFrom grid.now (steps_of chain.steps.items))) }
     ensures needed { IfOk result (λ found. IfSome found
-        (λ chain. AreNeededFrom (P.struck_by p.now) grade grid.now (steps_of chain.steps.items) chain.goal)) }
+        (λ chain. AreNeededFrom (StruckBy P.puzzle P.own p.now) grade grid.now (steps_of chain.steps.items) chain.goal)) }
 {
     if let Some(found) = short_chain(alloc, p, grid, grade, Sought::NumberShown, known)? {
         if let Aim::Number(goal) = found.aim {
@@ -87,12 +88,12 @@ fn plain_number<P: Steps>(
 ) -> Result<Chain, OutOfMemory>
     requires size { grid.now.size ≡ (P.puzzle p.now).size }
     requires open { IsOfEmptySquare grid.now goal }
-    requires shown { IsShownByAll (P.struck_by p.now) grade grid.now goal }
+    requires shown { IsShownByAll (StruckBy P.puzzle P.own p.now) grade grid.now goal }
     ensures is { IfOk result
-        (λ chain. IsExplained (P.struck_by p.now) grade grid.now (steps_of chain.steps.items) chain.goal) }
+        (λ chain. IsExplained (StruckBy P.puzzle P.own p.now) grade grid.now (steps_of chain.steps.items) chain.goal) }
     ensures live { IfOk result (λ chain. IsLiveFrom grid.now (steps_of chain.steps.items)) }
     ensures needed { IfOk result
-        (λ chain. AreNeededFrom (P.struck_by p.now) grade grid.now (steps_of chain.steps.items) chain.goal) }
+        (λ chain. AreNeededFrom (StruckBy P.puzzle P.own p.now) grade grid.now (steps_of chain.steps.items) chain.goal) }
 {
     let steps = plain_chain(alloc, p, grid, grade, Aim::Number(goal), known)?;
     Ok(Chain { steps, goal })
@@ -110,11 +111,11 @@ pub(crate) fn refutation_at<P: Steps>(
 ) -> Result<Refutation, OutOfMemory>
     requires size { grid.now.size ≡ (P.puzzle p.now).size }
     requires inside { cell < grid.now.size * grid.now.size }
-    requires empty { IsShownByAll (P.struck_by p.now) grade grid.now (OnlyValue cell 0) }
-    ensures is { IfOk result (λ r. IsRefutation (P.struck_by p.now) grade grid.now (steps_of r.steps.items) r.cell) }
+    requires empty { IsShownByAll (StruckBy P.puzzle P.own p.now) grade grid.now (OnlyValue cell 0) }
+    ensures is { IfOk result (λ r. IsRefutation (StruckBy P.puzzle P.own p.now) grade grid.now (steps_of r.steps.items) r.cell) }
     ensures live { IfOk result (λ r. IsLiveFrom grid.now (steps_of r.steps.items)) }
     ensures needed { IfOk result
-        (λ r. AreNeededFrom (P.struck_by p.now) grade grid.now (steps_of r.steps.items) (OnlyValue r.cell 0)) }
+        (λ r. AreNeededFrom (StruckBy P.puzzle P.own p.now) grade grid.now (steps_of r.steps.items) (OnlyValue r.cell 0)) }
 {
     if let Some(found) = short_chain(alloc, p, grid, grade, Sought::SquareEmptied, known)? {
         if let Aim::Nothing { cell } = found.aim {
@@ -140,85 +141,14 @@ fn plain_chain<P: Steps>(
 ) -> Result<Vec<Step>, OutOfMemory>
     requires size { grid.now.size ≡ (P.puzzle p.now).size }
     requires aim { IsAimOf grid.now.size aim }
-    requires reached { IsShownByAll (P.struck_by p.now) grade grid.now (aim_goal aim) }
+    requires reached { IsShownByAll (StruckBy P.puzzle P.own p.now) grade grid.now (aim_goal aim) }
     ensures is { IfOk result
-        (λ steps. IsReached (P.struck_by p.now) grade grid.now (steps_of steps.items) (aim_goal aim)) }
+        (λ steps. IsReached (StruckBy P.puzzle P.own p.now) grade grid.now (steps_of steps.items) (aim_goal aim)) }
     ensures live { IfOk result (λ steps. IsLiveFrom grid.now (steps_of steps.items)) }
     ensures needed { IfOk result
-        (λ steps. AreNeededFrom (P.struck_by p.now) grade grid.now (steps_of steps.items) (aim_goal aim)) }
+        (λ steps. AreNeededFrom (StruckBy P.puzzle P.own p.now) grade grid.now (steps_of steps.items) (aim_goal aim)) }
 {
     let mut steps = all_steps(alloc, p, grade, &mut view_of(grid), known)?;
     tighten(p, grade, &mut view_of(grid), &mut steps, aim, known);
     Ok(steps)
-}
-
-/// Whether a chain explains a number of a grid by the steps of a grade. The grid has the puzzle's size.
-#[inline(never)]
-pub fn explains<P: Steps>(p: &P, grid: &Grid, grade: Grade, chain: &Chain) -> bool
-    requires { grid.now.size ≡ (P.puzzle p.now).size }
-    ensures { IsTrue result
-        ↔ IsExplained (P.struck_by p.now) grade grid.now (steps_of chain.now.steps.items) chain.now.goal }
-{
-    if !is_open(grid, chain.goal) {
-        return false;
-    }
-    reaches(
-        p,
-        grid,
-        grade,
-        chain.steps.as_slice(),
-        Aim::Number(chain.goal),
-    )
-}
-
-/// Whether a chain refutes the numbers of a grid by the steps of a grade. The grid has the puzzle's size.
-#[inline(never)]
-pub fn refutes<P: Steps>(p: &P, grid: &Grid, grade: Grade, refutation: &Refutation) -> bool
-    requires { grid.now.size ≡ (P.puzzle p.now).size }
-    ensures { IsTrue result
-        ↔ IsRefutation (P.struck_by p.now) grade grid.now (steps_of refutation.now.steps.items) refutation.now.cell }
-{
-    let aim = Aim::Nothing {
-        cell: refutation.cell,
-    };
-    let size = grid.size();
-    if !aim.is_of(size) {
-        return false;
-    }
-    reaches(p, grid, grade, refutation.steps.as_slice(), aim)
-}
-
-// Whether steps come from what is in view of the grid to an aim, and none of them can be left out.
-fn reaches<P: Steps>(p: &P, grid: &Grid, grade: Grade, steps: &[Step], aim: Aim) -> bool
-    requires size { grid.now.size ≡ (P.puzzle p.now).size }
-    requires aim { IsAimOf grid.now.size aim }
-    ensures { IsTrue result ↔ IsReached (P.struck_by p.now) grade grid.now (steps_of steps.now) (aim_goal aim) }
-{
-    let mut view = view_of(grid);
-    let mut known = P::Known::default();
-    if !shows_without(p, grade, &mut view, steps, steps.len(), aim, &mut known) {
-        return false;
-    }
-    is_tight(p, grade, &mut view, steps, aim, &mut known)
-}
-
-// Whether the aim isn't come to without any one of the steps.
-fn is_tight<P: Steps>(
-    p: &P,
-    grade: Grade,
-    candidates: &mut Candidates,
-    steps: &[Step],
-    aim: Aim,
-    known: &mut P::Known,
-) -> bool
-    requires size { candidates.old.size ≡ (P.puzzle p.now).size }
-    requires aim { IsAimOf candidates.old.size aim }
-    ensures { IsTrue result ↔ IsTight (P.struck_by p.now) grade candidates.old (steps_of steps.now) (aim_goal aim) }
-{
-    for place in 0..steps.len() {
-        if shows_without(p, grade, candidates, steps, place, aim, known) {
-            return false;
-        }
-    }
-    true
 }

@@ -1,4 +1,5 @@
 //! What all steps lead to first, and the least grade whose steps lead to the like.
+ghost use Rattle.line_steps.specs.Reasons.{StruckBy};
 ghost use Rattle.std.specs.Prelude.{◌≡◌, MatchOption};
 ghost use Rattle.step_chains.specs.declared.aims.Aim.TheVariants.{Number, Nothing};
 ghost use Rattle.step_chains.specs.Inner.Aims.{LeadNowhere, IsLeastAim, AreLeftBy, IsOver, IsLeftNothing};
@@ -23,7 +24,7 @@ pub(crate) struct LeastAim {
 #[inline(never)]
 pub(crate) fn first_aim<P: Steps>(p: &P, grid: &Grid, known: &mut P::Known) -> Option<LeastAim>
     requires { grid.now.size ≡ (P.puzzle p.now).size }
-    ensures { MatchOption result (LeadNowhere (P.struck_by p.now) grid.now) (IsLeastAim (P.struck_by p.now) grid.now) }
+    ensures { MatchOption result (LeadNowhere (StruckBy P.puzzle P.own p.now) grid.now) (IsLeastAim (StruckBy P.puzzle P.own p.now) grid.now) }
 {
     let mut settled = view_of(grid);
     if let Some(cell) = go_on(p, Grade::Latin, grid, &mut settled, known) {
@@ -54,9 +55,9 @@ fn go_on<P: Steps>(
     known: &mut P::Known,
 ) -> Option<usize>
     requires size { grid.now.size ≡ (P.puzzle p.now).size }
-    requires from { AreLeftBy (P.struck_by p.now) grade grid.now settled.old }
-    ensures left { AreLeftBy (P.struck_by p.now) grade grid.now settled.new }
-    ensures over { MatchOption result (IsOver (P.struck_by p.now) grade grid.now settled.new) (IsLeftNothing settled.new) }
+    requires from { AreLeftBy (StruckBy P.puzzle P.own p.now) grade grid.now settled.old }
+    ensures left { AreLeftBy (StruckBy P.puzzle P.own p.now) grade grid.now settled.new }
+    ensures over { MatchOption result (IsOver (StruckBy P.puzzle P.own p.now) grade grid.now settled.new) (IsLeftNothing settled.new) }
 {
     settle(p, grade, settled, known);
     first_empty(settled)

@@ -1,6 +1,8 @@
 //! The next hint of a grid: by the steps of the least grade that lead to one.
+ghost use Rattle.line_steps.specs.Reasons.{StruckBy};
 ghost use Rattle.std.specs.Prelude.{◌≡◌, IfOk};
-ghost use Rattle.step_chains.specs.NextHints.{IsNextHint, IsLiveHint, IsNeededHint, IsRightHint, SaysForced};
+ghost use Rattle.step_chains.specs.NextHints.{IsHint, IsRightHint};
+ghost use Rattle.step_chains.specs.Inner.FromEachView.{IsNextHint, IsLiveHint, IsNeededHint, SaysAllForced};
 
 use crate::aims::Aim;
 use crate::chain::{Chain, Refutation};
@@ -33,11 +35,7 @@ pub enum NextHint {
 #[inline(never)]
 pub fn next_hint<P: Steps>(alloc: Global, p: &P, grid: &Grid) -> Result<NextHint, OutOfMemory>
     requires { grid.now.size ≡ (P.puzzle p.now).size }
-    ensures least { IfOk result (IsNextHint (P.struck_by p.now) grid.now) }
-    ensures live { IfOk result (IsLiveHint grid.now) }
-    ensures needed { IfOk result (IsNeededHint (P.struck_by p.now) grid.now) }
-    ensures right { IfOk result (IsRightHint (P.puzzle p.now) grid.now) }
-    ensures forced { IfOk result (SaysForced (P.struck_by p.now) grid.now) }
+    ensures { IfOk result (IsHint (P.puzzle p.now) (StruckBy P.puzzle P.own p.now) grid.now) }
 {
     // `known` serves all that follows, since it takes ten kilobytes of the stack.
     let mut known = P::Known::default();
@@ -52,11 +50,11 @@ fn hint_knowing<P: Steps>(
     known: &mut P::Known,
 ) -> Result<NextHint, OutOfMemory>
     requires { grid.now.size ≡ (P.puzzle p.now).size }
-    ensures least { IfOk result (IsNextHint (P.struck_by p.now) grid.now) }
+    ensures least { IfOk result (IsNextHint (StruckBy P.puzzle P.own p.now) grid.now) }
     ensures live { IfOk result (IsLiveHint grid.now) }
-    ensures needed { IfOk result (IsNeededHint (P.struck_by p.now) grid.now) }
+    ensures needed { IfOk result (IsNeededHint (StruckBy P.puzzle P.own p.now) grid.now) }
     ensures right { IfOk result (IsRightHint (P.puzzle p.now) grid.now) }
-    ensures forced { IfOk result (SaysForced (P.struck_by p.now) grid.now) }
+    ensures forced { IfOk result (SaysAllForced (StruckBy P.puzzle P.own p.now) grid.now) }
 {
     laws::<P>();
     let _valid = p.size();

@@ -20,11 +20,12 @@ pub(crate) enum Kind {
     Bound,
     Sign,
     Stand,
-    Clue,
     Set,
+    Clue,
 }
 
-/// All of them, the cheapest first.
+/// All of them, the cheapest first. Groups of squares come before what is left of a clue's line: where too few numbers are left for some squares of
+/// it, no order has a number there, and it is the group that says why.
 pub(crate) const KINDS: [Kind; 8] = [
     Kind::Peer,
     Kind::Place,
@@ -32,8 +33,8 @@ pub(crate) const KINDS: [Kind; 8] = [
     Kind::Bound,
     Kind::Sign,
     Kind::Stand,
-    Kind::Clue,
     Kind::Set,
+    Kind::Clue,
 ];
 
 /// Whether steps of a kind may lead on, and are of the grade. What rows and columns alone strike shows a number at once, so on the way to

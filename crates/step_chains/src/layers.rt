@@ -38,6 +38,8 @@ pub(crate) struct Rounds<'a, P: Steps> {
     gone: Values,
     pub(crate) steps: Vec<Step>,
     sought: Sought,
+    // Whether the first round has all kinds, and not the cheapest alone.
+    at_once: bool,
     // With how many steps it wasn't found yet.
     open: Option<usize>,
     // The squares of which one value is left and that were looked at: what they strike is listed.
@@ -73,6 +75,7 @@ impl<'a, P: Steps> Rounds<'a, P> {
             gone: Values::none(),
             steps: Vec::new(alloc),
             sought,
+            at_once: false,
             open: None,
             peers: Values::none(),
             has_signs: true,
@@ -86,6 +89,23 @@ impl<'a, P: Steps> Rounds<'a, P> {
             groups: Looks::none(),
             known,
         }
+    }
+
+    /// No round again, once all is given back; the first one then has all kinds.
+    pub(crate) fn begin_at_once(&mut self, alloc: Global) {
+        self.gone = Values::none();
+        self.steps = Vec::new(alloc);
+        self.at_once = true;
+        self.open = None;
+        self.peers = Values::none();
+        self.has_signs = true;
+        self.first_place = 0;
+        self.losses = Losses::new();
+        self.places = Looks::none();
+        self.stands = Looks::none();
+        self.standing = Seen::nothing();
+        self.clues = Looks::none();
+        self.groups = Looks::none();
     }
 
     /// Gives back what the steps struck, so that all in view is left again. The steps stay listed.
@@ -104,6 +124,9 @@ impl<'a, P: Steps> Rounds<'a, P> {
         grid: &Grid,
         grade: Grade,
     ) -> Result<(), OutOfMemory> {
+        if self.at_once {
+            return self.go_on(p, grid, grade, KINDS.len() - 1);
+        }
         for last in 0..KINDS.len() {
             if is_of_use(KINDS[last], self.sought, grade) {
                 self.go_on(p, grid, grade, last)?;
@@ -155,7 +178,7 @@ impl<'a, P: Steps> Rounds<'a, P> {
     ) -> Result<(), OutOfMemory> {
         let before = self.steps.len();
         for kind in 0..KINDS.len() {
-            let is_new = kind == last && is_first;
+            let is_new = is_first && (kind == last || self.at_once);
             if kind <= last && self.is_due(KINDS[kind], grade, is_new, before) {
                 self.look(p, grade, KINDS[kind])?;
             }

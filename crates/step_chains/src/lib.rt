@@ -2,27 +2,28 @@
 //!
 //! What is in view of a grid is a filled square's number, and of an empty one what doesn't stand in its row or column (`view_of`).
 //! From there `next_hint` finds steps that show a number of an empty square, or that leave a square nothing and so refute the grid's
-//! numbers, of which none can be left out, by the least grade that leads to such; or it tells that no steps do either. `explains` and
-//! `refutes` tell of any chain whether it is such. Chains take memory from the heap, and nothing else here does.
+//! numbers, of which none can be left out, by the least grade that leads to such; or it tells that no steps do either. Chains take
+//! memory from the heap, and nothing else here does.
 //!
 //! ```
 //! match next_hint(rt.alloc(), &puzzle, &grid)? {
-//!     NextHint::Follows { grade, chain } => assert!(rt; explains(&puzzle, &grid, grade, &chain)),
-//!     NextHint::Refuted { grade, refutation } => assert!(rt; refutes(&puzzle, &grid, grade, &refutation)),
+//!     NextHint::Follows { chain, .. } => println!(rt; "{} steps show a number", chain.steps.len())?,
+//!     NextHint::Refuted { refutation, .. } => println!(rt; "{} steps refute the numbers", refutation.steps.len())?,
 //!     NextHint::Nothing => println!(rt; "nothing follows by steps")?,
 //! }
 //! ```
 #![tactic(auto)]
 
 mod aims;
-mod barred_steps;
 mod broken_steps;
 mod chain;
 mod clue_premises;
+mod cutting;
 mod explaining;
 mod first_aims;
 mod goals;
 mod hints;
+mod joining;
 mod kinds;
 mod layers;
 mod needs;
@@ -38,7 +39,6 @@ mod tightening;
 mod view;
 
 pub use chain::{Chain, Refutation, Step};
-pub use explaining::{explains, refutes};
 pub use hints::{NextHint, next_hint};
 pub use strike_laws::forced_laws;
 pub use view::view_of;

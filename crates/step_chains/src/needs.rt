@@ -3,8 +3,8 @@
 
 use crate::aims::Aim;
 use arrayvec::ArrayVec;
-use clue_rules::view_cell;
 use latin_board::{CELLS, Size, line_cell};
+use line_steps::view_cell;
 use named_steps::{Goal, Reason};
 use number_sets::NumberSet;
 use trail_solver::Candidates;

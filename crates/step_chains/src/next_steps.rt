@@ -1,6 +1,7 @@
 //! All steps that a grade's reasons have, one after another, until they strike nothing more.
+ghost use Rattle.line_steps.specs.Reasons.{StruckBy};
 ghost use Rattle.std.specs.Prelude.{◌≡◌, ◌*◌, ◌<◌, MatchOption, IfOk};
-ghost use Rattle.clue_rules.specs.Settled.{IsSettled};
+ghost use Rattle.line_steps.specs.Settled.{IsSettled};
 ghost use Rattle.step_chains.specs.ChainValues.{steps_of, AreLive};
 ghost use Rattle.step_chains.specs.Inner.Replays.{Leads};
 ghost use Rattle.step_chains.specs.Inner.Quiet.{IsNew, IsIdleIn, IsIdle, IsIdleAt, AreIdleIn};
@@ -23,9 +24,9 @@ pub(crate) fn all_steps<P: Steps>(
 ) -> Result<Vec<Step>, OutOfMemory>
     requires { candidates.old.size ≡ (P.puzzle p.now).size }
     ensures leads { IfOk result
-        (λ steps. Leads (P.struck_by p.now) grade candidates.old (steps_of steps.items) candidates.new) }
+        (λ steps. Leads (StruckBy P.puzzle P.own p.now) grade candidates.old (steps_of steps.items) candidates.new) }
     ensures live { IfOk result (λ steps. AreLive candidates.old (steps_of steps.items)) }
-    ensures settled { IfOk result (λ _. IsSettled (P.struck_by p.now) grade candidates.new) }
+    ensures settled { IfOk result (λ _. IsSettled (StruckBy P.puzzle P.own p.now) grade candidates.new) }
 {
     let mut steps = Vec::new(alloc);
     while let Some(step) = next_step(p, grade, candidates, known) {
@@ -45,8 +46,8 @@ fn next_step<P: Steps>(
     known: &mut P::Known,
 ) -> Option<Step>
     requires { candidates.now.size ≡ (P.puzzle p.now).size }
-    ensures { MatchOption result (IsSettled (P.struck_by p.now) grade candidates.now)
-        (IsNew (P.struck_by p.now) grade candidates.now) }
+    ensures { MatchOption result (IsSettled (StruckBy P.puzzle P.own p.now) grade candidates.now)
+        (IsNew (StruckBy P.puzzle P.own p.now) grade candidates.now) }
 {
     let _valid = p.size();
     let _size = candidates.size();
@@ -67,8 +68,8 @@ fn step_in_part<P: Steps>(
     known: &mut P::Known,
 ) -> Option<Step>
     requires { candidates.now.size ≡ (P.puzzle p.now).size }
-    ensures { MatchOption result (AreIdleIn (P.struck_by p.now) grade candidates.now part)
-        (IsNew (P.struck_by p.now) grade candidates.now) }
+    ensures { MatchOption result (AreIdleIn (StruckBy P.puzzle P.own p.now) grade candidates.now part)
+        (IsNew (StruckBy P.puzzle P.own p.now) grade candidates.now) }
 {
     for place in 0..part.count(candidates.size()) {
         if let Some(step) = step_at(p, grade, candidates, part, place, known) {
@@ -88,8 +89,8 @@ fn step_at<P: Steps>(
     known: &mut P::Known,
 ) -> Option<Step>
     requires { candidates.now.size ≡ (P.puzzle p.now).size }
-    ensures { MatchOption result (IsIdleAt (P.struck_by p.now) grade candidates.now part place)
-        (IsNew (P.struck_by p.now) grade candidates.now) }
+    ensures { MatchOption result (IsIdleAt (StruckBy P.puzzle P.own p.now) grade candidates.now part place)
+        (IsNew (StruckBy P.puzzle P.own p.now) grade candidates.now) }
 {
     let reason = part.nth(candidates, place)?;
     step_by(p, grade, candidates, &reason, known)
@@ -104,8 +105,8 @@ fn step_by<P: Steps>(
     known: &mut P::Known,
 ) -> Option<Step>
     requires { candidates.now.size ≡ (P.puzzle p.now).size }
-    ensures { MatchOption result (IsIdle (P.struck_by p.now) grade candidates.now reason.now)
-        (IsNew (P.struck_by p.now) grade candidates.now) }
+    ensures { MatchOption result (IsIdle (StruckBy P.puzzle P.own p.now) grade candidates.now reason.now)
+        (IsNew (StruckBy P.puzzle P.own p.now) grade candidates.now) }
 {
     let width = candidates.size().get() as usize;
     for cell in 0..width * width {
@@ -127,8 +128,8 @@ fn step_in<P: Steps>(
 ) -> Option<Step>
     requires size { candidates.now.size ≡ (P.puzzle p.now).size }
     requires inside { cell < candidates.now.size * candidates.now.size }
-    ensures { MatchOption result (IsIdleIn (P.struck_by p.now) grade candidates.now reason.now cell)
-        (IsNew (P.struck_by p.now) grade candidates.now) }
+    ensures { MatchOption result (IsIdleIn (StruckBy P.puzzle P.own p.now) grade candidates.now reason.now cell)
+        (IsNew (StruckBy P.puzzle P.own p.now) grade candidates.now) }
 {
     let _size = candidates.size();
     if !grade.has(*reason) {

@@ -2,9 +2,9 @@
 ghost use Rattle.std.specs.Prelude.{◌≡◌, ◌↔◌, ℕ, ◌+◌, ◌*◌, ◌^◌, ◌<◌, true, count_ones, Some};
 ghost use Rattle.number_sets.specs.Sets.{has_number};
 ghost use Rattle.latin_board.specs.Lines.{line_cell};
-ghost use Rattle.clue_rules.specs.Left.{IsLeft};
-ghost use Rattle.clue_rules.specs.declared.reason.Reason.TheVariants.{Given, Peer, Place, Bound, Stand, Clue, Sign};
-ghost use Rattle.clue_rules.specs.declared.reason.Reason.TheVariants.{Set};
+ghost use Rattle.line_steps.specs.Left.{IsLeft};
+ghost use Rattle.line_steps.specs.declared.reason.Reason.TheVariants.{Given, Peer, Place, Bound, Stand, Clue, Sign};
+ghost use Rattle.line_steps.specs.declared.reason.Reason.TheVariants.{Set};
 ghost use Rattle.step_chains.specs.Inner.Listed.{IsFoundAt, IsSignAt, IsGroup, place_count};
 
 use latin_board::{Size, line_cell};

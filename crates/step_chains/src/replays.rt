@@ -1,14 +1,14 @@
 //! Chains followed step by step.
+ghost use Rattle.line_steps.specs.Reasons.{StruckBy};
 ghost use Rattle.std.specs.Prelude.{◌≡◌, ◌↔◌, ℕ, true, IsTrue};
 ghost use Rattle.std.specs.Bool.{OnTrue, OnFalse};
-ghost use Rattle.std.specs.List.{remove};
 ghost use Rattle.number_sets.specs.Sets.{has_number};
 ghost use Rattle.trail_solver.specs.Pairs.{IsPair, has_pair, pairs_of};
 ghost use Rattle.trail_solver.specs.Candidates.{IsEarlier};
-ghost use Rattle.clue_rules.specs.Left.{AreAlike, IsFewer};
-ghost use Rattle.named_steps.specs.Chains.{IsShown, Shows};
-ghost use Rattle.clue_rules.specs.Chains.{left_by};
-ghost use Rattle.clue_rules.specs.Takes.{Takes};
+ghost use Rattle.line_steps.specs.Left.{AreAlike, IsFewer};
+ghost use Rattle.named_steps.specs.Chains.{Shows};
+ghost use Rattle.line_steps.specs.Chains.{left_by};
+ghost use Rattle.line_steps.specs.Takes.{Takes};
 ghost use Rattle.step_chains.specs.ChainValues.{step_value, steps_of, AreLive, IsLiveStep};
 ghost use Rattle.step_chains.specs.Inner.Aims.{IsAimOf, aim_goal};
 ghost use Rattle.step_chains.specs.Inner.Replays.{IsGradeStep, IsGradeChain, Leads};
@@ -21,15 +21,13 @@ use named_steps::{Grade, Reason, Steps, strike};
 use number_sets::NumberSet;
 use trail_solver::{Candidates, Rules};
 
-/// Whether the steps, without the one at a place if they have it, are a chain of the grade's from the candidates and come to the aim.
-/// The candidates are afterwards what they were. The sizes are equal, and the aim is one of the size. `known` is used
-/// and added to, here and in what follows.
-pub(crate) fn shows_without<P: Steps>(
+/// Whether the steps are a chain of the grade's from the candidates and come to the aim. The candidates are afterwards what they were.
+/// The sizes are equal, and the aim is one of the size. `known` is used and added to, here and in what follows.
+pub(crate) fn come_to<P: Steps>(
     p: &P,
     grade: Grade,
     candidates: &mut Candidates,
     steps: &[Step],
-    place: usize,
     aim: Aim,
     known: &mut P::Known,
 ) -> bool
@@ -37,37 +35,12 @@ pub(crate) fn shows_without<P: Steps>(
     requires aim { IsAimOf candidates.old.size aim }
     ensures same { candidates.new ≡ candidates.old }
     ensures shows { IsTrue result
-        ↔ Shows (P.struck_by p.now) grade candidates.old (remove (steps_of steps.now) place) (aim_goal aim) }
+        ↔ Shows (StruckBy P.puzzle P.own p.now) grade candidates.old (steps_of steps.now) (aim_goal aim) }
 {
     let mark = candidates.mark();
-    let shows = leads_to(p, grade, candidates, steps, place, aim, known);
+    let shows = leads_to(p, grade, candidates, steps, aim, known);
     candidates.give_back(mark);
     shows
-}
-
-/// Whether the steps don't come to the aim, even if they are a chain: what is left once all that they list is gone doesn't meet it. The
-/// candidates are afterwards what they were, and the aim is one of the size.
-pub(crate) fn misses(candidates: &mut Candidates, steps: &[Step], aim: Aim) -> bool
-    requires { IsAimOf candidates.old.size aim }
-    ensures same { candidates.new ≡ candidates.old }
-    ensures misses { OnTrue result
-        (IsShown (left_by candidates.old (steps_of steps.now)) (aim_goal aim) → ⊥) }
-{
-    let mark = candidates.mark();
-    let misses = is_missed_by(candidates, steps, aim);
-    candidates.give_back(mark);
-    misses
-}
-
-// The same, and what the steps list is taken away.
-fn is_missed_by(candidates: &mut Candidates, steps: &[Step], aim: Aim) -> bool
-    requires { IsAimOf candidates.old.size aim }
-    ensures earlier { IsEarlier candidates.old candidates.new }
-    ensures misses { OnTrue result
-        (IsShown (left_by candidates.old (steps_of steps.now)) (aim_goal aim) → ⊥) }
-{
-    take_all(candidates, steps);
-    !aim.is_met(candidates)
 }
 
 /// Takes away what the steps list.
@@ -81,13 +54,12 @@ pub(crate) fn take_all(candidates: &mut Candidates, steps: &[Step])
     }
 }
 
-// Follows the steps without the one at a place, and tells whether they are a chain of the grade's and come to the aim.
+// Follows the steps, and tells whether they are a chain of the grade's and come to the aim.
 fn leads_to<P: Steps>(
     p: &P,
     grade: Grade,
     candidates: &mut Candidates,
     steps: &[Step],
-    place: usize,
     aim: Aim,
     known: &mut P::Known,
 ) -> bool
@@ -95,37 +67,12 @@ fn leads_to<P: Steps>(
     requires aim { IsAimOf candidates.old.size aim }
     ensures earlier { IsEarlier candidates.old candidates.new }
     ensures shows { IsTrue result
-        ↔ Shows (P.struck_by p.now) grade candidates.old (remove (steps_of steps.now) place) (aim_goal aim) }
+        ↔ Shows (StruckBy P.puzzle P.own p.now) grade candidates.old (steps_of steps.now) (aim_goal aim) }
 {
-    if !follow_without(p, grade, candidates, steps, place, known) {
+    if !follow(p, grade, candidates, steps, known) {
         return false;
     }
     aim.is_met(candidates)
-}
-
-// Follows the steps without the one at a place, and tells whether they are a chain of the grade's.
-fn follow_without<P: Steps>(
-    p: &P,
-    grade: Grade,
-    candidates: &mut Candidates,
-    steps: &[Step],
-    place: usize,
-    known: &mut P::Known,
-) -> bool
-    requires { candidates.old.size ≡ (P.puzzle p.now).size }
-    ensures earlier { IsEarlier candidates.old candidates.new }
-    ensures leads { OnTrue result
-        (Leads (P.struck_by p.now) grade candidates.old (remove (steps_of steps.now) place) candidates.new) }
-    ensures breaks { OnFalse result
-        (IsGradeChain (P.struck_by p.now) grade candidates.old (remove (steps_of steps.now) place) → ⊥) }
-{
-    if place >= steps.len() {
-        return follow(p, grade, candidates, steps, known);
-    }
-    if !follow(p, grade, candidates, &steps[..place], known) {
-        return false;
-    }
-    follow(p, grade, candidates, &steps[place + 1..], known)
 }
 
 // Follows the steps, and tells whether they are a chain of the grade's.
@@ -139,9 +86,9 @@ fn follow<P: Steps>(
     requires { candidates.old.size ≡ (P.puzzle p.now).size }
     ensures earlier { IsEarlier candidates.old candidates.new }
     ensures leads { OnTrue result
-        (Leads (P.struck_by p.now) grade candidates.old (steps_of steps.now) candidates.new) }
+        (Leads (StruckBy P.puzzle P.own p.now) grade candidates.old (steps_of steps.now) candidates.new) }
     ensures breaks { OnFalse result
-        (IsGradeChain (P.struck_by p.now) grade candidates.old (steps_of steps.now) → ⊥) }
+        (IsGradeChain (StruckBy P.puzzle P.own p.now) grade candidates.old (steps_of steps.now) → ⊥) }
 {
     for step in steps {
         if !follow_one(p, grade, candidates, step, known) {
@@ -161,7 +108,7 @@ fn follow_one<P: Steps>(
 ) -> bool
     requires { candidates.old.size ≡ (P.puzzle p.now).size }
     ensures earlier { IsEarlier candidates.old candidates.new }
-    ensures is { IsTrue result ↔ IsGradeStep (P.struck_by p.now) grade candidates.old (step_value step.now) }
+    ensures is { IsTrue result ↔ IsGradeStep (StruckBy P.puzzle P.own p.now) grade candidates.old (step_value step.now) }
     ensures takes { OnTrue result
         (Takes (λ cell v. has_pair (step_value step.now).strikes cell v ≡ true) candidates.old candidates.new) }
 {
@@ -181,7 +128,7 @@ pub(crate) fn is_step<P: Steps>(
     known: &mut P::Known,
 ) -> bool
     requires { candidates.now.size ≡ (P.puzzle p.now).size }
-    ensures { IsTrue result ↔ IsGradeStep (P.struck_by p.now) grade candidates.now (step_value step.now) }
+    ensures { IsTrue result ↔ IsGradeStep (StruckBy P.puzzle P.own p.now) grade candidates.now (step_value step.now) }
 {
     if !grade.has(step.reason) {
         return false;
@@ -200,7 +147,7 @@ pub(crate) fn struck<P: Steps>(
     known: &mut P::Known,
 ) -> NumberSet
     ensures { (v : ℕ) → (has_number result v ≡ true) ↔ ((candidates.now.size ≡ (P.puzzle p.now).size)
-        × (IsPair candidates.now.size cell v × P.struck_by p.now candidates.now reason.now cell v)) }
+        × (IsPair candidates.now.size cell v × StruckBy P.puzzle P.own p.now candidates.now reason.now cell v)) }
 {
     let size = candidates.size();
     let width = size.get() as usize;

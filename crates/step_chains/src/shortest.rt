@@ -1,23 +1,27 @@
 //! The chain that costs least of those that the aims of a first chain need.
+ghost use Rattle.line_steps.specs.Reasons.{StruckBy};
 ghost use Rattle.std.specs.Prelude.{◌≡◌, ◌*◌, IfOk, IfSome};
 ghost use Rattle.std.specs.Bool.{OnTrue};
 ghost use Rattle.named_steps.specs.Chains.{IsTight, Shows};
 ghost use Rattle.step_chains.specs.ChainValues.{steps_of, AreLive, AreAllNeeded};
-ghost use Rattle.step_chains.specs.Explanations.{AreNeededFrom, IsLiveFrom};
+ghost use Rattle.step_chains.specs.Inner.FromEachView.{AreNeededFrom, IsLiveFrom};
 ghost use Rattle.step_chains.specs.Inner.Aims.{IsAimOf, IsReached, aim_goal};
 
 use crate::aims::{Aim, Aimed};
 use crate::chain::Step;
+use crate::cutting::cut;
 use crate::goals::{shown_in_place, shown_in_square};
+use crate::joining::joined;
 use crate::kinds::Sought;
 use crate::layers::Rounds;
-use crate::needs::left;
-use crate::replays::{are_live, shows_without};
+use crate::needs::{left, squares_of};
+use crate::replays::{are_live, come_to};
 use crate::slices::{gathered, slice};
 use crate::tightening::tighten;
 use crate::view::view_of;
+use arrayvec::ArrayVec;
 use latin_board::{Grid, OutOfMemory};
-use named_steps::{Grade, Reason, Steps};
+use named_steps::{Goal, Grade, Reason, Steps};
 use std::alloc::Global;
 use trail_solver::{Candidates, Rules};
 
@@ -33,18 +37,38 @@ pub(crate) fn short_chain<P: Steps>(
     known: &mut P::Known,
 ) -> Result<Option<Aimed>, OutOfMemory>
     ensures reached { IfOk result (λ found. IfSome found (λ a. IsAimOf grid.now.size a.aim
-        × IsReached (P.struck_by p.now) grade grid.now (steps_of a.steps.items) (aim_goal a.aim))) }
+        × IsReached (StruckBy P.puzzle P.own p.now) grade grid.now (steps_of a.steps.items) (aim_goal a.aim))) }
     ensures live { IfOk result (λ found. IfSome found (λ a. IsLiveFrom grid.now (steps_of a.steps.items))) }
     ensures needed { IfOk result (λ found. IfSome found
-        (λ a. AreNeededFrom (P.struck_by p.now) grade grid.now (steps_of a.steps.items) (aim_goal a.aim))) }
+        (λ a. AreNeededFrom (StruckBy P.puzzle P.own p.now) grade grid.now (steps_of a.steps.items) (aim_goal a.aim))) }
 {
-    let Some(mut found) = least_chain(alloc, p, grid, grade, sought, known)? else {
+    let Some(found) = least_chain(alloc, p, grid, grade, sought, known)? else {
         return Ok(None);
     };
+    let mut found = ended(alloc, p, grid, grade, found, known)?;
     if !shorten_from_view(p, grid, grade, &mut found.steps, found.aim, known) {
         return Ok(None);
     }
     Ok(Some(found))
+}
+
+// The chain up to where any square is left nothing, and with no reason at two places where one is enough.
+#[inline(never)]
+fn ended<P: Steps>(
+    alloc: Global,
+    p: &P,
+    grid: &Grid,
+    grade: Grade,
+    found: Aimed,
+    known: &mut P::Known,
+) -> Result<Aimed, OutOfMemory> {
+    if found.steps.is_empty() {
+        return Ok(found);
+    }
+    let mut view = view_of(grid);
+    let Aimed { steps, aim } = cut(alloc, &mut view, found)?;
+    let steps = joined(alloc, p, grade, &mut view, steps, aim, known)?;
+    cut(alloc, &mut view, Aimed { steps, aim })
 }
 
 // The same as `shorten` from what is in view of the grid.
@@ -58,10 +82,10 @@ fn shorten_from_view<P: Steps>(
     known: &mut P::Known,
 ) -> bool
     ensures reached { OnTrue result (IsAimOf grid.now.size aim
-        × IsReached (P.struck_by p.now) grade grid.now (steps_of steps.new.items) (aim_goal aim)) }
+        × IsReached (StruckBy P.puzzle P.own p.now) grade grid.now (steps_of steps.new.items) (aim_goal aim)) }
     ensures live { OnTrue result (IsLiveFrom grid.now (steps_of steps.new.items)) }
     ensures needed { OnTrue result
-        (AreNeededFrom (P.struck_by p.now) grade grid.now (steps_of steps.new.items) (aim_goal aim)) }
+        (AreNeededFrom (StruckBy P.puzzle P.own p.now) grade grid.now (steps_of steps.new.items) (aim_goal aim)) }
 {
     let mut view = view_of(grid);
     shorten(p, grade, &mut view, steps, aim, known)
@@ -80,19 +104,18 @@ fn shorten<P: Steps>(
     ensures same { candidates.new ≡ candidates.old }
     ensures of { OnTrue result (IsAimOf candidates.old.size aim) }
     ensures shows { OnTrue result
-        (Shows (P.struck_by p.now) grade candidates.old (steps_of steps.new.items) (aim_goal aim)) }
+        (Shows (StruckBy P.puzzle P.own p.now) grade candidates.old (steps_of steps.new.items) (aim_goal aim)) }
     ensures tight { OnTrue result
-        (IsTight (P.struck_by p.now) grade candidates.old (steps_of steps.new.items) (aim_goal aim)) }
+        (IsTight (StruckBy P.puzzle P.own p.now) grade candidates.old (steps_of steps.new.items) (aim_goal aim)) }
     ensures live { OnTrue result (AreLive candidates.old (steps_of steps.new.items)) }
     ensures needed { OnTrue result
-        (AreAllNeeded (P.struck_by p.now) grade candidates.old (steps_of steps.new.items) (aim_goal aim)) }
+        (AreAllNeeded (StruckBy P.puzzle P.own p.now) grade candidates.old (steps_of steps.new.items) (aim_goal aim)) }
 {
-    let all = steps.len();
     let size = candidates.size();
     if p.size() != size || !aim.is_of(size) || !are_live(candidates, steps.as_slice()) {
         return false;
     }
-    if !shows_without(p, grade, candidates, steps.as_slice(), all, aim, known) {
+    if !come_to(p, grade, candidates, steps.as_slice(), aim, known) {
         return false;
     }
     tighten(p, grade, candidates, steps, aim, known);
@@ -111,20 +134,16 @@ fn least_chain<P: Steps>(
     known: &mut P::Known,
 ) -> Result<Option<Aimed>, OutOfMemory> {
     let mut rounds = Rounds::of(alloc, view_of(grid), sought, known);
-    rounds.go_through(p, grid, grade)?;
-    let aims = match sought {
-        Sought::NumberShown => numbers_shown(alloc, grid, &rounds.now)?,
-        Sought::SquareEmptied => squares_emptied(alloc, &rounds.now)?,
-    };
-    rounds.give_back();
     let mut least = Least {
         chain: None,
         cost: usize::MAX,
     };
-    for aim in aims.as_slice() {
-        if !least.is_done() {
-            least.try_aim(alloc, p, &mut rounds, *aim)?;
-        }
+    rounds.go_through(p, grid, grade)?;
+    least.try_all(alloc, p, grid, sought, &mut rounds)?;
+    if least.is_worth_another() {
+        rounds.begin_at_once(alloc);
+        rounds.go_through(p, grid, grade)?;
+        least.try_all(alloc, p, grid, sought, &mut rounds)?;
     }
     Ok(least.chain)
 }
@@ -134,6 +153,11 @@ const MOST_SQUARES: usize = 3;
 
 // A chain of more steps takes so long to find that it isn't compared with others.
 const LONG: usize = 50;
+
+// From so many looks on, and up to so many steps, a chain is sought once more.
+const SEVERAL: usize = 3;
+
+const MANY: usize = 30;
 
 // The first squares that are left nothing.
 fn squares_emptied(alloc: Global, candidates: &Candidates) -> Result<Vec<Aim>, OutOfMemory> {
@@ -147,7 +171,7 @@ fn squares_emptied(alloc: Global, candidates: &Candidates) -> Result<Vec<Aim>, O
     Ok(aims)
 }
 
-// The numbers of empty squares that candidates show: first the only values of squares, and then the only places of rows and columns.
+// The numbers of empty squares that candidates show: first the only values of squares, that of a last free square before others, and then the only places of rows and columns.
 #[inline(never)]
 fn numbers_shown(
     alloc: Global,
@@ -156,6 +180,7 @@ fn numbers_shown(
 ) -> Result<Vec<Aim>, OutOfMemory> {
     let mut aims = Vec::new(alloc);
     list_values(grid, candidates, &mut aims)?;
+    put_last_free_first(grid, aims.as_mut_slice());
     for line in 0..2 * grid.size().get() {
         list_places(grid, candidates, line, &mut aims)?;
     }
@@ -178,6 +203,40 @@ fn list_values(
         }
     }
     Ok(())
+}
+
+// Puts first a number of a square that is the last free one of its row or column, if there is one.
+fn put_last_free_first(grid: &Grid, aims: &mut [Aim]) {
+    for at in 0..aims.len() {
+        if let Aim::Number(Goal::OnlyValue { cell, .. }) = aims[at] {
+            if is_last_free(grid, cell) {
+                aims.swap(0, at);
+                return;
+            }
+        }
+    }
+}
+
+// Whether all other squares of the row or of the column have numbers.
+fn is_last_free(grid: &Grid, cell: usize) -> bool {
+    let size = grid.size();
+    let width = size.get() as usize;
+    let row = squares_of(size, cell / width);
+    let column = squares_of(size, width + cell % width);
+    free_of(grid, &row) == 1 || free_of(grid, &column) == 1
+}
+
+// How many of some squares have no number.
+fn free_of(grid: &Grid, cells: &ArrayVec<u8, 9>) -> usize {
+    let width = grid.size().get() as usize;
+    let mut free = 0usize;
+    for cell in cells.as_slice() {
+        let cell = *cell as usize;
+        if cell < width * width && grid.get(cell) == 0 {
+            free = free.saturating_add(1);
+        }
+    }
+    free
 }
 
 // Lists the only places of one row or column.
@@ -207,6 +266,39 @@ struct Least {
 }
 
 impl Least {
+    // Takes the chain that an aim of the rounds needs, where it costs less.
+    #[inline(never)]
+    fn try_all<P: Steps>(
+        &mut self,
+        alloc: Global,
+        p: &P,
+        grid: &Grid,
+        sought: Sought,
+        rounds: &mut Rounds<P>,
+    ) -> Result<(), OutOfMemory> {
+        let aims = match sought {
+            Sought::NumberShown => numbers_shown(alloc, grid, &rounds.now)?,
+            Sought::SquareEmptied => squares_emptied(alloc, &rounds.now)?,
+        };
+        rounds.give_back();
+        for aim in aims.as_slice() {
+            if !self.is_done() {
+                self.try_aim(alloc, p, rounds, *aim)?;
+            }
+        }
+        Ok(())
+    }
+
+    // Whether rounds in which no kind waits may lead to less: the chain has several looks, and isn't so long that another takes long.
+    fn is_worth_another(&self) -> bool {
+        match &self.chain {
+            Some(chain) => {
+                chain.steps.len() <= MANY && looks_in(chain.steps.as_slice()) >= SEVERAL
+            }
+            None => false,
+        }
+    }
+
     // Whether no other aim is to be tried: nothing costs less, or each takes long.
     fn is_done(&self) -> bool {
         match &self.chain {
@@ -240,6 +332,17 @@ impl Least {
         }
         Ok(())
     }
+}
+
+// How many looks a chain has.
+fn looks_in(steps: &[Step]) -> usize {
+    let mut looks = 0usize;
+    for i in 0..steps.len() {
+        if i == 0 || !steps[i].is_same_look(&steps[i - 1]) {
+            looks = looks.saturating_add(1);
+        }
+    }
+    looks
 }
 
 // What a chain costs: 1,000 for each look, more for the dearer kinds, and 1 for each value that is struck.

@@ -6,10 +6,10 @@ use Rattle.number_sets.specs.Sets.{has_number}
 use Rattle.trail_solver.specs.Pairs.{has_pair, pairs_of}
 use Rattle.trail_solver.proofs.SetPairs.{has_pair-pairs_of}
 use Rattle.trail_solver.specs.Candidates.{CandidatesValue}
-use Rattle.clue_rules.specs.Left.{IsLeft, without}
-use Rattle.clue_rules.specs.Chains.{StepValue, IsStep, IsChain, left_by}
-use Rattle.clue_rules.proofs.Chains.{left_size}
-use Rattle.clue_rules.specs.declared.reason.Reason.{Reason}
+use Rattle.line_steps.specs.Left.{IsLeft, without}
+use Rattle.line_steps.specs.Chains.{StepValue, IsStep, IsChain, left_by}
+use Rattle.line_steps.proofs.Chains.{left_size}
+use Rattle.line_steps.specs.declared.reason.Reason.{Reason}
 use Rattle.step_chains.specs.declared.chain.Step.{Step}
 use Rattle.step_chains.specs.ChainValues.{step_value, steps_of}
 use Rattle.shown_counts.specs.Shown.{IsShownBy}
@@ -17,7 +17,7 @@ use Rattle.step_texts.specs.declared.told.Strike.{Strike}
 use Rattle.step_texts.specs.declared.told.ToldStep.{ToldStep}
 use Rattle.step_texts.specs.Looks.{HoldsAt, AreRising}
 use Rattle.step_texts.specs.Told.{AreToldCounts, IsToldStrike, AreToldStrikes, AreTold, reason_clue, IsHeldStrike, AreAfter, AreInOrder, strike_value, told_values, AreHeld}
-use Rattle.clue_rules.specs.Reasons.{Striking}
+use Rattle.line_steps.specs.Reasons.{Striking}
 
 -- a reason strikes no number with whose counts its clue is
 abbrev IsToldBy : Striking → (ℕ → ℕ) → ℕ → Type 0

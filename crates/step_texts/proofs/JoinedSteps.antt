@@ -4,15 +4,15 @@ use Rattle.std.proofs.lemmas.List.{take_more, map-append}
 use Rattle.std.proofs.lemmas.List.Elements.{All-push}
 use Rattle.trail_solver.specs.Pairs.{has_pair}
 use Rattle.trail_solver.specs.Candidates.{CandidatesValue}
-use Rattle.clue_rules.specs.Left.{AreAlike, without}
-use Rattle.clue_rules.specs.Chains.{left_by}
-use Rattle.clue_rules.specs.Takes.{Takes}
-use Rattle.clue_rules.proofs.Chains.{left_size, left_append}
+use Rattle.line_steps.specs.Left.{AreAlike, without}
+use Rattle.line_steps.specs.Chains.{left_by}
+use Rattle.line_steps.specs.Takes.{Takes}
+use Rattle.line_steps.proofs.Chains.{left_size, left_append}
 use Rattle.step_chains.specs.ChainValues.{step_value, steps_of}
 use Rattle.step_chains.proofs.Followed.{taken_alike}
 use Rattle.step_chains.specs.declared.chain.Step.{Step}
 use Rattle.step_texts.specs.Looks.{HoldsAt, IsJoinable, AreRising, last_cell, AreJoined}
-use Rattle.clue_rules.specs.Reasons.{Striking}
+use Rattle.line_steps.specs.Reasons.{Striking}
 
 -- one more, at the end of those before
 pub grown : (steps : List Step) (at : ℕ) (step : Step) → at < length steps → step ≡ get_or steps at step → take (at + 1) steps ≡ take at steps ++ step ∷ []

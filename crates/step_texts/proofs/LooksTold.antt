@@ -4,10 +4,10 @@ use Rattle.std.specs.Prelude.{slice_get}
 use Rattle.std.proofs.lemmas.List.{take-append-drop}
 use Rattle.std.proofs.lemmas.List.Elements.{All-weaker}
 use Rattle.trail_solver.specs.Candidates.{CandidatesValue}
-use Rattle.clue_rules.specs.Left.{IsLeft, IsFewer, AreAlike, without}
-use Rattle.clue_rules.specs.Chains.{StepValue, left_by}
-use Rattle.clue_rules.proofs.Chains.{IsAntitone, fewer_without, left_size}
-use Rattle.clue_rules.specs.declared.reason.Reason.{Reason}
+use Rattle.line_steps.specs.Left.{IsLeft, IsFewer, AreAlike, without}
+use Rattle.line_steps.specs.Chains.{StepValue, left_by}
+use Rattle.line_steps.proofs.Chains.{IsAntitone, fewer_without, left_size}
+use Rattle.line_steps.specs.declared.reason.Reason.{Reason}
 use Rattle.step_chains.specs.declared.chain.Step.{Step}
 use Rattle.step_chains.specs.ChainValues.{steps_of}
 use Rattle.step_texts.specs.declared.told.Strike.{Strike}
@@ -16,7 +16,7 @@ use Rattle.step_texts.specs.Looks.{HoldsAt, AreJoined, HasNoMore}
 use Rattle.step_texts.specs.Told.{IsToldStrike, AreToldStrikes, IsToldOf, AreTold}
 use Rattle.step_texts.proofs.JoinedSteps.{grown}
 use Rattle.step_texts.proofs.ToldAlike.{told_alike}
-use Rattle.clue_rules.specs.Reasons.{Striking}
+use Rattle.line_steps.specs.Reasons.{Striking}
 
 -- ---- the strikes of a look
 

@@ -1,10 +1,10 @@
 -- What is told of steps is the same by candidates of which the same is left.
 use Rattle.std.proofs.Common.{◌≡◌, ℕ, List, [], ◌∷◌, sym, ap, ◌∙◌, subst, Option, Some, None}
 use Rattle.trail_solver.specs.Candidates.{CandidatesValue}
-use Rattle.clue_rules.specs.Left.{IsLeft, IsFewer, AreAlike}
-use Rattle.clue_rules.specs.Fillings.{Anything, Standing}
-use Rattle.clue_rules.specs.declared.reason.Reason.{Reason}
-use Rattle.clue_rules.specs.declared.reason.Reason.TheVariants.{Given, Peer, Place, Bound, Stand, Clue, Sign, Set}
+use Rattle.line_steps.specs.Left.{IsLeft, IsFewer, AreAlike}
+use Rattle.towers_game.specs.Fillings.{Anything, Standing}
+use Rattle.line_steps.specs.declared.reason.Reason.{Reason}
+use Rattle.line_steps.specs.declared.reason.Reason.TheVariants.{Given, Peer, Place, Bound, Stand, Clue, Sign, Set}
 use Rattle.step_chains.specs.declared.chain.Step.{Step}
 use Rattle.shown_counts.specs.Shown.{CanShow, IsShownBy, is_at_clue}
 use Rattle.step_texts.specs.declared.told.Strike.{Strike}
@@ -72,5 +72,6 @@ pub told_alike : (c d : CandidatesValue) → c.size ≡ d.size → AreAlike c d 
 told_alike c d size alike reason look told t = record {
   reason = t.reason;
   strikes = strikes_alike c d size alike reason look told.strikes.items t.strikes;
+  some = t.some;
   short = t.short;
 }

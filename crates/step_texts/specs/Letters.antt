@@ -1,7 +1,7 @@
 -- The letters that stand for grades in IDs.
 use Rattle.std.specs.Prelude.{ℕ, List, codes}
-use Rattle.clue_rules.specs.declared.grade.Grade.{Grade}
-use Rattle.clue_rules.specs.declared.grade.Grade.TheVariants.{Latin, Easy, Hard}
+use Rattle.line_steps.specs.declared.grade.Grade.{Grade}
+use Rattle.line_steps.specs.declared.grade.Grade.TheVariants.{Latin, Easy, Hard}
 
 -- in Towers, where the least grade has no letter of its own
 abbrev pub towers_grade_text : Grade → List ℕ

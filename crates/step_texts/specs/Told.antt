@@ -1,13 +1,13 @@
 -- Chains as they are told: which steps are one, what is told of each, and what holds of it.
-use Rattle.std.specs.Prelude.{◌≡◌, ◌<◌, ◌*◌, ◌^◌, ℕ, true, false, List, [], ◌∷◌, ◌++◌, All, map, slice_index, Option, Some, None, IfSome}
+use Rattle.std.specs.Prelude.{◌≡◌, ◌<◌, ◌≤◌, ◌*◌, ◌^◌, ℕ, true, false, List, [], ◌∷◌, ◌++◌, length, All, map, slice_index, Option, Some, None, IfSome}
 use Rattle.number_sets.specs.Sets.{has_number}
-use Rattle.clue_rules.specs.Views.{view_cell}
+use Rattle.line_steps.specs.Views.{view_cell}
 use Rattle.trail_solver.specs.Candidates.{CandidatesValue}
 use Rattle.trail_solver.specs.Pairs.{pairs_of}
-use Rattle.clue_rules.specs.Left.{IsLeft}
-use Rattle.clue_rules.specs.Chains.{StepValue, left_by}
-use Rattle.clue_rules.specs.declared.reason.Reason.{Reason}
-use Rattle.clue_rules.specs.declared.reason.Reason.TheVariants.{Given, Peer, Place, Bound, Stand, Clue, Sign, Set}
+use Rattle.line_steps.specs.Left.{IsLeft}
+use Rattle.line_steps.specs.Chains.{StepValue, left_by}
+use Rattle.line_steps.specs.declared.reason.Reason.{Reason}
+use Rattle.line_steps.specs.declared.reason.Reason.TheVariants.{Given, Peer, Place, Bound, Stand, Clue, Sign, Set}
 use Rattle.step_chains.specs.ChainValues.{steps_of}
 use Rattle.step_chains.specs.declared.chain.Step.{Step}
 use Rattle.shown_counts.specs.Shown.{is_at_clue, AreShown}
@@ -15,7 +15,7 @@ use Rattle.step_texts.specs.declared.told.Strike.{Strike}
 use Rattle.step_texts.specs.declared.told.ToldStep.{ToldStep}
 use Rattle.step_texts.specs.Lines.{AreShort, line_texts}
 use Rattle.step_texts.specs.Looks.{AreJoined, HasNoMore}
-use Rattle.clue_rules.specs.Reasons.{Striking}
+use Rattle.line_steps.specs.Reasons.{Striking}
 
 -- what is told of the counts of towers: for each number that is struck those of the lines with it there, where the
 -- reason looks from a clue
@@ -39,10 +39,11 @@ AreToldStrikes c reason (step ∷ steps) [] = ⊥
 AreToldStrikes c reason (step ∷ steps) (strike ∷ strikes) =
     IsToldStrike c reason step strike × AreToldStrikes c reason steps strikes
 
--- the told step is of these steps of a reason, by the candidates before them, and has short lines
+-- the told step is of these steps of a reason, by the candidates before them, and has short lines, one at least
 pub record IsToldOf (c : CandidatesValue) (why : Reason) (look : List Step) (told : ToldStep) : Type 0 where
   pub reason : told.reason ≡ why
   pub strikes : AreToldStrikes c why look told.strikes.items
+  pub some : 1 ≤ length told.text.items
   pub short : AreShort (line_texts told.text.items)
 
 -- the steps are told one look after another, each by what the looks before it leave: the first step that isn't told

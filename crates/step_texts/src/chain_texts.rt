@@ -2,7 +2,7 @@
 ghost use Rattle.std.specs.Prelude.{IfOk};
 ghost use Rattle.step_texts.specs.Lines.{AreShort, line_texts};
 
-use crate::sentences::{say_empty, say_goal};
+use crate::endings::{say_empty, say_goal};
 use crate::told::ToldStep;
 use crate::writing::{Line, Writing};
 use latin_board::Grid;
@@ -25,7 +25,7 @@ pub fn chain_lines(
     Ok(text.into_lines())
 }
 
-/// The told steps of a grid, numbered from 1, and then the square that they leave nothing.
+/// The told steps of a grid, numbered from 1, and then the square, or the number of a line, that they leave nothing.
 pub fn refutation_lines(
     alloc: Global,
     grid: &Grid,
@@ -36,7 +36,7 @@ pub fn refutation_lines(
 {
     let mut text = Writing::new(alloc);
     say_steps(&mut text, told)?;
-    say_empty(&mut text, grid, cell)?;
+    say_empty(&mut text, grid, told, cell)?;
     text.end()?;
     Ok(text.into_lines())
 }

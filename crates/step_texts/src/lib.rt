@@ -15,9 +15,13 @@
 
 mod chain_texts;
 mod clue_sentences;
+mod endings;
+mod known_squares;
+mod left;
 mod looks;
 mod names;
 mod sentences;
+mod set_sentences;
 mod showing;
 mod step_names;
 mod telling;

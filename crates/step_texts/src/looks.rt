@@ -1,11 +1,12 @@
 //! Looks: steps one after another that have one reason and hold at once.
-ghost use Rattle.std.specs.Prelude.{◌≡◌, ◌≢◌, ◌↔◌, ◌<◌, ◌≤◌, ℕ, ◌*◌, ◌+◌, ◌^◌, ◌∷◌, true, drop, length, take, IsTrue};
+ghost use Rattle.line_steps.specs.Reasons.{StruckBy};
+ghost use Rattle.std.specs.Prelude.{◌≡◌, ◌↔◌, ◌<◌, ◌≤◌, ℕ, ◌*◌, ◌+◌, ◌^◌, true, drop, length, take, IsTrue};
 ghost use Rattle.number_sets.specs.Sets.{has_number};
 ghost use Rattle.trail_solver.specs.Pairs.{IsPair, has_pair};
 ghost use Rattle.trail_solver.specs.Candidates.{may_be};
-ghost use Rattle.clue_rules.specs.Left.{AreAlike};
-ghost use Rattle.clue_rules.specs.Chains.{left_by};
-ghost use Rattle.clue_rules.specs.Takes.{Takes};
+ghost use Rattle.line_steps.specs.Left.{AreAlike};
+ghost use Rattle.line_steps.specs.Chains.{left_by};
+ghost use Rattle.line_steps.specs.Takes.{Takes};
 ghost use Rattle.step_chains.specs.ChainValues.{step_value, steps_of};
 ghost use Rattle.step_texts.specs.Looks.{HoldsAt, IsJoinable, AreJoined, HasNoMore};
 
@@ -25,9 +26,9 @@ pub(crate) fn joined_steps<P: Steps>(
 ) -> usize
     ensures within { result ≤ length steps.now }
     ensures room { result + 1 < 2 ^ 64 }
-    ensures joined { AreJoined (P.struck_by p.now) (P.puzzle p.now).size candidates.now first.now
+    ensures joined { AreJoined (StruckBy P.puzzle P.own p.now) (P.puzzle p.now).size candidates.now first.now
         (take result steps.now) }
-    ensures ends { HasNoMore (P.struck_by p.now) (P.puzzle p.now).size candidates.now first.now (take result steps.now)
+    ensures ends { HasNoMore (StruckBy P.puzzle P.own p.now) (P.puzzle p.now).size candidates.now first.now (take result steps.now)
         (drop result steps.now) }
 {
     let mut last = first.cell;
@@ -52,7 +53,7 @@ fn is_joinable<P: Steps>(
     known: &mut P::Known,
 ) -> bool
     ensures { IsTrue result
-        ↔ IsJoinable (P.struck_by p.now) (P.puzzle p.now).size candidates.now reason after step.now }
+        ↔ IsJoinable (StruckBy P.puzzle P.own p.now) (P.puzzle p.now).size candidates.now reason after step.now }
 {
     if step.reason != reason || step.cell <= after {
         return false;
@@ -62,7 +63,7 @@ fn is_joinable<P: Steps>(
 
 // Whether a step strikes by what is left numbers that are left.
 fn holds_at<P: Steps>(p: &P, candidates: &Candidates, step: &Step, known: &mut P::Known) -> bool
-    ensures { IsTrue result ↔ HoldsAt (P.struck_by p.now) (P.puzzle p.now).size candidates.now step.now }
+    ensures { IsTrue result ↔ HoldsAt (StruckBy P.puzzle P.own p.now) (P.puzzle p.now).size candidates.now step.now }
 {
     let values = struck_left(p, candidates, &step.reason, step.cell as usize, known);
     step.values.is_subset(values)
@@ -78,7 +79,7 @@ fn struck_left<P: Steps>(
 ) -> NumberSet
     ensures { (v : ℕ) → (has_number result v ≡ true) ↔ ((candidates.now.size ≡ (P.puzzle p.now).size)
         × (IsPair candidates.now.size cell v × (may_be candidates.now cell v ≡ true)
-        × P.struck_by p.now candidates.now reason.now cell v)) }
+        × StruckBy P.puzzle P.own p.now candidates.now reason.now cell v)) }
 {
     let size = candidates.size();
     let width = size.get() as usize;

@@ -61,13 +61,49 @@ pub(crate) fn line_square(
     line: usize,
     index: usize,
 ) -> Result<(), AllocError> {
-    let width = size.get() as usize;
     text.say("r")?;
+    row_and_column_on(text, size, line, index)
+}
+
+/// The same at the head of a sentence.
+pub(crate) fn first_square_on(
+    text: &mut Writing,
+    size: Size,
+    line: usize,
+    index: usize,
+) -> Result<(), AllocError> {
+    text.say("R")?;
+    row_and_column_on(text, size, line, index)
+}
+
+// The row and column of a place of a line.
+fn row_and_column_on(
+    text: &mut Writing,
+    size: Size,
+    line: usize,
+    index: usize,
+) -> Result<(), AllocError> {
+    let width = size.get() as usize;
     if line < width {
         row_and_column(text, line, index)
     } else {
         row_and_column(text, index, line - width)
     }
+}
+
+/// That no other square of a line than the one that is spoken of can have a value, after this word.
+pub(crate) fn no_other(
+    text: &mut Writing,
+    no: &str,
+    size: Size,
+    at: usize,
+    value: u8,
+) -> Result<(), AllocError> {
+    text.say(no)?;
+    text.say(" other square of ")?;
+    line(text, size, at, "row ", "column ")?;
+    text.say(" can be ")?;
+    text.number(value as usize)
 }
 
 /// Where a clue stands, by its place at the edge.
@@ -80,6 +116,13 @@ pub(crate) fn edge(text: &mut Writing, size: Size, place: usize) -> Result<(), A
         _ => " right of row ",
     };
     text.say(words)?;
+    text.number(place % width + 1)
+}
+
+/// The row or column of a clue, by its place at the edge.
+pub(crate) fn edge_line(text: &mut Writing, size: Size, place: usize) -> Result<(), AllocError> {
+    let width = size.get() as usize;
+    text.say(if place / width < 2 { "column " } else { "row " })?;
     text.number(place % width + 1)
 }
 

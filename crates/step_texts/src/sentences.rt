@@ -1,25 +1,26 @@
-//! The sentence of a step, and that of what a chain shows or leaves nothing.
+//! The sentence of a step.
 
 use crate::clue_sentences::{EdgeClue, Knowing, say_clue};
-use crate::names::{
-    Joined, first_square, line, line_square, line_squares, losses, numbers, square,
-};
+use crate::left::{left_of, left_on, one};
+use crate::names::{Joined, first_square, line, line_square, losses, no_other, numbers, square};
+use crate::set_sentences::say_set;
 use crate::step_names::StepNames;
 use crate::told::Strike;
 use crate::writing::Writing;
-use latin_board::{Grid, Size, line_cell};
-use named_steps::{Goal, Reason};
+use latin_board::Size;
+use named_steps::Reason;
 use number_sets::NumberSet;
+use shown_counts::ClueCounts;
 use std::alloc::AllocError;
-use step_chains::view_of;
 use trail_solver::Candidates;
 
-/// Why a reason strikes, by the candidates before it, and what it strikes.
+/// Why a reason strikes, by the candidates before it, or by its clue's line, and what it strikes.
 pub(crate) fn say_step<P: StepNames>(
     text: &mut Writing,
     p: &P,
     candidates: &Candidates,
     reason: Reason,
+    line: &Option<ClueCounts>,
     strikes: &[Strike],
 ) -> Result<(), AllocError> {
     let size = candidates.size();
@@ -34,24 +35,38 @@ pub(crate) fn say_step<P: StepNames>(
         }
         Reason::Place { line, index, value } => say_place(text, candidates, line, index, value)?,
         Reason::Bound { place } => {
-            return say_clue(text, &edge_clue(p, place), Knowing::Alone, strikes);
+            return say_looked(text, &edge_clue(p, place), Knowing::Alone, line, strikes);
         }
         Reason::Stand { place } => {
-            return say_clue(text, &edge_clue(p, place), Knowing::Stands, strikes);
+            return say_looked(text, &edge_clue(p, place), Knowing::Stands, line, strikes);
         }
         Reason::Clue { place } => {
-            return say_clue(text, &edge_clue(p, place), Knowing::Marks, strikes);
+            return say_looked(text, &edge_clue(p, place), Knowing::Marks, line, strikes);
         }
-        Reason::Sign { from, to } => say_sign(text, p, candidates, from, to)?,
+        Reason::Sign { from, to } => say_sign(text, p, candidates, from, to, strikes)?,
         Reason::Set {
             line,
             squares,
             values,
-        } => say_set(text, size, line, squares, values)?,
+        } => say_set(text, candidates, line, squares, values, strikes)?,
     }
     text.say(": ")?;
     losses(text, size, strikes)?;
     text.say(".")
+}
+
+// The sentence of a clue, of whose line there is nothing to say where its place is none of the edge's.
+fn say_looked(
+    text: &mut Writing,
+    at: &EdgeClue,
+    knowing: Knowing,
+    line: &Option<ClueCounts>,
+    strikes: &[Strike],
+) -> Result<(), AllocError> {
+    match line {
+        Some(line) => say_clue(text, at, knowing, line, strikes),
+        None => Ok(()),
+    }
 }
 
 // What is left of a square.
@@ -77,63 +92,21 @@ fn say_place(
         line(text, size, at, "row ", "column ")?;
         text.say(" only ")?;
         line_square(text, size, at, index)?;
-        say_can_be(text, value)
+        text.say(" can be ")?;
+        text.number(value as usize)
     } else {
-        say_no_other(text, "No", size, at, value)
+        no_other(text, "No", size, at, value)
     }
 }
 
-// That no other square of a line than the one that is spoken of can have a value, after this word.
-fn say_no_other(
-    text: &mut Writing,
-    no: &str,
-    size: Size,
-    at: usize,
-    value: u8,
-) -> Result<(), AllocError> {
-    text.say(no)?;
-    text.say(" other square of ")?;
-    line(text, size, at, "row ", "column ")?;
-    say_can_be(text, value)
-}
-
-fn say_can_be(text: &mut Writing, value: u8) -> Result<(), AllocError> {
-    text.say(" can be ")?;
-    text.number(value as usize)
-}
-
-// That some squares of a line share some values.
-fn say_set(
-    text: &mut Writing,
-    size: Size,
-    at: usize,
-    squares: NumberSet,
-    values: NumberSet,
-) -> Result<(), AllocError> {
-    text.say("In ")?;
-    line(text, size, at, "row ", "column ")?;
-    text.say(" ")?;
-    line_squares(text, size, at, squares)?;
-    text.say(if squares.is_single() {
-        " takes "
-    } else {
-        " take "
-    })?;
-    numbers(text, values, Joined::And)?;
-    text.say(if squares.is_single() {
-        ""
-    } else {
-        " among them"
-    })
-}
-
-// What a sign says by what is left of one of its ends.
+// What a sign says by what is left of one of its ends. That isn't needed where only the number is struck that no grid has at the other end.
 fn say_sign<P: StepNames>(
     text: &mut Writing,
     p: &P,
     candidates: &Candidates,
     from: usize,
     to: usize,
+    strikes: &[Strike],
 ) -> Result<(), AllocError> {
     let size = candidates.size();
     let left = left_of(candidates, from);
@@ -141,26 +114,27 @@ fn say_sign<P: StepNames>(
     if is_greater(p, from, to) {
         text.say(" is less than ")?;
         square(text, size, from)?;
-        say_end(text, left, left.greatest(), size.get(), "at most ")
+        say_end(text, left, left.greatest(), size.get(), "at most ", strikes)
     } else {
         text.say(" is greater than ")?;
         square(text, size, from)?;
-        say_end(text, left, left.least(), 1, "at least ")
+        say_end(text, left, left.least(), 1, "at least ", strikes)
     }
 }
 
-// What is left of a sign's other end, where that says something.
+// What is left of a sign's other end, where that is needed: more is struck than the number at the end of all.
 fn say_end(
     text: &mut Writing,
     left: NumberSet,
     end: Option<u8>,
-    plain: u8,
+    last: u8,
     words: &str,
+    strikes: &[Strike],
 ) -> Result<(), AllocError> {
     let Some(end) = end else {
         return Ok(());
     };
-    if end == plain {
+    if end == last || strikes.iter().all(|strike| strike.values == one(last)) {
         return Ok(());
     }
     text.say(", which is ")?;
@@ -168,115 +142,6 @@ fn say_end(
         text.say(words)?;
     }
     text.number(end as usize)
-}
-
-/// What a chain shows on a board, and why.
-pub(crate) fn say_goal(text: &mut Writing, grid: &Grid, goal: Goal) -> Result<(), AllocError> {
-    let size = grid.size();
-    text.say("So ")?;
-    match goal {
-        Goal::OnlyValue { cell, value } => {
-            square(text, size, cell)?;
-            say_is(text, value)?;
-            let view = view_of(grid);
-            say_gone(text, size, left_of(&view, cell), one(value))
-        }
-        Goal::OnlyPlace {
-            line: at,
-            index,
-            value,
-        } => {
-            line_square(text, size, at, index)?;
-            say_is(text, value)?;
-            say_no_other(text, "no", size, at, value)?;
-            text.say(".")
-        }
-    }
-}
-
-fn say_is(text: &mut Writing, value: u8) -> Result<(), AllocError> {
-    text.say(" is ")?;
-    text.number(value as usize)?;
-    text.say(": ")
-}
-
-/// That a square of a board is left nothing, and why.
-pub(crate) fn say_empty(text: &mut Writing, grid: &Grid, cell: usize) -> Result<(), AllocError> {
-    let size = grid.size();
-    let view = left_of(&view_of(grid), cell);
-    text.say("So ")?;
-    square(text, size, cell)?;
-    text.say(" has no number left: ")?;
-    if is_filled(grid, cell) {
-        text.say("its ")?;
-        numbers(text, view, Joined::And)?;
-        text.say(" is ruled out above.")
-    } else {
-        say_gone(text, size, view, NumberSet::empty())
-    }
-}
-
-// Where the values have gone, but for those that stay, of an empty square with these in view.
-fn say_gone(
-    text: &mut Writing,
-    size: Size,
-    view: NumberSet,
-    stay: NumberSet,
-) -> Result<(), AllocError> {
-    let stood = NumberSet::up_to(size.get()).difference(view);
-    let struck = view.difference(stay);
-    if !stood.is_empty() {
-        numbers(text, stood, Joined::And)?;
-        text.say(if stood.is_single() {
-            " stands"
-        } else {
-            " stand"
-        })?;
-        text.say(" in its row or column")?;
-    }
-    if !struck.is_empty() {
-        text.say(if stood.is_empty() { "" } else { ", and " })?;
-        numbers(text, struck, Joined::And)?;
-        text.say(if struck.is_single() { " is" } else { " are" })?;
-        text.say(" ruled out above")?;
-    }
-    text.say(".")
-}
-
-// The set of one number below 16, or of none.
-fn one(value: u8) -> NumberSet {
-    if value < 16 {
-        NumberSet::one(value)
-    } else {
-        NumberSet::empty()
-    }
-}
-
-// What is left of a square of the grid; nothing of any other.
-fn left_of(candidates: &Candidates, cell: usize) -> NumberSet {
-    let width = candidates.size().get() as usize;
-    if cell < width * width {
-        candidates.values(cell)
-    } else {
-        NumberSet::empty()
-    }
-}
-
-// What is left at a place of a row or column; nothing at any other.
-fn left_on(candidates: &Candidates, at: usize, index: usize) -> NumberSet {
-    let size = candidates.size();
-    let width = size.get() as usize;
-    if at < 2 * width && index < width {
-        candidates.values(line_cell(size, at as u8, index as u8))
-    } else {
-        NumberSet::empty()
-    }
-}
-
-// Whether a square of the grid has a number.
-fn is_filled(grid: &Grid, cell: usize) -> bool {
-    let width = grid.size().get() as usize;
-    cell < width * width && grid.get(cell) != 0
 }
 
 // The clue at a place of the edge; 0 of any other.

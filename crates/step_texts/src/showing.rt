@@ -1,6 +1,10 @@
-//! What a clue's line would show with a number in a square.
+//! What a clue's line would show with the numbers that are struck, each in its square.
+ghost use Rattle.std.specs.Prelude.{◌<◌};
+
 use crate::told::Strike;
+use arrayvec::ArrayVec;
 use number_sets::NumberSet;
+use shown_counts::ClueCounts;
 
 /// What would be seen, beside a clue.
 #[derive(Clone, Copy, PartialEq, Eq, Debug)]
@@ -11,13 +15,27 @@ pub(crate) enum Showing {
     More,
     /// Fewer, in each order.
     Fewer,
+    /// Fewer where this number is at one of these places of the line, and more where it is elsewhere.
+    Split { number: u8, places: NumberSet },
     /// More in some orders and fewer in others: these counts.
     Both(NumberSet),
 }
 
 impl Showing {
-    /// What these counts are, beside the clue.
-    fn of(counts: NumberSet, clue: u8) -> Showing {
+    /// What the line shows with a number at an index.
+    pub(crate) fn of(line: &ClueCounts, index: u8, number: u8, clue: u8) -> Showing
+        requires index { index < line.now.size }
+        requires number { number < 16 }
+    {
+        let beside = Showing::beside(line.counts(index, number), clue);
+        match beside {
+            Showing::Both(_) => split(line, index, number, clue).unwrap_or(beside),
+            _ => beside,
+        }
+    }
+
+    // What these counts are, beside the clue.
+    fn beside(counts: NumberSet, clue: u8) -> Showing {
         let (Some(least), Some(greatest)) = (counts.least(), counts.greatest()) else {
             return Showing::Never;
         };
@@ -29,37 +47,177 @@ impl Showing {
             Showing::Both(counts)
         }
     }
+}
 
-    /// What would be seen with a number in a strike's square.
-    pub(crate) fn with(strike: &Strike, number: u8, clue: u8) -> Showing {
-        match strike.shows {
-            Some(shows) if number < 10 => Showing::of(shows[number as usize], clue),
-            _ => Showing::Never,
+// What is seen by where the tallest tower is that doesn't stand yet, if that is always more or always fewer with it in each square.
+fn split(line: &ClueCounts, index: u8, number: u8, clue: u8) -> Option<Showing>
+    requires index { index < line.now.size }
+    requires number { number < 16 }
+{
+    let tallest = tallest_open(line, number)?;
+    if tallest > 9 {
+        return None;
+    }
+    let with = line.with(index, number);
+    let mut places = NumberSet::empty();
+    for other in 0..with.width() {
+        match Showing::beside(with.counts(other, tallest), clue) {
+            Showing::Fewer => places = places.union(NumberSet::one(other)),
+            Showing::Both(_) => return None,
+            _ => {}
+        }
+    }
+    Some(Showing::Split {
+        number: tallest,
+        places,
+    })
+}
+
+// The greatest number but this one that no square of the line has alone.
+fn tallest_open(line: &ClueCounts, number: u8) -> Option<u8>
+    requires { number < 16 }
+{
+    let width = line.width();
+    let mut open = NumberSet::up_to(width).difference(NumberSet::one(number));
+    for index in 0..width {
+        let may = line.may(index);
+        if may.is_single() {
+            open = open.difference(may);
+        }
+    }
+    open.greatest()
+}
+
+/// What is struck in a square of a clue's line, and what would be seen with each number of it, told by sets of these numbers.
+#[derive(Clone, Copy, Debug)]
+pub(crate) struct ShownStrike {
+    pub(crate) cell: u8,
+    pub(crate) values: NumberSet,
+    more: NumberSet,
+    fewer: NumberSet,
+    // where it depends on a number's place: that number, and the places with which it is fewer, by the struck number
+    tallest: [u8; 10],
+    places: [NumberSet; 10],
+    // where nothing of this is so: all counts, by the struck number
+    counts: [NumberSet; 10],
+}
+
+impl Default for ShownStrike {
+    fn default() -> ShownStrike {
+        ShownStrike {
+            cell: 0,
+            values: NumberSet::empty(),
+            more: NumberSet::empty(),
+            fewer: NumberSet::empty(),
+            tallest: [0; 10],
+            places: [NumberSet::empty(); 10],
+            counts: [NumberSet::empty(); 10],
+        }
+    }
+}
+
+impl ShownStrike {
+    /// What is seen with the numbers of a strike.
+    pub(crate) fn of(line: &ClueCounts, strike: &Strike, clue: u8) -> ShownStrike {
+        let mut shown = ShownStrike::default();
+        shown.cell = strike.cell;
+        shown.values = strike.values;
+        if let Some(index) = line.index_of(strike.cell) {
+            for number in 1..10 {
+                if strike.values.has(number) {
+                    shown.note(number, Showing::of(line, index, number, clue));
+                }
+            }
+        }
+        shown
+    }
+
+    // Notes what would be seen with a number.
+    fn note(&mut self, number: u8, showing: Showing)
+        requires { number < 10 }
+    {
+        match showing {
+            Showing::Never => {}
+            Showing::More => self.more = self.more.union(NumberSet::one(number)),
+            Showing::Fewer => self.fewer = self.fewer.union(NumberSet::one(number)),
+            Showing::Split {
+                number: tallest,
+                places,
+            } => {
+                self.tallest[number as usize] = tallest;
+                self.places[number as usize] = places;
+            }
+            Showing::Both(counts) => self.counts[number as usize] = counts,
         }
     }
 
-    /// The numbers of a strike with which this would be seen.
-    pub(crate) fn numbers_of(&self, strike: &Strike, clue: u8) -> NumberSet {
+    /// What would be seen with a number in the square.
+    pub(crate) fn with(&self, number: u8) -> Showing {
+        if number >= 10 {
+            return Showing::Never;
+        }
+        let at = number as usize;
+        if self.more.has(number) {
+            Showing::More
+        } else if self.fewer.has(number) {
+            Showing::Fewer
+        } else if !self.places[at].is_empty() {
+            Showing::Split {
+                number: self.tallest[at],
+                places: self.places[at],
+            }
+        } else if !self.counts[at].is_empty() {
+            Showing::Both(self.counts[at])
+        } else {
+            Showing::Never
+        }
+    }
+
+    /// The struck numbers with which this would be seen.
+    pub(crate) fn numbers_with(&self, showing: &Showing) -> NumberSet {
         let mut numbers = NumberSet::empty();
         for number in 1..10 {
-            if strike.values.has(number) && Showing::with(strike, number, clue) == *self {
+            if self.values.has(number) && self.with(number) == *showing {
                 numbers = numbers.union(NumberSet::one(number));
             }
         }
         numbers
     }
 
-    /// Whether this would be seen with one of the numbers of some strikes.
-    pub(crate) fn is_of(&self, strikes: &[Strike], clue: u8) -> bool {
-        strikes
-            .iter()
-            .any(|strike| !self.numbers_of(strike, clue).is_empty())
+    /// Whether with each struck number it is known whether fewer or more are seen.
+    pub(crate) fn is_clear(&self) -> bool {
+        for number in 1..10 {
+            let is_told = match self.with(number) {
+                Showing::Never | Showing::Both(_) => false,
+                _ => true,
+            };
+            if self.values.has(number) && !is_told {
+                return false;
+            }
+        }
+        true
     }
 
-    /// Whether this would be seen with exactly these numbers of one of the strikes.
-    pub(crate) fn has_numbers(&self, strikes: &[Strike], clue: u8, numbers: NumberSet) -> bool {
-        strikes
-            .iter()
-            .any(|strike| self.numbers_of(strike, clue) == numbers)
+    /// Whether the same would be seen with each of the struck numbers.
+    pub(crate) fn is_as(&self, other: &ShownStrike) -> bool {
+        for number in 1..10 {
+            if self.values.has(number) && self.with(number) != other.with(number) {
+                return false;
+            }
+        }
+        true
     }
+}
+
+/// What would be seen with all that is struck, square by square.
+pub(crate) fn shown_strikes(
+    line: &ClueCounts,
+    strikes: &[Strike],
+    clue: u8,
+) -> ArrayVec<ShownStrike, 9> {
+    let mut shown = ArrayVec::new();
+    for strike in strikes {
+        let _fits = shown.try_push(ShownStrike::of(line, strike, clue));
+    }
+    shown
 }

@@ -1,13 +1,15 @@
 //! What a game adds for its steps to be told.
+ghost use Rattle.line_steps.specs.Reasons.{StruckBy};
 ghost use Rattle.std.specs.Prelude.{◌≡◌, ◌*◌, ◌<◌, ℕ, Bool, List};
 ghost use Rattle.trail_solver.specs.Candidates.{CandidatesValue};
-ghost use Rattle.clue_rules.specs.declared.grade.Grade.{Grade};
-ghost use Rattle.clue_rules.specs.declared.reason.Reason.{Reason};
+ghost use Rattle.line_steps.specs.declared.grade.Grade.{Grade};
+ghost use Rattle.line_steps.specs.declared.reason.Reason.{Reason};
 ghost use Rattle.shown_counts.specs.Shown.{IsShownBy};
 ghost use Rattle.step_texts.specs.Told.{reason_clue, IsInView};
 
-use clue_rules::{Towers, Unequal};
 use named_steps::{Grade, Steps};
+use towers_game::Towers;
+use unequal_game::Unequal;
 
 /// A game whose steps can be told.
 pub trait StepNames: Steps {
@@ -37,19 +39,19 @@ pub trait StepNames: Steps {
     // What a clue strikes is told by the counts: the clue is in none of those with a number that it strikes.
     ghost struck_unshown: { (p : Self) (c : CandidatesValue) (reason : Reason) (cell value : ℕ)
         → c.size ≡ (Self.Rules.puzzle p).size
-        → Self.struck_by p c reason cell value → IsShownBy c reason cell value (reason_clue (edge_clue_of p) reason) → ⊥ };
+        → StruckBy Self.Rules.puzzle Self.Steps.own p c reason cell value → IsShownBy c reason cell value (reason_clue (edge_clue_of p) reason) → ⊥ };
 
     // And a clue strikes each number of its squares of which it isn't among the counts.
     ghost unshown_struck: { (p : Self) (c : CandidatesValue) (reason : Reason) (cell value : ℕ)
         → c.size ≡ (Self.Rules.puzzle p).size
         → 0 < reason_clue (edge_clue_of p) reason → IsInView (Self.Rules.puzzle p).size reason cell
         → (IsShownBy c reason cell value (reason_clue (edge_clue_of p) reason) → ⊥)
-        → Self.struck_by p c reason cell value };
+        → StruckBy Self.Rules.puzzle Self.Steps.own p c reason cell value };
 }
 
 impl StepNames for Towers {
     ghost use Rattle.std.specs.Prelude.{false};
-    ghost use Rattle.clue_rules.specs.Towers.{clue_of};
+    ghost use Rattle.towers_game.specs.Towers.{clue_of};
     ghost use Rattle.step_texts.specs.Letters.{towers_grade_text};
     ghost use Rattle.step_texts.specs.Laws.ToldByCounts as laws;
 
@@ -82,7 +84,7 @@ impl StepNames for Towers {
 
 impl StepNames for Unequal {
     ghost use Rattle.std.specs.Prelude.{zero};
-    ghost use Rattle.clue_rules.specs.Unequal.{is_greater};
+    ghost use Rattle.unequal_game.specs.Unequal.{is_greater};
     ghost use Rattle.step_texts.specs.Letters.{unequal_grade_text};
     ghost use Rattle.step_texts.specs.Laws.ToldByCounts as laws;
 

@@ -1,7 +1,8 @@
 //! The steps of a chain, told one after another.
+ghost use Rattle.line_steps.specs.Reasons.{StruckBy};
 ghost use Rattle.std.specs.Prelude.{IfOk};
 ghost use Rattle.trail_solver.specs.Candidates.{CandidatesValue};
-ghost use Rattle.clue_rules.specs.declared.reason.Reason.{Reason};
+ghost use Rattle.line_steps.specs.declared.reason.Reason.{Reason};
 ghost use Rattle.shown_counts.specs.Shown.{IsLineOf};
 ghost use Rattle.step_texts.specs.Told.{AreToldCounts, AreToldStrikes, IsToldOf, AreTold};
 
@@ -27,7 +28,7 @@ pub fn told_steps<P: StepNames>(
     steps: &[Step],
 ) -> Result<Vec<ToldStep>, AllocError>
     ensures { IfOk result
-        (λ told. AreTold (P.struck_by p.now) (P.Rules.puzzle p.now).size candidates steps.now told.items) }
+        (λ told. AreTold (StruckBy P.puzzle P.own p.now) (P.Rules.puzzle p.now).size candidates steps.now told.items) }
 {
     let mut candidates = candidates;
     let mut known = P::Known::default();
@@ -53,9 +54,17 @@ fn told_step<P: StepNames>(
 ) -> Result<ToldStep, AllocError>
     ensures { IfOk result (IsToldOf candidates.now first.now.reason look.now) }
 {
-    let strikes = told_strikes(alloc, candidates, first, look)?;
+    let line = ClueCounts::of(candidates, first.reason, numbers_in(look));
+    let strikes = told_strikes(alloc, candidates, first, &line, look)?;
     let mut text = Writing::new(alloc);
-    say_step(&mut text, p, candidates, first.reason, strikes.as_slice())?;
+    say_step(
+        &mut text,
+        p,
+        candidates,
+        first.reason,
+        &line,
+        strikes.as_slice(),
+    )?;
     text.end()?;
     Ok(ToldStep {
         reason: first.reason,
@@ -64,23 +73,25 @@ fn told_step<P: StepNames>(
     })
 }
 
-// What steps of the first one's reason strike, square by square.
+// What steps of the first one's reason strike, square by square, with the counts of its clue's line.
 fn told_strikes(
     alloc: Global,
     candidates: &Candidates,
     first: &Step,
+    line: &Option<ClueCounts>,
     look: &[Step],
 ) -> Result<Vec<Strike>, AllocError>
+    requires { IsLineOf candidates.now first.now.reason line.now }
     ensures { IfOk result (λ strikes. AreToldStrikes candidates.now first.now.reason look.now strikes.items) }
 {
-    let counts = ClueCounts::of(candidates, first.reason, numbers_in(look));
+    let _size = candidates.size();
     let mut strikes = Vec::new(alloc);
     for step in look {
         let _bits = step.values.bits();
         strikes.push(Strike {
             cell: step.cell,
             values: step.values,
-            shows: shows_of(&counts, step),
+            shows: shows_of(line, step),
         })?;
     }
     Ok(strikes)

@@ -1,5 +1,6 @@
 //! The law of told steps. It speaks of values alone, so the function here does nothing.
 
+ghost use Rattle.line_steps.specs.Reasons.{StruckBy};
 ghost use Rattle.step_texts.specs.ToldLaws.{ToldStepsHold};
 
 use crate::step_names::StepNames;
@@ -10,5 +11,5 @@ use crate::step_names::StepNames;
 /// steps above it, and its reason strikes it there. In each told step squares rise in reading order, and where a clue strikes, it isn't
 /// among the counts of towers with that number.
 pub fn laws<P: StepNames>()
-    ensures hold { ToldStepsHold P.Rules.puzzle P.struck_by P.edge_clue_of }
+    ensures hold { ToldStepsHold P.Rules.puzzle (StruckBy P.puzzle P.own) P.edge_clue_of }
 {}

@@ -1,5 +1,6 @@
 //! Text that is cut into lines as it is written.
 
+ghost use Rattle.std.specs.Prelude.{◌≡◌, ◌≤◌, length, OnOk};
 ghost use Rattle.step_texts.specs.Lines.{AreShort, line_texts};
 
 use arrayvec::ArrayVec;
@@ -61,15 +62,18 @@ impl Writing {
         self.byte(b'0' + (n % 10) as u8)
     }
 
-    /// Ends the sentence.
-    pub(crate) fn end(&mut self) -> Result<(), AllocError> {
+    /// Ends the sentence: then there is a line.
+    pub(crate) fn end(&mut self) -> Result<(), AllocError>
+        ensures { OnOk result (1 ≤ length self.new.lines.items) }
+    {
         self.end_word()?;
         self.end_line()
     }
 
     /// The lines that were written.
     pub(crate) fn into_lines(self) -> Vec<Line>
-        ensures { AreShort (line_texts result.items) }
+        ensures all { result.items ≡ self.lines.items }
+        ensures short { AreShort (line_texts result.items) }
     {
         self.lines
     }
@@ -103,7 +107,9 @@ impl Writing {
     }
 
     #[tactic(auto, using(crate::proofs::ShortLines::one_more))]
-    fn end_line(&mut self) -> Result<(), AllocError> {
+    fn end_line(&mut self) -> Result<(), AllocError>
+        ensures { OnOk result (1 ≤ length self.new.lines.items) }
+    {
         let line = mem::take(&mut self.line);
         let _fits = line.len();
         self.lines.push(line)?;

@@ -1,8 +1,5 @@
 -- Lemmas on masks and sets of masks, and on the levels of a line's starts.
 pub mod CheckLemmas
-pub mod FiveLines
-pub mod FiveTable
-pub mod FiveWords
 pub mod LevelAdditions
 pub mod LevelLemmas
 pub mod LevelSteps

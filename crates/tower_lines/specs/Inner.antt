@@ -2,4 +2,3 @@
 pub mod LineMasks
 pub mod MaskSets
 pub mod Levels
-pub mod FiveLines

@@ -3,8 +3,7 @@
 //!
 //! [`seen`] goes along the line once. [`supported`] goes over the sets of used values twice, 64 of them at a time: for each square,
 //! each of its candidates and each number of towers up to the clue it takes a step or two over the words that hold the sets, one word for up to
-//! 8 squares, and two for 9. For five squares, whose lines are few, it takes a step or two for each square and value over one word of all lines
-//! that show the clue. [`has_filling`] first makes a guess at a filling, in some w * w steps, and goes over these sets once only
+//! 8 squares, and two for 9. [`has_filling`] first makes a guess at a filling, in some w * w steps, and goes over these sets once only
 //! where it is none. None of the three takes memory from the heap.
 //!
 //! ```
@@ -14,7 +13,6 @@
 //! ```
 #![tactic(auto)]
 
-mod five_squares;
 mod levels;
 mod likely_lines;
 mod line_checks;

@@ -7,7 +7,6 @@ ghost use Rattle.tower_lines.specs.LineFillings.{IsFilling, IsSupported};
 ghost use Rattle.tower_lines.specs.Inner.MaskSets.{has_at};
 ghost use Rattle.tower_lines.specs.Inner.Levels.{AreReached};
 
-use crate::five_squares::supported_in_five;
 use crate::levels::{Levels, add_levels, first_levels, no_levels, pass_back};
 use crate::likely_lines::likely_line;
 use crate::line_checks::is_filling;
@@ -18,8 +17,7 @@ use number_sets::NumberSet;
 /// value twice, and shows as many towers as the clue says. What is past the line is empty.
 ///
 /// Masks of used values stand for the starts of the line, by levels: how many towers a start shows. A first pass finds the masks
-/// of all starts, a second pass, from the whole line back, those of them that a filling begins with. For five squares
-/// a table of all lines stands in place of both.
+/// of all starts, a second pass, from the whole line back, those of them that a filling begins with.
 pub fn supported(sets: &[NumberSet], clue: u8) -> [NumberSet; 9]
     requires short { length sets.now ≤ 9 }
     requires clue { clue ≤ 9 }
@@ -28,7 +26,6 @@ pub fn supported(sets: &[NumberSet], clue: u8) -> [NumberSet; 9]
 {
     match sets.len() {
         0 => no_values(),
-        5 => supported_in_five(sets, clue),
         1..=8 => supported_by::<1>(sets, usize::from(clue)),
         _ => supported_by::<2>(sets, usize::from(clue)),
     }

@@ -26,3 +26,5 @@ pub mod SettledSquares
 pub mod ListedSolutions
 pub mod ListingSteps
 pub mod FirstSolutions
+pub mod ItemsLost
+pub mod KeptItems

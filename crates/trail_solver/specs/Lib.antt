@@ -2,6 +2,7 @@
 pub mod Pairs
 pub mod Candidates
 pub mod Puzzles
+pub mod Items
 pub mod Solutions
 pub mod Answers
 pub mod Completions

@@ -134,12 +134,14 @@ pub trait Rules: Copy {
     ghost valid_given: { (p : Self) (cell : ℕ) → valid p → cell < (puzzle p).size * (puzzle p).size
         → (puzzle p).given cell ≤ (puzzle p).size };
 
-    // A cut has the items that were there and are in the set. To cut with every item is to change nothing, two cuts
-    // are one, and only the items that the puzzle has matter.
+    // A cut has the puzzle's size, the items that were there and are in the set, and no given that was not there. To cut with
+    // every item is to change nothing, two cuts are one, and only the items that the puzzle has matter.
     ghost cut_valid: { (p : Self) (keep : ℕ → Bool) → valid p → valid (cut p keep) };
 
-    ghost cut_size: { (p : Self) (keep : ℕ → Bool) → valid p
-        → (puzzle (cut p keep)).size ≡ (puzzle p).size };
+    ghost cut_size: { (p : Self) (keep : ℕ → Bool) → (puzzle (cut p keep)).size ≡ (puzzle p).size };
+
+    ghost givens_cut: { (p : Self) (keep : ℕ → Bool) (cell : ℕ) → 0 < (puzzle (cut p keep)).given cell
+        → (puzzle (cut p keep)).given cell ≡ (puzzle p).given cell };
 
     ghost cut_has: { (p : Self) (keep : ℕ → Bool) (i : ℕ) → valid p → i < items_of (puzzle p).size
         → has (cut p keep) i ≡ (has p i && keep i) };

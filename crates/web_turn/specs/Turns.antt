@@ -82,7 +82,7 @@ abbrev pub IsUnread : {P : Type 0} → GameFacts P → List ℕ → List ℕ →
 IsUnread f before said = (fault : StartFault) × Begins f None (file_of before) (Err fault) × (fault ≢ NoMemoryToLoad)
     × (said ≡ start_fault_line fault)
 
--- what comes of the line: a turn that ends the session or doesn't, or no turn and nothing saved
+-- what comes of the line, if there was memory: a turn that ends the session or doesn't, or no turn and nothing saved
 abbrev pub IsTurnOutcome : {P : Type 0} → GameFacts P → GameReply P → List ℕ → Line → List ℕ → List ℕ → Outcome → Type 0
 IsTurnOutcome f reply before line said saved Answered = IsTurn f reply before line said saved false
 IsTurnOutcome f reply before line said saved Ended = IsTurn f reply before line said saved true

@@ -17,7 +17,7 @@ use std::alloc::Global;
 #[repr(C)]
 pub struct Ending {
     /// The number of the outcome: 0 answered, 1 `quit`, 2 the text before is no save of this game, 3 no memory,
-    /// 4 no room.
+    /// 4 no room. Any call may answer 3, and one with a text that is no save may answer it in place of 2.
     pub outcome: u64,
     /// How many bytes are said.
     pub said: usize,
@@ -28,7 +28,8 @@ pub struct Ending {
 /// Answers a line, in Unequal or otherwise in Towers, to the session of the text before, or to none where that is empty.
 ///
 /// What is said goes to the start of `said`, and the text of a save of the session after to the start of `saved`. Of a text that is no save
-/// the program's line on it is said, as `refused: BadState 3`. Where one of both has no place in its room, their lengths alone are given.
+/// the program's line on it is said, as `refused: BadState 3`, or there was no memory for it. Where one of both has no place in its room,
+/// their lengths alone are given. Where there was no memory nothing is said, and no clause says when that is.
 #[unsafe(no_mangle)]
 pub extern "C" fn puzzles_turn(
     alloc: Global,

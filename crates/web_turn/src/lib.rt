@@ -12,3 +12,6 @@
 mod exports;
 mod outcome;
 mod turn;
+mod turn_laws;
+
+pub use turn_laws::laws;

@@ -12,7 +12,7 @@ pub(crate) enum Outcome {
     Ended,
     /// The text before is no save of this game.
     Unread,
-    /// There was no memory.
+    /// There was no memory, whatever the text before and the line are.
     OutOfMemory,
     /// The answer has more bytes than there is room for.
     OutOfRoom,

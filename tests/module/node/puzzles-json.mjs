@@ -88,7 +88,7 @@ function* lines() {
   /** @type {Buffer} */
   let left = Buffer.alloc(0);
   for (;;) {
-    const count = or('cannot read the input', () => readSync(0, chunk));
+    const count = or('cannot read the input', () => come(chunk));
     if (!count) {
       yield left;
       return;
@@ -98,6 +98,21 @@ function* lines() {
       yield left.subarray(0, end);
       left = left.subarray(end + 1);
     }
+  }
+}
+
+/**
+ * How many bytes have come from standard input; none at its end, which Windows tells by a fault.
+ * @param {Uint8Array} chunk
+ */
+function come(chunk) {
+  try {
+    return readSync(0, chunk);
+  } catch (fault) {
+    if (/** @type {{code?: string}} */ (fault).code === 'EOF') {
+      return 0;
+    }
+    throw fault;
   }
 }
 

@@ -7,6 +7,7 @@ from typing import Dict, List
 
 KIT = os.path.dirname(os.path.dirname(os.path.realpath(__file__)))
 RATTLE = f'{KIT}/bin/rattle'
+KEPT = ['--incremental', 'out/incremental']
 
 
 def guarded() -> List[str]:

@@ -1,7 +1,7 @@
 -- The numbers at both ends of a sign, as they stand or as they may come.
 use Rattle.std.specs.Prelude.{◌≡◌, ℕ, ◌≤◌, ◌==◌, if◌then◌else◌, Some}
 use Rattle.latin_board.specs.Squares.{GridValue}
-use Rattle.clue_rules.specs.declared.unequal.sign.Sign.{Sign}
+use Rattle.unequal_game.specs.declared.unequal.sign.Sign.{Sign}
 use Rattle.board_checks.specs.Demands.{Demand, IsBroken}
 use Rattle.board_checks.specs.Games.{demand_if_present}
 

@@ -2,7 +2,7 @@
 use Rattle.std.specs.Prelude.{◌≡◌, ℕ, ◌<◌, ◌≤◌, ◌↔◌, true, List, length, slice_index}
 use Rattle.latin_board.specs.Squares.{GridValue, number_at}
 use Rattle.number_sets.specs.Sets.{has_number}
-use Rattle.clue_rules.specs.Views.{view_cell}
+use Rattle.line_steps.specs.Views.{view_cell}
 
 -- the set has the number alone, or where that is 0 each from 1 to w
 pub record CanHold (w number set : ℕ) : Type 0 where

@@ -10,12 +10,12 @@ use Rattle.std.proofs.lemmas.Option.{cond_some, none-some}
 use Rattle.latin_board.specs.Squares.{GridValue, IsGrid, IsFull, number_at}
 use Rattle.latin_board.proofs.PeerLines.{line_peers}
 use Rattle.tower_lines.specs.TowersSeen.{seen}
-use Rattle.clue_rules.specs.Towers.{TowersValue, IsTowers, clue_of, holds_clues}
-use Rattle.clue_rules.specs.Views.{view_of, view_cell, view_line, view_index}
-use Rattle.clue_rules.specs.Laws.TowersItems.{clues_decide, length-view_of}
-use Rattle.clue_rules.specs.Laws.Edges.{view_line_low, view_index_low}
-use Rattle.clue_rules.specs.Laws.LineSquares.{view_index_apart, view_inside}
-use Rattle.clue_rules.specs.Laws.ViewLines.{view_number}
+use Rattle.towers_game.specs.Towers.{TowersValue, IsTowers, clue_of, holds_clues}
+use Rattle.line_steps.specs.Views.{line_from, view_cell, view_line, view_index}
+use Rattle.towers_game.specs.Laws.TowersItems.{clues_decide, length-line_from}
+use Rattle.line_steps.specs.Laws.Edges.{view_line_low, view_index_low}
+use Rattle.line_steps.specs.Laws.LineSquares.{view_index_apart, view_inside}
+use Rattle.towers_game.specs.Laws.ViewLines.{view_number}
 use Rattle.board_checks.specs.declared.spot.Spot.{Spot}
 use Rattle.board_checks.specs.declared.spot.Spot.TheVariants.{Edge, RightOf, Below}
 use Rattle.board_checks.specs.Demands.{Demand, IsOfPeers, numbers_of}
@@ -77,13 +77,13 @@ demand_line v (Below cell) d valid e = absurd (none-some d e)
 
 -- the numbers of a clue's line are what is seen along
 pub view_numbers : (v : TowersValue) (g : GridValue) (place : ℕ) → g.size ≡ v.size → place < 4 * v.size
-    → numbers_of g (clue_demand v place) ≡ view_of g place
+    → numbers_of g (clue_demand v place) ≡ line_from g place
 view_numbers v g place size inside =
     let cells = map (view_cell v.size place) (range_with_len 0 v.size) in
     let count : length cells ≡ v.size = length-map-range_with_len (view_cell v.size place) 0 v.size in
     let both : length (map (number_at g) cells) ≡ length cells = length-map cells (number_at g) in
-    same_number_lists (map (number_at g) cells) (view_of g place)
-    (both ∙ count ∙ sym size ∙ sym (length-view_of g place))
+    same_number_lists (map (number_at g) cells) (line_from g place)
+    (both ∙ count ∙ sym size ∙ sym (length-line_from g place))
     (λ k low.
     let within : k < v.size = omega (arith, both, count) in
     let cell = get_or-map-range_with_len (view_cell v.size place) 0 v.size k k 0 within (omega arith) in
@@ -104,7 +104,7 @@ demand_all v g valid is_grid full size = (
   }),
 )
   where
-    meets : ((place : ℕ) → place < 4 * v.size → 0 < clue_of v place → seen (view_of g place) ≡ clue_of v place)
+    meets : ((place : ℕ) → place < 4 * v.size → 0 < clue_of v place → seen (line_from g place) ≡ clue_of v place)
         → MeetsAll (towers_demand v) g
     meets each (Edge place) d e =
         let there = demanded v place d e in

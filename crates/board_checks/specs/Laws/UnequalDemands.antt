@@ -6,13 +6,13 @@ use Rattle.std.proofs.lemmas.Option.{cond_some, none-some}
 use Rattle.latin_board.specs.Squares.{GridValue, IsGrid, IsFull, number_at}
 use Rattle.latin_board.specs.Lines.{ArePeers}
 use Rattle.latin_board.proofs.PeerLines.{line_peers}
-use Rattle.clue_rules.specs.declared.unequal.sign.Sign.{Sign}
-use Rattle.clue_rules.specs.declared.unequal.sign.Sign.TheVariants.{Absent, FirstGreater, SecondGreater}
-use Rattle.clue_rules.specs.Unequal.{UnequalValue, IsUnequal, HoldsSigns, sign_between, holds_sign, holds_signs}
-use Rattle.clue_rules.specs.Unequal.{is_present}
-use Rattle.clue_rules.specs.Laws.Neighbours.{IsNext, right_of, below_of, next_line, next_inside}
-use Rattle.clue_rules.specs.Laws.Signs.{IsSaid, right_between, below_between, said_next, greater_next}
-use Rattle.clue_rules.specs.Laws.SignLemmas.{signs_held, held_signs}
+use Rattle.unequal_game.specs.declared.unequal.sign.Sign.{Sign}
+use Rattle.unequal_game.specs.declared.unequal.sign.Sign.TheVariants.{Absent, FirstGreater, SecondGreater}
+use Rattle.unequal_game.specs.Unequal.{UnequalValue, IsUnequal, HoldsSigns, sign_between, holds_sign, holds_signs}
+use Rattle.unequal_game.specs.Unequal.{is_present}
+use Rattle.unequal_game.specs.Laws.Neighbours.{IsNext, right_of, below_of, next_line, next_inside}
+use Rattle.unequal_game.specs.Laws.Signs.{IsSaid, right_between, below_between, said_next, greater_next}
+use Rattle.unequal_game.specs.Laws.SignLemmas.{signs_held, held_signs}
 use Rattle.board_checks.specs.declared.spot.Spot.{Spot}
 use Rattle.board_checks.specs.declared.spot.Spot.TheVariants.{Edge, RightOf, Below}
 use Rattle.board_checks.specs.Demands.{Demand, IsOfPeers, numbers_of}

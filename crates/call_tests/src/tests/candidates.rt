@@ -51,7 +51,9 @@ impl Rules for Plain {
 
     ghost cut_valid = { λ p keep h. h };
 
-    ghost cut_size = { λ p keep h. refl };
+    ghost cut_size = { λ p keep. refl };
+
+    ghost givens_cut = { λ p keep. laws.cut_given p.givens p.asked (keep 0) };
 
     ghost cut_has = { λ p keep i h less.
         let first : 0 ≡ i = Prim.omega arith in ap (λ (k : ℕ). p.asked && keep k) first };

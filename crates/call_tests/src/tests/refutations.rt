@@ -7,7 +7,7 @@ use latin_board::Grid;
 use named_steps::{Grade, Reason, Steps};
 use number_sets::NumberSet;
 use std::alloc::{AllocError, Global};
-use step_chains::{NextHint, Refutation, Step, explains, next_hint, refutes, view_of};
+use step_chains::{NextHint, Refutation, Step, next_hint, view_of};
 use step_texts::{StepNames, refutation_lines, told_steps};
 use trail_solver::Rules;
 
@@ -15,35 +15,29 @@ use trail_solver::Rules;
 // what is said of it.
 struct Refuted(Described, &'static str, u8, u8, &'static [&'static str]);
 
-fn refutation_of(alloc: Global, row: &Refuted, with_step: bool) -> Result<Refutation, AllocError> {
+fn refutation_of(alloc: Global, row: &Refuted) -> Result<Refutation, AllocError> {
     let mut steps = Vec::new(alloc);
-    if with_step {
-        steps.push(Step {
-            reason: Reason::Peer {
-                cell: row.2 as usize,
-            },
-            cell: row.3,
-            values: NumberSet::one(1),
-        })?;
-    }
+    steps.push(Step {
+        reason: Reason::Peer {
+            cell: row.2 as usize,
+        },
+        cell: row.3,
+        values: NumberSet::one(1),
+    })?;
     Ok(Refutation {
         steps,
         cell: row.3 as usize,
     })
 }
 
-// Whether the chain of the next hint is one, and of rows and columns alone.
+// Whether the next hint is a chain, and of rows and columns alone.
 fn is_told<P: Steps>(alloc: Global, p: &P, grid: &Grid) -> bool {
     if p.size() != grid.size() {
         return false;
     }
     match next_hint(alloc, p, grid) {
-        Ok(NextHint::Refuted { grade, refutation }) => {
-            grade == Grade::Latin && refutes(p, grid, grade, &refutation)
-        }
-        Ok(NextHint::Follows { grade, chain }) => {
-            grade == Grade::Latin && explains(p, grid, grade, &chain)
-        }
+        Ok(NextHint::Refuted { grade, .. }) => grade == Grade::Latin,
+        Ok(NextHint::Follows { grade, .. }) => grade == Grade::Latin,
         _ => false,
     }
 }
@@ -66,24 +60,8 @@ fn follows<P: Game + Steps>(alloc: Global, text: &str, grid: &Grid) -> bool {
     }
 }
 
-// Whether the numbers are refuted by the step, and not without it.
-fn is_judged<P: Steps>(alloc: Global, p: &P, grid: &Grid, row: &Refuted) -> bool {
-    if p.size() != grid.size() {
-        return false;
-    }
-    match (
-        refutation_of(alloc, row, true),
-        refutation_of(alloc, row, false),
-    ) {
-        (Ok(with), Ok(without)) => {
-            refutes(p, grid, Grade::Latin, &with) && !refutes(p, grid, Grade::Latin, &without)
-        }
-        _ => false,
-    }
-}
-
 fn is_said<P: StepNames>(alloc: Global, p: &P, grid: &Grid, row: &Refuted) -> bool {
-    let Ok(refutation) = refutation_of(alloc, row, true) else {
+    let Ok(refutation) = refutation_of(alloc, row) else {
         return false;
     };
     let steps = refutation.steps.as_slice();
@@ -102,8 +80,7 @@ fn is_said<P: StepNames>(alloc: Global, p: &P, grid: &Grid, row: &Refuted) -> bo
 fn is_refuted_so<P: Game + StepNames>(alloc: Global, text: &str, row: &Refuted) -> bool {
     match (puzzle::<P>(3, text), grid_of(3, row.1), grid_of(3, "")) {
         (Ok(p), Some(grid), Some(blank)) if p.size() == blank.size() => {
-            is_judged(alloc, &p, &grid, row)
-                && is_told(alloc, &p, &grid)
+            is_told(alloc, &p, &grid)
                 && is_said(alloc, &p, &grid, row)
                 && is_nothing(alloc, &p, &blank)
         }

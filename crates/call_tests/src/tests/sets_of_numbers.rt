@@ -90,10 +90,6 @@ fn sets_are_moved_and_cut(rt: HostRuntime) {
         &rt,
         rt.alloc(),
         &[
-            Same(set.below_greatest().bits(), 0b1_1111_1111),
-            Same(set.above_least().bits(), 0xfff8),
-            Same(NumberSet::one(15).above_least().bits(), 0),
-            Same(NumberSet::empty().below_greatest().bits(), 0),
             Same(NumberSet::from_bits(0x8001).raised().bits(), 2),
             Same(NumberSet::from_bits(0x8001).lowered().bits(), 0x4000),
             Same(set.at_most(5).bits(), 0b10_0100),

@@ -63,7 +63,9 @@ impl Rules for Latin {
 
     ghost cut_valid = { laws.cut_valid };
 
-    ghost cut_size = { λ p keep h. refl };
+    ghost cut_size = { λ p keep. refl };
+
+    ghost givens_cut = { laws.cut_given };
 
     ghost cut_has = { λ p keep i h inside. laws.cut_has p keep i };
 

@@ -1,50 +1,34 @@
 //! The steps of the game: givens, rows and columns, and nothing else.
 
 use crate::latin::Latin;
-use named_steps::{Reason, Steps, given_strikes, line_strikes};
+use named_steps::{Reason, Steps};
 use number_sets::NumberSet;
 use trail_solver::{Candidates, Rules};
 
 impl Steps for Latin {
-    ghost use Rattle.client.specs.LatinSteps as steps;
-    ghost use Rattle.clue_rules.specs.Laws.Sound.{givens_sound};
-    ghost use Rattle.clue_rules.specs.Laws.GivensAlone as alone;
-    ghost use Rattle.clue_rules.specs.Reasons.{IsGivensStruckBy};
+    ghost use Rattle.clue_rules.specs.Reasons.{NoneOwn};
 
     type Known = ();
 
-    ghost struck_by = { IsGivensStruckBy };
+    ghost own = { λ _. NoneOwn };
 
-    fn strikes(
+    fn own_strikes(
         &self,
-        candidates: &Candidates,
-        reason: Reason,
-        cell: usize,
+        _candidates: &Candidates,
+        _reason: Reason,
+        _cell: usize,
         _known: &mut (),
     ) -> NumberSet {
-        match reason {
-            Reason::Given { cell: at } => given_strikes(self, candidates, at, cell),
-            Reason::Peer { .. } => line_strikes(candidates, reason, cell),
-            Reason::Place { .. } => line_strikes(candidates, reason, cell),
-            Reason::Bound { .. } => NumberSet::empty(),
-            Reason::Stand { .. } => NumberSet::empty(),
-            Reason::Clue { .. } => NumberSet::empty(),
-            Reason::Sign { .. } => NumberSet::empty(),
-            Reason::Set { .. } => line_strikes(candidates, reason, cell),
-        }
+        NumberSet::empty()
     }
 
-    ghost given_struck = { λ p c at cell value. (λ h. h, λ h. h) };
+    ghost looks_along = { λ p c d reason cell value line size low along stays h. absurd h };
 
-    ghost line_struck = { alone.givens_lines };
+    ghost stands_along = { λ p c reason cell value valid h. absurd h };
 
-    ghost looks_along = { alone.givens_look };
+    ghost own_less = { λ p c d reason cell value fewer h. absurd h };
 
-    ghost stands_along = { λ p c reason cell value valid. steps.stands p c reason cell value };
+    ghost own_sound = { λ p c reason cell value g valid size solved within h. absurd h };
 
-    ghost struck_less = { alone.givens_less };
-
-    ghost struck_sound = { λ p c reason cell value g valid. givens_sound p c reason cell value g };
-
-    ghost struck_cut = { steps.whole };
+    ghost own_cut = { λ p keep c reason cell value h. absurd h };
 }

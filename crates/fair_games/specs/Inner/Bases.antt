@@ -2,10 +2,10 @@
 use Rattle.std.specs.Prelude.{◌≡◌, List}
 use Rattle.latin_board.specs.Squares.{GridValue}
 use Rattle.trail_solver.specs.Candidates.{CandidatesValue, IsWithin}
-use Rattle.clue_rules.specs.Left.{IsFewer, all_of}
-use Rattle.clue_rules.specs.Chains.{StepValue, IsChain, AreOfGrade, left_by}
-use Rattle.clue_rules.specs.declared.grade.Grade.{Grade}
-use Rattle.clue_rules.specs.Reasons.{Striking}
+use Rattle.line_steps.specs.Left.{IsFewer, all_of}
+use Rattle.line_steps.specs.Chains.{StepValue, IsChain, AreOfGrade, left_by}
+use Rattle.line_steps.specs.declared.grade.Grade.{Grade}
+use Rattle.line_steps.specs.Reasons.{Striking}
 
 -- a chain of the grade's steps from all pairs leaves no more, and the square's numbers are left
 pub record IsBase (Struck : Striking) (grade : Grade) (g : GridValue) (c : CandidatesValue) : Type 0 where

@@ -2,9 +2,9 @@
 use Rattle.std.specs.Prelude.{◌≡◌, ℕ, ◌+◌, ◌*◌, ◌≤◌}
 use Rattle.std.proofs.Common.{inl, inr, subst, arith}
 use Rattle.std.proofs.lemmas.Bool.{cases_lt}
-use Rattle.clue_rules.specs.Towers.{towers_items}
-use Rattle.clue_rules.specs.Unequal.{unequal_items}
-use Rattle.clue_rules.specs.Laws.KeptItems.{small_widths}
+use Rattle.towers_game.specs.Towers.{towers_items}
+use Rattle.unequal_game.specs.Unequal.{unequal_items}
+use Rattle.trail_solver.proofs.KeptItems.{small_widths}
 
 -- what holds of each width from 3 to 9
 widths : (Holds : ℕ → Type 0) → Holds 3 → Holds 4 → Holds 5 → Holds 6 → Holds 7 → Holds 8 → Holds 9 → (w : ℕ) → 3 ≤ w

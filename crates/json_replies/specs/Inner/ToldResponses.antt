@@ -1,4 +1,4 @@
--- The response that tells what `obey` answered, and what is told to a line `fair`.
+-- The response that tells what `obey` answered, and what is told to a line that begins a game.
 use Rattle.std.specs.Prelude.{◌≡◌, ℕ, List, Option, Result, Ok, Err}
 use Rattle.play_midend.specs.Histories.{History}
 use Rattle.puzzle_cli.specs.declared.line.machine.Response.{Response}
@@ -7,10 +7,10 @@ use Rattle.puzzle_cli.specs.declared.reply.refusal.Refusal.{Refusal}
 use Rattle.puzzle_cli.specs.GameFacts.{GameFacts}
 use Rattle.puzzle_cli.specs.Texts.{text_bytes}
 use Rattle.json_replies.specs.ObjectLines.{OrLost}
-use Rattle.json_replies.specs.declared.fair_words.FairWords.{FairWords}
+use Rattle.json_replies.specs.declared.begin_line.BeginLine.{BeginLine}
 use Rattle.json_replies.specs.Replies.{Answer, session_left, IsReplyLine}
 use Rattle.json_replies.specs.FurtherLines.{BoardFacts}
-use Rattle.json_replies.specs.FairReplies.{FairGives}
+use Rattle.json_replies.specs.BeginReplies.{BeginGives}
 use Rattle.json_replies.specs.JsonReplies.{TellsOutcome, TellsAnswer}
 
 -- the object of a reply or a refusal, where this session is left; the others as they are
@@ -21,9 +21,9 @@ TellsResponse f (Ok Quit) new Quit = Unit {0}
 TellsResponse f (Err refusal) new (Reply text) = OrLost (IsReplyLine f (Err refusal) new) (text_bytes text)
 TellsResponse f _ new _ = ⊥
 
--- what is told to `fair` and these words
-abbrev pub TellsFair : {P : Type 0} → GameFacts P → BoardFacts P → Option (History P) → FairWords (List ℕ) → List ℕ
+-- what is told to a line that asks for this game
+abbrev pub TellsBegun : {P : Type 0} → GameFacts P → BoardFacts P → Option (History P) → BeginLine (List ℕ) → List ℕ
     → Option (History P) → Type 0
-TellsFair {P} f b old words bytes new =
-    (answer : Answer P) × FairGives f b old words answer × (new ≡ session_left old answer)
+TellsBegun {P} f b old asked bytes new =
+    (answer : Answer P) × BeginGives f b old asked answer × (new ≡ session_left old answer)
     × TellsAnswer f answer new bytes

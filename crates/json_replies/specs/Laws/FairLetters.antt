@@ -1,7 +1,7 @@
 -- The letters of fair games.
 use Rattle.std.proofs.Common.{◌≡◌, ℕ, List, codes, Contains, Some, refl, sym, ◌∙◌, subst, arith}
-use Rattle.clue_rules.specs.declared.grade.Grade.{Grade}
-use Rattle.clue_rules.specs.declared.grade.Grade.TheVariants.{Latin, Easy, Hard}
+use Rattle.line_steps.specs.declared.grade.Grade.{Grade}
+use Rattle.line_steps.specs.declared.grade.Grade.TheVariants.{Latin, Easy, Hard}
 use Rattle.fair_games.specs.Letters.{towers_letter, unequal_letter}
 use Rattle.json_replies.specs.FairLines.{AreFairLetters}
 

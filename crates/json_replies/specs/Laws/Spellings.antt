@@ -11,14 +11,14 @@ use Rattle.json_replies.specs.ObjectLines.{IsShallow, IsSpelled}
 use Rattle.json_replies.specs.Replies.{name_data, reply_data}
 use Rattle.json_replies.specs.Boards.{listed_data, when}
 use Rattle.latin_board.specs.Boards.{BoardValue}
-use Rattle.clue_rules.specs.Towers.{TowersValue}
-use Rattle.clue_rules.specs.Unequal.{UnequalValue}
+use Rattle.towers_game.specs.Towers.{TowersValue}
+use Rattle.unequal_game.specs.Unequal.{UnequalValue}
 use Rattle.board_checks.specs.Errors.{ErrorsValue}
 use Rattle.json_replies.specs.ClueLists.{clue_data, clues_data, sign_data, later_sign, signs_at, signs_data}
 use Rattle.std.specs.Prelude.{nat_lt, ◌*◌, if◌then◌else◌}
 use Rattle.std.specs.List.{range_with_len}
-use Rattle.clue_rules.specs.Towers.{clue_of}
-use Rattle.clue_rules.specs.Unequal.{is_greater}
+use Rattle.towers_game.specs.Towers.{clue_of}
+use Rattle.unequal_game.specs.Unequal.{is_greater}
 use Rattle.latin_board.specs.Edges.{edge_xy}
 use Rattle.serde_json.specs.Data.{array, no_items}
 
@@ -80,7 +80,8 @@ abbrev pub AllFit : ℕ → List Data → Type 0
 AllFit n [] = Unit {0}
 AllFit n (d ∷ ds) = IsShallow n d × AllFit n ds
 
-all_append : (n : ℕ) (xs ys : List Data) → AllFit n xs → AllFit n ys → AllFit n (xs ++ ys)
+-- and so can those of both
+pub all_append : (n : ℕ) (xs ys : List Data) → AllFit n xs → AllFit n ys → AllFit n (xs ++ ys)
 all_append n [] ys fit more = more
 all_append n (x ∷ xs) ys fit more = (fit.0, all_append n xs ys fit.1 more)
 
@@ -115,7 +116,8 @@ when_fits n false d fit = tt
 pub none_fits : IsShallow 2 (array no_items)
 none_fits = record { whole = refl; flat = omega arith }
 
-integer_whole : (z : ℤ) → is_float (of_integer z) ≡ false
+-- an integer has no fraction
+pub integer_whole : (z : ℤ) → is_float (of_integer z) ≡ false
 integer_whole (pos n) = refl
 integer_whole (negsuc n) = refl
 

@@ -5,9 +5,9 @@ ghost use Rattle.puzzle_cli.specs.TowersPicture.{clue_at, clue_row, towers_row, 
 use crate::draw::Draw;
 use crate::draw::symbols::{push_spaced_line, square_at};
 use arrayvec::ArrayVec;
-use clue_rules::Towers;
 use latin_board::{Board, OutOfMemory};
 use std::alloc::Global;
+use towers_game::Towers;
 use trail_solver::Rules;
 
 // The symbols of a line: two more than the greatest width.

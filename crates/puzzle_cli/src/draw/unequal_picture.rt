@@ -5,10 +5,10 @@ ghost use Rattle.puzzle_cli.specs.UnequalPicture.{sign_before, sign_above, squar
 use crate::draw::Draw;
 use crate::draw::symbols::{push_spaced_line, square_at};
 use arrayvec::ArrayVec;
-use clue_rules::Unequal;
 use latin_board::{Board, OutOfMemory};
 use std::alloc::{AllocError, Global};
 use trail_solver::Rules;
+use unequal_game::Unequal;
 
 impl Draw for Unequal {
     ghost drawing = { unequal_picture };

@@ -4,7 +4,7 @@ ghost use Rattle.puzzle_cli.specs.GameFacts.{undrawn_facts};
 ghost use Rattle.puzzle_cli.specs.NewSessions.{no_extras, new_game, TextBegins, IsStartRefusal};
 
 use crate::start::start_fault::StartFault;
-use clue_rules::{Game, GameId, Params, read_id};
+use game_texts::{Game, GameId, Params, read_id};
 use play_midend::{Extras, Session};
 use puzzle_gen::generate;
 use std::alloc::Global;

@@ -8,7 +8,7 @@ ghost use Rattle.trail_solver.specs.Listings.{AreFirst};
 ghost use Rattle.puzzle_cli.specs.SolutionTexts.{listed_lines};
 
 use crate::draw::symbols::grid_digits;
-use clue_rules::Game;
+use game_texts::Game;
 use latin_board::{Grid, OutOfMemory};
 use play_midend::Session;
 use std::alloc::{AllocError, Global};

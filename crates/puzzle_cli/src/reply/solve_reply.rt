@@ -12,7 +12,7 @@ use crate::draw::symbols::grid_digits;
 use crate::reply::refusal::Refusal;
 use crate::reply::text::Text;
 use arrayvec::ArrayVec;
-use clue_rules::Game;
+use game_texts::Game;
 use latin_board::Grid;
 use play_midend::{PlayFault, Session};
 

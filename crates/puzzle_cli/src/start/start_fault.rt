@@ -6,7 +6,7 @@ ghost use Rattle.puzzle_cli.specs.StartFault.{start_fault_line};
 
 use crate::view::decimal_text::decimal_text;
 use arrayvec::ArrayString;
-use clue_rules::IdFault;
+use game_texts::IdFault;
 use play_save::LoadFault;
 use puzzle_gen::GenFault;
 use thiserror::Error;

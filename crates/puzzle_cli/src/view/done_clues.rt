@@ -7,7 +7,7 @@ ghost use Rattle.play_midend.specs.MoveTexts.{coordinate_text};
 ghost use Rattle.puzzle_cli.specs.BoardTexts.{place_text, done_line, done_lines};
 
 use arrayvec::ArrayVec;
-use clue_rules::Game;
+use game_texts::Game;
 use latin_board::{Board, Size, edge_xy};
 use play_midend::Session;
 

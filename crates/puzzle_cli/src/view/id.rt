@@ -5,7 +5,7 @@ ghost use Rattle.puzzle_cli.specs.SessionReplies.{id_words};
 
 use crate::draw::Draw;
 use crate::reply::facts::Facts;
-use clue_rules::Game;
+use game_texts::Game;
 use latin_board::OutOfMemory;
 use play_midend::Session;
 use std::alloc::Global;

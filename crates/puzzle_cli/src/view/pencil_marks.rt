@@ -5,7 +5,7 @@ ghost use Rattle.play_midend.specs.Histories.{shown};
 ghost use Rattle.puzzle_cli.specs.BoardTexts.{mark_digits, marks_line, marks_lines};
 
 use arrayvec::ArrayVec;
-use clue_rules::Game;
+use game_texts::Game;
 use latin_board::{Board, Marks, OutOfMemory};
 use play_midend::Session;
 use std::alloc::{AllocError, Global};

@@ -6,7 +6,7 @@ ghost use Rattle.puzzle_cli.specs.BoardTexts.{status_word, status_words};
 
 use crate::view::decimal_text::decimal_text;
 use arrayvec::ArrayString;
-use clue_rules::Game;
+use game_texts::Game;
 use latin_board::Board;
 use play_midend::Session;
 

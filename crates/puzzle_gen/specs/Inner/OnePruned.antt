@@ -3,7 +3,8 @@ use Rattle.std.specs.Prelude.{◌≡◌, ℕ, ◌<◌, List, IsTrue}
 use Rattle.latin_board.specs.Squares.{GridValue}
 use Rattle.trail_solver.specs.Solutions.{HasSeveralSolutions, IsOnlySolution}
 use Rattle.trail_solver.specs.declared.rules.Rules.{Ghosts}
-use Rattle.puzzle_gen.specs.Pruning.{IsPruned, all_but}
+use Rattle.needed_items.specs.Needed.{all_but}
+use Rattle.puzzle_gen.specs.Pruning.{IsPruned}
 
 -- the one pruned puzzle, and what follows of that: the square is its only solution, and it needs each of its items
 pub record IsOnePruned {P : Type 0} (f : Ghosts P) (g : GridValue) (order : List ℕ) (p : P) : Type 0 where

@@ -1,22 +1,22 @@
 -- What the steps of a chain come to: a goal, or a square that is left nothing.
-use Rattle.std.specs.Prelude.{ℕ, ◌*◌, ◌<◌, List}
+use Rattle.std.specs.Prelude.{ℕ, ◌*◌, ◌<◌, List, []}
 use Rattle.latin_board.specs.Squares.{GridValue}
 use Rattle.trail_solver.specs.Candidates.{CandidatesValue}
-use Rattle.clue_rules.specs.Left.{IsLeft}
+use Rattle.line_steps.specs.Left.{IsLeft}
 use Rattle.named_steps.specs.Chains.{IsGoalOf, IsView, Shows, IsTight}
-use Rattle.clue_rules.specs.Chains.{StepValue, LeadsTo}
-use Rattle.clue_rules.specs.Settled.{IsClosure}
-use Rattle.clue_rules.specs.declared.grade.Grade.{Grade}
-use Rattle.clue_rules.specs.declared.grade.Grade.TheVariants.{Hard}
+use Rattle.line_steps.specs.Chains.{StepValue, LeadsTo}
+use Rattle.line_steps.specs.Settled.{IsClosure}
+use Rattle.line_steps.specs.declared.grade.Grade.{Grade}
+use Rattle.line_steps.specs.declared.grade.Grade.TheVariants.{Hard}
 use Rattle.named_steps.specs.declared.goal.Goal.{Goal}
 use Rattle.named_steps.specs.declared.goal.Goal.TheVariants.{OnlyValue}
 use Rattle.step_chains.specs.declared.aims.Aim.{Aim}
 use Rattle.step_chains.specs.declared.aims.Aim.TheVariants.{Number, Nothing}
 use Rattle.step_chains.specs.declared.first_aims.LeastAim.{LeastAim}
-use Rattle.step_chains.specs.Explanations.{IsRefutedGrid, NothingIsShown}
-use Rattle.step_chains.specs.NextHints.{NoneBelowShows, NoneBelowRefutes, IsForcedSquare}
+use Rattle.step_chains.specs.NextHints.{IsForcedSquare}
+use Rattle.step_chains.specs.Inner.FromEachView.{IsLiveFrom, IsRefutedGrid, NothingIsShown, NoneBelowShows, NoneBelowRefutes}
 use Rattle.step_chains.specs.Inner.Goals.{IsOfEmptySquare, IsShownByAll}
-use Rattle.clue_rules.specs.Reasons.{Striking}
+use Rattle.line_steps.specs.Reasons.{Striking}
 
 -- the goal that an aim stands for: where nothing is left of a square, nothing but 0 is
 abbrev pub aim_goal : Aim → Goal
@@ -54,9 +54,10 @@ IsOver Struck grade g c = (view : CandidatesValue) × IsView g view × IsClosure
 
 -- no steps show a number of an empty square, none refute the grid's numbers, and no square is forced
 pub record LeadNowhere (Struck : Striking) (g : GridValue) : Type 0 where
+  pub live : IsLiveFrom g []
   pub shown : NothingIsShown Struck Hard g
   pub holds : IsRefutedGrid Struck Hard g → ⊥
-  pub forced : (cell : ℕ) → IsForcedSquare Struck g cell → ⊥
+  pub forced : (view : CandidatesValue) (cell : ℕ) → IsView g view → IsForcedSquare Struck g view cell → ⊥
 
 -- all steps of the grade come to the aim, those of no grade below to one of its kind, and where it is a number no steps
 -- refute the grid's

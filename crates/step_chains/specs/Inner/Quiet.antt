@@ -3,15 +3,15 @@ use Rattle.std.specs.Prelude.{◌≡◌, ℕ, ◌<◌, true, false, Option, IfSo
 use Rattle.number_sets.specs.Sets.{has_number}
 use Rattle.trail_solver.specs.Pairs.{IsPair}
 use Rattle.trail_solver.specs.Candidates.{CandidatesValue, AreCandidates, may_be}
-use Rattle.clue_rules.specs.Grades.{has_reason}
-use Rattle.clue_rules.specs.declared.reason.Reason.{Reason}
-use Rattle.clue_rules.specs.declared.grade.Grade.{Grade}
+use Rattle.line_steps.specs.Grades.{has_reason}
+use Rattle.line_steps.specs.declared.reason.Reason.{Reason}
+use Rattle.line_steps.specs.declared.grade.Grade.{Grade}
 use Rattle.step_chains.specs.declared.chain.Step.{Step}
 use Rattle.step_chains.specs.ChainValues.{step_value}
 use Rattle.step_chains.specs.Inner.Replays.{IsGradeStep}
 use Rattle.step_chains.specs.Inner.Listed.{IsFoundAt, place_count}
 use Rattle.step_chains.specs.declared.reasons.Part.{Part}
-use Rattle.clue_rules.specs.Reasons.{Striking}
+use Rattle.line_steps.specs.Reasons.{Striking}
 
 -- the step is one of the grade's, and strikes some values that are left
 pub record IsNew (Struck : Striking) (grade : Grade) (c : CandidatesValue) (s : Step) : Type 0 where

@@ -1,11 +1,11 @@
 -- Chains of a grade, and candidates that stand for what they leave.
 use Rattle.std.specs.Prelude.{◌≡◌, true, List}
 use Rattle.trail_solver.specs.Candidates.{CandidatesValue}
-use Rattle.clue_rules.specs.Left.{AreAlike}
-use Rattle.clue_rules.specs.Grades.{has_reason}
-use Rattle.clue_rules.specs.Chains.{StepValue, IsStep, IsChain, AreOfGrade, left_by}
-use Rattle.clue_rules.specs.declared.grade.Grade.{Grade}
-use Rattle.clue_rules.specs.Reasons.{Striking}
+use Rattle.line_steps.specs.Left.{AreAlike}
+use Rattle.line_steps.specs.Grades.{has_reason}
+use Rattle.line_steps.specs.Chains.{StepValue, IsStep, IsChain, AreOfGrade, left_by}
+use Rattle.line_steps.specs.declared.grade.Grade.{Grade}
+use Rattle.line_steps.specs.Reasons.{Striking}
 
 -- the step is one by the candidates, and of a kind that the grade has
 abbrev pub IsGradeStep : Striking → Grade → CandidatesValue → StepValue → Type 0

@@ -4,13 +4,13 @@ use Rattle.number_sets.specs.Sets.{has_number}
 use Rattle.trail_solver.specs.Pairs.{has_pair}
 use Rattle.trail_solver.specs.Candidates.{CandidatesValue}
 use Rattle.named_steps.specs.Chains.{Shows}
-use Rattle.clue_rules.specs.Chains.{StepValue}
-use Rattle.clue_rules.specs.declared.grade.Grade.{Grade}
+use Rattle.line_steps.specs.Chains.{StepValue}
+use Rattle.line_steps.specs.declared.grade.Grade.{Grade}
 use Rattle.named_steps.specs.declared.goal.Goal.{Goal}
 use Rattle.step_chains.specs.declared.chain.Step.{Step}
 use Rattle.step_chains.specs.ChainValues.{StrikesLess, AreLive, step_value, steps_of}
 use Rattle.step_chains.specs.Inner.Replays.{Leads}
-use Rattle.clue_rules.specs.Reasons.{Striking}
+use Rattle.line_steps.specs.Reasons.{Striking}
 
 -- no step from a place on can be left out
 abbrev pub IsTightFrom :

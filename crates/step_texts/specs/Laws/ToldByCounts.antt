@@ -1,14 +1,15 @@
 -- What a clue strikes is told by the counts: the clue isn't among them.
 use Rattle.std.proofs.Common.{◌≡◌, ◌<◌, ℕ, zero, slice_index, sym, ap, ◌∙◌, subst, arith}
-use Rattle.clue_rules.specs.Towers.{TowersValue, clue_of}
-use Rattle.clue_rules.specs.Unequal.{UnequalValue}
-use Rattle.clue_rules.specs.Laws.LineSquares.{view_cell_once}
+use Rattle.towers_game.specs.Towers.{TowersValue, clue_of}
+use Rattle.unequal_game.specs.Unequal.{UnequalValue}
+use Rattle.line_steps.specs.Laws.LineSquares.{view_cell_once}
 use Rattle.trail_solver.specs.Candidates.{CandidatesValue}
-use Rattle.clue_rules.specs.Left.{IsLeft}
-use Rattle.clue_rules.specs.Fillings.{Anything, Standing, IsUnfilled}
-use Rattle.clue_rules.specs.Reasons.{IsTowersStruckBy, IsUnequalStruckBy}
-use Rattle.clue_rules.specs.declared.reason.Reason.{Reason}
-use Rattle.clue_rules.specs.declared.reason.Reason.TheVariants.{Given, Peer, Place, Bound, Stand, Clue, Sign, Set}
+use Rattle.line_steps.specs.Left.{IsLeft}
+use Rattle.towers_game.specs.Fillings.{Anything, Standing, IsUnfilled}
+use Rattle.towers_game.specs.TowersReasons.{IsTowersStruckBy}
+use Rattle.unequal_game.specs.UnequalReasons.{IsUnequalStruckBy}
+use Rattle.line_steps.specs.declared.reason.Reason.{Reason}
+use Rattle.line_steps.specs.declared.reason.Reason.TheVariants.{Given, Peer, Place, Bound, Stand, Clue, Sign, Set}
 use Rattle.shown_counts.specs.Shown.{CanShow, IsShownBy}
 use Rattle.step_texts.specs.Told.{reason_clue, IsSeenFrom, IsInView}
 

@@ -1,6 +1,6 @@
 use Rattle.std.proofs.Common.{◌≡◌, ℕ, ◌<◌, length, slice_index}
 use Rattle.latin_board.specs.Squares.{number_at}
-use Rattle.clue_rules.specs.Views.{view_cell}
+use Rattle.line_steps.specs.Views.{view_cell}
 use Rattle.board_checks.specs.Inner.TowersLines.{CanHold}
 use Rattle.board_checks.proofs.towers.line_sets.Given as goal
 

@@ -1,19 +1,15 @@
+use Rattle.line_steps.specs.Reasons.{StruckBy}
 use Rattle.std.proofs.Common.{◌≡◌, ℕ, ◌*◌, ◌≤◌, sym, ◌∙◌, ap, subst, arith}
-use Rattle.puzzle_gen.proofs.ItemLaws.{laws_of}
+use Rattle.needed_items.proofs.ItemLaws.{laws_of}
 use Rattle.fair_games.specs.Pruned.{IsTried}
-use Rattle.fair_games.proofs.PruneSteps.{HasSteps, cut_of}
+use Rattle.fair_games.proofs.PruneSteps.{HasSteps, steps_of, cut_of}
 use Rattle.fair_games.proofs.FairSteps.{game_needs, all_items, first_given}
 use Rattle.fair_games.proofs.games.draw_game.Goals as goal
 use Rattle.fair_games.proofs.games.draw_game.Given.{Over}
 
 -- the laws of the puzzle's steps
-steps_of : (g : Over) → HasSteps g.P.Rules g.P.Steps.struck_by
-steps_of g = record {
-  items = laws_of g.met.P.Rules;
-  less = g.met.P.Steps.struck_less;
-  sound = λ p valid d reason cell value h. g.met.P.Steps.struck_sound p d reason cell value h valid;
-  cut = g.met.P.Steps.struck_cut;
-}
+steps : (g : Over) → HasSteps g.P.Rules (StruckBy g.P.Rules.puzzle g.P.Steps.own)
+steps g = steps_of g.P.Rules g.P.Steps.own (laws_of g.met.P.Rules) g.met.P.Steps.own_less g.met.P.Steps.own_sound g.met.P.Steps.own_cut
 
 pub returns-clause-needed : goal.returns-clause-needed
 returns-clause-needed g c =
@@ -23,7 +19,7 @@ returns-clause-needed g c =
     let cells : c.get-width.result * c.get-width.result ≡ size * size = ap (λ (n : ℕ). n * n) width in
     let some : size * size ≤ items =
     g.met.P.FairGame.some_items size (omega (arith, width, c.get-width.ensures.smallest)) (omega (arith, width, c.get-width.ensures.largest)) in
-    game_needs g.P.Rules g.P.Steps.struck_by (steps_of g) c.args.grade (g.P.FairGame.trial_of c.args.grade) size c.draw_square-grid.result
+    game_needs g.P.Rules (StruckBy g.P.Rules.puzzle g.P.Steps.own) (steps g) c.args.grade (g.P.FairGame.trial_of c.args.grade) size c.draw_square-grid.result
     c.as_slice.result.now c.pruned.result c.draw_square-grid.ensures.size c.pruned.ensures.pruned
     (λ i below low. subst (IsTried i) (sym c.as_slice.ensures.value)
     (c.draw_trial-order.ensures.tried i (all_items c.item_count.result items (c.get-width.result * c.get-width.result) (size * size) i c.item_count.ensures cells some below)

@@ -1,5 +1,8 @@
+use Rattle.line_steps.specs.Laws.Less.{all_less}
+use Rattle.line_steps.specs.Reasons.{StruckBy}
 use Rattle.std.proofs.Common.{sym, ◌∙◌, subst}
-use Rattle.puzzle_gen.proofs.ItemLaws.{laws_of, cuts_of_full}
+use Rattle.needed_items.proofs.ItemLaws.{laws_of}
+use Rattle.puzzle_gen.proofs.FullCuts.{cuts_of_full}
 use Rattle.fair_games.specs.Fair.{FailsBy}
 use Rattle.fair_games.specs.Inner.PrunedTo.{IsPrunedTo}
 use Rattle.named_steps.specs.Following.{Follows}
@@ -12,8 +15,8 @@ pub without_all-requires-clause-pruned : goal.without_all-requires-clause-pruned
 without_all-requires-clause-pruned g c =
     let square = c.args.grid.now in
     let cuts = cuts_of_full g.P.Rules square (laws_of g.met.P.Rules) c.size.ensures.valid c.requires.latin in
-    subst (λ p. IsPrunedTo g.P.Rules (FailsBy g.P.Steps.struck_by c.args.grade square) square c.args.order.now 0 p) (sym c.full-full.ensures)
-    (pruned_none g.P.Rules (FailsBy g.P.Steps.struck_by c.args.grade square) square c.args.order.now cuts)
+    subst (λ p. IsPrunedTo g.P.Rules (FailsBy (StruckBy g.P.Rules.puzzle g.P.Steps.own) c.args.grade square) square c.args.order.now 0 p) (sym c.full-full.ensures)
+    (pruned_none g.P.Rules (FailsBy (StruckBy g.P.Rules.puzzle g.P.Steps.own) c.args.grade square) square c.args.order.now cuts)
 
 pub without_all-requires-clause-base : goal.without_all-requires-clause-base
 without_all-requires-clause-base g c =
@@ -23,6 +26,6 @@ pub split-requires-clause-follows : goal.split-requires-clause-follows
 split-requires-clause-follows g c =
     let square = c.args.grid.now in
     let full = g.P.Rules.full_of square in
-    subst (λ p. Follows (g.P.Steps.struck_by p) c.args.grade square) (sym c.full-full.ensures)
-    (full_follows g.P.Rules g.P.Steps.struck_by (laws_of g.met.P.Rules) c.args.grade square (g.met.P.Steps.struck_less full)
-    (λ d at cell value. (g.met.P.Steps.given_struck full d at cell value).0) c.size.ensures.valid c.requires.latin)
+    subst (λ p. Follows (StruckBy g.P.Rules.puzzle g.P.Steps.own p) c.args.grade square) (sym c.full-full.ensures)
+    (full_follows g.P.Rules (StruckBy g.P.Rules.puzzle g.P.Steps.own) (laws_of g.met.P.Rules) c.args.grade square (all_less (g.P.Rules.puzzle full) (g.P.Steps.own full) (g.met.P.Steps.own_less full))
+    (λ d at cell value h. h) c.size.ensures.valid c.requires.latin)

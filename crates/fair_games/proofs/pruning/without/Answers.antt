@@ -1,5 +1,5 @@
 use Rattle.std.proofs.Common.{◌≡◌, ℕ, ◌<◌, slice_index, ap, sym, ◌∙◌, subst, arith}
-use Rattle.puzzle_gen.proofs.ItemLaws.{laws_of}
+use Rattle.needed_items.proofs.ItemLaws.{laws_of}
 use Rattle.fair_games.proofs.PrunedItems.{without_none, without_next}
 use Rattle.fair_games.proofs.pruning.without.Goals as goal
 
@@ -10,7 +10,7 @@ pub drop_item-requires : goal.drop_item-requires
 drop_item-requires g c =
     let f = g.P.Rules in
     let size : (f.puzzle c.loop-k.fewer).size ≡ (f.puzzle c.args.puzzle).size =
-    ap (λ p. (f.puzzle p).size) c.loop-k.invariant ∙ (laws_of g.met.P.Rules).cut_size c.args.puzzle _ c.size-valid.ensures.valid in
+    ap (λ p. (f.puzzle p).size) c.loop-k.invariant ∙ (laws_of g.met.P.Rules).cut_size c.args.puzzle _ in
     subst (λ (w : ℕ). slice_index c.args.order.now c.loop-k.k < f.items_of w) (sym size) (c.requires.trial.items c.loop-k.k (omega (arith, c.requires.inside, c.loop-k-test.true)))
 
 pub loop-k-preserved : goal.loop-k-preserved

@@ -1,5 +1,5 @@
 use Rattle.std.proofs.Common.{nat_lt, refl}
-use Rattle.clue_rules.specs.Towers.{clue_of}
+use Rattle.towers_game.specs.Towers.{clue_of}
 use Rattle.json_replies.specs.Boards.{when}
 use Rattle.json_replies.specs.ClueLists.{clue_data}
 use Rattle.json_replies.proofs.Listed.{one_more}

@@ -3,7 +3,7 @@ use Rattle.std.specs.List.{range_with_len, flat_map}
 use Rattle.serde_json.specs.View.{view}
 use Rattle.json_replies.specs.Boards.{when}
 use Rattle.json_replies.specs.ClueLists.{clue_data}
-use Rattle.clue_rules.specs.Towers.{clue_of}
+use Rattle.towers_game.specs.Towers.{clue_of}
 use Rattle.std.proofs.Common.{nat_lt}
 use Rattle.json_replies.proofs.clue_lists.clues_value.Given as goal
 

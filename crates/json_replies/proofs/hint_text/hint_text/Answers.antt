@@ -1,3 +1,4 @@
+use Rattle.line_steps.specs.Reasons.{StruckBy}
 use Rattle.std.proofs.Common.{List, refl, ap, ◌∙◌, subst, arith}
 use Rattle.serde_json.specs.Data.{Data}
 use Rattle.step_chains.specs.declared.chain.Step.{Step}
@@ -18,7 +19,7 @@ returns g c =
     let letter = g.P.StepNames.grade_letter in
     let clue = g.P.StepNames.edge_clue_of c.args.p.now in
     let over = g.P.StepNames.says_greater_of c.args.p.now in
-    let Struck = g.P.Steps.struck_by c.args.p.now in
+    let Struck = StruckBy g.P.Rules.puzzle g.P.Steps.own c.args.p.now in
     let grid = c.args.grid.now in
     let hint = c.args.hint.now in
     let view = c.view_of.result in

@@ -1,11 +1,8 @@
-use Rattle.std.proofs.Common.{rules}
-use Rattle.std.specs.Option.{option_copied}
-use Rattle.serde_json.specs.View.{view}
-use Rattle.json_replies.proofs.ObjectTexts.{members_added}
+use Rattle.std.proofs.Common.{[], ◌∷◌, ◌++◌, ap, ◌∙◌}
+use Rattle.serde_json.specs.Data.{no_members}
+use Rattle.json_replies.proofs.ObjectTexts.{then_ok}
 use Rattle.json_replies.proofs.object_line.reply_members_after.Goals as goal
 
 pub returns-clause-text : goal.returns-clause-text
 returns-clause-text c =
-    members_added c.args.later (option_copied c.args.refused) c.args.reply.now (view c.in_ok-name.name) (view c.args.session.now) c.args.line.items
-    c.in_ok-line.line.items c.in_ok-line-2.line.items c.in_ok-line-3.line.items c.in_ok-line-4.line.items c.push.new.self.items c.push-2.new.self.items
-    c.in_ok-name.ensures c.in_ok-line.ensures.adds c.in_ok-line-2.ensures c.in_ok-line-3.ensures c.in_ok-line-4.ensures.adds (search rules) (search rules)
+    then_ok c.ended.result _ _ (λ new is. is ∙ ap (λ l. l ++ 10 ∷ []) (c.in_ok-members_after.ensures.text no_members)) c.ended.ensures

@@ -1,7 +1,8 @@
-use Rattle.clue_rules.specs.GameIds.{describes_at}
-use Rattle.clue_rules.proofs.GameIdLemmas.{id_again, game_reads}
-use Rattle.puzzle_gen.proofs.ItemLaws.{laws_of}
-use Rattle.fair_games.proofs.PruneSteps.{HasSteps}
+use Rattle.line_steps.specs.Reasons.{StruckBy}
+use Rattle.game_texts.specs.GameIds.{describes_at}
+use Rattle.game_texts.proofs.GameIdLemmas.{id_again, game_reads}
+use Rattle.needed_items.proofs.ItemLaws.{laws_of}
+use Rattle.fair_games.proofs.PruneSteps.{HasSteps, steps_of}
 use Rattle.puzzle_cli.specs.GameFacts.{GameFacts, facts_of}
 use Rattle.puzzle_cli.proofs.RepliesOnce.{IdsAreReadOnce, ids_once}
 use Rattle.json_replies.specs.FurtherLines.{BoardFacts}
@@ -10,6 +11,7 @@ use Rattle.json_replies.proofs.ToldOnce.{objects_tell_one_reply, objects_are_not
 use Rattle.json_replies.proofs.AnswersLeave.{answers_leave}
 use Rattle.json_replies.proofs.FairStarts.{fair_lines_begin}
 use Rattle.json_replies.proofs.FairHints.{hints_lead_on}
+use Rattle.json_replies.proofs.HintsToEnd.{hints_lead_to_the_end}
 use Rattle.json_replies.proofs.reply_laws.laws.Given.{Over}
 use Rattle.json_replies.proofs.reply_laws.laws.Goals as goal
 
@@ -19,7 +21,7 @@ facts g = facts_of g.P.Rules g.P.Game g.P.Draw
 
 -- what a game says of boards
 abbrev boards : (g : Over) → BoardFacts g.row.P.Denot
-boards g = record { demand = g.P.Demands.demand; clues = g.P.Shows.clues; signs = g.P.Shows.signs; struck_by = g.P.Steps.struck_by; letter = g.P.StepNames.grade_letter; edge_clue = g.P.StepNames.edge_clue_of; says_greater = g.P.StepNames.says_greater_of; fair_letter = g.P.FairGame.letter_of; trial = g.P.FairGame.trial_of; initial = g.P.FairGame.initial_code }
+boards g = record { demand = g.P.Demands.demand; clues = g.P.Shows.clues; signs = g.P.Shows.signs; struck_by = (StruckBy g.P.Rules.puzzle g.P.Steps.own); letter = g.P.StepNames.grade_letter; edge_clue = g.P.StepNames.edge_clue_of; says_greater = g.P.StepNames.says_greater_of; fair_letter = g.P.FairGame.letter_of; trial = g.P.FairGame.trial_of; initial = g.P.FairGame.initial_code; items = g.P.Items }
 
 -- IDs are read in one way
 ids : (g : Over) → IdsAreReadOnce (facts g)
@@ -30,13 +32,8 @@ ids g =
     (describes_at f.rules.puzzle f.rules.valid f.describes) text id g.met.P.Game.plain_letters reads)
 
 -- the laws of the puzzle's steps
-steps : (g : Over) → HasSteps g.P.Rules g.P.Steps.struck_by
-steps g = record {
-  items = laws_of g.met.P.Rules;
-  less = g.met.P.Steps.struck_less;
-  sound = λ p valid d reason cell value h. g.met.P.Steps.struck_sound p d reason cell value h valid;
-  cut = g.met.P.Steps.struck_cut;
-}
+steps : (g : Over) → HasSteps g.P.Rules (StruckBy g.P.Rules.puzzle g.P.Steps.own)
+steps g = steps_of g.P.Rules g.P.Steps.own (laws_of g.met.P.Rules) g.met.P.Steps.own_less g.met.P.Steps.own_sound g.met.P.Steps.own_cut
 
 pub returns-clause-lines : goal.returns-clause-lines
 returns-clause-lines g c = lines_are_the_reply
@@ -54,4 +51,7 @@ pub returns-clause-fair : goal.returns-clause-fair
 returns-clause-fair g c = fair_lines_begin (facts g) (boards g) (steps g) (ids g) g.met.P.Game.desc_canonical g.met.P.Shows.fair_letters
 
 pub returns-clause-hints : goal.returns-clause-hints
-returns-clause-hints g c = hints_lead_on (facts g) (boards g) g.met.P.Steps.struck_less c.laws.ensures.nested
+returns-clause-hints g c = hints_lead_on (facts g) (boards g) (steps g).less c.laws.ensures.nested
+
+pub returns-clause-hints_end : goal.returns-clause-hints_end
+returns-clause-hints_end g c = hints_lead_to_the_end (facts g) (boards g) (returns-clause-hints g c)

@@ -1,6 +1,6 @@
-use Rattle.clue_rules.specs.GameIds.{describes_at}
-use Rattle.clue_rules.proofs.GameIdLemmas.{ReadsGrammar, id_taken, id_again, game_reads}
-use Rattle.puzzle_gen.proofs.ItemLaws.{laws_of}
+use Rattle.game_texts.specs.GameIds.{describes_at}
+use Rattle.game_texts.proofs.GameIdLemmas.{ReadsGrammar, id_taken, id_again, game_reads}
+use Rattle.needed_items.proofs.ItemLaws.{laws_of}
 use Rattle.play_save.proofs.GameTexts.{game_owes}
 use Rattle.puzzle_cli.specs.GameFacts.{facts_of}
 use Rattle.puzzle_cli.specs.Inner.CommandReading.{read_at}
@@ -16,6 +16,8 @@ use Rattle.puzzle_cli.proofs.LinesAnswered.{output_is_there}
 use Rattle.puzzle_cli.proofs.SaveReplies.{save_line_loads_back}
 use Rattle.puzzle_cli.proofs.DescribedReplies.{described_lines_begin}
 use Rattle.puzzle_cli.proofs.SeededReplies.{seeded_lines_have_one}
+use Rattle.puzzle_cli.proofs.SymbolsShown.{towers_show, unequal_show}
+use Rattle.puzzle_cli.proofs.ViewsTold.{views_tell_boards}
 use Rattle.puzzle_cli.proofs.run_laws.laws.Given.{Over}
 use Rattle.puzzle_cli.proofs.run_laws.laws.Goals as goal
 
@@ -83,3 +85,9 @@ returns-clause-described g c =
 
 pub returns-clause-seeded : goal.returns-clause-seeded
 returns-clause-seeded g c = seeded_lines_have_one (facts_of g.P.Rules g.P.Game g.P.Draw) (laws_of g.met.P.Rules) (ids g)
+
+pub returns-clause-numbers : goal.returns-clause-numbers
+returns-clause-numbers g c = (towers_show, unequal_show)
+
+pub returns-clause-boards : goal.returns-clause-boards
+returns-clause-boards g c = views_tell_boards (facts_of g.P.Rules g.P.Game g.P.Draw)

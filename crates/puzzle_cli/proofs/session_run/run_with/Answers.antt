@@ -1,6 +1,6 @@
 use Rattle.std.proofs.Common.{Option, sym, subst}
 use Rattle.play_midend.specs.Histories.{History}
-use Rattle.puzzle_gen.proofs.ItemLaws.{laws_of}
+use Rattle.needed_items.proofs.ItemLaws.{laws_of}
 use Rattle.puzzle_cli.specs.Commands.{is_quit}
 use Rattle.puzzle_cli.specs.GameFacts.{facts_of}
 use Rattle.puzzle_cli.specs.Runs.{point_at}

@@ -1,6 +1,7 @@
 use Rattle.std.proofs.Common.{sym, subst, arith}
 use Rattle.puzzle_gen.specs.Pruning.{IsPruned}
-use Rattle.puzzle_gen.proofs.ItemLaws.{laws_of, cuts_of_full}
+use Rattle.needed_items.proofs.ItemLaws.{laws_of}
+use Rattle.puzzle_gen.proofs.FullCuts.{cuts_of_full}
 use Rattle.puzzle_gen.proofs.PruningSteps.{IsPrunedTo, pruned_none, pruned_next, pruned_all, pruned_one, pruned_needed, pruned_valid}
 use Rattle.puzzle_gen.proofs.pruning.pruned.Goals as goal
 

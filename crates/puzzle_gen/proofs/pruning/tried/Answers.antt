@@ -1,6 +1,6 @@
 use Rattle.std.proofs.Common.{sym, subst}
 use Rattle.trail_solver.specs.Puzzles.{Solves}
-use Rattle.puzzle_gen.specs.Pruning.{all_but}
+use Rattle.needed_items.specs.Needed.{all_but}
 use Rattle.puzzle_gen.proofs.pruning.tried.Goals as goal
 
 pub is_forced-requires : goal.is_forced-requires

@@ -1,7 +1,7 @@
 use Rattle.std.proofs.Common.{ℕ, ◌<◌, ◌∙◌, slice_index, subst, arith}
 use Rattle.std.proofs.lemmas.Grind.{get_or_default_zero}
 use Rattle.std.proofs.lemmas.List.{length-set}
-use Rattle.clue_rules.proofs.FilledLemmas.{row_next}
+use Rattle.line_steps.proofs.FilledLemmas.{row_next}
 use Rattle.shown_counts.specs.Inner.Lone.{IsWithout}
 use Rattle.shown_counts.proofs.LoneNumbers.{same_fillings}
 use Rattle.shown_counts.proofs.lone_numbers.without_lone.Goals as goal

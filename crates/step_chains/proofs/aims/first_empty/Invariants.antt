@@ -1,5 +1,5 @@
 use Rattle.std.proofs.Common.{ℕ, ◌<◌}
-use Rattle.clue_rules.specs.Left.{IsLeft}
+use Rattle.line_steps.specs.Left.{IsLeft}
 use Rattle.step_chains.proofs.aims.first_empty.Given as goal
 
 abbrev pub invariant-loop-cell : goal.invariant-loop-cell

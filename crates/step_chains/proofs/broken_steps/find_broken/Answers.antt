@@ -1,3 +1,5 @@
+use Rattle.line_steps.specs.Laws.Less.{all_less}
+use Rattle.line_steps.specs.Reasons.{StruckBy}
 use Rattle.std.proofs.Common.{◌≡◌, ℕ, ◌+◌, [], ◌∷◌, ◌++◌, take, sym, ap, ◌∙◌, subst, arith}
 use Rattle.std.proofs.lemmas.List.{take_more}
 use Rattle.trail_solver.specs.Candidates.{CandidatesValue, IsEarlier}
@@ -12,8 +14,8 @@ use Rattle.step_chains.proofs.broken_steps.find_broken.Goals.{then-looks_at+else
 
 pub returns-then-is_broken-clause-broken : goal.returns-then-is_broken-clause-broken
 returns-then-is_broken-clause-broken g c = λ chain.
-    let Struck = g.P.Steps.struck_by c.args.p.now in
-    let less = g.met.P.Steps.struck_less c.args.p.now in
+    let Struck = StruckBy g.P.Rules.puzzle g.P.Steps.own c.args.p.now in
+    let less = all_less (g.P.Rules.puzzle c.args.p.now) (g.P.Steps.own c.args.p.now) (g.met.P.Steps.own_less c.args.p.now) in
     let start = c.args.candidates.now in
     let steps = c.args.steps.now in
     let place = c.loop-place.place in
@@ -28,8 +30,8 @@ returns-then-is_broken-clause-broken g c = λ chain.
 
 pub loop-place-preserved : goal.loop-place-preserved
 loop-place-preserved g c =
-    let Struck = g.P.Steps.struck_by c.args.p.now in
-    let less = g.met.P.Steps.struck_less c.args.p.now in
+    let Struck = StruckBy g.P.Rules.puzzle g.P.Steps.own c.args.p.now in
+    let less = all_less (g.P.Rules.puzzle c.args.p.now) (g.P.Steps.own c.args.p.now) (g.met.P.Steps.own_less c.args.p.now) in
     let start = c.args.candidates.now in
     let steps = c.args.steps.now in
     let place = c.loop-place.place in

@@ -1,3 +1,4 @@
+use Rattle.line_steps.specs.Reasons.{StruckBy}
 use Rattle.std.proofs.Common.{◌≡◌, ◌≤◌, take}
 use Rattle.trail_solver.specs.Candidates.{IsEarlier}
 use Rattle.step_chains.specs.ChainValues.{steps_of}
@@ -10,6 +11,6 @@ invariant-loop-place g l = record {
   size : l.candidates.size ≡ l.fn.candidates.size;
   order : l.taken ≤ l.place;
   earlier : IsEarlier l.fn.candidates l.candidates;
-  leads : IsGradeChain (g.P.Steps.struck_by l.p) l.grade l.fn.candidates (steps_of l.steps)
-      → Leads (g.P.Steps.struck_by l.p) l.grade l.fn.candidates (steps_of (take l.taken l.steps)) l.candidates;
+  leads : IsGradeChain (StruckBy g.P.Rules.puzzle g.P.Steps.own l.p) l.grade l.fn.candidates (steps_of l.steps)
+      → Leads (StruckBy g.P.Rules.puzzle g.P.Steps.own l.p) l.grade l.fn.candidates (steps_of (take l.taken l.steps)) l.candidates;
 }

@@ -1,34 +1,36 @@
+use Rattle.line_steps.specs.Laws.Less.{all_less}
+use Rattle.line_steps.specs.Reasons.{StruckBy}
 use Rattle.std.proofs.Common.{Option, subst, arith}
 use Rattle.std.specs.Option.{MatchOption}
 use Rattle.trail_solver.specs.Candidates.{CandidatesValue}
-use Rattle.clue_rules.specs.declared.grade.Grade.{Grade}
-use Rattle.clue_rules.specs.declared.grade.Grade.TheVariants.{Latin, Easy, Hard}
+use Rattle.line_steps.specs.declared.grade.Grade.{Grade}
+use Rattle.line_steps.specs.declared.grade.Grade.TheVariants.{Latin, Easy, Hard}
 use Rattle.named_steps.specs.declared.goal.Goal.{Goal}
-use Rattle.step_chains.specs.Explanations.{IsRefutedGrid, NothingIsShown}
+use Rattle.step_chains.specs.Inner.FromEachView.{IsRefutedGrid, NothingIsShown}
 use Rattle.step_chains.specs.Inner.Goals.{IsOpenShown}
 use Rattle.step_chains.proofs.NextHints.{below_latin, below_easy, below_hard, emptied_least, left_up, nowhere_left, over_holds, over_silent, shown_least}
 use Rattle.step_chains.proofs.first_aims.first_aim.Goals as goal
 
 pub go_on-requires-2-clause-from : goal.go_on-requires-2-clause-from
 go_on-requires-2-clause-from g c =
-    left_up (g.P.Steps.struck_by c.args.p.now) Latin Easy c.args.grid.now c.go_on.new.settled (omega arith) c.go_on.ensures.left
+    left_up (StruckBy g.P.Rules.puzzle g.P.Steps.own c.args.p.now) Latin Easy c.args.grid.now c.go_on.new.settled (omega arith) c.go_on.ensures.left
 
 pub go_on-requires-3-clause-from : goal.go_on-requires-3-clause-from
 go_on-requires-3-clause-from g c =
-    left_up (g.P.Steps.struck_by c.args.p.now) Easy Hard c.args.grid.now c.go_on-2.new.settled (omega arith) c.go_on-2.ensures.left
+    left_up (StruckBy g.P.Rules.puzzle g.P.Steps.own c.args.p.now) Easy Hard c.args.grid.now c.go_on-2.new.settled (omega arith) c.go_on-2.ensures.left
 
 pub returns-in-Some : goal.returns-in-Some
 returns-in-Some g c =
-    let Struck = g.P.Steps.struck_by c.args.p.now in
-    let less = g.met.P.Steps.struck_less c.args.p.now in
+    let Struck = StruckBy g.P.Rules.puzzle g.P.Steps.own c.args.p.now in
+    let less = all_less (g.P.Rules.puzzle c.args.p.now) (g.P.Steps.own c.args.p.now) (g.met.P.Steps.own_less c.args.p.now) in
     let b = c.args.grid.now in
     rw (c.emptied.ensures.grade, c.emptied.ensures.aim) (emptied_least Struck less Latin b c.go_on.new.settled c.in-Some.cell
     c.go_on.ensures.left c.in-Some.ensures.over (below_latin (λ lower. IsRefutedGrid Struck lower b → ⊥)))
 
 pub returns-in-Some-go_on : goal.returns-in-Some-go_on
 returns-in-Some-go_on g c =
-    let Struck = g.P.Steps.struck_by c.args.p.now in
-    let less = g.met.P.Steps.struck_less c.args.p.now in
+    let Struck = StruckBy g.P.Rules.puzzle g.P.Steps.own c.args.p.now in
+    let less = all_less (g.P.Rules.puzzle c.args.p.now) (g.P.Steps.own c.args.p.now) (g.met.P.Steps.own_less c.args.p.now) in
     let b = c.args.grid.now in
     let latin = c.go_on.new.settled in
     let easy = c.go_on-2.new.settled in
@@ -39,8 +41,8 @@ returns-in-Some-go_on g c =
 
 pub returns-in-Some-go_on-2 : goal.returns-in-Some-go_on-2
 returns-in-Some-go_on-2 g c =
-    let Struck = g.P.Steps.struck_by c.args.p.now in
-    let less = g.met.P.Steps.struck_less c.args.p.now in
+    let Struck = StruckBy g.P.Rules.puzzle g.P.Steps.own c.args.p.now in
+    let less = all_less (g.P.Rules.puzzle c.args.p.now) (g.P.Steps.own c.args.p.now) (g.met.P.Steps.own_less c.args.p.now) in
     let b = c.args.grid.now in
     let latin = c.go_on.new.settled in
     let easy = c.go_on-2.new.settled in
@@ -53,8 +55,8 @@ returns-in-Some-go_on-2 g c =
 
 pub returns-in-Some-default-default : goal.returns-in-Some-default-default
 returns-in-Some-default-default g c =
-    let Struck = g.P.Steps.struck_by c.args.p.now in
-    let less = g.met.P.Steps.struck_less c.args.p.now in
+    let Struck = StruckBy g.P.Rules.puzzle g.P.Steps.own c.args.p.now in
+    let less = all_less (g.P.Rules.puzzle c.args.p.now) (g.P.Steps.own c.args.p.now) (g.met.P.Steps.own_less c.args.p.now) in
     let b = c.args.grid.now in
     let latin = c.go_on.new.settled in
     let hard = c.go_on-3.new.settled in
@@ -66,8 +68,8 @@ returns-in-Some-default-default g c =
 
 pub returns-in-None-Some-default : goal.returns-in-None-Some-default
 returns-in-None-Some-default g c =
-    let Struck = g.P.Steps.struck_by c.args.p.now in
-    let less = g.met.P.Steps.struck_less c.args.p.now in
+    let Struck = StruckBy g.P.Rules.puzzle g.P.Steps.own c.args.p.now in
+    let less = all_less (g.P.Rules.puzzle c.args.p.now) (g.P.Steps.own c.args.p.now) (g.met.P.Steps.own_less c.args.p.now) in
     let b = c.args.grid.now in
     let latin = c.go_on.new.settled in
     let easy = c.go_on-2.new.settled in
@@ -83,8 +85,8 @@ returns-in-None-Some-default g c =
 
 pub returns-in-None-None-Some : goal.returns-in-None-None-Some
 returns-in-None-None-Some g c =
-    let Struck = g.P.Steps.struck_by c.args.p.now in
-    let less = g.met.P.Steps.struck_less c.args.p.now in
+    let Struck = StruckBy g.P.Rules.puzzle g.P.Steps.own c.args.p.now in
+    let less = all_less (g.P.Rules.puzzle c.args.p.now) (g.P.Steps.own c.args.p.now) (g.met.P.Steps.own_less c.args.p.now) in
     let b = c.args.grid.now in
     let latin = c.go_on.new.settled in
     let easy = c.go_on-2.new.settled in
@@ -101,5 +103,5 @@ returns-in-None-None-Some g c =
 
 pub returns-in-None-None-None : goal.returns-in-None-None-None
 returns-in-None-None-None g c =
-    nowhere_left (g.P.Steps.struck_by c.args.p.now) (g.met.P.Steps.struck_less c.args.p.now) c.args.grid.now c.go_on-3.new.settled
+    nowhere_left (StruckBy g.P.Rules.puzzle g.P.Steps.own c.args.p.now) (all_less (g.P.Rules.puzzle c.args.p.now) (g.P.Steps.own c.args.p.now) (g.met.P.Steps.own_less c.args.p.now)) c.args.grid.now c.go_on-3.new.settled
     c.in_default-go_on-2.ensures.over c.in-None-None-None.ensures

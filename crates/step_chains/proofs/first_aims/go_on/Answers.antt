@@ -1,19 +1,20 @@
+use Rattle.line_steps.specs.Reasons.{StruckBy}
 use Rattle.std.proofs.Common.{◌∙◌}
 use Rattle.step_chains.proofs.NextHints.{left_on, left_size, over_found}
 use Rattle.step_chains.proofs.first_aims.go_on.Goals as goal
 
 pub settle-requires : goal.settle-requires
 settle-requires g c =
-    left_size (g.P.Steps.struck_by c.args.p.now) c.args.grade c.args.grid.now c.args.settled.now c.requires.from ∙ c.requires.size
+    left_size (StruckBy g.P.Rules.puzzle g.P.Steps.own c.args.p.now) c.args.grade c.args.grid.now c.args.settled.now c.requires.from ∙ c.requires.size
 
 pub returns-clause-left : goal.returns-clause-left
 returns-clause-left g c =
-    left_on (g.P.Steps.struck_by c.args.p.now) c.args.grade c.args.grid.now c.args.settled.now c.settle.new.candidates c.requires.from
+    left_on (StruckBy g.P.Rules.puzzle g.P.Steps.own c.args.p.now) c.args.grade c.args.grid.now c.args.settled.now c.settle.new.candidates c.requires.from
     c.settle.ensures.leads
 
 pub returns-clause-over : goal.returns-clause-over
 returns-clause-over g c =
-    let Struck = g.P.Steps.struck_by c.args.p.now in
+    let Struck = StruckBy g.P.Rules.puzzle g.P.Steps.own c.args.p.now in
     let b = c.args.grid.now in
     let d = c.settle.new.candidates in
     let left = left_on Struck c.args.grade b c.args.settled.now d c.requires.from c.settle.ensures.leads in

@@ -1,10 +1,11 @@
+use Rattle.line_steps.specs.Reasons.{StruckBy}
 use Rattle.std.proofs.Common.{refl, sym}
 use Rattle.step_chains.proofs.Idle.{new_step}
 use Rattle.step_chains.proofs.next_steps.step_in.Goals as goal
 
 pub returns : goal.returns
 returns g c =
-    new_step (g.P.Steps.struck_by c.args.p.now) c.args.grade c.args.candidates.now c.args.reason.now c.args.cell c.intersection-values.result _
+    new_step (StruckBy g.P.Rules.puzzle g.P.Steps.own c.args.p.now) c.args.grade c.args.candidates.now c.args.reason.now c.args.cell c.intersection-values.result _
     c.size-size.ensures.valid.largest (sym c.if-not-has.ensures)
     (record {
       struck = c.strikes-struck.result;

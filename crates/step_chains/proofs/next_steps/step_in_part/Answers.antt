@@ -1,3 +1,4 @@
+use Rattle.line_steps.specs.Reasons.{StruckBy}
 use Rattle.std.proofs.Common.{ap, ◌∙◌, arith}
 use Rattle.step_chains.specs.Inner.Listed.{place_count}
 use Rattle.step_chains.specs.Inner.Quiet.{IsIdleAt}
@@ -6,7 +7,7 @@ use Rattle.step_chains.proofs.next_steps.step_in_part.Goals as goal
 
 pub loop-place-preserved : goal.loop-place-preserved
 loop-place-preserved g c =
-    all_next (IsIdleAt (g.P.Steps.struck_by c.args.p.now) c.args.grade c.args.candidates.now c.args.part) c.loop-place.place c.loop-place.invariant
+    all_next (IsIdleAt (StruckBy g.P.Rules.puzzle g.P.Steps.own c.args.p.now) c.args.grade c.args.candidates.now c.args.part) c.loop-place.place c.loop-place.invariant
     c.in_default.ensures
 
 pub returns : goal.returns

@@ -1,6 +1,7 @@
+use Rattle.line_steps.specs.Reasons.{StruckBy}
 use Rattle.std.proofs.Common.{ℕ, ◌<◌}
 use Rattle.step_chains.specs.Inner.Quiet.{IsIdleAt}
 use Rattle.step_chains.proofs.next_steps.step_in_part.Given as goal
 
 abbrev pub invariant-loop-place : goal.invariant-loop-place
-invariant-loop-place g l = (j : ℕ) → j < l.place → IsIdleAt (g.P.Steps.struck_by l.p) l.grade l.candidates l.part j
+invariant-loop-place g l = (j : ℕ) → j < l.place → IsIdleAt (StruckBy g.P.Rules.puzzle g.P.Steps.own l.p) l.grade l.candidates l.part j

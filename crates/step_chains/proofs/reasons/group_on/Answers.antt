@@ -1,6 +1,6 @@
 use Rattle.std.proofs.Common.{sym, ap, ◌∙◌}
 use Rattle.std.specs.Prelude.{Some, count_ones}
-use Rattle.clue_rules.specs.declared.reason.Reason.TheVariants.{Set}
+use Rattle.line_steps.specs.declared.reason.Reason.TheVariants.{Set}
 use Rattle.step_chains.proofs.Idle.{group_inside, union_same}
 use Rattle.step_chains.proofs.reasons.group_on.Goals as goal
 

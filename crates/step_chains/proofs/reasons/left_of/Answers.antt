@@ -2,7 +2,7 @@ use Rattle.std.proofs.Common.{◌≡◌, ◌↔◌, ℕ, ◌+◌, ◌<◌, true,
 use Rattle.number_sets.specs.Sets.{has_number}
 use Rattle.latin_board.specs.Lines.{line_cell}
 use Rattle.trail_solver.specs.Candidates.{IsSetOf}
-use Rattle.clue_rules.specs.Left.{IsLeft}
+use Rattle.line_steps.specs.Left.{IsLeft}
 use Rattle.step_chains.proofs.Idle.{left_added, left_skipped}
 use Rattle.step_chains.proofs.reasons.left_of.Goals as goal
 use Rattle.step_chains.proofs.reasons.left_of.Goals.{then-has, else-has}

@@ -1,7 +1,7 @@
 use Rattle.std.proofs.Common.{◌≡◌, ◌↔◌, ℕ, ◌<◌, true}
 use Rattle.number_sets.specs.Sets.{has_number}
 use Rattle.latin_board.specs.Lines.{line_cell}
-use Rattle.clue_rules.specs.Left.{IsLeft}
+use Rattle.line_steps.specs.Left.{IsLeft}
 use Rattle.step_chains.proofs.reasons.left_of.Given as goal
 
 abbrev pub invariant-loop-k : goal.invariant-loop-k

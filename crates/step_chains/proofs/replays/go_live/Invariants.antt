@@ -1,7 +1,7 @@
 use Rattle.std.proofs.Common.{◌≡◌, take}
 use Rattle.trail_solver.specs.Candidates.{IsEarlier}
-use Rattle.clue_rules.specs.Left.{AreAlike}
-use Rattle.clue_rules.specs.Chains.{left_by}
+use Rattle.line_steps.specs.Left.{AreAlike}
+use Rattle.line_steps.specs.Chains.{left_by}
 use Rattle.step_chains.specs.ChainValues.{steps_of, AreLive}
 use Rattle.step_chains.proofs.replays.go_live.Given as goal
 

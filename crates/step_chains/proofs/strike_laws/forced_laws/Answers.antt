@@ -1,8 +1,9 @@
-use Rattle.step_chains.proofs.ForcedLaws.{towers_forced, unequal_forced}
+use Rattle.line_steps.specs.Laws.Less.{all_less}
+use Rattle.line_steps.specs.Reasons.{StruckBy}
+use Rattle.step_chains.proofs.ForcedLaws.{forced_by}
 use Rattle.step_chains.proofs.strike_laws.forced_laws.Goals as goal
 
-pub returns-clause-towers : goal.returns-clause-towers
-returns-clause-towers g = towers_forced
-
-pub returns-clause-unequal : goal.returns-clause-unequal
-returns-clause-unequal g = unequal_forced
+pub returns : goal.returns
+returns g c = λ p.
+    let puzzle = g.P.Rules.puzzle p in
+    forced_by puzzle.size (StruckBy g.P.Rules.puzzle g.P.Steps.own p) (all_less puzzle (g.P.Steps.own p) (g.met.P.Steps.own_less p))

@@ -1,3 +1,5 @@
+use Rattle.line_steps.specs.Laws.Less.{all_less}
+use Rattle.line_steps.specs.Reasons.{StruckBy}
 use Rattle.std.proofs.Common.{◌^◌, ◌<◌, ◌∙◌, ℕ, ◌≡◌, List, take, sym, ap, subst, arith}
 use Rattle.std.proofs.lemmas.Bool.{both_ways}
 use Rattle.std.proofs.lemmas.List.{take-set}
@@ -14,13 +16,13 @@ returns-then-not-has-clause-left g c = λ start first shows.
     let s = c.index.result.now in
     let low : s.values < 2 ^ 16 = subst (λ (n : ℕ). n < 2 ^ 16) c.bits-bits.ensures (omega arith) in (
       shows,
-      left_none (g.P.Steps.struck_by c.args.p.now) c.args.grade start c.args.place c.args.value c.args.steps.now.items s (aim_goal c.args.aim)
+      left_none (StruckBy g.P.Rules.puzzle g.P.Steps.own c.args.p.now) c.args.grade start c.args.place c.args.value c.args.steps.now.items s (aim_goal c.args.aim)
           c.requires.inside c.index.ensures low (sym c.has.ensures ∙ c.if-not-has.true),
     )
 
 pub returns-then-not-shows_on-clause-left : goal.returns-then-not-shows_on-clause-left
 returns-then-not-shows_on-clause-left g c = λ start first shows.
-    let Struck = g.P.Steps.struck_by c.args.p.now in
+    let Struck = StruckBy g.P.Rules.puzzle g.P.Steps.own c.args.p.now in
     let old = c.args.steps.now.items in
     let place = c.args.place in
     let s = c.index.result.now in
@@ -32,14 +34,14 @@ returns-then-not-shows_on-clause-left g c = λ start first shows.
     let here = subst (λ (xs : List Step). Leads Struck c.args.grade start (steps_of xs) c.args.candidates.now) (sym front) first in (
       subst (λ (xs : List Step). Shows Struck c.args.grade start (steps_of xs) (aim_goal c.args.aim))
           (sym (set_back old place s t c.requires.inside c.index.ensures)) shows,
-      left_with Struck (g.met.P.Steps.struck_less c.args.p.now) c.args.grade start place c.args.value old set s t (aim_goal c.args.aim) c.requires.inside
+      left_with Struck (all_less (g.P.Rules.puzzle c.args.p.now) (g.P.Steps.own c.args.p.now) (g.met.P.Steps.own_less c.args.p.now)) c.args.grade start place c.args.value old set s t (aim_goal c.args.aim) c.requires.inside
           c.index.ensures low few c.without-less.ensures c.as_slice.ensures.value shows
           (λ shown. both_ways c.shows_on.result c.if-not-shows_on.true ((c.shows_on.ensures.shows start here).1 shown)),
     )
 
 pub returns-else-not-shows_on-clause-left : goal.returns-else-not-shows_on-clause-left
 returns-else-not-shows_on-clause-left g c = λ start first shows.
-    let Struck = g.P.Steps.struck_by c.args.p.now in
+    let Struck = StruckBy g.P.Rules.puzzle g.P.Steps.own c.args.p.now in
     let old = c.args.steps.now.items in
     let place = c.args.place in
     let s = c.index.result.now in

@@ -1,16 +1,18 @@
-use Rattle.std.proofs.Common.{◌-◌, List, take, drop, subst}
-use Rattle.clue_rules.specs.Left.{AreAlike}
-use Rattle.clue_rules.specs.Chains.{left_by}
+use Rattle.line_steps.specs.Reasons.{StruckBy}
+use Rattle.std.proofs.Common.{List, take, subst}
+use Rattle.line_steps.specs.Left.{AreAlike}
+use Rattle.line_steps.specs.Chains.{left_by}
 use Rattle.step_chains.specs.declared.chain.Step.{Step}
 use Rattle.step_chains.specs.ChainValues.{steps_of}
-use Rattle.step_chains.proofs.Blocks.{leads_further}
+use Rattle.step_chains.proofs.Followed.{leads_known}
+use Rattle.step_chains.proofs.Blocks.{first_chain}
 use Rattle.step_chains.proofs.tightening.narrow.Goals as goal
 
 pub returns-clause-narrowed : goal.returns-clause-narrowed
-returns-clause-narrowed g c = λ start first done.
+returns-clause-narrowed g c = λ done.
+    let Struck = StruckBy g.P.Rules.puzzle g.P.Steps.own c.args.p.now in
+    let start = c.args.candidates.now in
     c.narrow_here.ensures.narrowed start
-    (leads_further (g.P.Steps.struck_by c.args.p.now) (g.met.P.Steps.struck_less c.args.p.now) c.args.grade start c.args.candidates.now c.take_all.new.candidates
-    c.args.steps.now.items c.args.from c.args.place c.requires.order first (done.shows.chain, done.shows.allowed) c.take_all.ensures.size
-    (subst (λ (xs : List Step). AreAlike (left_by c.args.candidates.now (steps_of (take (c.args.place - c.args.from) (drop c.args.from xs)))) c.take_all.new.candidates)
-    c.deref.ensures.value c.take_all.ensures.alike))
-    done
+    (leads_known Struck c.args.grade start c.take_all.new.candidates (steps_of (take c.args.place c.args.steps.now.items))
+    (first_chain Struck c.args.grade start c.args.steps.now.items c.args.place (done.shows.chain, done.shows.allowed)) c.take_all.ensures.size
+    (subst (λ (xs : List Step). AreAlike (left_by start (steps_of (take c.args.place xs))) c.take_all.new.candidates) c.deref.ensures.value c.take_all.ensures.alike)) done

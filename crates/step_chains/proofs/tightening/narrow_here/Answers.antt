@@ -1,3 +1,5 @@
+use Rattle.line_steps.specs.Laws.Less.{all_less}
+use Rattle.line_steps.specs.Reasons.{StruckBy}
 use Rattle.std.proofs.Common.{◌≤◌, List, take, refl, ◌∙◌, sym, subst, arith}
 use Rattle.trail_solver.specs.Candidates.{CandidatesValue}
 use Rattle.step_chains.specs.declared.chain.Step.{Step}
@@ -17,7 +19,7 @@ loop-value-init g c = (
     record {
       tight = done.tight;
       needed = done.needed;
-      here = needed_none (g.P.Steps.struck_by c.args.p.now) c.args.grade start c.args.place (steps_of c.args.steps.now.items) (aim_goal c.args.aim) done.shows;
+      here = needed_none (StruckBy g.P.Rules.puzzle g.P.Steps.own c.args.p.now) c.args.grade start c.args.place (steps_of c.args.steps.now.items) (aim_goal c.args.aim) done.shows;
     },
     λ live. live,
   ),
@@ -25,7 +27,7 @@ loop-value-init g c = (
 
 pub loop-value-preserved : goal.loop-value-preserved
 loop-value-preserved g c =
-    let Struck = g.P.Steps.struck_by c.args.p.now in
+    let Struck = StruckBy g.P.Rules.puzzle g.P.Steps.own c.args.p.now in
     let place = c.args.place in
     let value = c.loop-value.value in
     let before = c.loop-value.invariant in
@@ -42,14 +44,14 @@ loop-value-preserved g c =
           let was = before.3 start first done in
           let out = c.leave_out.ensures.left start here was.0 in (
             out.0,
-            narrowed_on Struck (g.met.P.Steps.struck_less c.args.p.now) c.args.grade start place value old new aim was.0 out.1 was.1,
+            narrowed_on Struck (all_less (g.P.Rules.puzzle c.args.p.now) (g.P.Steps.own c.args.p.now) (g.met.P.Steps.own_less c.args.p.now)) c.args.grade start place value old new aim was.0 out.1 was.1,
             λ live. left_out_live Struck c.args.grade start place value old new aim out.1 (was.2 live),
           ),
     )
 
 pub returns-clause-narrowed : goal.returns-clause-narrowed
 returns-clause-narrowed g c = λ start first done.
-    let Struck = g.P.Steps.struck_by c.args.p.now in
+    let Struck = StruckBy g.P.Rules.puzzle g.P.Steps.own c.args.p.now in
     let steps = c.loop-value.steps.items in
     let aim = aim_goal c.args.aim in
     let was = c.loop-value.invariant.3 start first done in

@@ -1,3 +1,4 @@
+use Rattle.line_steps.specs.Reasons.{StruckBy}
 use Rattle.std.proofs.Common.{◌≡◌, ◌+◌, length, take}
 use Rattle.named_steps.specs.Chains.{Shows}
 use Rattle.step_chains.specs.ChainValues.{steps_of, AreLive}
@@ -8,8 +9,8 @@ use Rattle.step_chains.proofs.tightening.narrow_here.Given as goal
 abbrev pub invariant-loop-value : goal.invariant-loop-value
 invariant-loop-value g l = (l.candidates ≡ l.fn.candidates) × (length l.steps.items ≡ length l.fn.steps.items)
     × (take l.place l.steps.items ≡ take l.place l.fn.steps.items)
-    × FromEach (g.P.Steps.struck_by l.p) l.grade l.place l.fn.steps.items l.fn.candidates
-    (λ c. IsDoneFrom (g.P.Steps.struck_by l.p) l.grade c (l.place + 1) l.fn.steps.items (aim_goal l.aim)
-    → Shows (g.P.Steps.struck_by l.p) l.grade c (steps_of l.steps.items) (aim_goal l.aim)
-    × IsNarrowedBelow (g.P.Steps.struck_by l.p) l.grade c l.place l.value l.steps.items (aim_goal l.aim)
+    × FromEach (StruckBy g.P.Rules.puzzle g.P.Steps.own l.p) l.grade l.place l.fn.steps.items l.fn.candidates
+    (λ c. IsDoneFrom (StruckBy g.P.Rules.puzzle g.P.Steps.own l.p) l.grade c (l.place + 1) l.fn.steps.items (aim_goal l.aim)
+    → Shows (StruckBy g.P.Rules.puzzle g.P.Steps.own l.p) l.grade c (steps_of l.steps.items) (aim_goal l.aim)
+    × IsNarrowedBelow (StruckBy g.P.Rules.puzzle g.P.Steps.own l.p) l.grade c l.place l.value l.steps.items (aim_goal l.aim)
     × (AreLive c (steps_of l.fn.steps.items) → AreLive c (steps_of l.steps.items)))

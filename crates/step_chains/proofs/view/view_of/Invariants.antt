@@ -1,6 +1,6 @@
 use Rattle.std.proofs.Common.{◌≡◌, ℕ, ◌<◌}
-use Rattle.clue_rules.specs.Left.{all_of}
-use Rattle.clue_rules.specs.Takes.{Takes}
+use Rattle.line_steps.specs.Left.{all_of}
+use Rattle.line_steps.specs.Takes.{Takes}
 use Rattle.step_chains.specs.Inner.Views.{IsUnseen}
 use Rattle.step_chains.proofs.view.view_of.Given as goal
 

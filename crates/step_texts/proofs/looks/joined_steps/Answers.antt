@@ -1,9 +1,10 @@
+use Rattle.line_steps.specs.Reasons.{StruckBy}
 use Rattle.step_texts.proofs.JoinedSteps.{joined_more, last_is}
 use Rattle.step_texts.proofs.looks.joined_steps.Goals as goal
 
 pub loop-at-preserved : goal.loop-at-preserved
 loop-at-preserved g c =
-    let Struck = g.P.Steps.struck_by c.args.p.now in
+    let Struck = StruckBy g.P.Rules.puzzle g.P.Steps.own c.args.p.now in
     let w = (g.P.Rules.puzzle c.args.p.now).size in
     let at = c.loop-at.at in
     let step = c.index-steps-at.result in (

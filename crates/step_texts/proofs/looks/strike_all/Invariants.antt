@@ -1,6 +1,6 @@
 use Rattle.std.proofs.Common.{◌≡◌, take}
-use Rattle.clue_rules.specs.Left.{AreAlike}
-use Rattle.clue_rules.specs.Chains.{left_by}
+use Rattle.line_steps.specs.Left.{AreAlike}
+use Rattle.line_steps.specs.Chains.{left_by}
 use Rattle.step_chains.specs.ChainValues.{steps_of}
 use Rattle.step_texts.proofs.looks.strike_all.Given as goal
 

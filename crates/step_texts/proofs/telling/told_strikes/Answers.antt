@@ -10,4 +10,4 @@ loop-step-preserved c =
     let strike : Strike = record { cell = step.cell; values = step.values; shows = c.shows_of.result } in
     strikes_more c.args.candidates.now c.args.first.now.reason c.args.look.now c.loop-step.step-index c.loop-step.strikes.items c.push.new.self.items step strike
     c.loop-step-test.true c.step-item.is c.in_ok-push.ensures.items c.loop-step.invariant
-    (record { cell = refl; values = refl; low = low; shows = c.shows_of.ensures c.args.candidates.now c.args.first.now.reason c.of-counts.ensures })
+    (record { cell = refl; values = refl; low = low; shows = c.shows_of.ensures c.args.candidates.now c.args.first.now.reason c.requires })

@@ -1,5 +1,5 @@
 use Rattle.std.proofs.Common.{◌≢◌, ℕ, ◌<◌}
-use Rattle.clue_rules.specs.Views.{view_cell}
+use Rattle.line_steps.specs.Views.{view_cell}
 use Rattle.shown_counts.proofs.clue_counts.ClueCounts.index_of.Given as goal
 
 abbrev pub invariant-loop-index : goal.invariant-loop-index

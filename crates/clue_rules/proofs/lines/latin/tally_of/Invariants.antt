@@ -1,5 +1,0 @@
-use Rattle.clue_rules.specs.Inner.LineTallies.{AreTallied}
-use Rattle.clue_rules.proofs.lines.latin.tally_of.Given as goal
-
-abbrev pub invariant-loop-place : goal.invariant-loop-place
-invariant-loop-place l = AreTallied l.candidates l.squares.line l.place l.tally

@@ -1,5 +1,0 @@
-use Rattle.clue_rules.specs.Inner.RowSets.{IsAlong}
-use Rattle.clue_rules.proofs.towers.clue_rows.along_line.Given as goal
-
-abbrev pub invariant-loop-k : goal.invariant-loop-k
-invariant-loop-k l = IsAlong l.width l.place l.row l.k l.along

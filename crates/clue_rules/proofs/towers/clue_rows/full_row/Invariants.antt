@@ -1,5 +1,0 @@
-use Rattle.clue_rules.specs.Inner.RowSets.{AreFull}
-use Rattle.clue_rules.proofs.towers.clue_rows.full_row.Given as goal
-
-abbrev pub invariant-loop-k : goal.invariant-loop-k
-invariant-loop-k l = AreFull l.all l.k l.row

@@ -1,5 +1,0 @@
-use Rattle.clue_rules.specs.Inner.RowSets.{AreMissing}
-use Rattle.clue_rules.proofs.towers.clue_rows.missing_row.Given as goal
-
-abbrev pub invariant-loop-k : goal.invariant-loop-k
-invariant-loop-k l = AreMissing l.width l.kept l.k l.row

@@ -1,6 +1,0 @@
-use Rattle.std.proofs.Common.{◌≡◌, ◌++◌, replicate}
-use Rattle.byte_text.specs.Bytes.{letter_z}
-use Rattle.clue_rules.proofs.towers.description.push_blanks.Given as goal
-
-abbrev pub invariant-loop-written : goal.invariant-loop-written
-invariant-loop-written l = l.text.items ≡ l.initial.text.items ++ replicate l._written letter_z

@@ -1,5 +1,0 @@
-use Rattle.clue_rules.specs.Laws.Along.{hard_along}
-use Rattle.clue_rules.proofs.towers.lines.TowersLinePass.strike_by_clues.Goals as goal
-
-pub returns-clause-quiet : goal.returns-clause-quiet
-returns-clause-quiet c = λ none. hard_along c.args.self.now c.args.line c.strike_views.new.candidates (c.strike_views.ensures.quiet none)

@@ -1,5 +1,0 @@
-use Rattle.clue_rules.proofs.SettledLines.{IsSettled}
-use Rattle.clue_rules.proofs.towers.row_fillings.shows_alone.Given as goal
-
-abbrev pub invariant-loop-k : goal.invariant-loop-k
-invariant-loop-k l = IsSettled l.sets l.k l.used l.line

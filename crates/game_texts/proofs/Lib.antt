@@ -1,0 +1,2 @@
+pub mod GameIdLemmas
+pub mod ParameterLemmas

@@ -1,0 +1,74 @@
+-- The values but for which nothing is left of a square, and what rows and columns strike.
+use Rattle.std.proofs.Common.{◌≡◌, ◌↔◌, ℕ, ◌*◌, ◌<◌, ◌≤◌, true, nat_le, ◌&&◌, ◌==◌, not, sym, ap, ◌∙◌, subst}
+use Rattle.std.proofs.lemmas.Bool.{both_ways, and_parts, and_from, not_from_false, ne_eqb, eq-eqb}
+use Rattle.number_sets.specs.Sets.{has_number, IsEmpty}
+use Rattle.latin_board.specs.Lines.{ArePeers, line_cell}
+use Rattle.trail_solver.specs.Pairs.{IsPair}
+use Rattle.trail_solver.specs.Candidates.{CandidatesValue, IsSetOf, IsOnly}
+use Rattle.line_steps.specs.Left.{HasNoOther, HasNoOtherPlace}
+use Rattle.line_steps.specs.Reasons.{IsByPeer, IsByPlace}
+use Rattle.line_steps.proofs.GivenSets.{up_to_pair}
+
+pub alone_none : (c : CandidatesValue) (cell set all v : ℕ) → cell < c.size * c.size → IsSetOf c cell set → IsEmpty set
+    → ((k : ℕ) → has_number all k ≡ (nat_le 1 k && nat_le k c.size)) → (has_number all v ≡ true) ↔ (IsPair c.size cell v × HasNoOther c cell v)
+alone_none c cell set all v inside is none members =
+    let pairs = up_to_pair c.size cell all v inside members in
+    (λ has. (pairs.0 has, λ other left. absurd (both_ways (has_number set other) (none other) ((is other).1 (left.pair, left.may)))), λ h. pairs.1 h.0)
+
+pub alone_one : (c : CandidatesValue) (cell set one v : ℕ) → cell < c.size * c.size → IsSetOf c cell set → IsOnly c cell one
+    → (has_number set v ≡ true) ↔ (IsPair c.size cell v × HasNoOther c cell v)
+alone_one c cell set one v inside is only =
+    let pair : IsPair c.size cell one = record { inside = inside; low = only.low; high = only.high } in (
+      λ has.
+          let left = (is v).0 has in
+          let same : v ≡ one = only.alone v left.0.low left.0.high left.1 in
+          (left.0, λ other there. only.alone other there.pair.low there.pair.high there.may ∙ sym same),
+      λ h.
+          let same : one ≡ v = h.1 one (record { pair = pair; may = only.left }) in
+          subst (λ (n : ℕ). has_number set n ≡ true) same ((is one).1 (pair, only.left)),
+    )
+
+pub alone_several : (c : CandidatesValue) (cell set v : ℕ) → cell < c.size * c.size → IsSetOf c cell set → (n : ℕ) × (has_number set n ≡ true)
+    → ((v : ℕ) → IsOnly c cell v → ⊥) → HasNoOther c cell v → ⊥
+alone_several c cell set v inside is some several none =
+    let left = (is some.0).0 some.1 in
+    let same : some.0 ≡ v = none some.0 (record { pair = left.0; may = left.1 }) in
+    several some.0 (record {
+      low = left.0.low;
+      high = left.0.high;
+      left = left.1;
+      alone = λ other low high may. none other (record { pair = record { inside = inside; low = low; high = high }; may = may }) ∙ sym same;
+    })
+
+pub peer_struck : (c : CandidatesValue) (by cell result v : ℕ) → ArePeers c.size by cell
+    → ((v : ℕ) → (has_number result v ≡ true) ↔ (IsPair c.size by v × HasNoOther c by v))
+    → (has_number result v ≡ true) ↔ (IsPair c.size cell v × IsByPeer c.size c by cell v)
+peer_struck c by cell result v peers is = (
+  λ has.
+      let h = (is v).0 has in
+      (record { inside = peers.second; low = h.0.low; high = h.0.high }, record { peers = peers; alone = h.1 }),
+  λ h. (is v).1 (record { inside = peers.first; low = h.0.low; high = h.0.high }, h.1.alone),
+)
+
+pub place_struck : (c : CandidatesValue) (line index other cell all one result v : ℕ) → line < 2 * c.size → index < c.size → 1 ≤ other
+    → other ≤ c.size → cell < c.size * c.size → cell ≡ line_cell c.size line index → HasNoOtherPlace c line other index
+    → ((k : ℕ) → has_number all k ≡ (nat_le 1 k && nat_le k c.size)) → ((k : ℕ) → has_number one k ≡ (k == other))
+    → ((n : ℕ) → has_number result n ≡ (has_number all n && not (has_number one n)))
+    → (has_number result v ≡ true) ↔ (IsPair c.size cell v × IsByPlace c.size c line index other cell v)
+place_struck c line index other cell all one result v line_is index_is low high inside here alone members single rest =
+    let pairs = up_to_pair c.size cell all v inside members in (
+      λ has.
+          let both = and_parts (has_number all v) (not (has_number one v)) (sym (rest v) ∙ has) in (
+            pairs.0 both.0,
+            record {
+              line_is = line_is;
+              index_is = index_is;
+              low = low;
+              high = high;
+              here = here;
+              apart = λ same. both_ways (not (has_number one v)) (ap not (single v ∙ eq-eqb v other same)) both.1;
+              alone = alone;
+            },
+          ),
+      λ h. rest v ∙ and_from (has_number all v) (not (has_number one v)) (pairs.1 h.0) (not_from_false (has_number one v) (single v ∙ ne_eqb v other h.1.apart)),
+    )

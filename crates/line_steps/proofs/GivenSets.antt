@@ -1,0 +1,38 @@
+-- What a given strikes, as a set.
+use Rattle.std.proofs.Common.{◌≡◌, ◌≢◌, ◌↔◌, ℕ, ◌*◌, ◌<◌, true, nat_le, ◌&&◌, ◌==◌, not, sym, ap, ◌∙◌, arith}
+use Rattle.std.proofs.lemmas.Bool.{both_ways, and_parts, and_from, not_from_false, ne_eqb, eq-eqb, leb-true, le-leb}
+use Rattle.number_sets.specs.Sets.{has_number}
+use Rattle.trail_solver.specs.Pairs.{IsPair}
+use Rattle.trail_solver.specs.Puzzles.{Puzzle}
+use Rattle.line_steps.specs.Reasons.{IsByGiven}
+
+-- the numbers of the size are those of a pair
+pub up_to_pair : (w cell all v : ℕ) → cell < w * w → ((k : ℕ) → has_number all k ≡ (nat_le 1 k && nat_le k w))
+    → (has_number all v ≡ true) ↔ IsPair w cell v
+up_to_pair w cell all v inside members = (
+  λ has.
+      let both = and_parts (nat_le 1 v) (nat_le v w) (sym (members v) ∙ has) in
+      record { inside = inside; low = leb-true 1 v both.0; high = leb-true v w both.1 },
+  λ pair. members v ∙ and_from (nat_le 1 v) (nat_le v w) (le-leb 1 v pair.low) (le-leb v w pair.high),
+)
+
+-- the numbers of the size but for the given are what it strikes
+pub given_struck : (p : Puzzle) (w at cell all one result given v : ℕ) → at ≡ cell → cell < w * w → given ≡ p.given cell → given ≢ 0
+    → ((k : ℕ) → has_number all k ≡ (nat_le 1 k && nat_le k w)) → ((k : ℕ) → has_number one k ≡ (k == given))
+    → ((n : ℕ) → has_number result n ≡ (has_number all n && not (has_number one n)))
+    → (has_number result v ≡ true) ↔ (IsPair w cell v × IsByGiven p at cell v)
+given_struck p w at cell all one result given v here inside is some members single rest =
+    let pairs = up_to_pair w cell all v inside members in
+    let there : given ≡ p.given at = is ∙ ap p.given (sym here) in (
+      λ has.
+          let both = and_parts (has_number all v) (not (has_number one v)) (sym (rest v) ∙ has) in (
+            pairs.0 both.0,
+            record {
+              here = sym here;
+              given = omega (arith, there, some);
+              apart = λ same. both_ways (not (has_number one v)) (ap not (single v ∙ eq-eqb v given (same ∙ sym there))) both.1;
+            },
+          ),
+      λ h. rest v ∙ and_from (has_number all v) (not (has_number one v)) (pairs.1 h.0)
+          (not_from_false (has_number one v) (single v ∙ ne_eqb v given (λ e. h.1.apart (e ∙ there)))),
+    )

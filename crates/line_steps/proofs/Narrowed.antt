@@ -1,0 +1,108 @@
+-- What candidates that are narrowed by steps keep and lack: each solution is kept, and what is struck is gone.
+use Rattle.std.proofs.Common.{◌≡◌, ℕ, ◌*◌, ◌<◌, Bool, true, false, refl, sym, ◌∙◌, subst}
+use Rattle.std.specs.Bool.{OnFalse, OnTrue}
+use Rattle.trail_solver.specs.Candidates.{CandidatesValue, IsEarlier, IsWithin, may_be}
+use Rattle.trail_solver.specs.Pairs.{IsPair}
+use Rattle.trail_solver.specs.Puzzles.{Puzzle}
+use Rattle.trail_solver.specs.Solutions.{HasNoSolutionWithin, KeepsSolutions}
+use Rattle.line_steps.specs.Grades.{has_reason, is_of_clues}
+use Rattle.line_steps.specs.Left.{IsEmptied, IsLive}
+use Rattle.line_steps.specs.Inner.LineLooks.{IsQuietOn}
+use Rattle.line_steps.specs.Inner.LineStrikes.{IsRestQuiet}
+use Rattle.line_steps.specs.Settled.{AreGivensSettled}
+use Rattle.line_steps.specs.Chains.{LeadsTo}
+use Rattle.line_steps.specs.Reasons.{AllStrikes, Striking}
+use Rattle.line_steps.specs.Struck.{IsNarrowed, NoneLeft, is_narrowing}
+use Rattle.line_steps.proofs.Chains.{IsAntitone}
+use Rattle.line_steps.proofs.Emptied.{solved_holds}
+use Rattle.line_steps.proofs.KeptSolutions.{IsSoundFor, chain_keeps}
+use Rattle.line_steps.proofs.Leads.{leads_earlier, leads_fewer, leads_size}
+use Rattle.line_steps.proofs.LineLooks.{StandOnLines, along_settled, lines_live}
+use Rattle.line_steps.proofs.QuietLines.{settled_by}
+use Rattle.line_steps.specs.declared.grade.Grade.{Grade}
+use Rattle.line_steps.specs.declared.grade.Grade.TheVariants.{Hard}
+use Rattle.line_steps.specs.declared.reason.Reason.{Reason}
+use Rattle.line_steps.specs.declared.reason.Reason.TheVariants.{Given, Peer, Place, Bound, Stand, Clue, Sign, Set}
+
+-- ---- answers
+
+-- what follows of a fact holds where the fact does, for an answer that is true
+pub on_true : (b : Bool) {P Q : Type 0} → (P → Q) → OnTrue b P → OnTrue b Q
+on_true true f h = f h
+on_true false f h = tt
+
+-- the same, for an answer that is false
+pub on_false : (b : Bool) {P Q : Type 0} → (P → Q) → OnFalse b P → OnFalse b Q
+on_false true f h = tt
+on_false false f h = f h
+
+-- ---- solutions
+
+-- a chain keeps each solution
+pub leads_keep : (p : Puzzle) (Struck : Striking) → IsSoundFor p Struck → (grade : Grade) (a b : CandidatesValue) → a.size ≡ p.size
+    → LeadsTo Struck grade a b → KeepsSolutions p a b
+leads_keep p Struck sound grade a b size h = λ g solves within.
+    subst (λ (d : CandidatesValue). IsWithin d g) (sym h.is) (chain_keeps p Struck sound a h.steps g size h.chain solves within)
+
+-- where it leaves a square nothing there was none
+pub leads_refute : (p : Puzzle) (Struck : Striking) → IsSoundFor p Struck → (grade : Grade) (a b : CandidatesValue) (left : Bool) → a.size ≡ p.size
+    → LeadsTo Struck grade a b → OnFalse left (IsEmptied b) → OnFalse left (HasNoSolutionWithin p a)
+leads_refute p Struck sound grade a b left size h =
+    on_false left (λ emptied g solves within. solved_holds p Struck sound grade g a b size solves within h emptied)
+
+-- ---- what is struck
+
+-- what is quiet kind by kind is settled, but for groups of squares
+pub settled_but : (p : Puzzle) (Own : Striking) (c : CandidatesValue) → c.size ≡ p.size
+    → AreGivensSettled p c → ((line : ℕ) → line < 2 * c.size → IsRestQuiet line c)
+    → ((reason : Reason) (cell value : ℕ) → is_of_clues reason ≡ true → IsPair c.size cell value → AllStrikes p Own c reason cell value
+    → may_be c cell value ≡ false)
+    → NoneLeft (IsNarrowed (AllStrikes p Own)) c c
+settled_but p Own c size givens rest clues cell value pair (reason, is, h) =
+    settled_by p Own (λ which. is_narrowing which ≡ true) c size givens rest (λ which cell value of _ pair h. clues which cell value of pair h)
+    (λ line squares values cell value group pair h. absurd (cc)) reason cell value is pair h
+
+-- ---- both
+
+-- the highest grade has each reason
+hard_has : (reason : Reason) → has_reason Hard reason ≡ true
+hard_has (Given at) = refl
+hard_has (Peer by) = refl
+hard_has (Place line index value) = refl
+hard_has (Bound place) = refl
+hard_has (Stand place) = refl
+hard_has (Clue place) = refl
+hard_has (Sign from to) = refl
+hard_has (Set line squares values) = refl
+
+-- what narrowing by lines promises
+pub record NarrowsBy (p : Puzzle) (Struck : Striking) (a b : CandidatesValue) (left : Bool) : Type 0 where
+  pub less : IsEarlier a b
+  pub keeps : KeepsSolutions p a b
+  pub refutes : OnFalse left (HasNoSolutionWithin p a)
+  pub struck : OnTrue left (NoneLeft (IsNarrowed Struck) a b)
+  pub settled : OnTrue left (NoneLeft (IsNarrowed Struck) b b)
+  pub live : OnTrue left (IsLive b)
+
+-- a chain to where no given and no line strikes anything more is one
+pub narrows_by : (p : Puzzle) (Own : Striking) → IsAntitone (AllStrikes p Own) → IsSoundFor p (AllStrikes p Own) → StandOnLines p Own
+    → (a b : CandidatesValue) (left : Bool) → a.size ≡ p.size → LeadsTo (AllStrikes p Own) Hard a b → AreGivensSettled p b
+    → OnTrue left ((line : ℕ) → line < 2 * b.size → IsQuietOn (AllStrikes p Own) Hard line b) → OnFalse left (IsEmptied b)
+    → NarrowsBy p (AllStrikes p Own) a b left
+narrows_by p Own less sound stand a b left size h givens quiet emptied =
+    let Struck = AllStrikes p Own in
+    let same = leads_size Struck Hard a b h in
+    let settles : ((line : ℕ) → line < 2 * b.size → IsQuietOn Struck Hard line b) → NoneLeft (IsNarrowed Struck) b b = λ each.
+    let clues = along_settled p Own stand Hard b (same ∙ size) (λ line low. (each line low).clues) in
+    settled_but p Own b (same ∙ size) givens (λ line low. (each line low).squares.quiet)
+    (λ reason cell value is pair struck. clues reason cell value is (hard_has reason) pair struck) in
+    record {
+      less = leads_earlier Struck Hard a b h;
+      keeps = leads_keep p Struck sound Hard a b size h;
+      refutes = leads_refute p Struck sound Hard a b left size h emptied;
+      struck = on_true left (λ each cell value pair (reason, is, struck).
+          settles each cell value (subst (λ (w : ℕ). IsPair w cell value) (sym same) pair)
+          (reason, is, less a b reason cell value (leads_fewer Struck Hard a b h) struck)) quiet;
+      settled = on_true left settles quiet;
+      live = on_true left (λ each. lines_live b (λ line low. (each line low).squares)) quiet;
+    }

@@ -1,0 +1,175 @@
+-- The reasons that look along a line, one after another.
+use Rattle.std.proofs.Common.{◌≡◌, ℕ, ◌+◌, ◌-◌, ◌*◌, ◌<◌, ◌≤◌, ◌||◌, true, false, List, [], slice_index, inl, inr, refl, sym, ap, ◌∙◌, subst, arith}
+use Rattle.std.proofs.lemmas.Bool.{both_ways, cases_eq, or_parts}
+use Rattle.number_sets.specs.Sets.{has_number, IsEmpty}
+use Rattle.latin_board.specs.Lines.{line_cell}
+use Rattle.trail_solver.specs.Pairs.{IsPair}
+use Rattle.trail_solver.specs.Candidates.{CandidatesValue, may_be}
+use Rattle.line_steps.specs.Takes.{Takes, AreChanged}
+use Rattle.line_steps.specs.Views.{front_place, view_line}
+use Rattle.line_steps.specs.Reasons.{Striking}
+use Rattle.line_steps.specs.declared.reason.Reason.{Reason}
+use Rattle.line_steps.specs.declared.reason.Reason.TheVariants.{Given, Peer, Place, Bound, Stand, Clue, Sign, Set}
+use Rattle.line_steps.specs.Grades.{has_reason}
+use Rattle.line_steps.specs.Along.{IsOn, LooksAlong, IsQuietAlong, LosesAt}
+use Rattle.line_steps.specs.Chains.{LeadsTo}
+use Rattle.line_steps.specs.Inner.ReasonsAlong.{IsAtEnd, IsNthAlong, AreStruckOn, IsQuietBy}
+use Rattle.line_steps.specs.declared.grade.Grade.{Grade}
+use Rattle.line_steps.proofs.Chains.{IsAntitone}
+use Rattle.line_steps.proofs.Leads.{leads_length, leads_on, leads_size, leads_taken}
+use Rattle.line_steps.proofs.LineEnds.{ends}
+use Rattle.line_steps.proofs.StayingLines.{loses_both, loses_changed}
+
+-- ---- the list
+
+at_end : (w line kind place : ℕ) → kind < 3 → 0 < w → place < 4 * w → view_line w place ≡ line
+    → (n : ℕ) × (n < 2 * w + 4) × IsAtEnd w line n kind place
+at_end w line kind place low some inside on = elim (ends w place line inside on) [
+  | inl first ↦ (kind, omega (arith, low, some), inl (refl, first))
+  | inr second ↦ (kind + 3, omega (arith, low, some), inr (refl, second))
+]
+
+on_some : (w line cell : ℕ) → IsOn w line cell → 0 < w
+on_some w line cell (k, low, here) = omega (arith, low)
+
+-- each reason that looks along the line is in the list
+pub listed : (w line : ℕ) (reason : Reason) (cell : ℕ) → LooksAlong w line reason cell
+    → (n : ℕ) × (n < 2 * w + 4) × IsNthAlong w line n reason
+listed w line (Given at) cell along = absurd along
+listed w line (Peer by) cell along = absurd along
+listed w line (Place at index other) cell along = absurd along
+listed w line (Bound place) cell (low, on, at) = at_end w line 0 place (omega arith) (on_some w line cell at) low on
+listed w line (Stand place) cell (low, on, at) = at_end w line 1 place (omega arith) (on_some w line cell at) low on
+listed w line (Clue place) cell (low, on, at) = at_end w line 2 place (omega arith) (on_some w line cell at) low on
+listed w line (Sign from to) cell (same, inl (k, low, first, second)) =
+    (2 * k + 6, omega (arith, low), inl (k, refl, (low, first, second)))
+listed w line (Sign from to) cell (same, inr (k, low, first, second)) =
+    (2 * k + 7, omega (arith, low), inr (k, refl, (low, first, second)))
+listed w line (Set at squares values) cell along = absurd along
+
+-- and strikes in one of its squares
+pub looked_on : (w line : ℕ) (reason : Reason) (cell : ℕ) → LooksAlong w line reason cell → IsOn w line cell
+looked_on w line (Given at) cell along = absurd along
+looked_on w line (Peer by) cell along = absurd along
+looked_on w line (Place at index other) cell along = absurd along
+looked_on w line (Bound place) cell (low, on, at) = at
+looked_on w line (Stand place) cell (low, on, at) = at
+looked_on w line (Clue place) cell (low, on, at) = at
+looked_on w line (Sign from to) cell (same, inl (k, low, first, second)) = (k + 1, low, sym same ∙ sym second)
+looked_on w line (Sign from to) cell (same, inr (k, low, first, second)) = (k, omega (arith, low), sym same ∙ sym first)
+looked_on w line (Set at squares values) cell along = absurd along
+
+-- the n-th one is a clue at first
+pub clue_found : (w line n : ℕ) (found : Reason) → n < 6 → (n ≡ 0 → found ≡ Bound (front_place w line)) → (n ≡ 1 → found ≡ Stand (front_place w line))
+    → (n ≡ 2 → found ≡ Clue (front_place w line)) → (n ≡ 3 → found ≡ Bound (front_place w line + w))
+    → (n ≡ 4 → found ≡ Stand (front_place w line + w)) → (n ≡ 5 → found ≡ Clue (front_place w line + w))
+    → (reason : Reason) → IsNthAlong w line n reason → found ≡ reason
+clue_found w line n found low b s c bb sb cb (Given at) h = absurd h
+clue_found w line n found low b s c bb sb cb (Peer by) h = absurd h
+clue_found w line n found low b s c bb sb cb (Place at index other) h = absurd h
+clue_found w line n found low b s c bb sb cb (Bound place) (inl (is, at)) = b is ∙ ap (λ p. Bound p) (sym at)
+clue_found w line n found low b s c bb sb cb (Bound place) (inr (is, at)) = bb is ∙ ap (λ p. Bound p) (sym at)
+clue_found w line n found low b s c bb sb cb (Stand place) (inl (is, at)) = s is ∙ ap (λ p. Stand p) (sym at)
+clue_found w line n found low b s c bb sb cb (Stand place) (inr (is, at)) = sb is ∙ ap (λ p. Stand p) (sym at)
+clue_found w line n found low b s c bb sb cb (Clue place) (inl (is, at)) = c is ∙ ap (λ p. Clue p) (sym at)
+clue_found w line n found low b s c bb sb cb (Clue place) (inr (is, at)) = cb is ∙ ap (λ p. Clue p) (sym at)
+clue_found w line n found low b s c bb sb cb (Sign from to) (inl (k, is, kth)) = absurd (omega (arith, low, is))
+clue_found w line n found low b s c bb sb cb (Sign from to) (inr (k, is, kth)) = absurd (omega (arith, low, is))
+clue_found w line n found low b s c bb sb cb (Set at squares values) h = absurd h
+
+-- and then a sign
+pub sign_found : (w line n : ℕ) (found : Reason) → 6 ≤ n
+    → ((k : ℕ) → n - 6 ≡ 2 * k → found ≡ Sign (line_cell w line k) (line_cell w line (k + 1)))
+    → ((k : ℕ) → n - 6 ≡ 2 * k + 1 → found ≡ Sign (line_cell w line (k + 1)) (line_cell w line k))
+    → (reason : Reason) → IsNthAlong w line n reason → found ≡ reason
+sign_found w line n found high on back (Given at) h = absurd h
+sign_found w line n found high on back (Peer by) h = absurd h
+sign_found w line n found high on back (Place at index other) h = absurd h
+sign_found w line n found high on back (Bound place) (inl (is, at)) = absurd (omega (arith, high, is))
+sign_found w line n found high on back (Bound place) (inr (is, at)) = absurd (omega (arith, high, is))
+sign_found w line n found high on back (Stand place) (inl (is, at)) = absurd (omega (arith, high, is))
+sign_found w line n found high on back (Stand place) (inr (is, at)) = absurd (omega (arith, high, is))
+sign_found w line n found high on back (Clue place) (inl (is, at)) = absurd (omega (arith, high, is))
+sign_found w line n found high on back (Clue place) (inr (is, at)) = absurd (omega (arith, high, is))
+sign_found w line n found high on back (Sign from to) (inl (k, is, kth)) =
+    on k (omega (arith, is)) ∙ (λ i. Sign (kth.1 i) (kth.2 i))
+sign_found w line n found high on back (Sign from to) (inr (k, is, kth)) =
+    back k (omega (arith, is)) ∙ (λ i. Sign (kth.2 i) (kth.1 i))
+sign_found w line n found high on back (Set at squares values) h = absurd h
+
+-- ---- one reason
+
+-- what it strikes in the squares of a line
+abbrev pub IsInRow : ℕ → ℕ → List ℕ → ℕ → ℕ → Type 0
+IsInRow w line row cell v = (k : ℕ) × (k < w) × (cell ≡ line_cell w line k) × (has_number (slice_index row k) v ≡ true)
+
+pub reason_leads : (Struck : Striking) → IsAntitone Struck → (grade : Grade) (reason : Reason) (line : ℕ) (row : List ℕ) (a b : CandidatesValue)
+    → has_reason grade reason ≡ true → AreStruckOn a.size (Struck a reason) line a.size row → Takes (IsInRow a.size line row) a b
+    → LeadsTo Struck grade a b
+reason_leads Struck less grade reason line row a b has on taken =
+    leads_taken Struck less grade (IsInRow a.size line row) a b taken
+    (λ cell v pair h. let (k, low, here, one) = h in (reason, has, subst (λ (n : ℕ). Struck a reason n v) (sym here) ((on.each k v low).0 one).1))
+
+pub reason_quiet : (Struck : Striking) (reason : Reason) (line : ℕ) (row : List ℕ) (a b : CandidatesValue) → b ≡ a
+    → AreStruckOn a.size (Struck a reason) line a.size row → Takes (IsInRow a.size line row) a b → IsQuietBy Struck reason line a
+reason_quiet Struck reason line row a b same on taken = λ k v low pair struck.
+    subst (λ (c : CandidatesValue). may_be c (line_cell a.size line k) v ≡ false) same
+    (taken.gone (line_cell a.size line k) v pair (k, low, refl, (on.each k v low).1 (pair, struck)))
+
+-- ---- one after another
+
+-- the first n reasons were gone through: what they struck is gone, and where it was nothing, they strike nothing
+pub record GoesOn (Struck : Striking) (grade : Grade) (line n changed : ℕ) (first now : CandidatesValue) : Type 0 where
+  pub leads : LeadsTo Struck grade first now
+  pub loses : LosesAt line changed first now
+  pub same : IsEmpty changed → now ≡ first
+  pub quiet : IsEmpty changed → (m : ℕ) → m < n → (reason : Reason) → IsNthAlong first.size line m reason → has_reason grade reason ≡ true
+      → IsQuietBy Struck reason line first
+
+pub begins : (Struck : Striking) (grade : Grade) (line changed : ℕ) (first : CandidatesValue) → IsEmpty changed
+    → GoesOn Struck grade line 0 changed first first
+begins Struck grade line changed first none = record {
+  leads = record { steps = []; chain = tt; allowed = tt; is = refl };
+  loses = record {
+    stays = λ cell v left apart. left;
+    went = λ k has. absurd (both_ways (has_number changed k) (none k) has);
+  };
+  same = λ _. refl;
+  quiet = λ _ m below. absurd (omega (arith, below));
+}
+
+pub goes_on : (Struck : Striking) (grade : Grade) (line n changed more both : ℕ) (found : Reason) (first now next : CandidatesValue)
+    → ((k : ℕ) → has_number both k ≡ (has_number changed k || has_number more k))
+    → ((reason : Reason) → IsNthAlong first.size line n reason → found ≡ reason)
+    → LeadsTo Struck grade now next → AreChanged line more now next
+    → (IsEmpty more → has_reason grade found ≡ true → IsQuietBy Struck found line now)
+    → GoesOn Struck grade line n changed first now → GoesOn Struck grade line (n + 1) both first next
+goes_on Struck grade line n changed more both found first now next is nth leads lost quiet h =
+    let none_before : IsEmpty both → IsEmpty changed = λ none k. (or_parts (has_number changed k) (has_number more k) (sym (is k) ∙ none k)).0 in
+    let none_here : IsEmpty both → IsEmpty more = λ none k. (or_parts (has_number changed k) (has_number more k) (sym (is k) ∙ none k)).1 in
+    record {
+      leads = leads_on Struck grade first now next h.leads leads;
+      loses = loses_both line changed more both first now next (leads_size Struck grade first now h.leads) (leads_length Struck grade first now h.leads)
+          (leads_length Struck grade now next leads) is h.loses (loses_changed line more now next lost);
+      same = λ none. lost.same (none_here none) ∙ h.same (none_before none);
+      quiet = λ none m below reason at has. elim (cases_eq m n) [
+        | inl last ↦
+            let one : found ≡ reason = nth reason (subst (λ (i : ℕ). IsNthAlong first.size line i reason) last at) in
+            let here : IsQuietBy Struck found line now = quiet (none_here none) (subst (λ (r : Reason). has_reason grade r ≡ true) (sym one) has) in
+            subst (λ (c : CandidatesValue). IsQuietBy Struck reason line c) (h.same (none_before none))
+            (subst (λ (r : Reason). IsQuietBy Struck r line now) one here)
+        | inr other ↦ h.quiet (none_before none) m (omega (arith, below, other)) reason at has
+      ];
+    }
+
+-- all of them were gone through
+pub goes_through : (Struck : Striking) (grade : Grade) (line n changed : ℕ) (first now : CandidatesValue) → 2 * first.size + 4 ≤ n
+    → GoesOn Struck grade line n changed first now → IsEmpty changed → IsQuietAlong Struck grade line now
+goes_through Struck grade line n changed first now all h none =
+    subst (λ (c : CandidatesValue). IsQuietAlong Struck grade line c) (sym (h.same none))
+    (λ reason cell value has along pair struck.
+    let (m, below, nth) = listed first.size line reason cell along in
+    let (k, low, here) = looked_on first.size line reason cell along in
+    let quiet = h.quiet none m (omega (arith, below, all)) reason nth has in
+    subst (λ (at : ℕ). may_be first at value ≡ false) (sym here)
+    (quiet k value low (subst (λ (at : ℕ). IsPair first.size at value) here pair) (subst (λ (at : ℕ). Struck first reason at value) here struck)))

@@ -1,0 +1,112 @@
+//! What rows and columns strike, square by square: lone values, and the last places of values.
+ghost use Rattle.std.specs.Prelude.{◌≡◌, ℕ, ◌*◌, ◌<◌, true, slice_index, IfNone, IfSome};
+ghost use Rattle.number_sets.specs.Sets.{has_number, IsEmpty};
+ghost use Rattle.latin_board.specs.Lines.{line_cell};
+ghost use Rattle.line_steps.specs.Left.{IsEmptied};
+ghost use Rattle.line_steps.specs.Reasons.{IsByLine};
+ghost use Rattle.line_steps.specs.Chains.{LeadsTo};
+ghost use Rattle.line_steps.specs.Takes.{Strikes, Takes, AreChanged};
+ghost use Rattle.line_steps.specs.Inner.LineStrikes.{IsLineSettled, IsClash, IsVoid};
+ghost use Rattle.line_steps.specs.Inner.LineSets.{AreLineSets};
+ghost use Rattle.trail_solver.specs.Candidates.{AreCandidates};
+ghost use Rattle.line_steps.specs.declared.grade.Grade.TheVariants.{Latin};
+
+use crate::lines::latin::{DeadLine, strike_line as strike_squares};
+use crate::lines::striking::strike;
+use latin_board::line_cell;
+use number_sets::NumberSet;
+use trail_solver::Candidates;
+
+/// Takes away what the squares of a line strike in one another, and gives the places of those of which something went; none, where they
+/// leave a square nothing.
+#[inline(always)]
+pub(crate) fn strike_line(candidates: &mut Candidates, line: u8) -> Option<NumberSet>
+    requires { line < 2 * candidates.old.size }
+    ensures leads { LeadsTo (IsByLine candidates.old.size) Latin candidates.old candidates.new }
+    ensures changed { IfSome result (λ places. AreChanged line places candidates.old candidates.new) }
+    ensures quiet { IfSome result (λ places. IsEmpty places → IsLineSettled line candidates.new) }
+    ensures emptied { IfNone result (IsEmptied candidates.new) }
+{
+    match strike_squares(candidates, line) {
+        Ok(places) => Some(places),
+        Err(DeadLine::Void) => {
+            strike_all(candidates, line);
+            None
+        }
+        Err(DeadLine::Clash { place }) => {
+            strike_clash(candidates, line, place);
+            None
+        }
+    }
+}
+
+// Takes away all that is left along a line with an empty square or a number without a place: the squares strike that in one another.
+fn strike_all(candidates: &mut Candidates, line: u8)
+    requires line { line < 2 * candidates.old.size }
+    requires void { IsVoid line candidates.old }
+    ensures leads { LeadsTo (IsByLine candidates.old.size) Latin candidates.old candidates.new }
+    ensures emptied { IsEmptied candidates.new }
+{
+    let sets = line_sets(candidates, line);
+    strike_row(candidates, line, &sets);
+}
+
+// Takes away the one value that is left of a square: it is alone in an earlier square of the line, which strikes it there.
+fn strike_clash(candidates: &mut Candidates, line: u8, place: u8)
+    requires line { line < 2 * candidates.old.size }
+    requires clash { IsClash line place candidates.old }
+    ensures leads { LeadsTo (IsByLine candidates.old.size) Latin candidates.old candidates.new }
+    ensures emptied { IsEmptied candidates.new }
+{
+    let cell = line_cell(candidates.size(), line, place);
+    let values = candidates.values(cell);
+    take_at(candidates, place, cell, values);
+}
+
+/// Takes away from each square of a line the values of its set, and gives the places of those of which something went.
+pub fn strike_row(candidates: &mut Candidates, line: u8, row: &[NumberSet; 9]) -> NumberSet
+    requires { line < 2 * candidates.old.size }
+    ensures takes { Takes (λ cell v. (k : ℕ) × (k < candidates.old.size) × (cell ≡ line_cell candidates.old.size line k)
+        × (has_number (slice_index row.now k) v ≡ true)) candidates.old candidates.new }
+    ensures changed { AreChanged line result candidates.old candidates.new }
+{
+    let size = candidates.size();
+    let mut changed = NumberSet::empty();
+    for k in 0..size.get() {
+        let count = candidates.trail_len();
+        strike(candidates, line_cell(size, line, k), row[k as usize]);
+        if candidates.trail_len() != count {
+            changed = changed.union(NumberSet::one(k));
+        }
+    }
+    changed
+}
+
+/// Takes away values that are left of a square, and gives its place on a line where there are any.
+pub fn take_at(candidates: &mut Candidates, place: u8, cell: usize, values: NumberSet) -> NumberSet
+    requires place { place < candidates.old.size }
+    requires left { AreCandidates candidates.old cell values }
+    ensures strikes { Strikes candidates.old candidates.new cell values }
+    ensures changed { (line : ℕ) → cell ≡ line_cell candidates.old.size line place
+        → AreChanged line result candidates.old candidates.new }
+{
+    let _size = candidates.size();
+    if values.is_empty() {
+        return NumberSet::empty();
+    }
+    candidates.remove_all(cell, values);
+    NumberSet::one(place)
+}
+
+/// What is left of each square of a line, as sets.
+pub(crate) fn line_sets(candidates: &Candidates, line: u8) -> [NumberSet; 9]
+    requires { line < 2 * candidates.now.size }
+    ensures { AreLineSets candidates.now line candidates.now.size result }
+{
+    let size = candidates.size();
+    let mut sets = [NumberSet::empty(); 9];
+    for k in 0..size.get() {
+        sets[k as usize] = candidates.values(line_cell(size, line, k));
+    }
+    sets
+}

@@ -1,0 +1,72 @@
+//! The steps of a puzzle's grade, as the loop over lines asks for them.
+
+ghost use Rattle.std.specs.Prelude.{◌↔◌, IsTrue};
+ghost use Rattle.line_steps.specs.Grades.{IsLower};
+ghost use Rattle.line_steps.specs.declared.grade.Grade.TheVariants.{Latin, Easy};
+
+use crate::grade::Grade;
+use crate::lines::line_pass::LinePass;
+use crate::steps::Steps;
+use crate::steps::clue_passes::strike_by_reasons;
+use number_sets::NumberSet;
+use trail_solver::{Candidates, Rules};
+
+/// A puzzle, and the grade whose reasons are meant.
+#[derive(Clone, Copy)]
+pub(crate) struct GradePass<'a, P: Steps> {
+    pub p: &'a P,
+    pub grade: Grade,
+}
+
+impl<'a, P: Steps> LinePass for GradePass<'a, P> {
+    type Known = P::Known;
+
+    ghost puzzle = { λ s. P.Rules.puzzle s.p.now };
+
+    ghost valid = { λ s. P.Rules.valid s.p.now };
+
+    ghost own = { λ s. P.own s.p.now };
+
+    ghost grade = { λ s. s.grade };
+
+    fn given_at(&self, cell: usize) -> u8 {
+        self.p.given(cell)
+    }
+
+    fn strike_by_clues(
+        &self,
+        candidates: &mut Candidates,
+        line: u8,
+        known: &mut P::Known,
+    ) -> NumberSet {
+        if !has_clues(self.grade) {
+            return NumberSet::empty();
+        }
+        match self.p.strike_by_clues(self.grade, candidates, line, known) {
+            Some(places) => places,
+            None => strike_by_reasons(self.p, self.grade, candidates, line, known),
+        }
+    }
+
+    ghost looks_along = { λ s. P.looks_along s.p.now };
+
+    ghost own_less = { λ s. P.own_less s.p.now };
+
+    ghost stands_along = { λ s. P.stands_along s.p.now };
+
+    ghost own_sound = { λ s. P.own_sound s.p.now };
+}
+
+// Whether a grade looks at clues or signs.
+fn has_clues(grade: Grade) -> bool
+    ensures { IsTrue result ↔ IsLower Latin grade }
+{
+    !matches!(grade, Grade::Latin)
+}
+
+/// Whether a grade looks at groups of squares.
+pub(crate) fn has_groups(grade: Grade) -> bool
+    ensures { IsTrue result ↔ IsLower Easy grade }
+{
+    matches!(grade, Grade::Hard)
+}

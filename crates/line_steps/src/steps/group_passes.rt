@@ -1,0 +1,99 @@
+//! What groups of a line's squares strike: as many values as squares are all that is left of them.
+ghost use Rattle.std.specs.Prelude.{◌≡◌, ◌↔◌, ℕ, ◌*◌, ◌^◌, ◌⊎◌, ◌<◌, ◌≤◌, true, false, slice_index, count_ones};
+ghost use Rattle.number_sets.specs.Sets.{has_number, IsEmpty};
+ghost use Rattle.line_steps.specs.Reasons.{IsByLine};
+ghost use Rattle.line_steps.specs.Chains.{LeadsTo};
+ghost use Rattle.line_steps.specs.Inner.Groups.{IsUnionOf, IsStruckBelow, IsGroupQuiet};
+ghost use Rattle.line_steps.specs.Takes.{AreChanged};
+ghost use Rattle.line_steps.specs.declared.grade.Grade.TheVariants.{Hard};
+
+use crate::lines::line_passes::{line_sets, strike_row};
+use number_sets::NumberSet;
+use trail_solver::Candidates;
+
+/// Takes away what the groups of a line's squares strike, and gives the places of those of which something went. Squares of which one
+/// value is left are in none of the groups: once that value is gone elsewhere in the line, a group strikes no less without such a square.
+pub(crate) fn strike_groups_on(candidates: &mut Candidates, line: u8) -> NumberSet
+    requires { line < 2 * candidates.old.size }
+    ensures leads { LeadsTo (IsByLine candidates.old.size) Hard candidates.old candidates.new }
+    ensures changed { AreChanged line result candidates.old candidates.new }
+    ensures quiet { IsEmpty result → IsGroupQuiet line candidates.old }
+{
+    let sets = line_sets(candidates, line);
+    let width = candidates.size().get();
+    let several = open_places(&sets, width);
+    let struck = struck_by_groups(&sets, several, width);
+    strike_row(candidates, line, &struck)
+}
+
+// The places of the sets with several numbers.
+fn open_places(sets: &[NumberSet; 9], width: u8) -> NumberSet
+    requires { width ≤ 9 }
+    ensures { (k : ℕ) → (has_number result k ≡ true) ↔ ((k < width) × (1 < count_ones (slice_index sets.now k))) }
+{
+    let mut open = NumberSet::empty();
+    for k in 0..width {
+        if sets[k as usize].len() > 1 {
+            open = open.union(NumberSet::one(k));
+        }
+    }
+    open
+}
+
+// What the groups among some places strike in each place. All sets of these places are gone through, as the numbers that stand for them.
+fn struck_by_groups(sets: &[NumberSet; 9], several: NumberSet, width: u8) -> [NumberSet; 9]
+    requires width { width ≤ 9 }
+    requires inside { (k : ℕ) → has_number several k ≡ true → k < width }
+    ensures { (k v : ℕ) → k < 9 → (has_number (slice_index result k) v ≡ true)
+        ↔ IsStruckBelow sets.now several (2 ^ width) k v }
+{
+    let mut struck = [NumberSet::empty(); 9];
+    for bits in 0..1 << width {
+        let squares = NumberSet::from_bits(bits);
+        if squares.is_subset(several) {
+            add_elsewhere(squares, values_of(sets, squares), &mut struck);
+        }
+    }
+    struck
+}
+
+// The numbers of the sets at some places.
+fn values_of(sets: &[NumberSet; 9], squares: NumberSet) -> NumberSet
+    requires { (k : ℕ) → has_number squares k ≡ true → k < 9 }
+    ensures { IsUnionOf sets.now squares result }
+{
+    let mut values = NumberSet::empty();
+    for k in 0..9 {
+        values = values.union(values_at(sets, squares, k));
+    }
+    values
+}
+
+// Those of the set at one place, if it is among them.
+fn values_at(sets: &[NumberSet; 9], squares: NumberSet, k: u8) -> NumberSet
+    requires { k < 9 }
+    ensures { (v : ℕ) → (has_number result v ≡ true)
+        ↔ ((has_number squares k ≡ true) × (has_number (slice_index sets.now k) v ≡ true)) }
+{
+    if squares.has(k) {
+        sets[k as usize]
+    } else {
+        NumberSet::empty()
+    }
+}
+
+// Adds the values in each place but those of the squares, where they are as many.
+fn add_elsewhere(squares: NumberSet, values: NumberSet, struck: &mut [NumberSet; 9])
+    ensures { (k v : ℕ) → k < 9 → (has_number (slice_index struck.new k) v ≡ true)
+        ↔ ((has_number (slice_index struck.old k) v ≡ true)
+        ⊎ ((count_ones values ≡ count_ones squares) × (has_number squares k ≡ false) × (has_number values v ≡ true))) }
+{
+    if values.len() != squares.len() {
+        return;
+    }
+    for k in 0..9u8 {
+        if !squares.has(k) {
+            struck[k as usize] = struck[k as usize].union(values);
+        }
+    }
+}

@@ -1,0 +1,97 @@
+//! What rows and columns strike in one square.
+ghost use Rattle.std.specs.Prelude.{◌≡◌, ◌↔◌, ℕ, ◌*◌, ◌<◌, ◌≤◌, true, IsTrue};
+ghost use Rattle.number_sets.specs.Sets.{has_number};
+ghost use Rattle.latin_board.specs.Lines.{ArePeers, line_cell};
+ghost use Rattle.trail_solver.specs.Pairs.{IsPair};
+ghost use Rattle.line_steps.specs.Left.{HasNoOther, HasNoOtherPlace};
+ghost use Rattle.line_steps.specs.Reasons.{IsByPeer, IsByPlace};
+
+use latin_board::{Size, line_cell};
+use number_sets::NumberSet;
+use trail_solver::Candidates;
+
+/// The values of the size that a square of which nothing else is left rules out in another.
+#[tactic(auto, using(crate::proofs::AloneSets::peer_struck))]
+pub(crate) fn by_peer(candidates: &Candidates, by: usize, cell: usize) -> NumberSet
+    requires by { by < candidates.now.size * candidates.now.size }
+    requires inside { cell < candidates.now.size * candidates.now.size }
+    ensures { (v : ℕ) → (has_number result v ≡ true)
+        ↔ (IsPair candidates.now.size cell v × IsByPeer candidates.now.size candidates.now by cell v) }
+{
+    if are_peers(candidates.size(), by, cell) {
+        alone_values(candidates, by)
+    } else {
+        NumberSet::empty()
+    }
+}
+
+// Whether two squares share a row or a column.
+fn are_peers(size: Size, a: usize, b: usize) -> bool
+    requires first { a < size * size }
+    requires second { b < size * size }
+    ensures { IsTrue result ↔ ArePeers size a b }
+{
+    let width = size.get() as usize;
+    if a == b {
+        return false;
+    }
+    a / width == b / width || a % width == b % width
+}
+
+/// The values but for which nothing is left of a square.
+#[tactic(auto, using(crate::proofs::AloneSets::alone_none, crate::proofs::AloneSets::alone_one, crate::proofs::AloneSets::alone_several))]
+pub fn alone_values(candidates: &Candidates, cell: usize) -> NumberSet
+    requires { cell < candidates.now.size * candidates.now.size }
+    ensures { (v : ℕ) → (has_number result v ≡ true)
+        ↔ (IsPair candidates.now.size cell v × HasNoOther candidates.now cell v) }
+{
+    let values = candidates.values(cell);
+    if values.is_empty() {
+        return NumberSet::up_to(candidates.size().get());
+    }
+    match candidates.only(cell) {
+        Some(_) => values,
+        None => NumberSet::empty(),
+    }
+}
+
+/// The values of the size that another one's last place in a line rules out in a square.
+#[tactic(auto, using(crate::proofs::AloneSets::place_struck))]
+pub(crate) fn by_place(
+    candidates: &Candidates,
+    line: u8,
+    index: u8,
+    other: u8,
+    cell: usize,
+) -> NumberSet
+    requires line { line < 2 * candidates.now.size }
+    requires index { index < candidates.now.size }
+    requires low { 1 ≤ other }
+    requires high { other ≤ candidates.now.size }
+    requires inside { cell < candidates.now.size * candidates.now.size }
+    ensures { (v : ℕ) → (has_number result v ≡ true)
+        ↔ (IsPair candidates.now.size cell v × IsByPlace candidates.now.size candidates.now line index other cell v) }
+{
+    let size = candidates.size();
+    if cell == line_cell(size, line, index) && has_no_other_place(candidates, line, other, index) {
+        NumberSet::up_to(size.get()).difference(NumberSet::one(other))
+    } else {
+        NumberSet::empty()
+    }
+}
+
+/// Whether a value is left in no place of a line but one.
+pub fn has_no_other_place(candidates: &Candidates, line: u8, value: u8, index: u8) -> bool
+    requires line { line < 2 * candidates.now.size }
+    requires low { 1 ≤ value }
+    requires high { value ≤ candidates.now.size }
+    ensures { IsTrue result ↔ HasNoOtherPlace candidates.now line value index }
+{
+    let size = candidates.size();
+    for k in 0..size.get() {
+        if k != index && candidates.may(line_cell(size, line, k), value) {
+            return false;
+        }
+    }
+    true
+}

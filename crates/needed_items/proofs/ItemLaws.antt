@@ -1,0 +1,63 @@
+-- The laws of `Rules` on items, as a record that lemmas take, and what they say of puzzles without one.
+use Rattle.std.proofs.Common.{◌≡◌, ℕ, ◌*◌, ◌<◌, Bool, true, false, not, ◌&&◌, refl, sym, ◌∙◌, ap}
+use Rattle.std.proofs.lemmas.Bool.{eq-eqb}
+use Rattle.latin_board.specs.Squares.{GridValue, IsGrid, IsLatin, number_at}
+use Rattle.trail_solver.specs.Puzzles.{Solves}
+use Rattle.trail_solver.specs.declared.rules.Rules.{Ghosts}
+use Rattle.trail_solver.specs.contracts.rules.Rules.TheBound.{Met}
+use Rattle.needed_items.specs.Needed.{all_but}
+
+-- what a game owes of its items: how they are cut, and what the full puzzle of a grid has
+pub record ItemLaws {P : Type 0} (f : Ghosts P) : Type 0 where
+  pub cut_valid : (p : P) (keep : ℕ → Bool) → f.valid p → f.valid (f.cut p keep)
+  pub cut_size : (p : P) (keep : ℕ → Bool) → (f.puzzle (f.cut p keep)).size ≡ (f.puzzle p).size
+  pub givens_cut : (p : P) (keep : ℕ → Bool) (cell : ℕ) → 0 < (f.puzzle (f.cut p keep)).given cell
+      → (f.puzzle (f.cut p keep)).given cell ≡ (f.puzzle p).given cell
+  pub cut_has : (p : P) (keep : ℕ → Bool) (i : ℕ) → f.valid p → i < f.items_of (f.puzzle p).size
+      → f.has (f.cut p keep) i ≡ (f.has p i && keep i)
+  pub cut_all : (p : P) → f.valid p → f.cut p (λ i. true) ≡ p
+  pub cut_cut : (p : P) (first second : ℕ → Bool) → f.valid p → f.cut (f.cut p first) second ≡ f.cut p (λ i. first i && second i)
+  pub cut_agrees : (p : P) (a b : ℕ → Bool) → f.valid p
+      → ((i : ℕ) → i < f.items_of (f.puzzle p).size → f.has p i ≡ true → a i ≡ b i) → f.cut p a ≡ f.cut p b
+  pub cut_solved : (p : P) (keep : ℕ → Bool) (g : GridValue) → f.valid p → Solves (f.puzzle p) g → Solves (f.puzzle (f.cut p keep)) g
+  pub full_valid : (g : GridValue) → IsGrid g → IsLatin g → f.valid (f.full_of g)
+  pub full_size : (g : GridValue) → IsGrid g → IsLatin g → (f.puzzle (f.full_of g)).size ≡ g.size
+  pub full_given : (g : GridValue) (cell : ℕ) → IsGrid g → IsLatin g → cell < g.size * g.size
+      → (f.puzzle (f.full_of g)).given cell ≡ number_at g cell
+  pub full_has : (g : GridValue) (i : ℕ) → IsGrid g → IsLatin g → i < f.items_of g.size → f.has (f.full_of g) i ≡ true
+  pub full_solved : (g : GridValue) → IsGrid g → IsLatin g → Solves (f.puzzle (f.full_of g)) g
+
+-- the laws of a type that has `Rules`: the other names in braces are the kit's, the world that code runs in and the tables of methods
+pub laws_of : {M : Type 1} {U logic memory running routines type f methods clone cloning : _}
+    → Met {M = M} {𝓤 = U} logic memory running routines type f methods clone cloning → ItemLaws f
+laws_of met = record {
+  cut_valid = met.cut_valid;
+  cut_size = met.cut_size;
+  givens_cut = met.givens_cut;
+  cut_has = met.cut_has;
+  cut_all = met.cut_all;
+  cut_cut = met.cut_cut;
+  cut_agrees = met.cut_agrees;
+  cut_solved = met.cut_solved;
+  full_valid = met.full_valid;
+  full_size = met.full_size;
+  full_given = met.full_given;
+  full_has = met.full_has;
+  full_solved = met.full_solved;
+}
+
+-- the item itself is left out
+pub all_but_itself : (i : ℕ) → all_but i i ≡ false
+all_but_itself i = ap not (eq-eqb i i refl)
+
+-- items can be taken away in either order
+pub cuts_swap : {P : Type 0} (f : Ghosts P) (p : P) (a b : ℕ → Bool) → ItemLaws f → f.valid p → f.cut (f.cut p a) b ≡ f.cut (f.cut p b) a
+cuts_swap f p a b laws valid =
+    laws.cut_cut p a b valid
+    ∙ (laws.cut_agrees p (λ i. a i && b i) (λ i. b i && a i) valid (λ i inside here. swap (a i) (b i)) ∙ sym (laws.cut_cut p b a valid))
+  where
+    swap : (a b : Bool) → (a && b) ≡ (b && a)
+    swap true true = refl
+    swap true false = refl
+    swap false true = refl
+    swap false false = refl

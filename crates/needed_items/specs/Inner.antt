@@ -1,0 +1,2 @@
+-- Words that the contracts of private functions alone use.
+pub mod Trying

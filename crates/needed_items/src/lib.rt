@@ -1,0 +1,21 @@
+//! The items of a puzzle: its clues, signs and givens, each by a number. What each says and how it is changed (`Items`); which
+//! could be left out, or are to blame; and the puzzle without those that it can do without.
+//!
+//! ```
+//! let mut puzzle = Towers::blank(size);
+//! puzzle.put_item(Towers::given_item(size, 0), 3);
+//! if let Answer::One(grid) = solve(&puzzle) {
+//!     let fewer = thinned(&puzzle, &grid);
+//! }
+//! ```
+#![tactic(auto)]
+
+mod blame;
+mod items;
+mod needed;
+mod thinning;
+
+pub use blame::is_blamed;
+pub use items::Items;
+pub use needed::{is_needed, is_spare};
+pub use thinning::thinned;

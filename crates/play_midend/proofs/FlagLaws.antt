@@ -1,0 +1,267 @@
+-- What the flags of help and of completion say of the moves since the last restart.
+use Rattle.std.proofs.Common.{◌≡◌, ◌⊎◌, ℕ, ◌-◌, ◌*◌, ◌<◌, ◌≤◌, ◌==◌, true, false, cond, Some, None, refl, sym, ◌∙◌, subst, inl, inr, arith, List, [], ◌∷◌}
+use Rattle.std.specs.Option.{option_map_or}
+use Rattle.std.proofs.lemmas.Bool.{or_cases, or_left, or_right}
+use Rattle.std.proofs.lemmas.List.{get_or-set_same, length-set}
+use Rattle.std.proofs.lemmas.Nat.{mul-add-lt}
+use Rattle.std.proofs.lemmas.List.Elements.{All-set}
+use Rattle.std.proofs.lemmas.List.FromFn.{get_or-map-range_with_len, length-map-range_with_len}
+use Rattle.latin_board.specs.Squares.{IsGrid}
+use Rattle.latin_board.specs.Boards.{BoardValue, grid_of, with_done_flipped}
+use Rattle.latin_board.specs.Edges.{edge_place}
+use Rattle.latin_board.proofs.LatinLines.{latin_full}
+use Rattle.trail_solver.specs.Puzzles.{Puzzle, Solves, solves_test}
+use Rattle.trail_solver.proofs.SolutionTests.{Decides-solves_test}
+use Rattle.play_midend.specs.declared.moves.Move.{Move}
+use Rattle.play_midend.specs.declared.moves.Move.TheVariants.{Real, Pencil, MarkAll, Solve, Restart, Done}
+use Rattle.play_midend.specs.Steps.{cell_of, entry_refusal, mark_refusal, refusal_of, with_number, with_mark_flipped, start_of, moved, is_restart, after_move, replay_from, ArePlayable}
+use Rattle.play_midend.specs.Histories.{past}
+use Rattle.play_midend.specs.Flags.{fills_in, LeavesSolution, HelpIsFlagged, CompletionIsFlagged, HelpCompletes}
+use Rattle.play_midend.proofs.TestedSolutions.{solutions_are_filled_in}
+use Rattle.play_midend.proofs.Playing.{or_none, not_refused}
+use Rattle.play_midend.proofs.Replaying.{ArePlayable-take, after_step}
+use Rattle.play_midend.proofs.Making.{step_allowed}
+use Rattle.play_midend.proofs.Flagging.{IsSetBy, flagged}
+
+-- help
+helped_kept : (p : Puzzle) (b : BoardValue) (m : Move) → b.cheated ≡ true → is_restart m ≡ false → (moved p b m).cheated ≡ true
+helped_kept p b (Real x y n) is other = is
+helped_kept p b (Pencil x y n) is other =
+    elim (n == 0) as (λ t. (cond t (with_number p b (cell_of p.size x y) 0) (with_mark_flipped b (cell_of p.size x y) n)).cheated ≡ true) [
+      | true ↦ is
+      | false ↦ is
+    ]
+helped_kept p b MarkAll is other = is
+helped_kept p b (Solve g) is other = refl
+helped_kept p b Restart is other = cc
+helped_kept p b (Done x y) is other =
+    elim (edge_place p.size x y) as (λ place. (option_map_or (with_done_flipped b) place b).cheated ≡ true) [
+      | None ↦ is
+      | Some place ↦ is
+    ]
+
+helped_only : (p : Puzzle) (b : BoardValue) (m : Move) → (moved p b m).cheated ≡ true
+    → (fills_in m ≡ true) ⊎ ((b.cheated ≡ true) × (is_restart m ≡ false))
+helped_only p b (Real x y n) is = inr (is, refl)
+helped_only p b (Pencil x y n) is =
+    elim (n == 0) as (λ t. (cond t (with_number p b (cell_of p.size x y) 0) (with_mark_flipped b (cell_of p.size x y) n)).cheated ≡ true
+    → (false ≡ true) ⊎ ((b.cheated ≡ true) × (false ≡ false))) [
+      | true ↦ λ was. inr (was, refl)
+      | false ↦ λ was. inr (was, refl)
+    ] is
+helped_only p b MarkAll is = inr (is, refl)
+helped_only p b (Solve g) is = inl refl
+helped_only p b Restart is = cc
+helped_only p b (Done x y) is =
+    elim (edge_place p.size x y) as (λ place. (option_map_or (with_done_flipped b) place b).cheated ≡ true
+    → (false ≡ true) ⊎ ((b.cheated ≡ true) × (false ≡ false))) [
+      | None ↦ λ was. inr (was, refl)
+      | Some place ↦ λ was. inr (was, refl)
+    ] is
+
+helped_set : (p : Puzzle) (b : BoardValue) (m : Move) → fills_in m ≡ true → (moved p b m).cheated ≡ true
+helped_set p b (Solve g) is = refl
+helped_set p b m is = cc
+
+help_set_by : (p : Puzzle) → IsSetBy p (λ b. b.cheated) (λ b m. fills_in m ≡ true) (λ b. Unit {0})
+help_set_by p = record {
+  goes_on = λ b m fine none. tt;
+  set = λ b m fine is. helped_set p b m is;
+  kept = λ b m fine is other. helped_kept p b m is other;
+  only = λ b m fine none is. helped_only p b m is;
+}
+
+-- the flag of help
+pub help_is_flagged : {P : Type 0} (puzzle : P → Puzzle) → HelpIsFlagged puzzle
+help_is_flagged puzzle h valid =
+    let p = puzzle h.puzzle in
+    flagged p (λ b. b.cheated) (λ b m. fills_in m ≡ true) (λ b. Unit {0}) (help_set_by p) (start_of p) (past h) tt refl
+    (ArePlayable-take p (start_of p) (h.position - 1) h.moves valid.legal.playable)
+
+-- a board of the puzzle's size, with numbers up to it
+record IsOf (p : Puzzle) (b : BoardValue) : Type 0 where
+  pub grid : IsGrid (grid_of b)
+  pub size : b.size ≡ p.size
+
+start_is_of : (p : Puzzle) → 3 ≤ p.size → p.size ≤ 9 → ((cell : ℕ) → cell < p.size * p.size → p.given cell ≤ p.size) → IsOf p (start_of p)
+start_is_of p low high small =
+    let long = length-map-range_with_len p.given 0 (p.size * p.size) in
+    record {
+      grid = record {
+        smallest = low;
+        largest = high;
+        count = long;
+        within = λ cell d inside.
+            let within = small cell (omega (arith, long)) in
+            let is = get_or-map-range_with_len p.given 0 (p.size * p.size) cell cell d (omega (arith, long)) (omega arith) in
+            rw is within;
+      };
+      size = refl;
+    }
+
+entry_small : (p : Puzzle) (x y n : ℕ) → entry_refusal p x y n ≡ None → n ≤ p.size
+entry_small p x y n none = grind arith
+
+entry_inside : (p : Puzzle) (x y n : ℕ) → entry_refusal p x y n ≡ None → cell_of p.size x y < p.size * p.size
+entry_inside p x y n none =
+    let across : x < p.size = grind arith in
+    let down : y < p.size = grind arith in
+    mul-add-lt y p.size x p.size down across
+
+number_is_of : (p : Puzzle) (b : BoardValue) (cell n : ℕ) → IsOf p b → n ≤ p.size → IsOf p (with_number p b cell n)
+number_is_of p b cell n of small = record {
+  grid = record {
+    smallest = of.grid.smallest;
+    largest = of.grid.largest;
+    count = length-set b.numbers cell n ∙ of.grid.count;
+    within = All-set (λ k. k ≤ b.size) b.numbers cell n (rw of.size small) of.grid.within;
+  };
+  size = of.size;
+}
+
+pencil_entry : (p : Puzzle) (b : BoardValue) (x y n : ℕ) → refusal_of p b (Pencil x y n) ≡ None → entry_refusal p x y n ≡ None
+pencil_entry p b x y n none = (or_none (entry_refusal p x y n) (mark_refusal b (cell_of p.size x y) n) none).0
+
+moved_is_of : (p : Puzzle) (b : BoardValue) (m : Move) → IsOf p (start_of p) → IsOf p b → refusal_of p b m ≡ None → IsOf p (moved p b m)
+moved_is_of p b (Real x y n) start of none = number_is_of p b (cell_of p.size x y) n of (entry_small p x y n none)
+moved_is_of p b (Pencil x y n) start of none =
+    elim (n == 0) as (λ t. IsOf p (cond t (with_number p b (cell_of p.size x y) 0) (with_mark_flipped b (cell_of p.size x y) n))) [
+      | true ↦ number_is_of p b (cell_of p.size x y) 0 of (omega arith)
+      | false ↦ record { grid = of.grid; size = of.size }
+    ]
+moved_is_of p b MarkAll start of none = record { grid = of.grid; size = of.size }
+moved_is_of p b (Solve g) start of none =
+    let solves : Solves p g = (solutions_are_filled_in p b g).0 none in
+    record {
+      grid = subst (λ (w : ℕ). IsGrid (record { size = w; numbers = g.numbers })) (solves.same_size ∙ sym of.size) solves.is_grid;
+      size = of.size;
+    }
+moved_is_of p b Restart start of none = start
+moved_is_of p b (Done x y) start of none =
+    elim (edge_place p.size x y) as (λ place. IsOf p (option_map_or (with_done_flipped b) place b)) [
+      | None ↦ of
+      | Some place ↦ record { grid = of.grid; size = of.size }
+    ]
+
+-- with a blank square nothing is solved
+blank_unsolved : (p : Puzzle) (b : BoardValue) (cell : ℕ) → IsOf p b → cell < p.size * p.size → Solves p (grid_of (with_number p b cell 0)) → ⊥
+blank_unsolved p b cell of inside solves =
+    let within : cell < b.size * b.size = rw of.size inside in
+    let full = (latin_full (grid_of (with_number p b cell 0)) solves.latin).each cell within in
+    let count = of.grid.count in
+    let blank = get_or-set_same b.numbers cell 0 0 (omega (arith, count)) in
+    absurd (omega (arith, blank))
+
+-- a number completes a board, or it was
+number_only : (p : Puzzle) (b : BoardValue) (cell n : ℕ) → IsOf p (with_number p b cell n) → (with_number p b cell n).completed ≡ true
+    → Solves p (grid_of (with_number p b cell n)) ⊎ (b.completed ≡ true)
+number_only p b cell n of is =
+    let g = grid_of (with_number p b cell n) in
+    elim (or_cases b.completed (solves_test p g) is) [
+      | inl old ↦ inr old
+      | inr test ↦ inl ((Decides-solves_test p g of.grid).0 test)
+    ]
+
+solved_only : (p : Puzzle) (b : BoardValue) (m : Move) → IsOf p b → refusal_of p b m ≡ None → (moved p b m).completed ≡ true
+    → LeavesSolution p b m ⊎ ((b.completed ≡ true) × (is_restart m ≡ false))
+solved_only p b (Real x y n) of none is =
+    let cell = cell_of p.size x y in
+    elim (number_only p b cell n (number_is_of p b cell n of (entry_small p x y n none)) is) [
+      | inl now ↦ inl (refl, now)
+      | inr old ↦ inr (old, refl)
+    ]
+solved_only p b (Pencil x y n) of none is =
+    let cell = cell_of p.size x y in
+    let inside = entry_inside p x y n (pencil_entry p b x y n none) in
+    let same : b.completed ≡ true =
+    elim (n == 0) as (λ t. (cond t (with_number p b cell 0) (with_mark_flipped b cell n)).completed ≡ true → b.completed ≡ true) [
+      | true ↦ λ now. elim (number_only p b cell 0 (number_is_of p b cell 0 of (omega arith)) now) [
+        | inl solves ↦ absurd (blank_unsolved p b cell of inside solves)
+        | inr old ↦ old
+      ]
+      | false ↦ λ old. old
+    ] is in
+    inr (same, refl)
+solved_only p b MarkAll of none is = inr (is, refl)
+solved_only p b (Solve g) of none is =
+    let solves : Solves p g = (solutions_are_filled_in p b g).0 none in
+    inl (refl, subst (λ (w : ℕ). Solves p (record { size = w; numbers = g.numbers })) (solves.same_size ∙ sym of.size) solves)
+solved_only p b Restart of none is = cc
+solved_only p b (Done x y) of none is =
+    elim (edge_place p.size x y) as (λ place. (option_map_or (with_done_flipped b) place b).completed ≡ true
+    → LeavesSolution p b (Done x y) ⊎ ((b.completed ≡ true) × (false ≡ false))) [
+      | None ↦ λ was. inr (was, refl)
+      | Some place ↦ λ was. inr (was, refl)
+    ] is
+
+solved_set : (p : Puzzle) (b : BoardValue) (m : Move) → LeavesSolution p b m → (moved p b m).completed ≡ true
+solved_set p b (Real x y n) is =
+    let g = grid_of (with_number p b (cell_of p.size x y) n) in
+    or_right b.completed (solves_test p g) ((Decides-solves_test p g is.1.is_grid).1 is.1)
+solved_set p b (Solve g) is = refl
+solved_set p b m is = cc (is.0)
+
+solved_kept : (p : Puzzle) (b : BoardValue) (m : Move) → b.completed ≡ true → is_restart m ≡ false → (moved p b m).completed ≡ true
+solved_kept p b (Real x y n) is other =
+    or_left b.completed (solves_test p (grid_of (with_number p b (cell_of p.size x y) n))) is
+solved_kept p b (Pencil x y n) is other =
+    let cell = cell_of p.size x y in
+    elim (n == 0) as (λ t. (cond t (with_number p b cell 0) (with_mark_flipped b cell n)).completed ≡ true) [
+      | true ↦ or_left b.completed (solves_test p (grid_of (with_number p b cell 0))) is
+      | false ↦ is
+    ]
+solved_kept p b MarkAll is other = is
+solved_kept p b (Solve g) is other = refl
+solved_kept p b Restart is other = cc
+solved_kept p b (Done x y) is other =
+    elim (edge_place p.size x y) as (λ place. (option_map_or (with_done_flipped b) place b).completed ≡ true) [
+      | None ↦ is
+      | Some place ↦ is
+    ]
+
+solution_set_by : (p : Puzzle) → IsOf p (start_of p) → IsSetBy p (λ b. b.completed) (LeavesSolution p) (IsOf p)
+solution_set_by p start = record {
+  goes_on = λ b m of none. moved_is_of p b m start of none;
+  set = λ b m of is. solved_set p b m is;
+  kept = λ b m of is other. solved_kept p b m is other;
+  only = λ b m of none is. solved_only p b m of none is;
+}
+
+-- the flag of completion
+pub completion_is_flagged : {P : Type 0} (puzzle : P → Puzzle) (of_game : P → Type 0)
+    → ((q : P) → of_game q → (3 ≤ (puzzle q).size) × ((puzzle q).size ≤ 9))
+    → ((q : P) (cell : ℕ) → of_game q → cell < (puzzle q).size * (puzzle q).size → (puzzle q).given cell ≤ (puzzle q).size)
+    → CompletionIsFlagged puzzle of_game
+completion_is_flagged puzzle of_game sizes givens h is valid =
+    let p = puzzle h.puzzle in
+    let start = start_is_of p (sizes h.puzzle is).0 (sizes h.puzzle is).1 (λ cell inside. givens h.puzzle cell is inside) in
+    flagged p (λ b. b.completed) (LeavesSolution p) (IsOf p) (solution_set_by p start) (start_of p) (past h) start refl
+    (ArePlayable-take p (start_of p) (h.position - 1) h.moves valid.legal.playable)
+
+-- ---- help and completion
+
+filled_completed : (p : Puzzle) (b : BoardValue) (m : Move) → fills_in m ≡ true → (moved p b m).completed ≡ true
+filled_completed p b (Solve g) is = refl
+filled_completed p b m is = cc
+
+both_moved : (p : Puzzle) (b : BoardValue) (m : Move) → (b.cheated ≡ true → b.completed ≡ true) → (moved p b m).cheated ≡ true
+    → (moved p b m).completed ≡ true
+both_moved p b m both is = elim (helped_only p b m is) [
+  | inl fills ↦ filled_completed p b m fills
+  | inr (was, other) ↦ solved_kept p b m (both was) other
+]
+
+both_replayed : (p : Puzzle) (b : BoardValue) (ms : List Move) → ArePlayable p b ms → (b.cheated ≡ true → b.completed ≡ true)
+    → (replay_from p b ms).cheated ≡ true → (replay_from p b ms).completed ≡ true
+both_replayed p b [] playable both is = both is
+both_replayed p b (m ∷ ms) playable both is =
+    let none = not_refused (refusal_of p b m) (moved p b m) playable.0 in
+    let at = after_step p b m (moved p b m) (step_allowed p b m none) in
+    both_replayed p (after_move p b m) ms playable.1
+    (subst (λ (c : BoardValue). c.cheated ≡ true → c.completed ≡ true) (sym at) (λ set. both_moved p b m both set)) is
+
+-- with help comes completion
+pub help_completes : {P : Type 0} (puzzle : P → Puzzle) → HelpCompletes puzzle
+help_completes puzzle h valid is =
+    let p = puzzle h.puzzle in
+    both_replayed p (start_of p) (past h) (ArePlayable-take p (start_of p) (h.position - 1) h.moves valid.legal.playable) (λ off. cc) is

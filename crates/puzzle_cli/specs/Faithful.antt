@@ -1,0 +1,48 @@
+-- What is told of boards tells them apart.
+use Rattle.std.specs.Prelude.{◌≡◌, ℕ, List, Bool, true, false}
+use Rattle.latin_board.specs.Boards.{BoardValue, IsBoard}
+use Rattle.towers_game.specs.Towers.{TowersValue}
+use Rattle.unequal_game.specs.Unequal.{UnequalValue}
+use Rattle.play_midend.specs.Histories.{History}
+use Rattle.puzzle_cli.specs.declared.command.View.{View}
+use Rattle.puzzle_cli.specs.declared.command.View.TheVariants.{Show, Marks, Status, Done}
+use Rattle.puzzle_cli.specs.GameFacts.{GameFacts}
+use Rattle.puzzle_cli.specs.SessionReplies.{shown_board, view_text}
+use Rattle.puzzle_cli.specs.TowersPicture.{towers_picture}
+use Rattle.puzzle_cli.specs.UnequalPicture.{unequal_picture}
+
+-- pictures of two boards of a puzzle's size are the same only where the numbers are
+abbrev pub PicturesShowNumbers : {P : Type 0} → (P → ℕ) → (P → BoardValue → List ℕ) → Type 0
+PicturesShowNumbers {P} size drawing =
+    (p : P) (b c : BoardValue) → IsBoard b → IsBoard c → b.size ≡ size p → c.size ≡ size p → drawing p b ≡ drawing p c
+    → b.numbers ≡ c.numbers
+
+-- so it is in both games
+abbrev pub BothPicturesShowNumbers : Type 0
+BothPicturesShowNumbers =
+    PicturesShowNumbers (λ (v : TowersValue). v.size) towers_picture
+    × PicturesShowNumbers (λ (v : UnequalValue). v.size) unequal_picture
+
+-- the views of a session that tell its board
+abbrev pub tells_board : View → Bool
+tells_board Show = true
+tells_board Marks = true
+tells_board Done = true
+tells_board Status = true
+tells_board _ = false
+
+-- what the board of a session of a puzzle keeps: it is a board of the puzzle's size, and with help comes completion
+pub record IsSessionBoard (w : ℕ) (b : BoardValue) : Type 0 where
+  pub board : IsBoard b
+  pub size : b.size ≡ w
+  pub helped : b.cheated ≡ true → b.completed ≡ true
+
+-- two sessions of a puzzle of which picture, marks, done clues and status are told the same show the same board, both
+-- flags included
+abbrev pub ViewsTellBoards : {P : Type 0} → GameFacts P → Type 0
+ViewsTellBoards {P} f =
+    PicturesShowNumbers (λ p. (f.rules.puzzle p).size) f.drawing → (h k : History P) → k.puzzle ≡ h.puzzle
+    → let w = (f.rules.puzzle h.puzzle).size in
+    IsSessionBoard w (shown_board f h) → IsSessionBoard w (shown_board f k)
+    → ((view : View) → tells_board view ≡ true → view_text f h view ≡ view_text f k view)
+    → shown_board f h ≡ shown_board f k

@@ -1,0 +1,72 @@
+-- The parts of a hint, each with a view of its own or from every view; a view bound once is in `NextHints`.
+use Rattle.std.specs.Prelude.{◌≡◌, ◌≢◌, ℕ, List, []}
+use Rattle.latin_board.specs.Squares.{GridValue, number_at}
+use Rattle.trail_solver.specs.Candidates.{CandidatesValue}
+use Rattle.named_steps.specs.Chains.{IsExplained, IsView}
+use Rattle.named_steps.specs.Following.{IsRefuted}
+use Rattle.line_steps.specs.Chains.{StepValue}
+use Rattle.line_steps.specs.Grades.{IsLower}
+use Rattle.line_steps.specs.declared.grade.Grade.{Grade}
+use Rattle.line_steps.specs.declared.grade.Grade.TheVariants.{Hard}
+use Rattle.named_steps.specs.declared.goal.Goal.{Goal}
+use Rattle.named_steps.specs.declared.goal.Goal.TheVariants.{OnlyValue}
+use Rattle.step_chains.specs.declared.hints.NextHint.{NextHint}
+use Rattle.step_chains.specs.declared.hints.NextHint.TheVariants.{Follows, Refuted, Nothing}
+use Rattle.step_chains.specs.ChainValues.{AreLive, AreAllNeeded, steps_of}
+use Rattle.step_chains.specs.Explanations.{IsRefutation}
+use Rattle.step_chains.specs.NextHints.{NothingFollows, IsForcedSquare}
+use Rattle.line_steps.specs.Reasons.{Striking}
+
+-- no chain of the grade's steps from what is in view shows a number of an empty square
+abbrev pub NothingIsShown : Striking → Grade → GridValue → Type 0
+NothingIsShown Struck grade g = (view : CandidatesValue) → IsView g view → NothingFollows Struck grade g view
+
+-- a chain of the grade's steps from what is in view leaves a square nothing
+abbrev pub IsRefutedGrid : Striking → Grade → GridValue → Type 0
+IsRefutedGrid Struck grade g = (view : CandidatesValue) × IsView g view × IsRefuted Struck grade view
+
+-- from what is in view of the grid each step strikes only what the steps before it leave
+abbrev pub IsLiveFrom : GridValue → List StepValue → Type 0
+IsLiveFrom g steps = (view : CandidatesValue) × IsView g view × AreLive view steps
+
+-- and no step can strike less
+abbrev pub AreNeededFrom :
+    Striking → Grade → GridValue → List StepValue → Goal → Type 0
+AreNeededFrom Struck grade g steps goal =
+    (view : CandidatesValue) × IsView g view × AreAllNeeded Struck grade view steps goal
+
+-- the steps of no grade below show a number
+abbrev pub NoneBelowShows : Striking → Grade → GridValue → Type 0
+NoneBelowShows Struck grade g = (lower : Grade) → IsLower lower grade → NothingIsShown Struck lower g
+
+-- the steps of no grade below refute the grid's numbers
+abbrev pub NoneBelowRefutes : Striking → Grade → GridValue → Type 0
+NoneBelowRefutes Struck grade g = (lower : Grade) → IsLower lower grade → IsRefutedGrid Struck lower g → ⊥
+
+-- its steps of that grade show the number, those of no grade below show any, and no steps refute the grid's numbers;
+-- or its steps refute them, and those of no grade below do; or no steps show a number, and none refute the grid's
+abbrev pub IsNextHint : Striking → GridValue → NextHint → Type 0
+IsNextHint Struck g (Follows grade chain) =
+    IsExplained Struck grade g (steps_of chain.steps.items) chain.goal
+    × NoneBelowShows Struck grade g × (IsRefutedGrid Struck Hard g → ⊥)
+IsNextHint Struck g (Refuted grade refutation) =
+    IsRefutation Struck grade g (steps_of refutation.steps.items) refutation.cell × NoneBelowRefutes Struck grade g
+IsNextHint Struck g Nothing = NothingIsShown Struck Hard g × (IsRefutedGrid Struck Hard g → ⊥)
+
+-- each of its steps strikes only what those before it leave of what is in view, of which there is one
+abbrev pub IsLiveHint : GridValue → NextHint → Type 0
+IsLiveHint g (Follows grade chain) = IsLiveFrom g (steps_of chain.steps.items)
+IsLiveHint g (Refuted grade refutation) = IsLiveFrom g (steps_of refutation.steps.items)
+IsLiveHint g Nothing = IsLiveFrom g []
+
+-- and no number of a step can be left out; where nothing is left of a square, nothing but 0 is
+abbrev pub IsNeededHint : Striking → GridValue → NextHint → Type 0
+IsNeededHint Struck g (Follows grade chain) = AreNeededFrom Struck grade g (steps_of chain.steps.items) chain.goal
+IsNeededHint Struck g (Refuted grade refutation) =
+    AreNeededFrom Struck grade g (steps_of refutation.steps.items) (OnlyValue refutation.cell 0)
+IsNeededHint Struck g Nothing = Unit {0}
+
+-- where a square is forced from each view, the hint says something
+abbrev pub SaysAllForced : Striking → GridValue → NextHint → Type 0
+SaysAllForced Struck g hint =
+    (view : CandidatesValue) (cell : ℕ) → IsView g view → IsForcedSquare Struck g view cell → hint ≢ Nothing

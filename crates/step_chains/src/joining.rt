@@ -1,0 +1,168 @@
+//! Reasons that strike at two places of a chain, where one of them is enough.
+//! Nothing here ensures anything: `short_chain` follows what comes of it step by step, and tells it only where it is a chain.
+ghost use Rattle.std.specs.Prelude.{◌<◌, length};
+
+use crate::aims::Aim;
+use crate::chain::Step;
+use crate::needs::Values;
+use crate::replays::come_to;
+use latin_board::{CELLS, OutOfMemory};
+use named_steps::{Grade, Reason, Steps};
+use std::alloc::Global;
+use trail_solver::{Candidates, Rules};
+
+// In a longer chain nobody sees which reasons come again, and each try takes longer.
+const MOST_STEPS: usize = 30;
+
+// How many times two places become one.
+const MOST_JOINS: usize = 8;
+
+/// The steps of a chain from the candidates to the aim, of which a reason strikes at the later one of two places all that it strikes at both,
+/// or at the earlier one, where they still come to the aim.
+#[inline(never)]
+pub(crate) fn joined<P: Steps>(
+    alloc: Global,
+    p: &P,
+    grade: Grade,
+    candidates: &mut Candidates,
+    steps: Vec<Step>,
+    aim: Aim,
+    known: &mut P::Known,
+) -> Result<Vec<Step>, OutOfMemory> {
+    let mut now = steps;
+    if now.len() > MOST_STEPS {
+        return Ok(now);
+    }
+    for _ in 0..MOST_JOINS {
+        match joined_once(alloc, p, grade, candidates, now.as_slice(), aim, known)? {
+            Some(next) => now = next,
+            None => return Ok(now),
+        }
+    }
+    Ok(now)
+}
+
+// The steps with two places joined, if two can be.
+fn joined_once<P: Steps>(
+    alloc: Global,
+    p: &P,
+    grade: Grade,
+    candidates: &mut Candidates,
+    steps: &[Step],
+    aim: Aim,
+    known: &mut P::Known,
+) -> Result<Option<Vec<Step>>, OutOfMemory> {
+    for from_end in 0..steps.len() {
+        let early = steps.len() - 1 - from_end;
+        if is_start(steps, early) {
+            let next = joined_from(alloc, p, grade, candidates, steps, early, aim, known)?;
+            if next.is_some() {
+                return Ok(next);
+            }
+        }
+    }
+    Ok(None)
+}
+
+// The same of the place of a look and one after it.
+fn joined_from<P: Steps>(
+    alloc: Global,
+    p: &P,
+    grade: Grade,
+    candidates: &mut Candidates,
+    steps: &[Step],
+    early: usize,
+    aim: Aim,
+    known: &mut P::Known,
+) -> Result<Option<Vec<Step>>, OutOfMemory>
+    requires { early < length steps.now }
+{
+    for late in early + 1..steps.len() {
+        if steps[late].is_same_look(&steps[early]) && is_start(steps, late) {
+            for at in [late, early] {
+                let next = with_both_at(alloc, steps, early, late, at)?;
+                if leads(p, grade, candidates, next.as_slice(), aim, known) {
+                    return Ok(Some(next));
+                }
+            }
+        }
+    }
+    Ok(None)
+}
+
+// Whether a look begins at a place: the step before it has another reason.
+fn is_start(steps: &[Step], at: usize) -> bool
+    requires { at < length steps.now }
+{
+    at == 0 || !steps[at].is_same_look(&steps[at - 1])
+}
+
+// Whether steps are a chain of the grade's to the aim.
+fn leads<P: Steps>(
+    p: &P,
+    grade: Grade,
+    candidates: &mut Candidates,
+    steps: &[Step],
+    aim: Aim,
+    known: &mut P::Known,
+) -> bool {
+    let size = candidates.size();
+    p.size() == size && aim.is_of(size) && come_to(p, grade, candidates, steps, aim, known)
+}
+
+// The steps where all that the looks from two places on strike is struck at one of them, square by square.
+fn with_both_at(
+    alloc: Global,
+    steps: &[Step],
+    early: usize,
+    late: usize,
+    at: usize,
+) -> Result<Vec<Step>, OutOfMemory> {
+    let (early_end, late_end) = (end_of(steps, early), end_of(steps, late));
+    let mut both = Values::none();
+    let mut next = Vec::new(alloc);
+    for place in 0..steps.len() {
+        let is_of_both = (early <= place && place < early_end)
+            || (late <= place && place < late_end);
+        if is_of_both {
+            both.add(steps[place].cell as usize, steps[place].values);
+        }
+    }
+    for place in 0..steps.len() {
+        let is_of_both = (early <= place && place < early_end)
+            || (late <= place && place < late_end);
+        if place == at {
+            list_all(&mut next, &steps[place].reason, &both)?;
+        }
+        if !is_of_both {
+            next.push(steps[place])?;
+        }
+    }
+    Ok(next)
+}
+
+// Where the look from a place on ends.
+fn end_of(steps: &[Step], start: usize) -> usize {
+    for place in 0..steps.len() {
+        if place > start && is_start(steps, place) {
+            return place;
+        }
+    }
+    steps.len()
+}
+
+// Lists what a reason strikes.
+fn list_all(steps: &mut Vec<Step>, reason: &Reason, values: &Values) -> Result<(), OutOfMemory> {
+    for cell in 0..CELLS {
+        let struck = values.of(cell);
+        if !struck.is_empty() {
+            let step = Step {
+                reason: *reason,
+                cell: cell as u8,
+                values: struck,
+            };
+            steps.push(step)?;
+        }
+    }
+    Ok(())
+}

@@ -1,0 +1,121 @@
+//! The sentence of squares of a line that share some numbers: told by them, or by the other squares where those are fewer.
+
+use crate::left::left_on;
+use crate::names::{Joined, first_square_on, line, line_squares, numbers};
+use crate::told::Strike;
+use crate::writing::Writing;
+use latin_board::{Size, line_cell};
+use number_sets::NumberSet;
+use std::alloc::AllocError;
+use trail_solver::Candidates;
+
+/// Why some squares of a line that have only these values between them strike.
+pub(crate) fn say_set(
+    text: &mut Writing,
+    candidates: &Candidates,
+    at: usize,
+    squares: NumberSet,
+    values: NumberSet,
+    strikes: &[Strike],
+) -> Result<(), AllocError> {
+    let size = candidates.size();
+    if let Some(index) = squares.single() {
+        first_square_on(text, size, at, index as usize)?;
+        text.say(" is ")?;
+        return numbers(text, values, Joined::And);
+    }
+    text.say("In ")?;
+    line(text, size, at, "row ", "column ")?;
+    let others = Others::of(candidates, at, squares, values);
+    if others.are_told(candidates, at, squares, strikes) {
+        text.say(" only ")?;
+        line_squares(text, size, at, others.squares)?;
+        text.say(" can be ")?;
+        return numbers(text, others.values, Joined::Or);
+    }
+    text.say(" ")?;
+    line_squares(text, size, at, squares)?;
+    text.say(" take ")?;
+    numbers(text, values, Joined::And)?;
+    text.say(" among them")
+}
+
+// What a set leaves of a line: its other open squares, and the numbers that neither the set takes nor a square has alone.
+#[derive(Clone, Copy)]
+struct Others {
+    squares: NumberSet,
+    values: NumberSet,
+}
+
+impl Others {
+    fn of(candidates: &Candidates, at: usize, squares: NumberSet, values: NumberSet) -> Others {
+        let width = candidates.size().get();
+        let mut others = Others {
+            squares: NumberSet::empty(),
+            values: NumberSet::up_to(width).difference(values),
+        };
+        for index in 0..width {
+            let left = left_on(candidates, at, index as usize);
+            if left.is_single() {
+                others.values = others.values.difference(left);
+            } else if !squares.has(index) {
+                others.squares = others.squares.union(NumberSet::one(index));
+            }
+        }
+        others
+    }
+
+    // Whether they are fewer, as many squares as numbers, the only ones of the line for these, and those that lose the others.
+    fn are_told(
+        &self,
+        candidates: &Candidates,
+        at: usize,
+        squares: NumberSet,
+        strikes: &[Strike],
+    ) -> bool {
+        self.squares.len() == self.values.len()
+            && self.squares.len() < open_of(candidates, at, squares).len()
+            && self.are_alone(candidates, at)
+            && strikes.iter().all(|strike| {
+                strike.values.is_disjoint(self.values)
+                    && has_cell(candidates.size(), at, self.squares, strike.cell)
+            })
+    }
+
+    // Whether their numbers are left nowhere else on the line.
+    fn are_alone(&self, candidates: &Candidates, at: usize) -> bool {
+        let width = candidates.size().get();
+        for index in 0..width {
+            let left = left_on(candidates, at, index as usize);
+            if !self.squares.has(index) && !left.is_disjoint(self.values) {
+                return false;
+            }
+        }
+        true
+    }
+}
+
+// Those of some squares of a line of which more than one number is left.
+fn open_of(candidates: &Candidates, at: usize, squares: NumberSet) -> NumberSet {
+    let mut open = NumberSet::empty();
+    for index in 0..candidates.size().get() {
+        if squares.has(index) && left_on(candidates, at, index as usize).len() > 1 {
+            open = open.union(NumberSet::one(index));
+        }
+    }
+    open
+}
+
+// Whether a cell is one of some squares of a line.
+fn has_cell(size: Size, at: usize, squares: NumberSet, cell: u8) -> bool {
+    let width = size.get();
+    if at >= 2 * width as usize {
+        return false;
+    }
+    for index in 0..width {
+        if squares.has(index) && line_cell(size, at as u8, index) == cell as usize {
+            return true;
+        }
+    }
+    false
+}

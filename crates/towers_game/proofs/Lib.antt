@@ -1,0 +1,14 @@
+pub mod CluePartLemmas
+pub mod GivensFilled
+pub mod LowTowers
+pub mod ReducedRows
+pub mod RowFillings
+pub mod RowsNoted
+pub mod SettledLines
+pub mod StandingSets
+pub mod Supports
+pub mod TowersDenied
+pub mod TowersKept
+pub mod TowersSets
+pub mod TowersTables
+pub mod ViewPasses

@@ -1,0 +1,11 @@
+pub mod PieceLemmas
+pub mod RangeLemmas
+pub mod SignOrders
+pub mod SignPasses
+pub mod SignSets
+pub mod UnequalDenied
+pub mod UnequalFullLemmas
+pub mod UnequalGivens
+pub mod UnequalSets
+pub mod UnequalTables
+pub mod UnequalWritten

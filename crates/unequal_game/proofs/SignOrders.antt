@@ -1,0 +1,36 @@
+-- The sign between a square and a later one tells which is the greater.
+use Rattle.std.proofs.Common.{◌≡◌, ◌↔◌, ℕ, ◌+◌, ◌<◌, inl, inr, refl, sym, ◌∙◌, arith}
+use Rattle.std.proofs.lemmas.Bool.{ne_eqb}
+use Rattle.unequal_game.specs.declared.unequal.sign.Sign.{Sign}
+use Rattle.unequal_game.specs.declared.unequal.sign.Sign.TheVariants.{Absent, FirstGreater, SecondGreater}
+use Rattle.unequal_game.specs.Unequal.{UnequalValue, IsGreater, sign_between}
+
+-- from a square back to an earlier one no sign stands
+none_back : (v : UnequalValue) (a b : ℕ) → a < b → sign_between v b a ≡ Absent
+none_back v a b low = rw (ne_eqb a (b + 1) (λ e. omega (arith, e, low)), ne_eqb a (b + v.size) (λ e. omega (arith, e, low))) refl
+
+-- the first is the greater where the sign says so
+pub first_by_sign : (v : UnequalValue) (a b : ℕ) (s : Sign) → a < b → s ≡ sign_between v a b → (s ≡ FirstGreater) ↔ IsGreater v a b
+first_by_sign v a b s low is = (
+  λ e. inl (sym is ∙ e),
+  λ h. elim h [
+    | inl e ↦ is ∙ e
+    | inr e ↦ absurd (clash (sym (none_back v a b low) ∙ e))
+  ],
+)
+  where
+    clash : Absent ≡ SecondGreater → ⊥
+    clash e = cc
+
+-- and the second
+pub second_by_sign : (v : UnequalValue) (a b : ℕ) (s : Sign) → a < b → s ≡ sign_between v a b → (s ≡ SecondGreater) ↔ IsGreater v b a
+second_by_sign v a b s low is = (
+  λ e. inr (sym is ∙ e),
+  λ h. elim h [
+    | inl e ↦ absurd (clash (sym (none_back v a b low) ∙ e))
+    | inr e ↦ is ∙ e
+  ],
+)
+  where
+    clash : Absent ≡ FirstGreater → ⊥
+    clash e = cc

@@ -1,0 +1,59 @@
+-- The signs of the full puzzle of a grid.
+use Rattle.std.proofs.Common.{◌≡◌, ◌↔◌, ℕ, ◌<◌, ◌≤◌, List, inl, inr, refl, sym, ◌∙◌, arith}
+use Rattle.std.proofs.lemmas.Bool.{lt-ltb, le-ltb, cases_lt}
+use Rattle.latin_board.specs.Squares.{GridValue, IsGrid, number_at}
+use Rattle.unequal_game.specs.declared.unequal.direction.Direction.TheVariants.{Right, Down}
+use Rattle.unequal_game.specs.declared.unequal.sign.Sign.{Sign}
+use Rattle.unequal_game.specs.declared.unequal.sign.Sign.TheVariants.{Absent, FirstGreater, SecondGreater}
+use Rattle.unequal_game.specs.Unequal.{IsGreater, AreNeighbours, sign_of, sign_in_grid, full_unequal}
+use Rattle.unequal_game.specs.Inner.UnequalFields.{HoldsSignsOf, unequal_value}
+use Rattle.unequal_game.specs.Laws.Neighbours.{neighbours_next, next_towards}
+use Rattle.unequal_game.specs.Laws.Signs.{signed_greater}
+
+first_sign : (x y : ℕ) → y < x → sign_of x y ≡ FirstGreater
+first_sign x y h = rw (lt-ltb y x h) refl
+
+second_sign : (x y : ℕ) → x < y → sign_of x y ≡ SecondGreater
+second_sign x y h = rw (le-ltb y x (omega arith), lt-ltb x y h) refl
+
+-- the greater of two numbers is the one that their sign says
+
+sign_first : (x y : ℕ) → sign_of x y ≡ FirstGreater → y < x
+sign_first x y e = elim (cases_lt y x) [
+  | inl greater ↦ greater
+  | inr upper ↦ elim (cases_lt x y) [
+    | inl less ↦ absurd (let f : SecondGreater ≡ FirstGreater = sym (second_sign x y less) ∙ e in cc)
+    | inr lower ↦ absurd (let f : Absent ≡ FirstGreater = rw (le-ltb y x upper, le-ltb x y lower) at e in cc)
+  ]
+]
+
+sign_second : (x y : ℕ) → sign_of x y ≡ SecondGreater → x < y
+sign_second x y e = elim (cases_lt x y) [
+  | inl less ↦ less
+  | inr lower ↦ elim (cases_lt y x) [
+    | inl greater ↦ absurd (let f : FirstGreater ≡ SecondGreater = sym (first_sign x y greater) ∙ e in cc)
+    | inr upper ↦ absurd (let f : Absent ≡ SecondGreater = rw (le-ltb y x upper, le-ltb x y lower) at e in cc)
+  ]
+]
+
+-- the full puzzle says of each two neighbours which one the grid has greater
+pub full_greater : (g : GridValue) (a b : ℕ) → IsGrid g
+    → IsGreater (full_unequal g) a b ↔ (AreNeighbours g.size a b × (number_at g b < number_at g a))
+full_greater g a b is_grid =
+    let small : 3 ≤ g.size = is_grid.smallest in
+    let rule = signed_greater g.size (sign_in_grid g) g.numbers a b is_grid in (
+      λ h. elim (rule.0 h) [
+        | inl up ↦ ((next_towards g.size a b small up.0).0, sign_first (number_at g a) (number_at g b) up.1)
+        | inr down ↦ ((next_towards g.size b a small down.0).1, sign_second (number_at g b) (number_at g a) down.1)
+      ],
+      λ h. elim (neighbours_next g.size a b small h.0) [
+        | inl next ↦ rule.1 (inl (next, first_sign (number_at g a) (number_at g b) h.1))
+        | inr next ↦ rule.1 (inr (next, second_sign (number_at g b) (number_at g a) h.1))
+      ],
+    )
+
+-- so do tables that hold its signs
+pub full_signs : (g : GridValue) (right below : List Sign) → IsGrid g → HoldsSignsOf g.size (sign_in_grid g) Right right
+    → HoldsSignsOf g.size (sign_in_grid g) Down below → (a b : ℕ)
+    → IsGreater (unequal_value right below g) a b ↔ (AreNeighbours g.size a b × (number_at g b < number_at g a))
+full_signs g right below is_grid rights lowers a b = rw (rights.front, lowers.front) (full_greater g a b is_grid)

@@ -1,0 +1,201 @@
+-- What the signs of Unequal strike: from fewer candidates too, in no solution, in the whole puzzle if in a cut, and along
+-- which lines.
+use Rattle.std.proofs.Common.{◌≡◌, ◌≢◌, ℕ, ◌+◌, ◌*◌, ◌<◌, ◌≤◌, ◌⊎◌, Bool, false, inl, inr, refl, sym, ap, ◌∙◌, subst, arith}
+use Rattle.latin_board.specs.Squares.{GridValue, number_at}
+use Rattle.latin_board.specs.Lines.{line_cell}
+use Rattle.trail_solver.specs.Pairs.{IsPair}
+use Rattle.trail_solver.specs.Candidates.{CandidatesValue, IsWithin, may_be}
+use Rattle.trail_solver.specs.Puzzles.{Solves}
+use Rattle.unequal_game.specs.Unequal.{UnequalValue, IsUnequal, IsGreater, HoldsSigns, cut_unequal, unequal_puzzle}
+use Rattle.line_steps.specs.Left.{IsLeft, IsFewer}
+use Rattle.unequal_game.specs.UnequalReasons.{IsBySign, IsUnequalOwn, IsUnequalStruckBy}
+use Rattle.line_steps.specs.Along.{StaysOn, AreNextOn, LooksAlong, StandsAlong, IsQuietAlong}
+use Rattle.unequal_game.specs.Inner.SignLooks.{IsSignQuiet, AreSignsQuiet}
+use Rattle.line_steps.specs.Laws.Along.{quiet_own, was_gone}
+use Rattle.line_steps.specs.Laws.Less.{all_less}
+use Rattle.unequal_game.specs.Laws.Neighbours.{IsNext, next_inside, next_line}
+use Rattle.unequal_game.specs.Laws.SignLemmas.{signs_held}
+use Rattle.unequal_game.specs.Laws.Signs.{greater_next}
+use Rattle.line_steps.specs.Laws.Sound.{IsSquareOf, square_of}
+use Rattle.unequal_game.specs.Laws.UnequalItems.{cut_greater}
+use Rattle.line_steps.specs.declared.reason.Reason.{Reason}
+use Rattle.line_steps.specs.declared.reason.Reason.TheVariants.{Sign}
+use Rattle.line_steps.specs.declared.grade.Grade.{Grade}
+
+-- ---- fewer candidates
+
+sign_less : (v : UnequalValue) (c d : CandidatesValue) (from to cell value : ℕ) → IsFewer c d
+    → IsBySign v c from to cell value
+    → IsBySign v d from to cell value
+sign_less v c d from to cell value fewer h = record {
+  here = h.here;
+  why = elim h.why [
+    | inl above ↦ inl (above.0, λ u left. above.1 u (fewer from u left))
+    | inr below ↦ inr (below.0, λ u left. below.1 u (fewer from u left))
+  ];
+}
+
+-- what a sign strikes it strikes from fewer
+pub unequal_own_less : (v : UnequalValue) (c d : CandidatesValue) (reason : Reason) (cell value : ℕ) → IsFewer c d
+    → IsUnequalOwn v c reason cell value → IsUnequalOwn v d reason cell value
+unequal_own_less v c d (Sign from to) cell value fewer h = sign_less v c d from to cell value fewer h
+unequal_own_less v c d reason cell value fewer h = absurd h
+
+-- so does each reason of Unequal
+pub unequal_less : (v : UnequalValue) (c d : CandidatesValue) (reason : Reason) (cell value : ℕ) → IsFewer c d
+    → IsUnequalStruckBy v c reason cell value → IsUnequalStruckBy v d reason cell value
+unequal_less v = all_less (unequal_puzzle v) (IsUnequalOwn v) (unequal_own_less v)
+
+-- ---- solutions
+
+-- both squares of a sign are on the grid
+pub ends_inside : (v : UnequalValue) (a b : ℕ) → IsUnequal v → IsGreater v a b
+    → (a < v.size * v.size) × (b < v.size * v.size)
+ends_inside v a b valid h = elim (greater_next v a b valid h) [
+  | inl up ↦ (up.0.inside, next_inside v.size a b valid.givens.smallest up.0)
+  | inr down ↦ (next_inside v.size b a valid.givens.smallest down.0, down.0.inside)
+]
+
+sign_sound : (v : UnequalValue) (c : CandidatesValue) (g : GridValue) (from to cell value : ℕ) → IsUnequal v
+    → HoldsSigns v g
+    → IsSquareOf v.size c g → IsBySign v c from to cell value → number_at g cell ≢ value
+sign_sound v c g from to cell value valid holds s h = λ same.
+    let here : number_at g to ≡ value = ap (number_at g) (sym h.here) ∙ same in
+    elim h.why [
+      | inl above ↦
+          let order = holds.each from to above.0 in
+          let most = above.1 (number_at g from) (s.left from (ends_inside v from to valid above.0).0) in
+          omega (arith, order, most, here)
+      | inr below ↦
+          let order = holds.each to from below.0 in
+          let least = below.1 (number_at g from) (s.left from (ends_inside v to from valid below.0).1) in
+          omega (arith, order, least, here)
+    ]
+
+-- what a sign strikes is in no solution within the candidates
+pub unequal_sound : (v : UnequalValue) (c : CandidatesValue) (reason : Reason) (cell value : ℕ) (g : GridValue)
+    → IsUnequal v → c.size ≡ v.size
+    → Solves (unequal_puzzle v) g → IsWithin c g → IsUnequalOwn v c reason cell value → number_at g cell ≢ value
+unequal_sound v c (Sign from to) cell value g valid size solved within h =
+    sign_sound v c g from to cell value valid (signs_held v g valid solved.clues)
+    (square_of (unequal_puzzle v) c g size solved within) h
+unequal_sound v c reason cell value g valid size solved within h = absurd h
+
+-- ---- cuts
+
+sign_whole : (v : UnequalValue) (keep : ℕ → Bool) (c : CandidatesValue) (from to cell value : ℕ)
+    → IsBySign (cut_unequal v keep) c from to cell value
+    → IsBySign v c from to cell value
+sign_whole v keep c from to cell value h = record {
+  here = h.here;
+  why = elim h.why [
+    | inl above ↦ inl (cut_greater v keep from to above.0, above.1)
+    | inr below ↦ inr (cut_greater v keep to from below.0, below.1)
+  ];
+}
+
+-- what a sign strikes in a cut it strikes in the whole
+pub unequal_whole : (v : UnequalValue) (keep : ℕ → Bool) (c : CandidatesValue) (reason : Reason) (cell value : ℕ)
+    → IsUnequalOwn (cut_unequal v keep) c reason cell value → IsUnequalOwn v c reason cell value
+unequal_whole v keep c (Sign from to) cell value h = sign_whole v keep c from to cell value h
+unequal_whole v keep c reason cell value h = absurd h
+
+-- ---- lines
+
+-- what a sign strikes it struck before, where all stayed that was left of the square by which it strikes
+pub sign_was : (v : UnequalValue) (from to cell value : ℕ) (c d : CandidatesValue)
+    → ((u : ℕ) → IsLeft c from u → IsLeft d from u)
+    → IsBySign v d from to cell value → IsBySign v c from to cell value
+sign_was v from to cell value c d stays h = record {
+  here = h.here;
+  why = elim h.why [
+    | inl up ↦ inl (up.0, λ u left. up.1 u (stays u left))
+    | inr down ↦ inr (down.0, λ u left. down.1 u (stays u left))
+  ];
+}
+
+-- a sign that strikes nothing strikes nothing where all stays at both ends
+pub sign_stays : (v : UnequalValue) (a b : ℕ) (c d : CandidatesValue) → d.size ≡ c.size → IsFewer c d
+    → ((u : ℕ) → IsLeft c a u → IsLeft d a u)
+    → ((u : ℕ) → IsLeft c b u → IsLeft d b u) → IsSignQuiet v a b c → IsSignQuiet v a b d
+sign_stays v a b c d same fewer first second quiet cell value pair = (
+  λ h. was_gone c d cell value same fewer pair
+      (λ there. (quiet cell value there).0 (sign_was v a b cell value c d first h)),
+  λ h. was_gone c d cell value same fewer pair
+      (λ there. (quiet cell value there).1 (sign_was v b a cell value c d second h)),
+)
+
+-- what is left of the first square of a sign is left of it where all stays along its line
+from_stays : (w line from to : ℕ) (c d : CandidatesValue) → c.size ≡ w → StaysOn line c d
+    → AreNextOn w line from to ⊎ AreNextOn w line to from
+    → (u : ℕ) → IsLeft c from u → IsLeft d from u
+from_stays w line from to c d size stays (inl (k, low, first, second)) u left =
+    let at : line_cell c.size line k ≡ from = subst (λ (n : ℕ). line_cell n line k ≡ from) (sym size) first in
+    subst (λ (n : ℕ). IsLeft d n u) at
+    (stays k u (omega (arith, low, size)) (subst (λ (n : ℕ). IsLeft c n u) (sym at) left))
+from_stays w line from to c d size stays (inr (k, low, first, second)) u left =
+    let at : line_cell c.size line (k + 1) ≡ from =
+    subst (λ (n : ℕ). line_cell n line (k + 1) ≡ from) (sym size) second in
+    subst (λ (n : ℕ). IsLeft d n u) at
+    (stays (k + 1) u (omega (arith, low, size)) (subst (λ (n : ℕ). IsLeft c n u) (sym at) left))
+
+-- what a sign strikes that looks along a line it struck before, where all stayed along it
+pub unequal_look : (v : UnequalValue) (c d : CandidatesValue) (reason : Reason) (cell value line : ℕ) → c.size ≡ v.size
+    → line < 2 * c.size
+    → LooksAlong c.size line reason cell → StaysOn line c d → IsUnequalOwn v d reason cell value
+    → IsUnequalOwn v c reason cell value
+unequal_look v c d (Sign from to) cell value line size low along stays h =
+    sign_was v from to cell value c d (from_stays c.size line from to c d refl stays along.1) h
+unequal_look v c d reason cell value line size low along stays h = absurd h
+
+-- neighbours follow one another on a line
+next_on : (w a b : ℕ) → 3 ≤ w → IsNext w a b → (line : ℕ) × (line < 2 * w) × AreNextOn w line a b
+next_on w a b small next =
+    let on = next_line w a b small next in
+    (on.line, on.line_is, (on.place, on.place_is, on.first, on.second))
+
+sign_on : (v : UnequalValue) (a b : ℕ) → IsUnequal v → IsGreater v a b
+    → (line : ℕ) × (line < 2 * v.size) × (AreNextOn v.size line a b ⊎ AreNextOn v.size line b a)
+sign_on v a b valid h = elim (greater_next v a b valid h) [
+  | inl next ↦ let (line, low, on) = next_on v.size a b valid.givens.smallest next.0 in (line, low, inl on)
+  | inr back ↦ let (line, low, on) = next_on v.size b a valid.givens.smallest back.0 in (line, low, inr on)
+]
+
+turned : (w line a b : ℕ) → AreNextOn w line a b ⊎ AreNextOn w line b a → AreNextOn w line b a ⊎ AreNextOn w line a b
+turned w line a b (inl h) = inr h
+turned w line a b (inr h) = inl h
+
+-- a sign that strikes looks along a line
+pub unequal_stand : (v : UnequalValue) (c : CandidatesValue) (reason : Reason) (cell value : ℕ) → IsUnequal v
+    → IsUnequalOwn v c reason cell value → StandsAlong v.size reason cell
+unequal_stand v c (Sign from to) cell value valid h = elim h.why [
+  | inl up ↦ let (line, low, on) = sign_on v from to valid up.0 in (line, low, (sym h.here, on))
+  | inr down ↦ let (line, low, on) =
+      sign_on v to from valid down.0 in (line, low, (sym h.here, turned v.size line to from on))
+]
+unequal_stand v c reason cell value valid h = absurd h
+
+one_sign : (v : UnequalValue) (line from to cell value : ℕ) (c : CandidatesValue) → AreSignsQuiet v line c
+    → AreNextOn c.size line from to ⊎ AreNextOn c.size line to from → IsPair c.size cell value
+    → IsBySign v c from to cell value
+    → may_be c cell value ≡ false
+one_sign v line from to cell value c quiet (inl (k, low, first, second)) pair h =
+    let at : IsSignQuiet v from to c = subst (λ (n : ℕ). IsSignQuiet v from n c) second
+    (subst (λ (n : ℕ). IsSignQuiet v n (line_cell c.size line (k + 1)) c) first (quiet k low)) in
+    (at cell value pair).0 h
+one_sign v line from to cell value c quiet (inr (k, low, first, second)) pair h =
+    let at : IsSignQuiet v to from c = subst (λ (n : ℕ). IsSignQuiet v to n c) second
+    (subst (λ (n : ℕ). IsSignQuiet v n (line_cell c.size line (k + 1)) c) first (quiet k low)) in
+    (at cell value pair).1 h
+
+-- where the signs along a line strike nothing
+signs_own : (v : UnequalValue) (grade : Grade) (line : ℕ) (c : CandidatesValue) → AreSignsQuiet v line c
+    → IsQuietAlong (IsUnequalOwn v) grade line c
+signs_own v grade line c quiet (Sign from to) cell value has along pair h =
+    one_sign v line from to cell value c quiet along.1 pair h
+signs_own v grade line c quiet reason cell value has along pair h = absurd h
+
+-- so none of theirs along the line does
+pub signs_along : (v : UnequalValue) (grade : Grade) (line : ℕ) (c : CandidatesValue) → AreSignsQuiet v line c
+    → IsQuietAlong (IsUnequalStruckBy v) grade line c
+signs_along v grade line c quiet = quiet_own (unequal_puzzle v) (IsUnequalOwn v) grade line c (signs_own v grade line c quiet)

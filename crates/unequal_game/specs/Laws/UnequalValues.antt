@@ -1,0 +1,262 @@
+-- The laws of what Unequal items say: it shows which items there are, it is all that a puzzle is, and a change of one
+-- leaves all others.
+use Rattle.std.proofs.Common.{◌≡◌, ◌≢◌, ℕ, ◌+◌, ◌-◌, ◌*◌, ◌%◌, ◌<◌, ◌≤◌, nat_lt, refl, sym, ◌∙◌, ap, inl, inr, arith}
+use Rattle.std.proofs.Common.{slice_index, None, Some, Option, IfSome, false, subst}
+use Rattle.std.proofs.lemmas.Nat.{mod_below}
+use Rattle.std.proofs.lemmas.Bool.{lt-ltb, le-ltb, cases_lt, cases_eq, eq-eqb, ne_eqb}
+use Rattle.std.proofs.lemmas.List.{get_or-set_same, get_or-set_other, get_or-replicate, ext_get_or}
+use Rattle.latin_board.proofs.Numbers.{number_within}
+use Rattle.unequal_game.specs.declared.unequal.direction.Direction.TheVariants.{Right, Down}
+use Rattle.unequal_game.specs.declared.unequal.item.Item.{Item}
+use Rattle.unequal_game.specs.declared.unequal.item.Item.TheVariants.{RightSign, LowerSign, Given}
+use Rattle.unequal_game.specs.declared.unequal.sign.Sign.{Sign}
+use Rattle.unequal_game.specs.declared.unequal.sign.Sign.TheVariants.{Absent, FirstGreater, SecondGreater}
+use Rattle.unequal_game.specs.Inner.UnequalItems.{HasPlace, with_item}
+use Rattle.unequal_game.specs.Unequal.{UnequalValue, IsUnequal, unequal_given_grid, neighbour, right_sign, lower_sign}
+use Rattle.unequal_game.specs.Unequal.{sign_between}
+use Rattle.unequal_game.specs.Laws.Signs.{right_between, below_between}
+use Rattle.unequal_game.specs.Unequal.{unequal_items, item_at, item_number, is_present, has_item, has_unequal}
+use Rattle.unequal_game.specs.Unequal.{sign_number, numbered_sign, item_says, unequal_says, item_most, unequal_most}
+use Rattle.unequal_game.specs.Unequal.{blank_unequal, sign_item}
+use Rattle.unequal_game.specs.Laws.UnequalItems.{IsItem, number_of_item_at, has_place, is_right_item, is_lower_item}
+use Rattle.unequal_game.specs.Laws.UnequalItems.{is_given_item, square_parts}
+
+-- ---- signs by their numbers
+
+-- a sign has its number, and a number up to 2 its sign
+sign_back : (s : Sign) → numbered_sign (sign_number s) ≡ s
+sign_back Absent = refl
+sign_back FirstGreater = refl
+sign_back SecondGreater = refl
+
+number_back : (n : ℕ) → n ≤ 2 → sign_number (numbered_sign n) ≡ n
+number_back n small = elim (cases_eq n 0) [
+  | inl none ↦ rw none refl
+  | inr some ↦ elim (cases_eq n 1) [
+    | inl one ↦ rw one refl
+    | inr more ↦ let two : n ≡ 2 = omega arith in rw two refl
+  ]
+]
+
+-- signs with the same number are the same
+sign_same : (s t : Sign) → sign_number s ≡ sign_number t → s ≡ t
+sign_same s t e = sym (sign_back s) ∙ ap numbered_sign e ∙ sign_back t
+
+present_number : (s : Sign) → is_present s ≡ nat_lt 0 (sign_number s)
+present_number Absent = refl
+present_number FirstGreater = refl
+present_number SecondGreater = refl
+
+sign_within : (s : Sign) → sign_number s ≤ 2
+sign_within Absent = omega arith
+sign_within FirstGreater = omega arith
+sign_within SecondGreater = omega arith
+
+-- ---- items and their places
+
+-- different numbers are those of different items
+items_apart : (w i j : ℕ) → 3 ≤ w → j ≢ i → item_at w j ≢ item_at w i
+items_apart w i j small other same =
+    other (sym (number_of_item_at w j small) ∙ ap (item_number w) same ∙ number_of_item_at w i small)
+
+-- ---- the laws
+
+-- the puzzle has the items that say something
+has_by_says : (v : UnequalValue) (item : Item) → has_item v item ≡ nat_lt 0 (item_says v item)
+has_by_says v (RightSign cell) = present_number (right_sign v cell)
+has_by_says v (LowerSign cell) = present_number (lower_sign v cell)
+has_by_says v (Given cell) = refl
+
+pub has_by_value : (v : UnequalValue) (i : ℕ) → has_unequal v i ≡ nat_lt 0 (unequal_says v i)
+has_by_value v i = has_by_says v (item_at v.size i)
+
+-- no item says more than it can
+says_within : (v : UnequalValue) (item : Item) → IsUnequal v → HasPlace v.size item
+    → item_says v item ≤ item_most v.size item
+says_within v (RightSign cell) valid place = sign_within (right_sign v cell)
+says_within v (LowerSign cell) valid place = sign_within (lower_sign v cell)
+says_within v (Given cell) valid place = number_within (unequal_given_grid v) valid.givens cell place.0
+
+pub value_within : (v : UnequalValue) (i : ℕ) → IsUnequal v → i < unequal_items v.size
+    → unequal_says v i ≤ unequal_most v.size i
+value_within v i valid inside =
+    says_within v (item_at v.size i) valid (has_place v.size i valid.givens.smallest inside)
+
+-- what an item says is what its number says
+says_at : (v : UnequalValue) (w : ℕ) (item : Item) → v.size ≡ w → IsItem w item
+    → item_says v item ≡ unequal_says v (item_number w item)
+says_at v w item size is = ap (item_says v) (sym is.back ∙ ap (λ n. item_at n (item_number w item)) (sym size))
+
+no_right : (w cell : ℕ) → 3 ≤ w → w ≤ cell % w + 1 → neighbour w cell Right ≡ None
+no_right w cell small last =
+    let column : cell % w < w = mod_below cell w (omega (arith, small)) in
+    rw (eq-eqb (cell % w + 1) w (omega (arith, column, last))) refl
+
+no_below : (w cell : ℕ) → w * w ≤ cell + w → neighbour w cell Down ≡ None
+no_below w cell last = rw (le-ltb (cell + w) (w * w) last) refl
+
+-- two puzzles of one size whose items say the same are one
+pub value_all : (p q : UnequalValue) → IsUnequal p → IsUnequal q → p.size ≡ q.size
+    → ((i : ℕ) → i < unequal_items p.size → unequal_says p i ≡ unequal_says q i) → p ≡ q
+value_all p q p_valid q_valid size same =
+    let square = ap (λ w. w * w) size in
+    let right = ext_get_or Absent p.right q.right (p_valid.right_count ∙ square ∙ sym q_valid.right_count)
+    (λ cell inside. right_same cell (omega (arith, p_valid.right_count))) in
+    let below = ext_get_or Absent p.below q.below (p_valid.below_count ∙ square ∙ sym q_valid.below_count)
+    (λ cell inside. below_same cell (omega (arith, p_valid.below_count))) in
+    let givens = ext_get_or 0 p.givens q.givens (p_valid.givens.count ∙ square ∙ sym q_valid.givens.count)
+    (λ cell inside. item_same (Given cell) (is_given_item p.size cell (omega (arith, p_valid.givens.count)))) in
+    λ i. record { size = size i; right = right i; below = below i; givens = givens i }
+  where
+    small : 3 ≤ p.size
+    small = p_valid.givens.smallest
+
+    item_same : (item : Item) → IsItem p.size item → item_says p item ≡ item_says q item
+    item_same item is =
+        says_at p p.size item refl is ∙ same (item_number p.size item) is.inside
+        ∙ sym (says_at q p.size item (sym size) is)
+
+    right_same : (cell : ℕ) → cell < p.size * p.size → right_sign p cell ≡ right_sign q cell
+    right_same cell inside = elim (cases_lt (cell % p.size + 1) p.size) [
+      | inl room ↦
+          sign_same (right_sign p cell) (right_sign q cell)
+          (item_same (RightSign cell) (is_right_item p.size cell small inside room))
+      | inr last ↦
+          let none = no_right p.size cell small last in
+          p_valid.right_ends cell none
+          ∙ sym (q_valid.right_ends cell (rw (← size) none))
+    ]
+
+    below_same : (cell : ℕ) → cell < p.size * p.size → lower_sign p cell ≡ lower_sign q cell
+    below_same cell inside = elim (cases_lt (cell + p.size) (p.size * p.size)) [
+      | inl room ↦
+          let parts = square_parts (p.size - 1) p.size (omega (arith, small)) in
+          sign_same (lower_sign p cell) (lower_sign q cell)
+          (item_same (LowerSign cell) (is_lower_item p.size cell (omega (arith, parts, room))))
+      | inr last ↦
+          let none = no_below p.size cell last in
+          p_valid.below_ends cell none
+          ∙ sym (q_valid.below_ends cell (rw (← size) none))
+    ]
+
+-- where an item says another number, the others say what they said
+one_says : (v : UnequalValue) (item : Item) (n : ℕ) → IsUnequal v → HasPlace v.size item → n ≤ item_most v.size item
+    → item_says (with_item v item n) item ≡ n
+one_says v (RightSign cell) n valid place fits =
+    ap sign_number (get_or-set_same v.right cell (numbered_sign n) Absent (omega (arith, valid.right_count, place.0)))
+    ∙ number_back n fits
+one_says v (LowerSign cell) n valid place fits =
+    ap sign_number (get_or-set_same v.below cell (numbered_sign n) Absent (omega (arith, valid.below_count, place.0)))
+    ∙ number_back n fits
+one_says v (Given cell) n valid place fits =
+    get_or-set_same v.givens cell n 0 (omega (arith, valid.givens.count, place.0))
+
+other_says : (v : UnequalValue) (item other : Item) (n : ℕ) → other ≢ item
+    → item_says (with_item v item n) other ≡ item_says v other
+other_says v (RightSign c) (RightSign d) n apart =
+    ap sign_number (get_or-set_other v.right c d (numbered_sign n) Absent (λ e. apart (ap (λ k. RightSign k) e)))
+other_says v (LowerSign c) (LowerSign d) n apart =
+    ap sign_number (get_or-set_other v.below c d (numbered_sign n) Absent (λ e. apart (ap (λ k. LowerSign k) e)))
+other_says v (Given c) (Given d) n apart =
+    get_or-set_other v.givens c d n 0 (λ e. apart (ap (λ k. Given k) e))
+other_says v (RightSign c) (LowerSign d) n apart = refl
+other_says v (RightSign c) (Given d) n apart = refl
+other_says v (LowerSign c) (RightSign d) n apart = refl
+other_says v (LowerSign c) (Given d) n apart = refl
+other_says v (Given c) (RightSign d) n apart = refl
+other_says v (Given c) (LowerSign d) n apart = refl
+
+with_size : (v : UnequalValue) (item : Item) (n : ℕ) → (with_item v item n).size ≡ v.size
+with_size v (RightSign cell) n = refl
+with_size v (LowerSign cell) n = refl
+with_size v (Given cell) n = refl
+
+-- what the item of a number says then
+pub put_one : (v u : UnequalValue) (item : Item) (i n : ℕ) → u ≡ with_item v item n → item ≡ item_at v.size i
+    → IsUnequal v → i < unequal_items v.size → n ≤ unequal_most v.size i → unequal_says u i ≡ n
+put_one v u item i n put is valid inside fits =
+    let at : Item = item_at v.size i in
+    ap (λ (p : UnequalValue). unequal_says p i) (put ∙ ap (λ (it : Item). with_item v it n) is)
+    ∙ ap (λ w. item_says (with_item v at n) (item_at w i)) (with_size v at n)
+    ∙ one_says v at n valid (has_place v.size i valid.givens.smallest inside) fits
+
+pub put_others : (v u : UnequalValue) (item : Item) (i n j : ℕ) → u ≡ with_item v item n → item ≡ item_at v.size i
+    → IsUnequal v → j ≢ i → unequal_says u j ≡ unequal_says v j
+put_others v u item i n j put is valid other =
+    let at : Item = item_at v.size i in
+    ap (λ (p : UnequalValue). unequal_says p j) (put ∙ ap (λ (it : Item). with_item v it n) is)
+    ∙ ap (λ w. item_says (with_item v at n) (item_at w j)) (with_size v at n)
+    ∙ other_says v at (item_at v.size j) n (items_apart v.size i j valid.givens.smallest other)
+
+-- the blank puzzle says nothing
+none_says : (w : ℕ) (item : Item) → HasPlace w item → item_says (blank_unequal w) item ≡ 0
+none_says w (RightSign cell) place = ap sign_number (get_or-replicate (w * w) cell Absent Absent place.0)
+none_says w (LowerSign cell) place = ap sign_number (get_or-replicate (w * w) cell Absent Absent place.0)
+none_says w (Given cell) place = get_or-replicate (w * w) cell 0 0 place.0
+
+pub blank_none : (v : UnequalValue) (w : ℕ) → v ≡ blank_unequal w → IsUnequal v → (i : ℕ) → i < unequal_items w
+    → unequal_says v i ≡ 0
+blank_none v w is valid i inside =
+    let size : v.size ≡ w = ap (λ (u : UnequalValue). u.size) is in
+    ap (λ (u : UnequalValue). unequal_says u i) is
+    ∙ none_says w (item_at w i) (has_place w i (omega (arith, size, valid.givens.smallest)) inside)
+
+-- ---- places
+
+-- a given says itself
+pub given_says : (v : UnequalValue) (cell : ℕ) → IsUnequal v → cell < v.size * v.size
+    → unequal_says v (item_number v.size (Given cell)) ≡ slice_index v.givens cell
+given_says v cell valid inside = sym (says_at v v.size (Given cell) refl (is_given_item v.size cell inside))
+
+pub given_item_inside : (w cell : ℕ) → cell < w * w → item_number w (Given cell) < unequal_items w
+given_item_inside w cell inside = (is_given_item w cell inside).inside
+
+-- there are no clues
+pub clue_says : (v : UnequalValue) (i : ℕ) → None ≡ Some i → false ≡ nat_lt 0 (unequal_says v i)
+clue_says v i is = absurd (cc)
+
+-- the item of the sign between two squares: it says that sign, 1 where the first is the greater, 2 where the second
+record IsSignItem (w a b i : ℕ) : Type 0 where
+  pub item : Item
+  pub is : IsItem w item
+  pub number : item_number w item ≡ i
+  pub says : (v : UnequalValue) → v.size ≡ w → item_says v item ≡ sign_number (sign_between v a b)
+
+is_sign_item : (w a b : ℕ) → 3 ≤ w → a < w * w → b < w * w → IfSome (sign_item w a b) (IsSignItem w a b)
+is_sign_item w a b small inside there = elim (cases_eq b (a + 1)) [
+  | inl beside ↦ elim (cases_lt (a % w + 1) w) [
+    | inl room ↦ rw (eq-eqb b (a + 1) beside, lt-ltb (a % w + 1) w room) (record {
+      item = RightSign a;
+      is = is_right_item w a small inside room;
+      number = refl;
+      says = λ v size. ap sign_number (sym (right_between v a) ∙ ap (λ c. sign_between v a c) (sym beside));
+    })
+    | inr last ↦ rw (le-ltb (a % w + 1) w last, eq-eqb b (a + 1) beside, ne_eqb b (a + w) (λ e. omega arith)) tt
+  ]
+  | inr other ↦ elim (cases_eq b (a + w)) [
+    | inl under ↦ rw (ne_eqb b (a + 1) other, eq-eqb b (a + w) under) (record {
+      item = LowerSign a;
+      is = is_lower_item w a (omega (arith, square_parts (w - 1) w (omega (arith, small))));
+      number = refl;
+      says = λ v size. ap sign_number (sym (below_between v a (rw size small))
+          ∙ ap (λ c. sign_between v a c) (ap (λ n. a + n) size ∙ sym under));
+    })
+    | inr apart ↦ rw (ne_eqb b (a + 1) other, ne_eqb b (a + w) apart) tt
+  ]
+]
+
+pub sign_item_inside : (w a b : ℕ) (found : Option ℕ) → found ≡ sign_item w a b → (3 ≤ w) × (w ≤ 9) → a < w * w → b < w * w
+    → IfSome found (λ i. i < unequal_items w)
+sign_item_inside w a b found is small inside there = rw is (number (sign_item w a b) (is_sign_item w a b small.0 inside there))
+  where
+    number : (o : Option ℕ) → IfSome o (IsSignItem w a b) → IfSome o (λ i. i < unequal_items w)
+    number None h = tt
+    number (Some i) h = subst (λ n. n < unequal_items w) h.number h.is.inside
+
+pub sign_item_says : (w a b : ℕ) (found : Option ℕ) → found ≡ sign_item w a b → a < w * w → b < w * w
+    → (v : UnequalValue) (i : ℕ) → IsUnequal v → v.size ≡ w → found ≡ Some i
+    → unequal_says v i ≡ sign_number (sign_between v a b)
+sign_item_says w a b found is inside there v i valid size here =
+    let small : 3 ≤ w = rw (← size) valid.givens.smallest in
+    let it : IsSignItem w a b i = subst (λ (o : Option ℕ). IfSome o (IsSignItem w a b)) (sym is ∙ here) (is_sign_item w a b small inside there) in
+    ap (unequal_says v) (sym it.number) ∙ sym (says_at v w it.item size it.is) ∙ it.says v size

@@ -1,0 +1,99 @@
+"""The course: small boards, one step each. The program's hint judges what is put in, and no game is kept or changed."""
+
+from __future__ import annotations
+
+import re
+from typing import Optional
+
+from playing import shared_texts
+from playing.board import Reply
+from playing.cards import CARDS
+from playing.game import Game
+from playing.hint_walk import HintWalk
+from playing.naming import Place
+from playing.state import Slot, State
+
+#: A line that puts a number in.
+NUMBER = re.compile(r'move R[0-9]+,[0-9]+,[1-9][0-9]*')
+
+#: What is said of the number that follows, by keys and by lines: Enter is an empty line there.
+RIGHT = f'{shared_texts.RIGHT} Enter: the next card.'
+
+FIRST = 'This is the first card.'
+OVER = "That was the course. 'puzzles-play' begins a game.\n"
+FOR_GAMES = 'That is for games: q leaves the course.'
+
+
+class Course(Game):
+    """A card in the place of the present game."""
+
+    def __init__(self, path: str, game: str) -> None:
+        super().__init__(path, State({}))
+        self._cards = CARDS[game]
+        self._game = game
+        self._at = -1
+        #: The card's hint.
+        self._lesson: Optional[HintWalk] = None
+        #: Whether the last card was passed.
+        self.is_over = False
+
+    def start(self, game: str, what: str) -> bool:
+        """Begins the first card."""
+        return self.turn(1)
+
+    def turn(self, step: int) -> bool:
+        """Shows the next card, or the one before; there may be none."""
+        at = self._at + step
+        self.is_over = at == len(self._cards)
+        if at < 0:
+            self.message = FIRST
+        if at < 0 or self.is_over or not self.begin(self._game, self._cards[at].id):
+            return False
+        self._at = at
+        reply = self.ask('hint')
+        if reply and reply.hint:
+            self._lesson = self._hint_walk = HintWalk(reply.hint, self.board, 0)
+        return True
+
+    @property
+    def place(self) -> str:
+        """Which card it is, of how many."""
+        return f'{self._at + 1}/{len(self._cards)}'
+
+    def text(self, task: str) -> str:
+        """What to look for, and what there is to do; once that is done, that it is right."""
+        return RIGHT if self.has_number and self.is_done else f'{self._cards[self._at].text} {task}'
+
+    @property
+    def has_number(self) -> bool:
+        """Whether a number follows; otherwise a square has none left."""
+        return bool(self._lesson and self._lesson.move)
+
+    @property
+    def goal(self) -> Place:
+        """The square where it follows, or that has none left."""
+        assert self._lesson, 'a card is shown'
+        return self._lesson.place or self._lesson.steps[-1].strikes[-1].place
+
+    @property
+    def is_done(self) -> bool:
+        """Whether the number is put in, if there is one."""
+        return not self.has_number or self.goal in self.board.numbers
+
+    def play(self, line: str) -> Optional[Reply]:
+        """As in a game; but of numbers only the one that follows is put in, and of another one it is said where to look."""
+        walk = self._lesson
+        if walk and NUMBER.fullmatch(line) and line != walk.move:
+            self.message = RIGHT if self.has_number and self.is_done else f'{shared_texts.NOT_YET} {walk.look().text}'
+            return None
+        reply = super().play(line)
+        if reply and walk and line == walk.move:
+            self.message = RIGHT
+        return reply
+
+    def _room_for(self, game: str) -> Slot:
+        """No game has to make room for a card."""
+        return Slot(None, None)
+
+    def _write(self) -> None:
+        self._is_kept, self.trouble = True, ''

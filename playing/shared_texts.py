@@ -1,0 +1,55 @@
+"""Sentences that the board and the page in a browser both say. `tools/texts --write` makes page/shared_texts.js of them, with another apostrophe.
+
+There are texts here, and tables of texts by a name, and nothing else.
+"""
+
+from __future__ import annotations
+
+SOLVED = 'The board is solved.'
+FULL = 'The board is full.'
+FULL_AND_WRONG = 'Full, but not right yet: a ! shows where.'
+FILLED_IN = 'Filled in by the program.'
+NOTHING_CHANGES = 'Nothing changes: the board has that already.'
+NOTHING_TO_CLEAR = 'There is nothing to clear.'
+ALL_POSSIBLE = 'The marks are the possible ones already.'
+MARKS_GO = 'From now on, marks go when their number is put into their row or column.'
+MARKS_STAY = 'From now on, marks stay when a number is put in.'
+NO_HINT = 'No number follows by steps alone. Try one, or mark the possible numbers.'
+STILL_RIGHT = 'These numbers can still be completed: there is nothing to take back.'
+NEVER_RIGHT = 'Not even the board at the start can be completed.'
+RIGHT = 'Right.'
+NOT_YET = 'Not yet.'
+STOPPED = 'Stopped. Nothing has changed.'
+
+#: By the answers to `completable`.
+STILL_COMPLETABLE = {
+    'one': 'These numbers can still be completed, in one way.',
+    'several': 'These numbers can still be completed, in several ways.',
+}
+
+#: Refusals by their names: of moves, of any line, of IDs and of saves.
+REFUSED_MOVES = {
+    'Unsupported': 'Moves with H or F (hints and spent signs) are not played here.',
+    'GivenSquare': 'That number was given with the puzzle, and stays.',
+    'BadSolution': 'Those numbers are no solution of this puzzle.',
+    'HistoryFull': 'A game has at most 100,000 states. Undo some moves first.',
+    'NothingToUndo': 'This is the first state: there is nothing to undo.',
+    'NothingToRedo': 'This is the last state: there is nothing to redo.',
+    'NothingToRestart': 'The game is at its start already.',
+}
+REFUSED_LINES = {
+    'LongLine': 'A line has 1,024 bytes at most.',
+    'OutOfMemory': 'There is no memory left for that. Nothing has changed.',
+    'NoneFound': 'That number gives no such game. Try another one.',
+}
+REFUSED_IDS = {
+    'SizeTooLarge': 'Seeded games have the sizes 3 to 6.',
+}
+REFUSED_SAVES = {
+    'Version': 'That save is of another version. Only version 1 can be read.',
+    'TooLarge': 'A save has 16,777,216 bytes at most.',
+    'BadParams': 'That save is of a size or a mode that is not played here: sizes go from 3 to 9.',
+    'BadDesc': "That save's puzzle, its record DESC, can't be read.",
+    'BadCount': 'That save has a wrong number of states, or a wrong position among them.',
+    'Unsupported': 'Moves with H or F (hints and spent signs) are not played here. Undo them there and make another move.',
+}

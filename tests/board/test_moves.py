@@ -1,0 +1,138 @@
+"""A player's move as lines of the program: all of them or none, one step for undo, and none where nothing changes."""
+
+from __future__ import annotations
+
+import os
+import re
+from typing import List, Sequence, Tuple
+
+import pytest
+
+from playing.beside import Beside, beside_in, content_of
+from playing.moves import Joined, Pair
+from tests.board.front import BoardFront, BoardGame
+from tests.harness import Room, by_name
+from tests.harness.game import ID, save_text
+from tests.harness.terminal import Look
+
+#: Pairs as they were kept, how many states the game has, and those of them that fit it.
+KEPT: List[Tuple[Sequence[Pair], int, List[Pair]]] = [
+    ([(6, 2), (9, 6)], 9, [(6, 2), (9, 6)]),
+    ([(9, 6), (6, 2)], 9, [(6, 2), (9, 6)]),
+    ([(6, 2), (9, 6)], 8, [(6, 2)]),
+    ([(3, 0), (3, 3), (2, 4), (10**8, 1), (4, 1)], 9, [(4, 1)]),
+    ([(6, 2), (7, 5)], 9, [(6, 2)]),
+]
+
+#: Moves that change nothing: keys before, and those that are pressed then; and what stands there before and after.
+SAME = [
+    ('m', 'm', 'move 1/1'),
+    ('m<right>1u', 'm', 'move 1/2'),
+    ('1', '1', 'move 1/1'),
+    ('1', ':move R0,0,1<enter>', 'move 1/1'),
+    ('1<right>2u', ':move R1,1,0<enter>', 'move 1/2'),
+    ('1<space>', ':restart<enter>', 'move 2/2'),
+    ('Sy', ':solve<enter>', 'move 1/1'),
+    ('P', ':move M<enter>', 'move 1/1'),
+]
+
+
+@pytest.mark.parametrize(('pairs', 'states', 'wanted'), KEPT)
+def test_kept_pairs(pairs: Sequence[Pair], states: int, wanted: List[Pair]) -> None:
+    assert Joined(pairs, states).pairs == wanted
+    kept = Beside(2, 7, tuple(wanted))
+    assert beside_in(content_of(kept, ID), ID) == kept
+    assert beside_in(content_of(kept, ID), '4!7') == Beside(), 'of another puzzle'
+
+
+def test_joined() -> None:
+    """A new move forgets what could be redone; from within a move of several states undo takes one state."""
+    joined = Joined([(6, 2), (9, 7)], 9)
+    assert [joined.states('undo', at) for at in (9, 7, 6, 5, 2)] == [2, 1, 4, 1, 1]
+    assert [joined.states('redo', at) for at in (1, 2, 6, 7)] == [1, 4, 1, 2]
+    assert joined.states_back(3, 9) == 7
+    joined.made(6, 7)
+    assert joined.pairs == [(6, 2)]
+    joined.made(2, 5)
+    assert joined.pairs == [(5, 2)]
+
+
+@pytest.mark.parametrize(('before', 'keys', 'shows'), SAME)
+def test_same(front: BoardFront, before: str, keys: str, shows: str) -> None:
+    """What changes nothing is no move, and what could be redone stays."""
+    with front.window(['towers', ID]) as window:
+        window.look(before, [shows])
+        window.look(keys, ['Nothing changes: the board has that already.', shows])
+        window.leave('q')
+
+
+GAMES = [
+    BoardGame(
+        'a number that is refused takes no marks with it',
+        ['towers', '3:///////////,1c3c2'],
+        [
+            Look('mM', ['marks go when their number']),
+            Look('3', ['was given with the puzzle', 'move 1/1', '│ 1   2   3 │']),
+            Look('<right>3', ['│     1     │     3!    │', 'move 4/4']),
+            Look('3', ['Nothing changes', 'move 4/4']),
+            Look('u', ['move 1/4']),
+        ],
+    ),
+    BoardGame(
+        'a solved board is not solved again',
+        ['towers', ID],
+        [Look('Sy', ['Filled in by the program.', 'move 1/1']), Look('S', ['The board is solved.', 'move 1/1'])],
+    ),
+    BoardGame(
+        'possible marks are one move, by the shortest way',
+        ['towers', ID],
+        [
+            Look('1P', ['move 6/6', '│           │     2   3 │     2   3 │']),
+            Look('<right>p2', ['move 7/7', '│           │         3 │     2   3 │']),
+            Look('P', ['move 8/8', '│           │     2   3 │     2   3 │']),
+            Look('u', ['move 7/8']),
+            Look('uu', ['move 1/8']),
+            Look('r', ['move 6/8']),
+        ],
+    ),
+]
+
+
+@pytest.mark.parametrize('game', GAMES, ids=by_name)
+def test_game(front: BoardFront, game: BoardGame) -> None:
+    front.play(game)
+
+
+def test_all_or_none(front: BoardFront, room: Room) -> None:
+    """A number that has no room in the game any more leaves its marks, and what could be redone."""
+    moves = [b'M', *[b'P2,2,1'] * 99_997, b'R2,2,2']
+    head = save_text(0).replace(b'NSTATES :1:1\nSTATEPOS:1:1\n', b'NSTATES :6:100000\nSTATEPOS:5:99999\n')
+    room.put('long.sav', head + b''.join(b'MOVE    :%d:%s\n' % (len(move), move) for move in moves))
+    with front.window(['towers', os.path.join(room.path, 'long.sav')]) as window:
+        window.look('M', ['move 99998/99999', 'marks go'])
+        window.look('1', ['A game has at most 100,000 states. Undo some moves first.', 'move 99998/99999', '│ 1   2   3 │ 1   2   3 │'])
+        window.look('r', ['move 99999/99999', '│     2     │'])
+        window.leave('q')
+
+
+def test_order(front: BoardFront, room: Room) -> None:
+    """Marks that go with a number go before it, in reading order; possible marks begin with all marks where that is shorter."""
+    with front.window(['towers', ID]) as window:
+        window.look('Mm<right><down>2', ['1 of 9'])
+        window.look('P', ['1 of 9'])
+        window.leave('q')
+    with front.window(['towers', '3:///////////,1h']) as window:
+        window.look('P', ['move 5/5'])
+        window.leave('q')
+    first = [b'M', b'P1,0,2', b'P0,1,2', b'P2,1,2', b'P1,2,2', b'R1,1,2']
+    assert moves_of(room.read(f'state/puzzles/old/{old(room)}')) == first
+    assert moves_of(room.read('state/puzzles/towers.sav')) == [b'M', b'P1,0,1', b'P2,0,1', b'P0,1,1', b'P0,2,1']
+
+
+def old(room: Room) -> str:
+    return next(name for name in os.listdir(os.path.join(room.path, 'state/puzzles/old')) if name.endswith('.sav'))
+
+
+def moves_of(save: object) -> List[bytes]:
+    assert isinstance(save, bytes)
+    return re.findall(rb'^MOVE    :.:(.*)$', save, re.MULTILINE)

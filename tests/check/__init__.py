@@ -1,0 +1,1 @@
+"""Puzzles checked in bulk: the command puzzles-check over the program."""

@@ -1,0 +1,148 @@
+"""What is said of puzzles: IDs, pictures and saves, as the second implementation has it, and what can't be read, by its line."""
+
+from __future__ import annotations
+
+import json
+from typing import List, NamedTuple, Sequence
+
+import pytest
+
+from tests.check.conftest import Checker
+from tests.harness import Room, by_name, run
+from tests.harness.game import ID, PICTURE, save_text
+from tests.harness.puzzles import made
+
+#: The one way to fill the first is 1 2 3, 2 3 1, 3 1 2.
+ONE, NONE, SEVERAL = ID, '3:3/3//////////', '3:///////////'
+ONE_DRAWN = PICTURE.decode()
+SIGNS, SIGNS_DRAWN = '3:0,0L,0L,0U,0,0,0U,0,0,', '.<.<.\n^ - -\n. . .\n^ - -\n. . .\n'
+
+#: Without either clue there are two ways, so no clue can go. Of the signs of the first row the first can, since by those of the first column the
+#: corner is 1, and so is the first row's end then; without the second there are two ways. So it is in the column.
+ONE_LINE, SIGNS_LINE = f'towers one e 0 {ONE}', f'unequal one e 2 {SIGNS}'
+
+
+class Input(NamedTuple):
+    name: str
+    typed: str
+    status: int
+    lines: Sequence[str]
+    told: Sequence[str] = ()
+
+
+INPUTS = [
+    Input('one', f'{ONE}\n', 0, [f'-:1 {ONE_LINE}']),
+    Input('without a line end', ONE, 0, [f'-:1 {ONE_LINE}']),
+    Input('lines of another system', f'\ufeff{ONE}\r\n\r\ntowers {ONE}\r\n', 0, [f'-:1 {ONE_LINE}', f'-:3 {ONE_LINE}']),
+    Input('with a caption', f'{ONE} from the paper\ntowers {ONE} 5!7\n', 0, [f'-:1 {ONE_LINE}', f'-:2 {ONE_LINE}']),
+    Input('none', f'{NONE}\n', 1, [f'-:1 towers none - - {NONE}']),
+    Input('several', f'{ONE}\n{SEVERAL}\n', 1, [f'-:1 {ONE_LINE}', f'-:2 towers several - - {SEVERAL}']),
+    Input('a picture of Towers', ONE_DRAWN, 0, [f'-:1 {ONE_LINE}']),
+    Input('a picture of Unequal', SIGNS_DRAWN, 0, [f'-:1 {SIGNS_LINE}']),
+    Input('both', f'{SIGNS}\n{ONE_DRAWN}\n\n{SIGNS_DRAWN}\n{ONE}\n', 0, [f'-:1 {SIGNS_LINE}', f'-:2 {ONE_LINE}', f'-:9 {SIGNS_LINE}', f'-:15 {ONE_LINE}']),
+    Input('a picture with a margin', ''.join(f'    {line}  \n' for line in ONE_DRAWN.splitlines()), 0, [f'-:1 {ONE_LINE}']),
+    Input('blank', '. . .\n- - -\n. . .\n- - -\n. . .\n', 1, ['-:1 unequal several - - 3:0,0,0,0,0,0,0,0,0,']),
+    Input('two equal givens in a row', '1 . 1\n- - -\n. . .\n- - -\n. . .\n', 1, ['-:1 unequal none - - 3:1,0,1,0,0,0,0,0,0,']),
+    Input('signs that contradict one another', '.>.<.\nv - -\n. . .\n^ - v\n. 1>.\n', 1, ['-:1 unequal none - - 3:0RD,0,0L,0,0,0D,0U,1R,0,']),
+]
+
+FITS_BOTH = 'it fits both games: write towers or unequal before it'
+NO_SIZE = "An ID begins with the size, one digit from 3 to 9, like the 5 in '5!7'."
+
+#: What can't be read is told, and the puzzle after it is checked.
+UNREAD = [
+    ('both games', '4!7', f'-:1: {FITS_BOTH}'),
+    ('no ID', 'a word', f'-:1: {NO_SIZE}'),
+    ('a game alone', 'towers', f'-:1: {NO_SIZE}'),
+    ('NUL bytes', '\0\0 3', f'-:1: {NO_SIZE}'),
+    ('one inside', 'towers 3!1\0', "-:1: A seed is a number from 0 to 18446744073709551615, without leading zeros: '5!7'."),
+    ('a size', 'unequal 2:0,0,0,0,', f'-:1: {NO_SIZE}'),
+    ('a long ID', f'5:{"/" * 3000}', '-:1: A line has 1,024 bytes at most.'),
+    ('a long line', f'5:{"/" * 5000}', '-:1: the line has more than 4,096 bytes'),
+    ('a short line', ONE_DRAWN.replace('- . . . -', '- . . -', 1), '-:3: the line is too short: it has 7 letters, and the first line 9'),
+    ('a long one', SIGNS_DRAWN.replace('. . .', '. . . .', 1), '-:3: the line is too long: it has 7 letters, and the first line 5'),
+    ('too few lines', SIGNS_DRAWN[:-6].rstrip(), '-:4: the picture has 5 lines, and ends after 4'),
+    ('too many lines', ONE_DRAWN + ONE_DRAWN, '-:6: the picture has 5 lines and no more'),
+    ('a number above the size', ONE_DRAWN.replace('- . . .', '- . 4 .', 1), '-:3: a number is above the size, 3'),
+    ('no clue', ONE_DRAWN.replace('3 .', '. .'), "-:2: '.' stands where a clue or '-' is to be"),
+    ('no number', ONE_DRAWN.replace('3 .', '3 x'), "-:2: 'x' stands where a number or '.' is to be"),
+    ('no corner', ONE_DRAWN[:-2] + '-', "-:5: '-' stands where '+' is to be"),
+    ('no space', ONE_DRAWN.replace('3 .', '3>.'), "-:2: '>' stands where a space is to be"),
+    ('a sign that lies', SIGNS_DRAWN.replace('^', '<', 1), "-:2: '<' stands where '^', 'v' or '-' is to be"),
+    ('a sign that stands', SIGNS_DRAWN.replace('<', '^', 1), "-:1: '^' stands where '<', '>' or a space is to be"),
+    ('a size of 2', '. .\n- -\n. .\n', '-:1: a picture of size 2, and sizes go from 3 to 9'),
+    ('a size of 10', f'{". " * 10}\n', '-:1: a picture of size 10, and sizes go from 3 to 9'),
+    ('another character', ONE_DRAWN.replace('3 .', '3 \u2460'), "-:2: '\u2460' stands where a number or '.' is to be"),
+]
+
+
+@pytest.mark.parametrize('row', INPUTS, ids=by_name)
+def test_puzzles(checker: Checker, row: Input) -> None:
+    checker.expect(row.typed, row.status, row.lines, row.told)
+
+
+@pytest.mark.parametrize(('typed', 'told'), [row[1:] for row in UNREAD], ids=[row[0] for row in UNREAD])
+def test_unread(checker: Checker, typed: str, told: str) -> None:
+    lines = typed.rstrip('\n').count('\n') + 3
+    checker.expect(f'{typed.rstrip()}\n\n{ONE}\n', 2, [f'-:{lines} {ONE_LINE}'], [told])
+
+
+def test_refused_ones_cost_nothing(checker: Checker) -> None:
+    """After a refused ID nothing is asked, and the answers stay with their puzzles."""
+    typed = ''.join(f'towers {id}\nunequal 3:\ntowers 3!x\n{SIGNS}\n' for id in (ONE, SEVERAL, NONE))
+    ended = checker.run(['--quick'], typed.encode())
+    assert [line.split('\t')[:3] for line in ended.output.decode().splitlines()] == [
+        ['-:1', 'towers', 'one'], ['-:4', 'unequal', 'one'], ['-:5', 'towers', 'several'], ['-:8', 'unequal', 'one'], ['-:9', 'towers', 'none'], ['-:12', 'unequal', 'one'],
+    ]  # fmt: skip
+    assert [line.split(':')[2] for line in ended.error.decode().splitlines()] == ['2', '3', '6', '7', '10', '11']
+
+
+def test_solutions(checker: Checker) -> None:
+    """Up to two, each on a line of its own. The two of the second puzzle are the only ones whose first row is 1 2 3, and so are its givens."""
+    two = 'unequal 3:1,2,3,0,0,0,0,0,0,'
+    checker.expect(f'{ONE}\n{NONE}\n', 1, [f'-:1 {ONE_LINE}', ' 123 231 312', f'-:2 towers none - - {NONE}'], words=['--solutions'])
+    ended = checker.run(['--solutions', '--quick'], two.encode())
+    first, *solutions = ended.output.decode().splitlines()
+    assert (first.split('\t')[2], sorted(solutions)) == ('several', ['\t123 231 312', '\t123 312 231'])
+
+
+def test_objects(checker: Checker) -> None:
+    """With the items that could go; where there is no solution, those without each of which there is one."""
+    ended = checker.run(['--json', '--solutions'], f'{SIGNS}\n{NONE}\n'.encode())
+    one, none = map(json.loads, ended.output.decode().splitlines())
+    spare = {'clues': [], 'givens': [], 'signs': [{'greater': 1, 'less': 0}, {'greater': 3, 'less': 0}]}
+    assert one == {
+        'file': '-', 'line': 1, 'game': 'Unequal', 'completable': 'one', 'grade': 'e', 'spare': spare, 'id': SIGNS, 'solutions': [[1, 2, 3, 2, 3, 1, 3, 1, 2]],
+    }  # fmt: skip
+    assert (none['completable'], none['grade'], none['solutions']) == ('none', None, [])
+    assert none['spare']['clues'] == [{'x': 0, 'y': -1}, {'x': 1, 'y': -1}]
+    assert json.loads(checker.run(['--json', '--quick'], ONE.encode()).output)['spare'] is None
+
+
+def test_saves(checker: Checker, room: Room) -> None:
+    """Of a save only the puzzle is checked. A file and standard input may be one, and several files come one after the other."""
+    room.put('old.sav', save_text(2))
+    room.put('two words', f'{ONE}\n'.encode())
+    ended = checker.run(['old.sav', 'two words'])
+    assert ended.output.decode().replace('\t', ' ') == f'old.sav:1 {ONE_LINE}\ntwo words:1 {ONE_LINE}\n'
+    assert ended.error == b'' and ended.status == 0
+    assert checker.run([], room.read('old.sav') or b'').output.decode().replace('\t', ' ') == f'-:1 {ONE_LINE}\n'
+    checker.expect('SAVEFILE:41:', 2, [], ['-:1: That is no save file of the collection: one begins with \'SAVEFILE:41:\'.'])
+
+
+def drawn(program: str, room: Room, game: str, ids: Sequence[str]) -> List[str]:
+    """The puzzles as `show` prints them, and as `id` does, without the letter of a grade."""
+    lines = ''.join(f'new {id}\nshow\n' for id in ids)
+    return run([program, game], room, input=lines.encode()).output.decode().split('ok\n')[1:]
+
+
+@pytest.mark.parametrize('game', ['towers', 'unequal'])
+def test_pictures(checker: Checker, program: str, room: Room, game: str) -> None:
+    """A picture is read as the puzzle that it was drawn of: the ID is that one's, and so are its answers."""
+    ids = [id for size in (3, 4, 5) for id in made(game, size, 'tekhxur')[:12]]
+    plain = [f'{id[0]}:{id.partition(":")[2]}' for id in ids]
+    ended = checker.run(['--quick', '--json'], '\n'.join(drawn(program, room, game, ids)).encode())
+    found = [json.loads(line) for line in ended.output.decode().splitlines()]
+    assert [(each['id'], each['completable']) for each in found] == [(id, 'one') for id in plain]
+    listed = checker.run(['--quick', '--json'], ''.join(f'{game} {id}\n' for id in plain).encode())
+    assert [json.loads(line)['grade'] for line in listed.output.decode().splitlines()] == [each['grade'] for each in found]

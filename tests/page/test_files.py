@@ -1,0 +1,142 @@
+"""Files that come onto the page and go from it: saves byte by byte, and all games in one file."""
+
+from __future__ import annotations
+
+import json
+from typing import Any, Dict, List, Tuple
+
+import pytest
+
+from tests.conftest import Programs
+from tests.harness import Room
+from tests.harness.game import save_text
+from tests.harness.program import run
+from tests.page.playing import LAPTOP, PHONE, Player
+from tests.page.test_games import TOWERS
+
+#: Records of a seed with bytes from 128 on: one letter for each byte, and two.
+SEEDS = [b'SEED    :4:gr\xfcn\n', b'SEED    :7:gr\xc3\xb6\xc3\x9fe\n']
+
+
+@pytest.mark.gate
+@pytest.mark.parametrize('seed', SEEDS, ids=['Latin-1', 'UTF-8'])
+def test_bytes(player: Player, programs: Programs, room: Room, seed: bytes) -> None:
+    """They stay what they are: the file is the one that the program writes."""
+    save = save_text(2).replace(b'DESC    ', seed + b'DESC    ')
+    room.put('a.sav', save)
+    wanted = run([programs.puzzles, 'towers', '--load', 'a.sav'], room, input=b'move R2,0,3\nsave\n').output.partition(b'\n')[2]
+    player.sit(TOWERS)
+    player.drop(save)
+    player.is_called(1, 0, 'row 1, column 2, 2')
+    player.load()
+    player.press('ArrowRight', 'ArrowRight', '3')
+    player.is_called(2, 0, 'row 1, column 3, 3')
+    player.catch_files()
+    player.press('w')
+    assert player.caught_bytes() == wanted
+    assert seed in wanted
+
+
+@pytest.mark.gate
+def test_empty_file(player: Player) -> None:
+    player.sit(TOWERS)
+    player.drop(b'')
+    player.told('That is no save file of the collection')
+
+
+def export(player: Player) -> Dict[str, Any]:
+    """All games, as the page writes them."""
+    player.press('o')
+    player.is_shown('#games')
+    player.catch_files()
+    player.click('Export all to one file')
+    player.closes('#games')
+    told: Dict[str, Any] = json.loads(player.caught())
+    return told
+
+
+def bring_in(player: Player, file: Dict[str, Any], said: str) -> None:
+    player.drop(json.dumps(file).encode(), 'games.json')
+    player.told(said)
+
+
+@pytest.mark.gate
+def test_broken_text(player: Player) -> None:
+    """A text in the place of a game that can't be read is named in the list, exported as it is, and stays."""
+    text = '{"key": "b", "sav'
+    player.sit(TOWERS, PHONE)
+    player.value(f'(localStorage["puzzles:game:b"] = {json.dumps(text)}, true)')
+    player.press('o')
+    player.is_shown('#games')
+    assert player.text('#games-unread').startswith('1 game more can’t be read.')
+    player.press('Escape')
+    player.closes('#games')
+    file = export(player)
+    assert [game for game in file['games'] if isinstance(game, str)] == [text] and len(file['games']) == 2
+    bring_in(player, file, '0 games imported. 1 were here already. 1 can’t be read.')
+    # One that another page has mended comes in, and the broken one stays.
+    game = {**next(game for game in file['games'] if isinstance(game, dict)), 'key': 'b', 'save': save_text(3).decode()}
+    bring_in(player, {**file, 'games': [game]}, '1 game imported.')
+    assert player.value('localStorage["puzzles:game:b"]') == text
+
+
+#: What a file may say of a game, and what comes of that.
+BOUNDS: List[Tuple[Dict[str, Any], str]] = [
+    ({'turn': 2**53}, '1 can’t be read'),
+    ({'turn': 2**40}, '1 can’t be read'),
+    ({'seconds': 1e308}, '1 can’t be read'),
+    ({'seconds': -5}, '1 can’t be read'),
+    ({'when': 1e16}, '1 can’t be read'),
+    ({'joined': [[3, 0]]}, '1 can’t be read'),
+    ({'joined': [[2, 5]]}, '1 can’t be read'),
+    ({'joined': [[5000000000, 2]]}, '1 game imported'),
+]
+
+
+@pytest.mark.gate
+def test_bounds(player: Player) -> None:
+    """Numbers of a file have bounds: no game stands still for them, and the statistics stay what they are."""
+    player.sit(TOWERS, LAPTOP)
+    player.press('1', 'ArrowRight', '2', 'u')
+    player.is_called(1, 0, 'row 1, column 2, empty')
+    file = export(player)
+    for change, said in BOUNDS:
+        bring_in(player, {**file, 'games': [{**file['games'][0], **change, 'key': 'other', 'save': save_text(3, 2).decode()}]}, said)
+    player.press('o')
+    player.is_shown('#games')
+    player.driver.click('#games-list [data-key=other]')
+    player.closes('#games')
+    player.is_called(1, 0, 'row 1, column 2, empty')
+    player.press('r')
+    player.begins(1, 0, 'row 1, column 2, 2')
+    solved = {'kind': 'towers-5-easy', 'number': '', 'when': 1, 'hints': 0}
+    bring_in(player, {**file, 'games': [], 'solved': [{**solved, 'seconds': seconds} for seconds in (-5, 1e308)]}, '0 games')
+    player.menu('Statistics')
+    player.is_shown('#statistics')
+    assert player.value('document.querySelectorAll("#statistics td").length') == 0
+
+
+@pytest.mark.gate
+def test_import_joins(player: Player) -> None:
+    """An older state of a game that is here changes nothing, a later one takes its place, and moves that it doesn't have stay beside it."""
+    player.sit(TOWERS, LAPTOP)
+    player.press('1')
+    player.is_called(0, 0, 'row 1, column 1, 1')
+    older = export(player)
+    player.press('ArrowRight', '2')
+    player.is_called(1, 0, 'row 1, column 2, 2')
+    later = export(player)
+    bring_in(player, older, '0 games imported. 1 were here already.')
+    assert player.moves() == ['R0,0,1', 'R1,0,2'] and len(player.kept()) == 1
+    player.forget()
+    player.load('towers-4-easy-1')
+    bring_in(player, older, '1 game imported.')
+    bring_in(player, later, '1 game imported.')
+    player.keeps([0, 2])
+    player.load(TOWERS)
+    player.begins(1, 0, 'row 1, column 2, 2')
+    game = later['games'][0]
+    other = {**game, 'turn': game['turn'] + 3, 'save': save_text(1).replace(b'R0,0,1', b'R0,0,3').decode()}
+    bring_in(player, {**later, 'games': [other]}, '1 game imported.')
+    player.is_called(0, 0, 'row 1, column 1, 3')
+    player.keeps([0, 1, 2])

@@ -1,0 +1,168 @@
+"""Nothing is lost of what the store has no room for, nor of what it loses; and the player knows."""
+
+from __future__ import annotations
+
+import json
+from typing import Any, Iterator
+
+import pytest
+
+from tests.harness.game import HEAD
+from tests.page.playing import PHONE, Player, at
+from tests.page.test_games import TOWERS, UNEQUAL, choose
+from tests.page.test_keeping import FULL, REFUSED
+
+#: A game that takes much room.
+MOVES = 4_000
+LARGE = HEAD + b'NSTATES :4:%d\nSTATEPOS:4:%d\n' % (MOVES + 1, MOVES + 1) + b'MOVE    :6:R0,0,1\nMOVE    :6:R0,0,2\n' * (MOVES // 2)
+
+#: Fills the store, but for so many letters.
+FILL = """((left) => {
+  localStorage.spare = 'x'.repeat(left);
+  for (let size = 1 << 20; size; size >>= 1) {
+    try { for (let number = 0; ; number++) localStorage[`filler ${size} ${number}`] = 'x'.repeat(size); } catch { /* Smaller ones. */ }
+  }
+  localStorage.removeItem('spare');
+  return true;
+})"""
+
+NO_ROOM = 'has no room left'
+
+
+def from_list(player: Player, title: str) -> None:
+    """Goes on with the first game of the list that has this title."""
+    player.press('o')
+    player.is_shown('#games')
+    player.driver.click(item(player, title, '.pictured'))
+    player.closes('#games')
+    player.called(title)
+
+
+def item(player: Player, title: str, button: str) -> str:
+    """The selector of a button of that game."""
+    number = player.value(f'[...document.querySelectorAll("#games-list b")].findIndex((node) => node.textContent.startsWith({json.dumps(title)}))')
+    return f'#games-list li:nth-child({number + 1}) {button}'
+
+
+@pytest.mark.gate
+def test_room_again(player: Player) -> None:
+    """Moves that had no room are kept as soon as there is some, though another game is played by then; until then it is said."""
+    player.sit('towers-4-easy-5', PHONE)
+    player.load(UNEQUAL)
+    player.drop(LARGE)
+    player.called('Towers 3×3')
+    player.value(f'{FILL}(0)')
+    from_list(player, 'Towers 4×4')
+    player.driver.click(at(*player.value('document.querySelector("[aria-label$=empty]").dataset.place').split(',')))
+    player.press('1', '2', '3')
+    player.told(NO_ROOM)
+    from_list(player, 'Unequal 3×3')
+    player.told(NO_ROOM)
+    player.press('o')
+    player.is_shown('#games')
+    player.driver.click(item(player, 'Towers 3×3', '[data-gone]'))
+    player.answer_once('Yes')
+    player.driver.wait_for(f'!document.querySelector("#told").textContent.includes({json.dumps(NO_ROOM)})')
+    found = [game['save'].count('\nMOVE ') for game in player.kept() if game['id'].startswith('4')]
+    assert found == [3]
+
+
+@pytest.mark.gate
+def test_full_at_once(player: Player) -> None:
+    """A game that begins without room for it says so, and not with its first move."""
+    player.sit(TOWERS, PHONE)
+    player.value(f'{FILL}(200)')
+    choose(player, id=UNEQUAL)
+    player.called('Unequal 3×3')
+    player.told(NO_ROOM)
+    choose(player, game='towers', size='4', grade='e')
+    player.called('Towers 4×4')
+    player.told(NO_ROOM)
+
+
+@pytest.fixture
+def scripted(piped: Player) -> Iterator[Any]:
+    """Has a script run before each page."""
+    browser = piped.driver.browser  # type: ignore[attr-defined]
+    known = []
+
+    def begin(script: str) -> Player:
+        known.append(browser.ask('Page.addScriptToEvaluateOnNewDocument', source=script)['identifier'])
+        return piped
+
+    yield begin
+    for identifier in known:
+        browser.ask('Page.removeScriptToEvaluateOnNewDocument', identifier=identifier)
+    piped.load()
+    # Chromium doesn't ask where nobody has touched the page, and says so.
+    browser.complaints[:] = [text for text in browser.complaints if 'beforeunload' not in text]
+
+
+@pytest.mark.gate
+@pytest.mark.parametrize('script, asked', [('', []), (REFUSED, ['beforeunload']), (FULL, ['beforeunload'])], ids=['kept', 'refused', 'full'])
+def test_asks_before_it_closes(scripted: Any, script: str, asked: Any) -> None:
+    """While something isn't kept, and never otherwise."""
+    player = scripted(script)
+    player.load(TOWERS)
+    player.press('1')
+    player.is_called(0, 0, 'row 1, column 1, 1')
+    questions = player.driver.browser.questions
+    questions.clear()
+    player.load()
+    assert questions == asked
+
+
+#: The texts of the database.
+JOURNAL = """new Promise((done) => {
+  indexedDB.open('puzzles').onsuccess = ({target: {result}}) => {
+    const all = result.transaction('texts').objectStore('texts').getAll();
+    all.onsuccess = () => { result.close(); done(all.result); };
+  };
+})"""
+
+
+@pytest.mark.gate
+def test_lost_by_the_store(player: Player) -> None:
+    """What the store has lost, as after a kill, is in the database: moves, a game, what was shown last, and settings."""
+    player.sit(TOWERS, PHONE)
+    player.value('(window.before = {...localStorage}, true)')
+    player.press('1', 'ArrowRight', '2', 'M')
+    player.told('From now on, marks go')
+    choose(player, id=UNEQUAL)
+    player.press('1')
+    player.begins(0, 0, 'row 1, column 1, 1')
+    player.driver.wait_for(f'{JOURNAL}.then((texts) => texts.some((text) => text.includes("Unequal") && text.includes("R0,0,1")))')
+    player.value('(localStorage.clear(), sessionStorage.clear(), Object.assign(localStorage, window.before), Storage.prototype.setItem = () => undefined, true)')
+    player.load()
+    player.called('Unequal 3×3')
+    player.begins(0, 0, 'row 1, column 1, 1')
+    from_list(player, 'Towers 3×3')
+    player.begins(1, 0, 'row 1, column 2, 2')
+    player.click('Menu')
+    player.is_shown('#menu')
+    assert player.value('document.querySelector("[data-set=tidy]").ariaPressed') == 'true'
+
+
+#: Notes how the page asks for its database and for its place in the browser.
+NOTING = """
+window.asked = 0;
+window.durabilities = [];
+if (window.StorageManager) StorageManager.prototype.persist = async () => { window.asked++; return true; };
+const {transaction} = IDBDatabase.prototype;
+IDBDatabase.prototype.transaction = function (...words) {
+  if (words[1] === 'readwrite') window.durabilities.push(words[2]?.durability);
+  return transaction.apply(this, words);
+};
+"""
+
+
+@pytest.mark.gate
+def test_strictly(scripted: Any) -> None:
+    """Each change is written to the disk at once, and the browser is asked once to clear nothing by itself."""
+    player = scripted(NOTING)
+    player.load(TOWERS)
+    player.value('(window.asked === 0) || document.body.remove()')
+    player.press('1', 'ArrowRight', '2')
+    player.is_called(1, 0, 'row 1, column 2, 2')
+    assert player.value('window.asked') == 1
+    assert set(player.value('window.durabilities')) == {'strict'}
