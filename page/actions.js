@@ -77,9 +77,9 @@ export class Actions {
     else this.put(screen.chosen, number, screen.marking !== isOther);
   }
 
-  /** @param {Place} place @param {number} number @param {boolean} isMark */
-  put(place, number, isMark) {
-    if (isMark || !this.course.isOpen) this.page.moves.put(place, number, isMark);
+  /** @param {Place} place @param {number} number @param {boolean} isMark @param {boolean} [isFlipped]  whether the same number goes out again */
+  put(place, number, isMark, isFlipped) {
+    if (isMark || !this.course.isOpen) this.page.moves.put(place, number, isMark, isFlipped);
     else this.course.answer(place, number);
   }
 
@@ -97,11 +97,8 @@ export class Actions {
   press(place, isLong) {
     if (this.desk.isOpen) return;
     const {moves, present: {board}, screen: {held, marking}} = this.page, cell = cellOf(place, board.size), isMark = marking !== isLong;
-    if (cell >= 0 && held) {
-      // The same number once more goes out again, as a mark does.
-      if (!isMark && board.numbers[cell] === held && !board.givens[cell]) moves.clear(place);
-      else this.put(place, held, isMark);
-    } else if (isLong) this.act('enter');
+    if (cell >= 0 && held) this.put(place, held, isMark, true);
+    else if (isLong) this.act('enter');
     else if (cell < 0) moves.done(place);
   }
 

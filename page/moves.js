@@ -15,12 +15,12 @@ export class Moves {
     this.confirm = confirm;
   }
 
-  // Puts a number, or flips a pencil mark, in a square.
-  /** @param {Place} place @param {number} number @param {boolean} isMark */
-  put(place, number, isMark) {
+  // Puts a number, or flips a pencil mark, in a square. A number that is there already stays, or goes out again where it is flipped, too.
+  /** @param {Place} place @param {number} number @param {boolean} isMark @param {boolean} [isFlipped] */
+  put(place, number, isMark, isFlipped = false) {
     return this.onSquare(place, (board, cell) => {
       if (isMark) return [`move P${place},${number}`];
-      if (board.numbers[cell] === number && !board.givens[cell]) return [];
+      if (board.numbers[cell] === number && !board.givens[cell]) return isFlipped ? [`move R${place},0`] : [];
       return [...this.marksThatGo(board, cell, number), `move R${place},${number}`];
     });
   }

@@ -22,6 +22,9 @@ BESIDE = f'file://{TOP}/page/icon.svg'
 PAINTED = 'new Promise((done) => requestAnimationFrame(() => requestAnimationFrame(() => done(true))))'
 
 
+#: The page keeps nothing any more.
+NOTHING_MORE = 'Storage.prototype.setItem = IDBObjectStore.prototype.put = () => undefined'
+
 #: Clears the database that has each change, too. The page writes nothing into it any more. Deleting it would wait for pages that WebKit hasn't left yet.
 NO_JOURNAL = """new Promise((done) => {
   const request = indexedDB.open("puzzles");
@@ -131,9 +134,14 @@ class Player(Seen):
 
     def forget(self) -> None:
         """The browser keeps nothing any more, whatever the page and tabs that were closed are still about to keep."""
-        self.driver.value(f'(Storage.prototype.setItem = () => undefined, localStorage.clear(), sessionStorage.clear(), {NO_JOURNAL})')
+        self.driver.value(f'({NOTHING_MORE}, localStorage.clear(), sessionStorage.clear(), {NO_JOURNAL})')
         self.driver.go(BESIDE)
         self.driver.wait_for('localStorage.length + sessionStorage.length === 0 || (localStorage.clear(), sessionStorage.clear())')
+
+    def leave_tab(self) -> None:
+        """Closes the tab. Its page keeps nothing any more: a browser may hear of that once the next case has begun."""
+        self.value(f'({NOTHING_MORE}, true)')
+        self.driver.close_tab()
 
     def press(self, *keys: str) -> None:
         self.driver.press(*keys)

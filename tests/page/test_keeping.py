@@ -98,7 +98,7 @@ def test_two_tabs(player: Player) -> None:
         assert player.moves() == ['R0,0,1', 'R1,0,2']
     finally:
         player.driver.turn_to(other)
-        player.driver.close_tab()
+        player.leave_tab()
         player.driver.turn_to(first)
 
 

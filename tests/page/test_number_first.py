@@ -2,6 +2,7 @@
 
 from __future__ import annotations
 
+import json
 from typing import List, Tuple
 
 import pytest
@@ -85,6 +86,19 @@ def test_number_first(player: Player) -> None:
     player.settles()
     assert player.name(1, 2) == 'row 3, column 2, empty' and player.value(HELD) == ''
     assert player.moves() == ['R0,0,2', 'R1,1,2', 'R2,2,2', 'R1,1,0', 'P1,0,3', 'P2,0,3', 'P1,0,3']
+
+
+@pytest.mark.gate
+def test_pressed_at_once(player: Player) -> None:
+    """Presses that come before the first one is answered: each finds what those before it have left."""
+    player.sit(TOWERS, LAPTOP)
+    switch(player)
+    player.driver.click('[data-number="2"]')
+    player.told('Each square that you press gets 2.')
+    presses = 'for (let left = 3; left; left--) node.dispatchEvent(new MouseEvent("click", {bubbles: true}))'
+    player.value(f'((node) => {{ {presses}; return true; }})(document.querySelector({json.dumps(at(1, 1))}))')
+    player.keeps([3])
+    assert player.moves() == ['R1,1,2', 'R1,1,0', 'R1,1,2']
 
 
 @pytest.mark.gate
