@@ -46,7 +46,10 @@ export class Desk {
     this.lists = {game: selectOf('desk-game'), size: selectOf('desk-size')};
     const {game, size} = this.lists;
     game.onchange = () => isGame(game.value) && this.turnTo(game.value);
-    size.onchange = () => this.change(() => ({line: `blank ${size.value}`}));
+    size.onchange = () => {
+      const line = `blank ${size.value}`;
+      this.change(() => ({line}));
+    };
     part('tools').append(...Object.entries(TOOLS).map(([name, text]) => button(text, {'data-do': name, class: 'set'})));
     part('signs').append(...SIDES.map(([side, , arrow]) => button(`${arrow} <>`, {'data-do': side, 'aria-label': side})));
   }

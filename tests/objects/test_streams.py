@@ -72,6 +72,15 @@ def test_loaded(pair: Pair) -> None:
     assert answers[0].reply == text
 
 
+@pytest.mark.parametrize(('name', 'why'), [('no/such.sav', 'No such file or directory (os error 2)'), ('.', 'Is a directory (os error 21)')])
+def test_unread(pair: Pair, room: Room, name: str, why: str) -> None:
+    """A file that can't be read is named, with the cause, after the line that the plain program has of it."""
+    words = ['towers', '--load', name]
+    plain, found = run([pair.plain, *words], room), run([pair.objects, *words], room)
+    assert found == plain._replace(error=plain.error + f'{name}: {why}\n'.encode())
+    assert plain.error == b'cannot read the file\n'
+
+
 def test_line_by_line(pair: Pair) -> None:
     """Each object has come when its line has, and nothing more."""
     with subprocess.Popen([pair.objects, 'towers', '--id', ID], stdin=subprocess.PIPE, stdout=subprocess.PIPE, bufsize=0) as process:

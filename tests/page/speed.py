@@ -1,18 +1,21 @@
-"""How fast the page is in Chromium: python3 -m tests.page.speed FILE. It prints a line for each kind, with the median and the 95th per cent."""
+"""How fast the page is in Chromium: python3 -m tests.page.speed FILE. It prints a line for each kind, with the median, the 95th and the 99th per cent."""
 
 from __future__ import annotations
 
+import itertools
 import statistics
 import sys
 import time
-from typing import Callable, List
+from typing import Callable, Iterator, List
 
 from tests.harness import Room
 from tests.harness.browser import Browser
+from tests.harness.builds import TOP
 from tests.page.browsers import Piped
 from tests.page.playing import PHONE, Player, at
 
-#: Set before the page begins: when its first board was painted, counted from the navigation; and how long after a finger was lifted the board had changed.
+#: Set before the page begins: when its first board was painted, counted from the navigation; and how long after a finger was lifted the board had
+#: changed, or the verdict of the setter's desk.
 WATCH = """
 const painted = (then) => requestAnimationFrame(() => { const {port1, port2} = new MessageChannel(); port1.onmessage = then; port2.postMessage(0); });
 new MutationObserver((_, watch) => {
@@ -24,6 +27,11 @@ addEventListener('touchend', ({timeStamp}) => {
   window.last = 0;
   new MutationObserver((_, watch) => { watch.disconnect(); painted(() => { window.last = performance.now() - timeStamp; }); })
     .observe(document.querySelector('#board'), {attributes: true, childList: true, subtree: true});
+  window.ruled = 0;
+  new MutationObserver((_, watch) => {
+    if (!document.querySelector('#ruling').textContent) return;
+    watch.disconnect(); painted(() => { window.ruled = performance.now() - timeStamp; });
+  }).observe(document.querySelector('#ruling'), {childList: true});
 }, {capture: true});
 """
 
@@ -44,14 +52,49 @@ HINT = """new Promise((done) => {
 
 RUNS = 20
 
+#: Setters' sessions, as bench/time_desk has them, and so many changes of them at most.
+CHANGES, MOST_CHANGES = TOP / 'bench' / 'changes.txt', 1000
+
 
 def told(name: str, times: List[float]) -> None:
     ordered = sorted(times)
-    print(f'{name}: median {statistics.median(ordered):.1f} ms, 95 % {ordered[int(len(ordered) * 0.95) - 1]:.1f} ms, of {len(ordered)}')
+    print(f'{name}: median {statistics.median(ordered):.1f} ms, 95 % {ordered[int(len(ordered) * 0.95) - 1]:.1f} ms, 99 % {ordered[int(len(ordered) * 0.99) - 1]:.1f} ms, of {len(ordered)}')
 
 
 def times(count: int, one: Callable[[int], float]) -> List[float]:
     return [one(number) for number in range(count)]
+
+
+def verdicts(player: Player) -> Iterator[float]:
+    """From each tap that changes a puzzle on the desk to its verdict."""
+    player.load('towers-4-easy-7')
+    player.menu('Check or set a puzzle')
+    for line in CHANGES.read_text(encoding='ascii').splitlines():
+        head, _, changes = line.partition(': ')
+        game, size = head.split()
+        kind = 'clues' if game == 'towers' else 'signs'
+        player.write('#desk-game', game)
+        player.counts(kind)
+        player.write('#desk-size', size)
+        player.counts(f'0 {kind} · 0 given')
+        player.driver.wait_for(f'document.querySelectorAll(".square").length === {int(size) ** 2} && document.querySelector("#ruling").textContent')
+        for change in changes.split():
+            yield from taps(player, int(size), [int(word) for word in change.split(',')])
+
+
+def taps(player: Player, size: int, words: List[int]) -> Iterator[float]:
+    """One for a clue or a given; one or two for a sign, whose second square is the greater one."""
+    if len(words) == 3:
+        player.driver.tap(at(words[0], words[1]))
+        wanted = [f'[data-number="{words[2]}"]']
+    else:
+        greater, less = words[1] * size + words[0], words[3] * size + words[2]
+        wanted = [f'[data-sign="{min(greater, less)}-{max(greater, less)}"]'] * (1 if greater < less else 2)
+    for selector in wanted:
+        player.settles()
+        player.driver.tap(selector)
+        player.driver.wait_for('window.ruled')
+        yield float(player.value('window.ruled'))
 
 
 def main(page: str) -> None:
@@ -86,6 +129,7 @@ def main(page: str) -> None:
         told('tap to painted square', [found for found in times(5 * RUNS, tap) if found])
         player.load('towers-9-hard-7')
         told('hint', times(RUNS, hint))
+        told('verdict', list(itertools.islice(verdicts(player), MOST_CHANGES)))
 
 
 if __name__ == '__main__':

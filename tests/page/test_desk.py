@@ -183,6 +183,21 @@ def test_wrong_at_once(player: Player) -> None:
 
 
 @pytest.mark.gate
+def test_sign_beside_its_middle(piped: Player) -> None:
+    """A sign that is wrong has its mark beside it: a finger between the two is on the sign, and not on the square."""
+    sit(piped, UNEQUAL, PHONE)
+    piped.write('#desk-size', '4')
+    piped.driver.wait_for('document.querySelectorAll(".square").length === 16')
+    for selector in (at(1, 3), '[data-number="4"]', '[data-sign="9-13"]'):
+        piped.driver.tap(selector)
+    ruled(piped, NONE)
+    piped.begins(1, 2, 'row 3, column 2, empty, greater than below, wrong')
+    piped.driver.tap('[data-sign="9-13"]')
+    ruled(piped, SEVERAL)
+    piped.begins(1, 2, 'row 3, column 2, empty, less than below')
+
+
+@pytest.mark.gate
 def test_draft(player: Player) -> None:
     """It is there after the page was closed, with what can be undone; that of the other game is another one; one that can't be read stays."""
     sit(player, TOWERS)

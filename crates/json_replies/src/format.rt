@@ -53,7 +53,8 @@ impl<P: Shows> Format<P> for Json {
     }
 }
 
-// The answer to a line that begins this game.
+// The answer to a line that begins this game. What it takes of the stack isn't on it while a hint is looked for.
+#[inline(never)]
 fn begin_response<P: Shows>(
     alloc: Global,
     session: &mut Option<Session<P>>,

@@ -64,10 +64,7 @@ fn answer_text<P: Shows>(
     let board = session.board();
     match which {
         FurtherLine::Board => {
-            let errors = errors(puzzle, board.grid());
-            let clues = puzzle.tell_clues(alloc, board, &errors)?;
-            let signs = puzzle.tell_signs(alloc, board, &errors)?;
-            let value = board_value(alloc, puzzle, board, &errors, clues, signs)?;
+            let value = board_answer(alloc, session)?;
             Ok(value_text(alloc, &value)?)
         }
         FurtherLine::Completable => {
@@ -92,6 +89,20 @@ fn answer_text<P: Shows>(
             Ok(value_text(alloc, &value)?)
         }
     }
+}
+
+// The board that is shown, and what is wrong on it. What it takes of the stack isn't on it while a hint is looked for.
+#[inline(never)]
+fn board_answer<P: Shows>(alloc: Global, session: &Session<P>) -> Result<Value, OutOfMemory>
+    ensures { IfOk result (λ value. IsAnswer ⟦<P as Facts>⟧.facts ⟦<P as ShownFacts>⟧.board_facts session.now
+        FurtherLine.Board (view value)) }
+{
+    let puzzle = session.puzzle();
+    let board = session.board();
+    let errors = errors(puzzle, board.grid());
+    let clues = puzzle.tell_clues(alloc, board, &errors)?;
+    let signs = puzzle.tell_signs(alloc, board, &errors)?;
+    Ok(board_value(alloc, puzzle, board, &errors, clues, signs)?)
 }
 
 // How many solutions keep the numbers of a grid of the puzzle's size. What it takes of the stack isn't on it while a hint is

@@ -4,6 +4,8 @@ ghost use Rattle.std.specs.Prelude.{◌≡◌, OnErr, OnOk};
 ghost use Rattle.std.specs.Result.{result_err};
 ghost use Rattle.puzzles.specs.Endings.{IsStatus};
 
+use crate::program_name::ProgramName;
+use crate::system_files::Unread;
 use puzzle_cli::{CommandFault, Fault};
 use std::io;
 
@@ -46,5 +48,12 @@ fn complain(rt: &impl Eprint, fault: &Fault) {
     let _ = eprintln!(rt; "{line}");
     if let Some(path) = fault.left_at() {
         let _ = eprintln!(rt; "the save is in {path}");
+    }
+}
+
+/// Of a file that couldn't be read `puzzles-json` says which it is, and why. `puzzles` says no more than the line of the fault.
+pub(crate) fn tell_unread(rt: &impl Eprint, name: ProgramName, unread: Option<Unread>) {
+    if let (ProgramName::PuzzlesJson, Some(Unread { path, why })) = (name, unread) {
+        let _ = eprintln!(rt; "{path}: {why}");
     }
 }

@@ -15,24 +15,36 @@ mod program_name;
 mod system_files;
 mod whole_game;
 
-use crate::ending::status_of;
-use crate::process_words::ProcessWords;
+use crate::ending::{status_of, tell_unread};
+use crate::process_words::{ProcessWords, Words};
+use crate::program_name::program_name;
 use crate::system_files::SystemFiles;
 use crate::whole_game::program;
+use puzzle_cli::Fault;
 use puzzle_io::{FromRead, ToWrite};
 use std::io;
 use std::io::IsTerminal;
 use std::process::ExitCode;
 
 fn main(rt: HostRuntime) -> ExitCode {
+    let words = ProcessWords { rt: &rt };
+    let mut files = SystemFiles {
+        rt: &rt,
+        unread: None,
+    };
     let ended = program(
         &rt,
         rt.alloc(),
         rt.stdin().is_terminal(),
-        &ProcessWords { rt: &rt },
-        &mut SystemFiles { rt: &rt },
+        &words,
+        &mut files,
         &mut FromRead::new(rt.reader()),
         &mut ToWrite::new(io::writer(&rt)),
     );
-    ExitCode::from(status_of(&rt, ended))
+    let is_unread = matches!(ended, Err(Fault::LoadFile));
+    let status = status_of(&rt, ended);
+    if is_unread && let Ok(words) = words.words() {
+        tell_unread(&rt, program_name(&words), files.unread);
+    }
+    ExitCode::from(status)
 }

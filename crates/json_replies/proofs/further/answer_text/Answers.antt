@@ -1,5 +1,5 @@
 use Rattle.line_steps.specs.Reasons.{StruckBy}
-use Rattle.std.proofs.Common.{ap, ◌∙◌, arith}
+use Rattle.std.proofs.Common.{ap, ◌∙◌, sym, subst, arith}
 use Rattle.std.proofs.lemmas.Result.{IfOk-weaker}
 use Rattle.serde_json.specs.View.{view}
 use Rattle.latin_board.specs.Boards.{grid_of}
@@ -10,7 +10,7 @@ use Rattle.json_replies.specs.declared.further_line.FurtherLine.{FurtherLine}
 use Rattle.play_midend.specs.Histories.{History}
 use Rattle.serde_json.specs.Data.{Data}
 use Rattle.json_replies.proofs.Spellings.{told_fits}
-use Rattle.json_replies.proofs.ToldReplies.{board_told, hint_told, solutions_told, spare_told, spare_by_told}
+use Rattle.json_replies.proofs.ToldReplies.{hint_told, solutions_told, spare_told, spare_by_told}
 use Rattle.json_replies.proofs.further.answer_text.Given.{Over}
 use Rattle.json_replies.proofs.further.answer_text.Goals as goal
 
@@ -31,23 +31,17 @@ spelled g h which d told =
 
 pub value_text-requires : goal.value_text-requires
 value_text-requires g c =
-    let found = c.errors-errors.ensures in
-    let told = board_told (facts g) (boards g) c.args.session.now c.puzzle-puzzle.result.now c.grid.result.now c.board-board.result.now c.errors-errors.result
-    c.args.which (view c.in_ok-clues-in-Board.clues) (view c.in_ok-signs-in-Board.signs) (view c.in_ok-value-in-Board.value) c.in-Board.is
-    c.puzzle-puzzle.ensures c.grid.ensures c.board-board.ensures.shown (record { repeated = found.repeated; broken = found.broken })
-    c.in_ok-clues-in-Board.ensures c.in_ok-signs-in-Board.ensures c.in_ok-value-in-Board.ensures in
+    let told = subst (λ w. IsAnswer (facts g) (boards g) c.args.session.now w (view c.in_ok-value-in-Board.value)) (sym c.in-Board.is)
+    c.in_ok-value-in-Board.ensures in
     spelled g c.args.session.now c.args.which (view c.in_ok-value-in-Board.value) told
 
 pub returns-in_ok-value_text-in-Board : goal.returns-in_ok-value_text-in-Board
-returns-in_ok-value_text-in-Board g c =
-    let found = c.errors-errors.ensures in (
-      view c.in_ok-value-in-Board.value,
-      board_told (facts g) (boards g) c.args.session.now c.puzzle-puzzle.result.now c.grid.result.now c.board-board.result.now c.errors-errors.result
-          c.args.which (view c.in_ok-clues-in-Board.clues) (view c.in_ok-signs-in-Board.signs) (view c.in_ok-value-in-Board.value) c.in-Board.is
-          c.puzzle-puzzle.ensures c.grid.ensures c.board-board.ensures.shown (record { repeated = found.repeated; broken = found.broken })
-          c.in_ok-clues-in-Board.ensures c.in_ok-signs-in-Board.ensures c.in_ok-value-in-Board.ensures,
-      c.in_ok-value_text-in-Board.ensures,
-    )
+returns-in_ok-value_text-in-Board g c = (
+  view c.in_ok-value-in-Board.value,
+  subst (λ w. IsAnswer (facts g) (boards g) c.args.session.now w (view c.in_ok-value-in-Board.value)) (sym c.in-Board.is)
+      c.in_ok-value-in-Board.ensures,
+  c.in_ok-value_text-in-Board.ensures,
+)
 
 pub returns-in-Hint : goal.returns-in-Hint
 returns-in-Hint g c =
