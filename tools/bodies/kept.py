@@ -8,7 +8,7 @@ import os
 from pathlib import Path
 from typing import Dict, Iterable, List, Optional
 
-from bodies.edits import FOLDERS, Edit
+from bodies.edits import MUST_FAIL, WRONG_BODIES, Edit
 from building.crates import PARTS, all_of, listed, own
 from gating.kept import Store
 
@@ -50,11 +50,12 @@ def sum_of(texts: Iterable[str]) -> str:
 def sum_of_crates(names: Iterable[str], with_edits: bool = False) -> str:
     """The sum of these crates and of all below them."""
     crates = listed()
-    folders = [*PARTS, *(FOLDERS if with_edits else ())]
-    return sum_of(text for name in sorted(all_of(names, crates)) for text in [name, *crates[name], sum_of_files(own(name), folders)])
+    parts = [*PARTS, *((MUST_FAIL, WRONG_BODIES) if with_edits else ())]
+    return sum_of(text for name in sorted(all_of(names, crates)) for text in [name, *crates[name], sum_of_files(own(name), parts)])
 
 
-def sum_of_files(top: Path, folders: Iterable[str]) -> str:
-    """The sum of the files in these folders, with their paths."""
-    files = sorted(path for folder in folders for path in (top / folder).rglob('*') if path.is_file() and '__pycache__' not in path.parts)
+def sum_of_files(top: Path, parts: Iterable[str]) -> str:
+    """The sum of these files, and of those in these folders, with their paths."""
+    paths = (path for part in parts for path in [top / part, *(top / part).rglob('*')])
+    files = sorted(path for path in paths if path.is_file() and '__pycache__' not in path.parts)
     return sum_of(text for path in files for text in [str(path.relative_to(top)), hashlib.sha256(path.read_bytes()).hexdigest()])

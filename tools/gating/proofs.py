@@ -128,5 +128,6 @@ def sources(top: Path) -> Iterator[str]:
         for folder, folders, names in os.walk(top / read):
             way = os.path.relpath(folder, top)
             is_crate = os.path.dirname(way) == read
-            folders[:] = sorted(name for name in folders if not (is_crate and name in UNREAD))
-            yield from (os.path.join(way, name) for name in sorted(names) if os.path.isfile(os.path.join(folder, name)))
+            for found in folders, names:
+                found[:] = sorted(name for name in found if not (is_crate and name in UNREAD))
+            yield from (os.path.join(way, name) for name in names if os.path.isfile(os.path.join(folder, name)))
