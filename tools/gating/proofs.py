@@ -1,4 +1,4 @@
-"""The part of the gate that proves: `rt ci`, or, where that has passed here with the same prover and the same sources, what it said and built then."""
+"""The part of the gate that proves: `rt ci`, or what it said and built when it passed here with the same prover and sources."""
 
 from __future__ import annotations
 
