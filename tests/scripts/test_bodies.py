@@ -136,7 +136,7 @@ def test_libraries(words: Words) -> None:
     words.write(ROUNDS[0])
     put = words.place.put
     put('crates/letters/src/lib.rt', b'other letters\n', 0o644)
-    lacks = ['not built of the sources here: letters; run make build first, or ANEW=1 make gate', '0 passed, 1 failed']
+    lacks = ['not built of the sources here: letters; run make build first, or make gate', '0 passed, 1 failed']
     words.expect(lacks, 1, ANEW='1')
     os.remove(put('crates/letters/out/rlib/stamp', b'', 0o644))
     words.expect(lacks, 1, ANEW='1')

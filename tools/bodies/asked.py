@@ -89,7 +89,7 @@ def tried_side_by_side(asked: List[Asked], kit: Kit, kept: Kept) -> Iterator[Res
         tree = Tree(Path(folder), [one.crate for one in asked], kit)
         lacking = {name for one in asked for name in tree.lacking(one.crate)}
         if lacking:
-            raise NotBuilt(f'not built of the sources here: {", ".join(sorted(lacking))}; run make build first, or ANEW=1 make gate')
+            raise NotBuilt(f'not built of the sources here: {", ".join(sorted(lacking))}; run make build first, or make gate')
         with ThreadPoolExecutor(kit.lanes()) as pool:
             begun: List[Future[Result]] = []
             try:
