@@ -2,7 +2,7 @@
 
 import os
 from pathlib import Path
-from typing import Dict, NamedTuple, Sequence, Tuple
+from typing import Dict, NamedTuple, Sequence
 
 import pytest
 
@@ -61,7 +61,9 @@ ROUNDS = [
         words=['--gate'],
         gate=[0, 1, 2],
     ),
-    Bodies('too few for the gate', ["of 2 only 1 are marked '# gate'", '1 passed, 1 failed'], {0: 'doubtful', 1: 'right'}, {}, 1, ['--gate'], [0]),
+    Bodies('too few for the gate', ["of 2 only 1 are marked 'gate'", '1 passed, 1 failed'], {0: 'doubtful', 1: 'right'}, {}, 1, ['--gate'], [0]),
+    Bodies('two of a name', ['FAILED: words/wrong_3: another one has its name', '0 passed, 2 failed'], {3: 'false'}, {}, 1, more='\nwrong_3 (f3)\nold: right 3\n'),
+    Bodies('no name above an edit', ["FAILED: words/old: right 3: a wrong body begins with 'NAME (FUNCTION)", '1 failed'], {3: 'false'}, {}, 1, more='\nold: right 3\n'),
     Bodies('a body that stands nowhere', ["FAILED: words/wrong_7: its text 'old' is in src/lib.rt 0 times", '0 passed, 1 failed'], {7: 'false'}, {}, 1),
 ]
 
@@ -96,7 +98,6 @@ class Words:
 
     def __init__(self, place: Place) -> None:
         self.place = place
-        self._paths: Sequence[str] = ()
         self._kit = place.put('../words kit/bin/rt', b'#!/bin/sh\nexit 1\n')
         for name in ('rtlib.py', 'rattle'):
             place.stand_in(name, f'../words kit/bin/{name}')
@@ -109,13 +110,7 @@ class Words:
 
     def write(self, row: Bodies) -> None:
         """The wrong bodies of a row, in place of those that were there."""
-        self.remove()
-        self._paths = [self.place.put(path, text, 0o644) for path, text in edits(row)]
-
-    def remove(self) -> None:
-        for path in self._paths:
-            os.remove(path)
-        self._paths = ()
+        self.place.put('crates/words/wrong-bodies.edits', edits(row).encode(), 0o644)
 
     def asked(self) -> str:
         """What the prover was asked for so far, a line for each time."""
@@ -125,14 +120,15 @@ class Words:
         self.place.run(['tools/test_bodies', *words], env={'RT': self._kit, **env}).expect(*says, status=status)
 
 
-def edits(row: Bodies) -> Sequence[Tuple[str, bytes]]:
-    found = []
+def edits(row: Bodies) -> str:
+    found = ['# Some words.\n']
     for n, word in row.wrong.items():
-        lines = ['# gate\n'] * (n in row.gate) + ['file: src/lib.rt\n', f'old: {"just" if n >= 20 else "right"} {n % 10}\n', f'new: {word}\n']
+        lines = [f'wrong_{n} (f{n % 10}{", gate" * (n in row.gate)}): the word\n  is another.\n', 'file: src/lib.rt\n']
+        lines += [f'old: {"just" if n >= 20 else "right"} {n % 10}\n', f'new: {word}\n']
         lines += [f'# twin: {row.twins[n]}\n'] if n in row.twins else []
         lines += [row.more]
-        found.append((f'crates/words/wrong-bodies/wrong_{n}.edit', ''.join(lines).encode()))
-    return found
+        found.append(''.join(lines))
+    return '\n'.join(found)
 
 
 def test_libraries(words: Words) -> None:
@@ -140,7 +136,7 @@ def test_libraries(words: Words) -> None:
     words.write(ROUNDS[0])
     put = words.place.put
     put('crates/letters/src/lib.rt', b'other letters\n', 0o644)
-    lacks = ['not built of the sources here: letters; run make build first, or ANEW=1 make gate', '0 passed, 1 failed']
+    lacks = ['not built of the sources here: letters; run make build first, or make gate', '0 passed, 1 failed']
     words.expect(lacks, 1, ANEW='1')
     os.remove(put('crates/letters/out/rlib/stamp', b'', 0o644))
     words.expect(lacks, 1, ANEW='1')
@@ -152,7 +148,7 @@ def test_libraries(words: Words) -> None:
     note = put('build/libraries', sum_of_sources(KIT, Path(words.place.path)).encode(), 0o644)
     words.expect(['4 passed, 0 failed'], ANEW='1')
     # A wrong body is none of them.
-    others = put('crates/letters/wrong-bodies/others.edit', b'', 0o644)
+    others = put('crates/letters/wrong-bodies.edits', b'', 0o644)
     words.expect(['4 passed, 0 failed'], ANEW='1')
     os.remove(others)
     put('crates/letters/src/lib.rt', b'more letters\n', 0o644)

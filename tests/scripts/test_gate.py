@@ -1,14 +1,13 @@
-"""What the gate says of parts that pass, fail, skip, or say nothing, and what it takes from an earlier one."""
+"""What the gate says of parts that pass, fail, skip, or say nothing."""
 
 import os
 import re
-from typing import Callable, List, Mapping, NamedTuple, Optional, Sequence, Tuple
+from typing import List, Mapping, NamedTuple, Sequence, Tuple
 
 import pytest
 
 from tests.harness import by_name
 from tests.scripts.place import Place
-from tests.scripts.small import put, remove
 from tests.harness.program import Ended
 
 PROVED = '5 passed, 0 failed'
@@ -56,57 +55,8 @@ ROUNDS = [
 #: Ways to start the gate, each with the folder from which; and what a stranger's machine runs: the tests, which are a part of the gate too, and then the gate.
 WAYS = [(['make', 'gate'], '', 0), (['../../tools/gate'], 'crates/puzzles', 0), (['.ci/run'], '', 1), (['bash', '../.ci/run'], 'man', 1)]
 
-#: No gate of these cases has anything from another.
+#: All is proved anew.
 ANEW = {'ANEW': '1'}
-
-FAILS = ('3 passed, 2 failed', 1)
-
-
-class Again(NamedTuple):
-    """What is done after a gate has passed, and whether the next one takes its proofs for its own, though they would fail now."""
-
-    name: str
-    does: Callable[[Place], object]
-    is_kept: bool
-    env: Mapping[str, str] = {}
-
-
-def damage(place: Place) -> None:
-    """Another byte in the middle of all that is kept."""
-    for path in kept_files(place):
-        content = bytearray(place.file(path))
-        content[len(content) // 2] ^= 1
-        place.put(path, bytes(content), 0o644)
-
-
-def cut(place: Place) -> None:
-    for path in kept_files(place):
-        place.put(path, place.file(path)[:1000], 0o644)
-
-
-AGAINS = [
-    Again('nothing is changed', lambda place: None, True),
-    Again('the programs are gone', remove('crates/puzzles/out/puzzles'), True),
-    Again('what is made has changed', put('crates/puzzles/out/more', b'more'), True),
-    Again('a document has changed', put('README.md', b'Read this.\n'), True),
-    Again('all is to be done anew', lambda place: None, False, ANEW),
-    Again('a source has changed', put('crates/puzzles/src/lib.rt', b'// More.\n'), False),
-    Again('a wrong body is new', put('crates/puzzles/must-fail/one.edit', b'file:\n'), False),
-    Again('a file is gone', remove('crates/puzzles/must-fail/one.edit'), True),
-    Again('the list of crates has changed', put('crates.txt', b'puzzles:\n'), False),
-    Again('what may be used has changed', put('HANDLES', b'Handles allowed: all.\n'), False),
-    Again('another prover', lambda place: None, False, {'RT_VERSION': 'the next kit'}),
-    Again('what is kept is damaged', damage, False),
-    Again('what is kept is cut off', cut, False),
-    Again('no folder is named', lambda place: None, False, {'HOME': '', 'XDG_CACHE_HOME': ''}),
-    Again('another folder is named', lambda place: None, False, {'XDG_CACHE_HOME': '/nowhere'}),
-]
-
-#: Where results are kept, seen from the copy.
-KEPT = '../.cache/verified-puzzles/gate'
-
-#: How many results are kept.
-MOST = 4
 
 
 @pytest.fixture
@@ -175,39 +125,3 @@ def test_logged(place: Place, scripts: List[str], help_text: str, asked: str) ->
     for text in (r'\Acommit unknown\nprover a kit that proves nothing\n== ', rf'^asked for {asked} in checkout$',
                  r'^[0-9a-f]{64}  crates/puzzles/out/puzzles$', r'^[0-9]+ passed, 0 failed, 0 skipped\n\Z'):
         assert re.search(text, log, re.MULTILINE), log
-
-
-def test_results_are_kept(place: Place, scripts: List[str]) -> None:
-    """What has passed is taken from the last gate, as long as nothing of it has changed; what has failed never is."""
-
-    def fails(is_kept: bool, env: Optional[Mapping[str, str]] = None) -> Ended:
-        """The proofs would fail now."""
-        ended = gate(place, FAILS, env)
-        expect_last(ended, f'{len(scripts) + (5 if is_kept else 3)} passed, {0 if is_kept else 2} failed, 0 skipped', int(not is_kept))
-        return ended
-
-    for row in AGAINS:
-        gate(place, (PROVED, 0))
-        row.does(place)
-        assert (b'(kept from 20' in fails(row.is_kept, row.env).output) == row.is_kept
-        assert place.file('crates/puzzles/out/puzzles') == place.file(place.program)
-    source = 'crates/puzzles/src/lib.rt'
-    put(source, b'// What fails.\n')(place)
-    gate(place, FAILS)
-    fails(False)
-    for number in range(MOST + 2):
-        put(source, b'// Number %d.\n' % number)(place)
-        gate(place, (PROVED, 0))
-    assert len(kept_files(place)) == MOST
-    for number, is_kept in ((0, False), (MOST + 1, True)):
-        put(source, b'// Number %d.\n' % number)(place)
-        fails(is_kept)
-
-
-def gate(place: Place, proofs: Tuple[str, int], env: Optional[Mapping[str, str]] = None) -> Ended:
-    return place.run(['tools/gate'], env={'RT_SAYS': proofs[0], 'RT_STATUS': str(proofs[1]), **(env or {})})
-
-
-def kept_files(place: Place) -> List[str]:
-    folder = os.path.join(place.path, KEPT)
-    return [f'{KEPT}/{name}' for name in os.listdir(folder)]

@@ -3,14 +3,13 @@
 import os
 import re
 import shutil
-from typing import Iterator, NamedTuple, Sequence
+from typing import NamedTuple, Sequence
 
 import pytest
 
 from tests.scripts.place import Place
-from tests.scripts.small import remove
 from tests.board.playing import PROMPT
-from tests.harness import Ended, Room, by_name
+from tests.harness import Ended, by_name
 from tests.harness.game import ID, PICTURE, save_text
 
 
@@ -31,7 +30,7 @@ SHOWN = PICTURE.decode()
 #: A save of Unequal.
 UNEQUAL_SAVE = save_text(0).replace(b':6:Towers', b':7:Unequal').replace(b':13:3//////3/////', b':22:0,0L,0L,0U,0,0,0U,0,0,')
 
-#: What `make` leaves.
+#: What a build leaves.
 PROGRAMS = ['build/puzzles', 'build/puzzles-json']
 
 ROUNDS = [
@@ -60,8 +59,17 @@ UNBUILT = [
     Make('make site', ['make', 'site'], 2, [NO_PAGE]),
 ]
 
-#: Where the programs are built already.
-OF_BUILT = [
+
+def expect(place: Place, row: Make, **env: str) -> Ended:
+    """Runs the command. The named words are what else the environment has."""
+    return place.run(row.words, cwd=row.cwd, input=row.input, env=env).expect(*row.says, status=row.status)
+
+
+#: No command `rt` is there.
+WITHOUT_KIT = {'RT': '/no kit'}
+
+OF_THE_TREE = [
+    Make('make', ['make']),
     Make('make play, an ID in a pipe', ['make', 'play', f'ID={ID}'], says=[SHOWN], input=b'show\n'),
     Make('make sheet, of seeds', ['make', 'sheet'], says=['build/sheet.html is there']),
     Make('make play, no ID in a pipe', ['make', 'play'], says=['+ '], input=b'show\n'),
@@ -78,43 +86,20 @@ OF_BUILT = [
     Make('make sheet, of a save', ['make', 'sheet', 'IDS=../a.sav', 'WORDS=--large'], says=['build/sheet.html is there']),
     Make('make sheet, a list that is not there', ['make', 'sheet', "IDS=it's"], 2, ["it's can't be read"]),
     Make('make play, from elsewhere', ['make', '-C', '..', 'play', f'ID={ID}'], says=['3:3'], input=b'id\n', cwd='man'),
-]
-
-
-def expect(place: Place, row: Make, **env: str) -> Ended:
-    """Runs the command. The named words are what else the environment has."""
-    return place.run(row.words, cwd=row.cwd, input=row.input, env=env).expect(*row.says, status=row.status)
-
-
-def test_builds(place: Place) -> None:
-    """`make` leaves both programs, from any folder, and says where a proof has failed."""
-    for words, cwd in ((['tools/build'], ''), (['../../tools/build'], 'crates/puzzles')):
-        place.run(words, cwd=cwd).expect('12 functions proved')
-        assert all(map(place.file, PROGRAMS))
-        remove(*PROGRAMS)(place)
-    place.run(['make'], env={'RT_SAYS': 'an open goal', 'RT_STATUS': '1'}).expect('not built', 'an open goal', status=2)
-    assert not any(map(place.file, PROGRAMS))
-
-
-#: No command `rt` is there.
-WITHOUT_KIT = {'RT': '/no kit'}
-
-OF_THE_TREE = [
-    Make('make', ['make']),
-    Make('make play', ['make', 'play', f'ID={ID}'], says=[SHOWN], input=b'show\n'),
-    Make('make play, no input', ['make', 'play'], says=['+ ', 'to play on']),
     Make('make build', ['make', 'build'], 2, ['not built: there is no command /no kit']),
 ]
 
 
 def test_from_the_tree(place: Place) -> None:
-    """`make play` takes the programs that are stored, without a kit and without a build."""
+    """The programs that are stored play, without a kit and without a build."""
     place.run(['make', 'programs']).expect('stored: programs/linux-amd64/puzzles\n', 'stored: programs/RECORD')
     shutil.rmtree(os.path.join(place.path, 'build'))
+    place.put('../a.sav', save_text(1), 0o644)
+    place.put('../b.sav', UNEQUAL_SAVE, 0o644)
     for row in OF_THE_TREE:
         expect(place, row, **WITHOUT_KIT)
     in_a_terminal(place, **WITHOUT_KIT)
-    assert not os.path.exists(os.path.join(place.path, 'build'))
+    assert not any(map(place.file, PROGRAMS))
 
 
 def in_a_terminal(place: Place, **env: str) -> None:
@@ -153,33 +138,6 @@ def test_unbuilt(place: Place, row: Make) -> None:
     ended = expect(place, row)
     assert 'functions proved' not in ended.said
     assert not os.path.exists(os.path.join(place.path, 'build'))
-
-
-@pytest.fixture(scope='module')
-def first_built(memory: str, first_place: Place) -> Iterator[Place]:
-    """Others are copied from it."""
-    with Room(memory) as room:
-        built = Place(room, first_place.program, first_place.objects, first_place)
-        built.run(['make']).expect('12 functions proved')
-        yield built
-
-
-@pytest.mark.parametrize('row', OF_BUILT, ids=by_name)
-def test_built(memory: str, first_built: Place, row: Make) -> None:
-    with Room(memory) as room:
-        expect_built(Place(room, first_built.program, first_built.objects, first_built), row)
-
-
-def expect_built(place: Place, row: Make) -> None:
-    place.put('../a.sav', save_text(1), 0o644)
-    place.put('../b.sav', UNEQUAL_SAVE, 0o644)
-    ended = expect(place, row)
-    assert 'functions proved' not in ended.said
-
-
-def test_in_a_terminal(memory: str, first_built: Place) -> None:
-    with Room(memory) as room:
-        in_a_terminal(Place(room, first_built.program, first_built.objects, first_built))
 
 
 def last_line(place: Place, *words: str) -> str:

@@ -62,7 +62,6 @@ def test_tree(small: Small) -> None:
     small.place.give()
     small.expect(small.run(), [])
     other_sources(small)
-    elsewhere(small)
     stored_again(small)
     compared(small)
 
@@ -131,13 +130,6 @@ def other_sources(small: Small) -> None:
     small.expect(small.run('tools/programs', 'store', RT_BAD='high'), ['high'], 1, [b'not built: high'])
     put(path, old)(small.place)
     where(small, FOLDER)
-
-
-def elsewhere(small: Small) -> None:
-    """A copy has other dates and another owner, and there is no git."""
-    way = '../else where'
-    words = ['sh', '-c', 'mkdir "$0" && cp -r tools programs crates crates.txt "$0" && cd "$0" && rm -rf crates/*/out && tools/programs where', way]
-    expect(small, small.run(*words, RT='/no kit'), f'{FOLDER}\n'.encode())
 
 
 def stored_again(small: Small) -> None:

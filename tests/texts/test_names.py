@@ -5,6 +5,8 @@ from typing import Dict, Iterator, Set
 
 import pytest
 
+from bodies.edits import bodies_in
+from bodies.sources import places_of
 from tests.objects import schema
 from tests.texts import sources
 from tests.texts.parts import ROOT, documents, found, items, part, read, without_samples
@@ -35,7 +37,7 @@ class Known:
             return words.split()[1] in self.make
         if re.fullmatch(r'\w+::\w+', words):
             return self.has_member(*words.split('::'))
-        if re.fullmatch(r'\.?[A-Za-z][\w./-]*(/|/\w+|\.(rt|antt|edit|md|txt|c|bash|fish|zsh|py|5|6))', words):
+        if re.fullmatch(r'\.?[A-Za-z][\w./-]*(/|/\w+|\.(rt|antt|edits|md|txt|c|bash|fish|zsh|py|5|6))', words):
             return bool(re.search(NOT_THERE, words)) or any(f'/{file}'.endswith('/' + words.rstrip('/')) for file in self.files)
         return words in self.names or not re.fullmatch(r'[A-Za-z][A-Za-z_]{2,}', words)
 
@@ -74,11 +76,11 @@ def test_crates(document: str, heading: str, known: Known) -> None:
 
 @pytest.mark.parametrize('crate', sorted(sources.crates()))
 def test_wrong_bodies(crate: str) -> None:
-    """Each in the list beside them is one of the crate."""
-    folder = ROOT / 'crates' / crate / 'wrong-bodies'
-    listed_there = part((folder / 'README.md').read_text(encoding='utf-8'), '# Wrong bodies', '^## ') if folder.is_dir() else ''
-    named = {name for item in items(listed_there) for name in item.partition(':')[0].split(', ')}
-    assert not named - sources.wrong_bodies(crate)
+    """Each stands in the functions that its first line names."""
+    folder = ROOT / 'crates' / crate
+    bodies = [body for body in bodies_in(folder) if not body.is_must_fail]
+    stand = {body.name: tuple(sorted({place.name for place in places_of(body.wrong, folder)})) for body in bodies}
+    assert stand == {body.name: body.functions for body in bodies}
 
 
 def test_to_read() -> None:

@@ -7,7 +7,7 @@ from concurrent.futures import Future, ThreadPoolExecutor, as_completed
 from pathlib import Path
 from typing import Generator, Iterable, Iterator, List, NamedTuple, Tuple
 
-from bodies.edits import MUST_FAIL, Body, Edit
+from bodies.edits import Body, Edit
 from bodies.kept import Kept
 from bodies.kit import Kit, Tree
 from bodies.outcomes import Outcome, name_of_twin, of_bodies, of_kept, of_twins
@@ -32,11 +32,11 @@ class Asked(NamedTuple):
         chosen = [body for body in bodies if body.is_in_gate or mode != '--gate']
         faults = [Outcome(body.name, body.fault) for body in bodies if body.fault]
         if len(chosen) < min(LEAST, len(bodies)):
-            faults.append(Outcome('the wrong bodies for the gate', f"of {len(bodies)} only {len(chosen)} are marked '# gate'"))
+            faults.append(Outcome('the wrong bodies for the gate', f"of {len(bodies)} only {len(chosen)} are marked 'gate'"))
         fit = [body for body in chosen if not body.fault]
         twins = [body.twin for body in fit if body.twin.pairs and mode != '--wrong']
         # `rt ci`, which tries these one by one, is a part of the gate.
-        wrong = [body.wrong for body in fit if mode != '--twins' and not (mode == '--gate' and body.folder == MUST_FAIL)]
+        wrong = [body.wrong for body in fit if mode != '--twins' and not (mode == '--gate' and body.is_must_fail)]
         return Asked(crate, twins, wrong, [body.name for body in fit if not body.twin.pairs], faults)
 
     def left(self, kept: Kept) -> Tuple[Asked, List[Outcome]]:
@@ -89,7 +89,7 @@ def tried_side_by_side(asked: List[Asked], kit: Kit, kept: Kept) -> Iterator[Res
         tree = Tree(Path(folder), [one.crate for one in asked], kit)
         lacking = {name for one in asked for name in tree.lacking(one.crate)}
         if lacking:
-            raise NotBuilt(f'not built of the sources here: {", ".join(sorted(lacking))}; run make build first, or ANEW=1 make gate')
+            raise NotBuilt(f'not built of the sources here: {", ".join(sorted(lacking))}; run make build first, or make gate')
         with ThreadPoolExecutor(kit.lanes()) as pool:
             begun: List[Future[Result]] = []
             try:

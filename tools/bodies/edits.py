@@ -2,15 +2,20 @@
 
 from __future__ import annotations
 
+import re
+from collections import Counter
 from pathlib import Path
-from typing import Dict, Iterable, List, NamedTuple, Tuple
+from typing import Dict, Iterable, Iterator, List, NamedTuple, Tuple
 
 #: The text of each file of a crate that is edited, by its path in the crate.
 Texts = Dict[str, str]
 
-#: Where the wrong bodies of a crate lie: those that `rt ci` tries, and all others.
-MUST_FAIL, WRONG_BODIES = 'must-fail', 'wrong-bodies'
-FOLDERS = (MUST_FAIL, WRONG_BODIES)
+#: Where the wrong bodies of a crate stand: those that `rt ci` tries in files of a folder, and all others in one file.
+MUST_FAIL, WRONG_BODIES = 'must-fail', 'wrong-bodies.edits'
+
+#: How a wrong body begins there: its name; the functions in which it stands, and `gate` if the gate tries it; and what it does, if its name doesn't say all
+#: of that. Lines that go on with this are further in. Its edit follows.
+HEAD = re.compile(r'(\w+) \((\w+(?:, \w+)*)\)(?:: .*(?:\n  .*)*)?\n')
 
 
 class Pair(NamedTuple):
@@ -29,27 +34,28 @@ class Edit(NamedTuple):
 
 
 class Body(NamedTuple):
-    """A wrong body and its twin, both by its name; the folder that it lies in, whether the gate tries it, and why its file can't be read so, or nothing."""
+    """A wrong body and its twin, both by its name, and why its text can't be read so, or nothing; the functions in which its first line says that it stands,
+    whether the gate tries it, and whether `rt ci` does."""
 
     name: str
     wrong: Edit
     twin: Edit
-    folder: str
-    is_in_gate: bool
     fault: str
+    functions: Tuple[str, ...] = ()
+    is_in_gate: bool = False
+    is_must_fail: bool = False
 
 
 class BadEdit(Exception):
     """An edit can't be applied. Its text says why."""
 
 
-def read_body(path: Path) -> Body:
-    """What a file says of a wrong body. Its twin is what stands after `# twin:` right below each line `new:`; one that is lacking has no pair."""
+def read_edit(name: str, edit: str) -> Body:
+    """What an edit says. Its twin is what stands after `# twin:` right below each line `new:`; one that is lacking has no pair."""
     file, old, fault, above = '', '', '', ''
     wrong: List[Pair] = []
     twin: List[Pair] = []
-    is_in_gate = False
-    for line in path.read_text(encoding='utf-8').split('\n'):
+    for line in edit.split('\n'):
         key, _, text = line.partition(':')
         text = text[1:] if text.startswith(' ') else text
         if key == 'file':
@@ -60,21 +66,35 @@ def read_body(path: Path) -> Body:
             wrong.append(Pair(file, old, text))
         elif key == '# twin' and above == 'new':
             twin.append(Pair(file, old, text))
-        elif line == '# gate':
-            is_in_gate = True
         elif line.strip():
             fault = f'nothing reads its line {line!r} there'
         above = key
     if twin and len(twin) < len(wrong):
         fault = "a line '# twin:' is lacking below a line 'new:'"
-    name = path.stem
-    return Body(name, Edit(name, tuple(wrong)), Edit(name, tuple(twin)), path.parent.name, is_in_gate or path.parent.name == MUST_FAIL, fault)
+    return Body(name, Edit(name, tuple(wrong)), Edit(name, tuple(twin)), fault)
 
 
-def bodies_in(crate: Path, folders: Iterable[str] = FOLDERS) -> List[Body]:
-    """The wrong bodies of a crate in these folders of it, by name."""
-    paths = (path for folder in folders for path in (crate / folder).glob('*.edit'))
-    return sorted(read_body(path) for path in paths)
+def read_list(text: str) -> Iterator[Body]:
+    """The wrong bodies of a crate's file. Each is a paragraph; one that begins with `#` is a remark."""
+    for paragraph in re.split('\n{2,}', text.strip('\n')):
+        head = HEAD.match(paragraph)
+        if head:
+            words = head[2].split(', ')
+            body = read_edit(head[1], paragraph[head.end() :])
+            yield body._replace(functions=tuple(word for word in words if word != 'gate'), is_in_gate='gate' in words)
+        elif paragraph and not paragraph.startswith('#'):
+            line = paragraph.partition('\n')[0]
+            yield read_edit(line, '')._replace(fault="a wrong body begins with 'NAME (FUNCTION): ..' and its edit below")
+
+
+def bodies_in(crate: Path) -> List[Body]:
+    """The wrong bodies of a crate, by name."""
+    file = crate / WRONG_BODIES
+    found = list(read_list(file.read_text(encoding='utf-8'))) if file.is_file() else []
+    for path in (crate / MUST_FAIL).glob('*.edit'):
+        found.append(read_edit(path.stem, path.read_text(encoding='utf-8'))._replace(is_in_gate=True, is_must_fail=True))
+    counts = Counter(body.name for body in found)
+    return sorted(body if counts[body.name] == 1 else body._replace(fault='another one has its name') for body in found)
 
 
 def applied(edit: Edit, crate: Path, texts: Texts) -> Texts:

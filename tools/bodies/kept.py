@@ -2,20 +2,21 @@
 
 from __future__ import annotations
 
+import contextlib
 import hashlib
 import json
 import os
+import tempfile
 from pathlib import Path
 from typing import Dict, Iterable, List, Optional
 
-from bodies.edits import FOLDERS, Edit
+from bodies.edits import MUST_FAIL, WRONG_BODIES, Edit
 from building.crates import PARTS, all_of, listed, own
-from gating.kept import Store
 
 #: What a result was found by, beside the kit: these scripts.
 SCRIPTS = Path(__file__).resolve().parent
 
-#: How many results are kept: those of all crates in some versions.
+#: How many results are kept, those that were asked for last: those of all crates in some versions.
 MOST = 5000
 
 
@@ -25,7 +26,7 @@ class Kept:
     def __init__(self, kit: str) -> None:
         self._kit = f'{kit} {sum_of_files(SCRIPTS, ["."])}'
         self._is_anew = os.environ.get('ANEW') == '1'
-        self._store = Store('bodies', MOST)
+        self._store = Store()
         self._sums: Dict[str, str] = {}
 
     def key(self, crate: str, what: str, edit: Edit) -> str:
@@ -50,11 +51,46 @@ def sum_of(texts: Iterable[str]) -> str:
 def sum_of_crates(names: Iterable[str], with_edits: bool = False) -> str:
     """The sum of these crates and of all below them."""
     crates = listed()
-    folders = [*PARTS, *(FOLDERS if with_edits else ())]
-    return sum_of(text for name in sorted(all_of(names, crates)) for text in [name, *crates[name], sum_of_files(own(name), folders)])
+    parts = [*PARTS, *((MUST_FAIL, WRONG_BODIES) if with_edits else ())]
+    return sum_of(text for name in sorted(all_of(names, crates)) for text in [name, *crates[name], sum_of_files(own(name), parts)])
 
 
-def sum_of_files(top: Path, folders: Iterable[str]) -> str:
-    """The sum of the files in these folders, with their paths."""
-    files = sorted(path for folder in folders for path in (top / folder).rglob('*') if path.is_file() and '__pycache__' not in path.parts)
+def sum_of_files(top: Path, parts: Iterable[str]) -> str:
+    """The sum of these files, and of those in these folders, with their paths."""
+    paths = (path for part in parts for path in [top / part, *(top / part).rglob('*')])
+    files = sorted(path for path in paths if path.is_file() and '__pycache__' not in path.parts)
     return sum_of(text for path in files for text in [str(path.relative_to(top)), hashlib.sha256(path.read_bytes()).hexdigest()])
+
+
+class Store:
+    """A folder of results. Each is a file that is named for its key, and begins with a sum over that and what follows; one that isn't whole counts for nothing.
+    Nothing is kept if the environment names no place for the folder, or nothing can be written there."""
+
+    def __init__(self) -> None:
+        cache = os.environ.get('XDG_CACHE_HOME') or (os.environ.get('HOME') and os.path.join(os.environ['HOME'], '.cache'))
+        self._folder = Path(cache, 'verified-puzzles', 'bodies') if cache and os.path.isabs(cache) else None
+
+    def find(self, key: str) -> Optional[bytes]:
+        with contextlib.suppress(OSError):
+            if self._folder:
+                file = self._folder / key
+                check, _, content = file.read_bytes().partition(b'\n')
+                if check == check_of(key, content):
+                    os.utime(file)
+                    return content
+        return None
+
+    def keep(self, key: str, content: bytes) -> None:
+        """Keeps a result, whole or not at all."""
+        with contextlib.suppress(OSError):
+            if self._folder:
+                self._folder.mkdir(mode=0o700, parents=True, exist_ok=True)
+                with tempfile.NamedTemporaryFile(dir=self._folder, prefix='.new.', delete=False) as file:
+                    file.write(check_of(key, content) + b'\n' + content)
+                os.replace(file.name, self._folder / key)
+                for path in sorted(self._folder.iterdir(), key=lambda path: path.stat().st_mtime)[:-MOST]:
+                    path.unlink()
+
+
+def check_of(key: str, content: bytes) -> bytes:
+    return hashlib.sha256(key.encode() + content).hexdigest().encode()

@@ -1,4 +1,4 @@
-"""What has changed since the last build, by the texts of the files: where it is nothing, `rt` isn't asked."""
+"""Detects the crates that have changed since the last build by the checksums of their files, so that `rt` isn't called if there are none."""
 
 from __future__ import annotations
 
@@ -19,7 +19,7 @@ FILES = ('args', 'stdin', 'status')
 
 
 class Stamp:
-    """What is known of the last build: the kit, and the sum of the texts of each crate that was proved with it and of each program that was left."""
+    """What is known of the last build: its kit, and the checksums of the crates that it proved and of the programs that it left."""
 
     def __init__(self, kit: str) -> None:
         self.kit = kit
@@ -27,7 +27,7 @@ class Stamp:
 
     @staticmethod
     def read(kit: str) -> Stamp:
-        """Nothing is known where there is no stamp, where it can't be read, and of another kit."""
+        """Nothing is known if there is no stamp, if it can't be read, or if it is of another kit."""
         stamp = Stamp(kit)
         if os.path.isfile(STAMP):
             with open(STAMP, encoding='utf-8', errors='replace') as file:
@@ -43,8 +43,8 @@ class Stamp:
         os.replace(f'{STAMP}.new', STAMP)
 
     def changed(self, crates: Listed) -> Set[str]:
-        """The crates to be asked for: the programs, and what is below them, that aren't as they were, and all above those. Where there are some,
-        also those whose statements aren't there."""
+        """The crates to prove again: those that have changed of the programs and all below them, and those above these. If there are some, also those whose
+        statements are lacking."""
         needed = all_of(PROGRAMS, crates)
         changed = {name for name in needed if self.sums.get(name) != sum_of_crate(name, crates)}
         changed |= {name for name, left in PROGRAMS.items() if not all(map(self._is_as_left, left))}

@@ -11,7 +11,7 @@ from building.proofs import Ended
 
 
 class Progress:
-    """On a terminal one line, which is written anew each second; else a line for each crate that has ended."""
+    """On a terminal one line, which is written anew each second; otherwise a line for each crate that has ended."""
 
     def __init__(self, crates: int) -> None:
         self._crates = crates

@@ -1,4 +1,4 @@
-"""Which programs are those of the sources that are here: the ones in the tree, or the ones that were built."""
+"""Finds the programs that were built of the sources here: those in the tree, or those in build/."""
 
 from __future__ import annotations
 
@@ -7,7 +7,7 @@ import sys
 from building.record import BUILT, STRANGE, TREE, Programs, sum_of_sources
 
 
-#: What is to be typed where there are none.
+#: What to type if there are none.
 ADVICE = 'run make, which proves and builds them: that needs the kit, and may take an hour'
 
 
@@ -16,7 +16,7 @@ class NotReady(Exception):
 
 
 def where() -> int:
-    """Prints the folder of the programs. Where those in the tree aren't of these sources it says so, and proves and builds. Gives the status to end with."""
+    """Prints the folder of the programs. If those in the tree are of other sources, it says so, proves and builds. Gives the status to end with."""
     if STRANGE:
         print(STRANGE, file=sys.stderr)
         return 1

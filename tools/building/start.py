@@ -1,4 +1,4 @@
-"""The start of a build: mostly it finds that there is nothing to do."""
+"""The start of a build, which mostly finds nothing to do."""
 
 from __future__ import annotations
 

@@ -1,8 +1,7 @@
 """Where a crate is proved: in a tree of its own below build/, with copies of the crates below it.
 
-`rt` keeps every other `rt` out of a crate and of all below it for as long as a proof takes, so in one tree no two crates that stand on a third could
-be proved at the same time. In the copies the statements of the crates below are the same files, and what earlier proofs of the crate itself kept is
-brought there and back.
+While `rt` proves a crate, every other `rt` has to wait for it and for all crates below it. So two crates over a third can't be proved in one tree at the
+same time. The copies share the files with the statements of the crates below. What earlier proofs of the crate itself have kept is moved there and back.
 """
 
 from __future__ import annotations

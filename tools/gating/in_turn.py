@@ -30,9 +30,9 @@ class Turns:
         self._summary: List[str] = []
 
     def say(self, text: str) -> None:
-        self.pass_on(text.encode() + b'\n')
+        self._pass_on(text.encode() + b'\n')
 
-    def pass_on(self, text: bytes) -> None:
+    def _pass_on(self, text: bytes) -> None:
         sys.stdout.flush()
         sys.stdout.buffer.write(text)
         sys.stdout.buffer.flush()
@@ -46,14 +46,11 @@ class Turns:
 
     def part(self, name: str, words: Sequence[str]) -> Said:
         """Runs a part, and counts its cases."""
-        self.begin(name)
+        self.say(f'== {name}')
         begun, used = time.monotonic(), processor_seconds()
         said = self._run(words)
-        self.count(name, said, f'{time.monotonic() - begun:.0f} s, and {processor_seconds() - used:.0f} s of a processor')
+        self._count(name, said, f'{time.monotonic() - begun:.0f} s, and {processor_seconds() - used:.0f} s of a processor')
         return said
-
-    def begin(self, name: str) -> None:
-        self.say(f'== {name}')
 
     def _run(self, words: Sequence[str]) -> Said:
         """Runs a command without any input, and passes on what it says. A skip is for it what it is here."""
@@ -70,13 +67,13 @@ class Turns:
             try:
                 for piece in iter(lambda: os.read(descriptor, 1 << 16), b''):
                     said.append(piece)
-                    self.pass_on(piece)
+                    self._pass_on(piece)
             except BaseException:
                 process.terminate()
                 raise
         return Said(b''.join(said), process.returncode)
 
-    def count(self, name: str, said: Said, note: str) -> None:
+    def _count(self, name: str, said: Said, note: str) -> None:
         """Counts what a part has said, with a note for its line."""
         counts, odd = counted(said.text, said.status)
         if odd:

@@ -1,22 +1,18 @@
-"""The part of the gate that proves: `rt ci`, or, where that has passed here with the same prover and the same sources, what it said and built then."""
+"""The part of the gate that proves: `rt ci`, and a note of the sources of which it left libraries."""
 
 from __future__ import annotations
 
 import contextlib
 import hashlib
-import json
 import os
 import shutil
 import subprocess
-import time
-from base64 import b64decode, b64encode
 from pathlib import Path
-from typing import Dict, Iterator, Mapping, Sequence
+from typing import Iterator, Sequence
 
 from bodies.edits import WRONG_BODIES
 from gating.counts import counted
-from gating.in_turn import Said, Turns
-from gating.kept import Store
+from gating.in_turn import Turns
 
 #: The files and folders that `rt ci` reads, but in a crate what it makes itself, and wrong bodies that others try.
 READ = ['crates.txt', 'HANDLES', 'crates']
@@ -27,41 +23,25 @@ UNREAD = ['out', WRONG_BODIES]
 LIBRARIES = 'crates/*/out/rlib'
 NOTE = Path('build', 'libraries')
 
-#: A kit that takes what an earlier run has kept beside it, and then leaves no library of a crate where it finds all of them, does all anew by this
-#: word. Others don't know it, and always do.
+#: A kit that takes what an earlier run has kept beside it does all anew by this word. Others don't know it, and always do.
 ALL_ANEW = '--anew'
-
-#: How many results are kept.
-MOST = 4
-
-#: What of a result is kept beside the programs: what was said, and when.
-SAID, WHEN = 'said', 'when'
 
 
 def prove(turns: Turns, name: str, rt: str, prover: str, programs: Sequence[str], is_anew: bool) -> None:
     """Counts the proofs. The programs that other parts try are then those that were built of these sources."""
-    key, store = sum_of_sources(prover), Store('gate', MOST)
-    found = None if is_anew else store.find(key)
-    for program in programs:
+    before = sum_of_sources(prover)
+    for path in [*map(Path, programs), NOTE]:
         with contextlib.suppress(FileNotFoundError):
-            os.unlink(program)
-    if found:
-        from_kept(turns, name, unpacked(found), programs)
-        return
+            path.unlink()
     # The libraries that other parts check with are those that are built here, too: `rt ci` would bring back those that it finds.
-    with contextlib.suppress(FileNotFoundError):
-        NOTE.unlink()
     for library in Path().glob(LIBRARIES):
         shutil.rmtree(library)
     said = turns.part(name, [rt, 'ci', *([ALL_ANEW] if is_anew and ALL_ANEW in help_of(rt) else [])])
     counts, odd = counted(*said)
     has_passed = said.status == 0 and not odd and counts.passed > 0 and counts.failed == counts.skipped == 0
-    built = {program: Path(program).read_bytes() for program in programs if os.path.isfile(program)}
     # What was changed meanwhile may not be what was proved.
-    if has_passed and len(built) == len(programs) and sum_of_sources(prover) == key:
-        NOTE.write_text(key, encoding='ascii')
-        now = time.strftime('%Y-%m-%d %H:%M UTC', time.gmtime())
-        store.keep(key, packed({SAID: said.text, WHEN: now.encode(), **built}))
+    if has_passed and sum_of_sources(prover) == before:
+        NOTE.write_text(before, encoding='ascii')
 
 
 def help_of(rt: str) -> str:
@@ -72,27 +52,6 @@ def help_of(rt: str) -> str:
         ).stdout
     except OSError:
         return ''
-
-
-def from_kept(turns: Turns, name: str, found: Dict[str, bytes], programs: Sequence[str]) -> None:
-    """Says what was said then, and leaves the programs that were built."""
-    name = f'{name} (kept from {found[WHEN].decode()}; ANEW=1 proves anew)'
-    turns.begin(name)
-    turns.pass_on(found[SAID])
-    for program in programs:
-        path = Path(program)
-        path.parent.mkdir(parents=True, exist_ok=True)
-        path.write_bytes(found[program])
-        path.chmod(0o755)
-    turns.count(name, Said(found[SAID], 0), 'kept')
-
-
-def packed(files: Mapping[str, bytes]) -> bytes:
-    return json.dumps({name: b64encode(content).decode() for name, content in files.items()}).encode()
-
-
-def unpacked(content: bytes) -> Dict[str, bytes]:
-    return {name: b64decode(text) for name, text in json.loads(content).items()}
 
 
 def when_left(prover: str, top: Path) -> float:
@@ -128,5 +87,6 @@ def sources(top: Path) -> Iterator[str]:
         for folder, folders, names in os.walk(top / read):
             way = os.path.relpath(folder, top)
             is_crate = os.path.dirname(way) == read
-            folders[:] = sorted(name for name in folders if not (is_crate and name in UNREAD))
-            yield from (os.path.join(way, name) for name in sorted(names) if os.path.isfile(os.path.join(folder, name)))
+            for found in folders, names:
+                found[:] = sorted(name for name in found if not (is_crate and name in UNREAD))
+            yield from (os.path.join(way, name) for name in names if os.path.isfile(os.path.join(folder, name)))
