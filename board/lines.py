@@ -223,7 +223,7 @@ class LineMode:
         say(*filter(None, [self._game.message]))
         self._game.message = ''
         if self._game.trouble and self._game.trouble != self._trouble:
-            say(f'The game is not kept: {self._game.trouble}.')
+            say(self._game.told_trouble)
         self._trouble = self._game.trouble
 
     def _position(self) -> str:

@@ -182,10 +182,10 @@ def on_screen(game: Game, start: Start) -> Optional[int]:
     if screen is None:
         return None
     from board.course_screen import CourseScreen
-    from board.fullscreen import FullScreen
+    from board.desk_screen import GameScreen
 
     with screen:
-        front = CourseScreen(screen, game) if isinstance(game, Course) else FullScreen(screen, game)
+        front = CourseScreen(screen, game) if isinstance(game, Course) else GameScreen(screen, game)
         refusal = front.begin(start)
         if not refusal:
             front.run()

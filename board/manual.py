@@ -14,8 +14,26 @@ KEYS: List[str] = [
     'h hint: where to look, then the steps, then the number;  H all steps',
     'c can these numbers be completed;  b undo until they can;  S solve',
     'n new game   o open: a game that was put away, a file   w save as',
-    'i the ID   : a command of the program   Z to the shell, fg comes back',
-    'T lines of text, and back   q quit: the game is kept for the next start',
+    'E set or check a puzzle   i the ID   : a command of the program',
+    'T lines of text, and back   Z to the shell, fg comes back',
+    'q quit: the game is kept for the next start',
+]
+
+#: Those of the setter's desk.
+DESK: List[str] = [
+    'arrows Tab mouse  move; Towers: onto every place of the edge',
+    '1 to 9          a clue at the edge, or a given number; the same again: none',
+    '0 Space Delete  no clue, no given',
+    '< > ^ v         Unequal: the sign on that side, open to the square that is',
+    '                chosen; the same again: none',
+    'u Ctrl-Z undo   r Ctrl-R redo',
+    'h why there is no solution, step by step;  H all these steps',
+    'c all that is said, with the names of what is marked',
+    'M take out what is not needed, which has a -;  S show the solution',
+    'p play it, once it has exactly one solution',
+    'n another board: a blank one, the draft of a game, or the puzzle of the game',
+    'i the ID   w save as a file   T lines of text, and back',
+    'E Escape q      back to the game, which is as it was; the draft is kept',
 ]
 
 #: Those of the course, where they are others.

@@ -25,6 +25,9 @@ class Start(NamedTuple):
 class Game(PresentGame):
     """The present game, and those that follow it."""
 
+    #: Whether the setter's desk has its place, where another front goes on.
+    is_at_desk = False
+
     def start(self, game: str, what: str) -> bool:
         """Goes on with a game, or begins that of an ID or a file."""
         if not what:
