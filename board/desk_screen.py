@@ -104,7 +104,7 @@ class DeskScreen(FullScreen):
         """What takes long is ended by the next key, which does its work then."""
         if not may_stop:
             return super().waiting(False)
-        self._dialogues.tell(f'{shared_texts.LATE}. The next key ends that.  {moving(time.monotonic())}')
+        self._dialogues.tell(f'{shared_texts.SEEKING}. The next key ends that.  {moving(time.monotonic())}')
         return self._screen.has_key(False)
 
     def _answer(self, key: str) -> None:
@@ -134,10 +134,10 @@ class DeskScreen(FullScreen):
         return pieces
 
     def _draw(self) -> None:
-        """The board at once; then what there is to say of it, as long as no key waits."""
+        """The board at once; then what there is to say of it, as long as no key waits, and no steps are shown."""
         super()._draw()
         judging = self._desk.judging()
-        while not self._screen.has_key(False) and next(judging, None):
+        while self._step is None and not self._screen.has_key(False) and next(judging, None) is not None:
             super()._draw()
         if self.game.message == shared_texts.STOPPED:
             self.game.message = ''
@@ -156,7 +156,7 @@ class DeskScreen(FullScreen):
 
     def _solve(self) -> None:
         """The solution, until the next key."""
-        verdict = self._desk.judge()
+        verdict = self._desk.ruled()
         self._solution = verdict.solution if verdict.kind == 'one' else {}
 
     # --- changes ---

@@ -170,9 +170,9 @@ def by_turns(game: Game, start: Start, is_lines: bool) -> int:
 def in_lines(game: Game, start: Start) -> Optional[int]:
     """The line mode; nothing where the player goes on with the board."""
     from board.course_lines import CourseLines
-    from board.lines import LineMode
+    from board.desk_lines import GameLines
 
-    front = CourseLines(game, has_screen) if isinstance(game, Course) else LineMode(game, has_screen)
+    front = CourseLines(game, has_screen) if isinstance(game, Course) else GameLines(game, has_screen)
     return front.run(start)
 
 

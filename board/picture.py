@@ -349,11 +349,11 @@ def _message(board: Board, layout: Layout, look: Look) -> List[Piece]:
 
 def _texts_below(board: Board, layout: Layout, look: Look) -> Iterator[Piece]:
     between = f' {LINES[-1] if look.has_lines else "-"} '
-    told = [
+    told: List[Sequence[str]] = [look.title, look.title[:-1]] if look.title else [
         [name(board), said, state(board), hints_told(look.hints), 'PENCIL' if look.is_pencil else '', between.join(counts(board))]
         for said in (grades(board, look.grade), grade(board))
     ]
-    titles = [gap.join(filter(None, look.title or words)) for words in told for gap in ('   ', '  ', ' ')]
+    titles = [gap.join(filter(None, words)) for words in told for gap in ('   ', '  ', ' ')]
     title = next((title for title in titles if len(title) < layout.columns), titles[-1])
     keys = next((keys for keys in filter(None, [look.way, *KEYS_BELOW]) if len(keys) < layout.columns - 1), '? keys')
     message = _message(board, layout, look)

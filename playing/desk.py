@@ -129,12 +129,12 @@ class Desk(Game):
         places = ','.join(f'{x},{y}' for x, y in item)
         return self.change(f'item {places},{min(number, 99)}')
 
-    def along(self, by: int) -> None:
+    def along(self, by: int) -> bool:
         """Back along the draft, or forth."""
         if self.draft.at + by in range(len(self.draft.ids)):
-            self.change(f'new {self.draft.ids[self.draft.at + by]}', by)
-        else:
-            self.message = shared_texts.REFUSED_MOVES['NothingToUndo' if by < 0 else 'NothingToRedo']
+            return self.change(f'new {self.draft.ids[self.draft.at + by]}', by)
+        self.message = shared_texts.REFUSED_MOVES['NothingToUndo' if by < 0 else 'NothingToRedo']
+        return False
 
     def take_puzzle(self, id: str) -> bool:
         """Goes on with the puzzle of an ID, without its letter."""
@@ -164,16 +164,23 @@ class Desk(Game):
             pass
         return self.verdict
 
+    def ruled(self) -> Verdict:
+        """The same, perhaps without the items that are marked."""
+        self.message = ''
+        if not self.verdict.kind:
+            next(self.judging(), None)
+        return self.verdict
+
     def playable(self) -> Optional[Choice]:
         """The puzzle as a game, where it has exactly one solution."""
-        if self.judge().kind == 'one':
+        if self.ruled().kind == 'one':
             return Choice(self.kind, self.board.size, id=self.board.session.id)
         self.message = self.message or texts.NO_PLAY
         return None
 
     def _new_hint_walk(self) -> Optional[HintWalk]:
         """The steps that show why there is no solution."""
-        hint = self.judge().hint
+        hint = self.ruled().hint
         if hint is None:
             self.message = self.message or (shared_texts.TRIED if self.verdict.kind == 'none' else texts.WHY_NOT)
         return HintWalk(hint, self.board, 0) if hint else None

@@ -22,13 +22,13 @@ NOT_YET = 'Not yet.'
 STOPPED = 'Stopped. Nothing has changed.'
 
 #: On the setter's desk.
-LATE = 'Looking for solutions'
+SEEKING = 'Looking for solutions'
 TRIED = 'No chain of steps shows it; all ways were tried.'
 BEYOND = 'It is beyond our steps.'
 NONE_BLAMED = 'No single item is to blame.'
 
-#: By how many solutions there are.
-RULINGS = {
+#: The verdict, by how many solutions there are.
+SOLUTIONS = {
     'none': 'No solution',
     'one': 'Exactly one solution',
     'several': 'Several solutions',

@@ -41,8 +41,8 @@ class Verdict(NamedTuple):
         """In sentences: how a player asks for the steps, and how the marked items are told from others."""
         if not self.kind:
             return ''
-        grounds = {'none': self._of_none, 'one': self._of_one, 'several': self._of_several}[self.kind]
-        return ' '.join([f'{shared_texts.RULINGS[self.kind]}.', *grounds(why, which)])
+        grounds = self._of_none(why, which) if self.kind == 'none' else self._of_one(which) if self.kind == 'one' else self._of_several()
+        return ' '.join([f'{shared_texts.SOLUTIONS[self.kind]}.', *grounds])
 
     def _of_none(self, why: str, which: str) -> Iterator[str]:
         steps = len(self.hint.told) if self.hint else 0
@@ -51,14 +51,14 @@ class Verdict(NamedTuple):
             those = f'any one of the {len(self.marked)}' if len(self.marked) > 1 else 'the one'
             yield f'Without {those} {which} there is a solution.' if self.marked else shared_texts.NONE_BLAMED
 
-    def _of_one(self, _: str, which: str) -> Iterator[str]:
+    def _of_one(self, which: str) -> Iterator[str]:
         yield f'It is {self.grade} by our steps.' if self.grade else shared_texts.BEYOND
         if self.is_whole:
             those = f'Each of the {len(self.marked)}' if len(self.marked) > 1 else 'The one'
             told = f'{those} {which} is not needed' if self.marked else 'All items are needed'
             yield f'{told}{" for that grade" if self.grade else ""}.'
 
-    def _of_several(self, *_: str) -> Iterator[str]:
+    def _of_several(self) -> Iterator[str]:
         yield f'Two of them differ in {len(self.differ)} of {len(self.solution)} squares.'
 
 
