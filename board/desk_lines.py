@@ -34,8 +34,8 @@ class GameLines(LineMode):
         self._commands.update(dict.fromkeys(ENTERING, self._sit))
 
     def _begun(self) -> None:
-        if self._game.is_at_desk:
-            self._sit('')
+        if self._game.at_desk:
+            self._sit(self._game.at_desk)
         else:
             super()._begun()
 
@@ -44,7 +44,8 @@ class GameLines(LineMode):
         game, desk = self._game, Desk(self._game.path)
         front = DeskLines(desk, game, self._has_board, self._prompt)
         front.run_with(text)
-        game.is_at_desk = self.wants_board = self._is_over = front.wants_board
+        game.at_desk = front.left
+        self.wants_board = self._is_over = bool(front.left)
         if front.choice:
             self._begin(front.choice)
         elif not self._is_over:
@@ -59,8 +60,9 @@ class DeskLines(LineMode):
         super().__init__(desk, has_board, prompt)
         self._desk = desk
         self._before = game
-        #: What is to be played then.
+        #: What is to be played then; and which game's draft the player goes on with on the board.
         self.choice: Optional[Choice] = None
+        self.left = ''
         self._commands = {
             **{name: self._commands[name] for name in SAME},
             **dict.fromkeys(('back', 'quit'), self._quit),
@@ -80,9 +82,10 @@ class DeskLines(LineMode):
         """Until the desk is left; at first with what the words say."""
         try:
             if self._desk.turn_to(self._before.kind, self._before.board.size):
-                self._begun()
                 if text:
                     self._turn_to(text)
+                else:
+                    self._begun()
                 while not self._is_over:
                     self._read()
             else:
@@ -156,6 +159,7 @@ class DeskLines(LineMode):
     def _to_board(self) -> None:
         if self._desk.may_be_left():
             super()._to_board()
+            self.left = self._desk.kind if self.wants_board else ''
 
     def _position(self) -> str:
         return f'desk {self._desk.draft.at}/{len(self._desk.draft.ids) - 1}'

@@ -37,7 +37,7 @@ NOT_HERE = 'That is for games: ? shows the keys of the desk.'
 
 #: Actions of the board that are the same here.
 SAME = (
-    'clear', 'next square', 'square before', 'hint', 'why', 'save as', 'show ID', 'help', 'quit', 'lines', 'suspend', 'redraw', 'mouse', 'resize', 'new'
+    'clear', 'next square', 'square before', 'hint', 'why', 'save as', 'show ID', 'help', 'quit', 'lines', 'suspend', 'redraw', 'mouse', 'resize'
 )
 
 
@@ -48,7 +48,7 @@ class GameScreen(FullScreen):
         return {**super()._all_actions(), 'desk': self._sit}
 
     def run(self) -> None:
-        if self.game.is_at_desk:
+        if self.game.at_desk:
             self._screen.give_back(Key('E'))
         super().run()
 
@@ -56,16 +56,16 @@ class GameScreen(FullScreen):
         """The desk, until it is left, or its puzzle is to be played."""
         game, desk = self.game, Desk(self.game.path)
         front = DeskScreen(self._screen, desk, game)
-        is_there = desk.turn_to(game.kind, game.board.size)
-        if not is_there:
+        if not desk.turn_to(game.at_desk or game.kind, game.board.size):
             game.message = desk.message
             return
         if desk.has_items:
             desk.message = f'{desk.message} {GOES_ON}'.strip()
-        elif not game.is_at_desk:
-            self._screen.give_back(Key('n'))
+        elif not game.at_desk:
+            front.choose_board()
         front.run()
-        game.is_at_desk = self.wants_lines = self._is_over = front.goes_to_lines
+        game.at_desk = front.left
+        self.wants_lines = self._is_over = bool(front.left)
         if front.choice:
             self._begin(front.choice)
 
@@ -82,9 +82,9 @@ class DeskScreen(FullScreen):
         super().__init__(screen, desk)
         self._actions.update({key: partial(self._sign, *way) for key, way in keys.SIGNS.items()})
         self._actions['escape'] = self._quit
-        #: What is to be played then; and whether the player goes on here in lines of text.
+        #: What is to be played then; and which game's draft the player goes on with in lines of text.
         self.choice: Optional[Choice] = None
-        self.goes_to_lines = False
+        self.left = ''
 
     def _all_actions(self) -> Dict[str, Callable[[], object]]:
         desk, there = self._desk, super()._all_actions()
@@ -95,6 +95,7 @@ class DeskScreen(FullScreen):
             'all marks': desk.thin,
             'tidy': desk.thin,
             'check': self._tell,
+            'new': self.choose_board,
             'solve': self._solve,
             'desk': self._quit,
         }
@@ -180,10 +181,10 @@ class DeskScreen(FullScreen):
     def _done_mark(self) -> None:
         """A clue is only chosen by the mouse."""
 
-    def _new(self) -> None:
+    def choose_board(self) -> None:
         """Another board, if one is chosen."""
         desk, board = self._desk, self._desk.board
-        choice = DeskMenu(self._screen, self._before, Choice(desk.kind, board.size)).run()
+        choice = DeskMenu(self._screen, self._before, Choice(desk.kind, board.size)).run(desk.message)
         if choice is None or (choice.game != desk.kind and not (desk.may_be_left() and desk.turn_to(choice.game, choice.size))):
             return
         self._at_start()
@@ -200,7 +201,8 @@ class DeskScreen(FullScreen):
             self.choice, self._is_over = choice, True
 
     def _lines(self) -> None:
-        self.goes_to_lines = self._is_over = self._desk.may_be_left()
+        if self._desk.may_be_left():
+            self.left, self._is_over = self._desk.kind, True
 
 
 class DeskMenu(Menu):

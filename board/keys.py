@@ -48,7 +48,6 @@ ACTIONS: Dict[str, str] = {
     'o': 'open',
     'w': 'save as',
     'i': 'show ID',
-    'E': 'desk',
     '?': 'help',
     ':': 'command',
     'q': 'quit',
@@ -59,6 +58,7 @@ ACTIONS: Dict[str, str] = {
 TERMINAL: Dict[str, str] = {
     '\t': 'next square',
     'shift tab': 'square before',
+    'E': 'desk',
     'T': 'lines',
     'Z': 'suspend',
     '\x0c': 'redraw',
