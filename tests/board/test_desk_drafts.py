@@ -3,6 +3,7 @@
 from __future__ import annotations
 
 import os
+import re
 import signal
 from typing import List, Optional, Sequence, Tuple
 
@@ -64,7 +65,7 @@ def test_kept(front: BoardFront, room: Room) -> None:
     assert room.read('state/puzzles/unequal-draft.ids') == Draft(('3:0,0,0,0,0,0,0,0,0,', '3:3,0,0,0,0,0,0,0,0,'), 1).content
     assert room.read('state/puzzles/towers.sav') == save_text(1)
     with front.window([]) as window:
-        window.look('E', ['change 2/2', '1 clue, 1 given', 'This is your draft. n begins another board. Several solutions.'])
+        window.look('E', ['change 2/2', '1 clue, 1 given', 'This is your draft. n begins another board. No solution.'])
         window.look('uu', ['change 0/2', '0 clues, 0 given'], ['This is your draft'])
         window.look('n<up><up><right><down><down><right><enter>', ['Unequal 3x3', 'change 1/1'])
         # A signal ends it at the desk, too.
@@ -127,7 +128,7 @@ def test_long(front: BoardFront) -> None:
     """An answer that takes long says so; the next key ends that, and does its work."""
     with front.window(['unequal', slow()]) as window:
         window.look('E<left><enter>', ['89 signs, 0 given', 'Looking for solutions. The next key ends that.'])
-        window.look('<right>3', ['89 signs, 1 given', 'No solution. h shows it in ', 'Looking for solutions.'])
+        window.look('<right><right>3', ['89 signs, 1 given', 'No solution. h shows it in ', 'Looking for solutions.'])
         window.look('h', ['1 of ', 'arrows walk'], ['Looking'])
         window.look('<escape>', ['Looking for solutions.'])
         window.look('uu', ['0 signs, 0 given', 'Several solutions.'], ['Looking'])
@@ -145,7 +146,7 @@ def test_lines_and_back(front: BoardFront) -> None:
         window.look('E<enter>', ['towers 1/1>'])
         window.look('E<enter>', ['towers desk 2/2>'])
         window.look('game<enter>', ['2 clues, 0 given; exactly one solution', 'towers desk 3/3>'])
-        window.look('p<enter>', ['To play it again:', f'new {ID}', 'towers 1/1>'])
+        window.look('p<enter>', ['towers 1/1>'])
         window.leave('q<enter>')
 
 
@@ -175,7 +176,6 @@ LINES: List[Tuple[str, Sequence[str]]] = [
         'thin', 'There is nothing to thin out: no item is marked as not needed.',
         'p r1c1 2', "That is for games. 'help' lists what there is on the desk, 'back' goes back to the game.",
         'blank 10', "'desk unequal' turns to the draft of a game, 'desk unequal 5' and 'blank 5' to a blank board of a size from 3 to 9.",
-        'check', 'Several solutions. Two of them differ in 4 of 9 squares.\nr2c1 2 or 1; r2c3 1 or 2\nr3c1 1 or 2; r3c3 2 or 1',
     ]),
     ('unequal', [
         'sign r1c1 > r1c2', 'sign r1c1 > r1c2; several solutions',
@@ -195,7 +195,7 @@ LINES: List[Tuple[str, Sequence[str]]] = [
 def test_lines(front: BoardFront, room: Room, game: str, talk: Sequence[str]) -> None:
     """By words, through a pipe: each line and its answer."""
     said = answers(front, room, game, ['desk', *talk[::2]])
-    assert said is not None and said.partition('0 given; several solutions\n')[2].partition('playing')[0] == ''.join(f'{answer}\n' for answer in talk[1::2])
+    assert said and said.partition('0 given; several solutions\n')[2].startswith(''.join(f'{answer}\n' for answer in talk[1::2]))
 
 
 def answers(front: BoardFront, room: Room, game: str, lines: Sequence[str]) -> Optional[str]:
@@ -209,7 +209,8 @@ def answers(front: BoardFront, room: Room, game: str, lines: Sequence[str]) -> O
 @pytest.mark.parametrize('size', range(3, 10))
 def test_sizes(front: BoardFront, room: Room, game: str, size: int) -> None:
     """A blank board of each size, and an item in its last corner."""
-    said = answers(front, room, 'towers', [f'set {game} {size}', f'r{size}c{size} {size}', 'back', 'status'])
+    said = answers(front, room, 'towers', [f'set {game} {size}', f'r{size}c{size} {size}', 'check', 'back', 'status'])
     thing = 'clues' if game == 'towers' else 'signs'
     assert said and f'0 {thing}, 0 given; several solutions\ngiven {size} in r{size}c{size}; several solutions\n' in said
+    assert re.search(rf'^Several solutions. Two of them differ in [0-9]+ of {size * size} squares.\n(r[1-9]c[1-9] [1-9] or [1-9](; |\n))+', said, re.MULTILINE)
     assert said.endswith('playing 1/1\n')
