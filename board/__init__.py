@@ -17,6 +17,8 @@ typed_moves  moves, squares and clues as they are typed
 prompt       a line typed at a prompt, or from a pipe
 lines        the line mode
 course_screen, course_lines   the cards of the course on the board, and in the line mode
+desk_picture   what a verdict puts over the board
+desk_screen, desk_lines   the setter's desk on the board, and in the line mode
 manual       the keys and the rules, in a few lines
 main         the words of the command line
 

@@ -19,7 +19,7 @@ class CourseLines(LineMode):
     def __init__(self, course: Course, has_board: Callable[[], bool]) -> None:
         self._course = course
         super().__init__(course, has_board)
-        self._commands.update(dict.fromkeys(('open', 'load', 'delete', 'fair'), lambda _: say(FOR_GAMES)))
+        self._commands.update(dict.fromkeys(('open', 'load', 'delete', 'fair', 'desk'), lambda _: say(FOR_GAMES)))
         self._commands.update({'new': self._new, 'next': lambda _: self._turn(1), 'back': lambda _: self._turn(-1)})
 
     def _new(self, text: str) -> None:

@@ -28,7 +28,7 @@ class CourseScreen(FullScreen):
         super().__init__(screen, course)
 
     def _all_actions(self) -> Dict[str, Callable[[], object]]:
-        only_games: Dict[str, Callable[[], object]] = dict.fromkeys(('open', 'command'), self._refuse)
+        only_games: Dict[str, Callable[[], object]] = dict.fromkeys(('open', 'command', 'desk'), self._refuse)
         return {**super()._all_actions(), **only_games, 'new': lambda: self._turn(1), 'back': lambda: self._turn(-1)}
 
     def begin(self, start: Start) -> str:

@@ -16,7 +16,7 @@ from board.menu import Menu
 from board.picture import Look, Piece, grade, has_room, name, picture, too_small
 from board.screen import Screen
 from playing import shared_texts
-from playing.board import GAMES
+from playing.board import GAMES, Board
 from playing.choices import Choice
 from playing.game import Game, Start
 from playing.games import GRADES
@@ -148,9 +148,14 @@ class FullScreen:
         board = self.game.board
         return fit(board.size, board.session.game == 'towers', *self._screen.size)
 
+    @property
+    def _board(self) -> Board:
+        """The board, with each clue that the cursor goes onto."""
+        return self.game.board
+
     def _look(self) -> Look:
         game = self.game
-        return Look(self._cursor, self._is_pencil, game.message, game.trouble, self._screen.has_lines, game.hints, self._shown, game.grade, self._way)
+        return Look(self._cursor, self._is_pencil, game.message, game.told_trouble, self._screen.has_lines, game.hints, self._shown, game.grade, self._way)
 
     def _pieces(self) -> List[Piece]:
         if not self.game.has_game:
@@ -158,7 +163,7 @@ class FullScreen:
         layout = self._layout()
         if layout is None:
             return too_small(self.game.board, *self._screen.size)
-        return picture(self.game.board, layout, self._look())
+        return picture(self._board, layout, self._look())
 
     def _draw(self) -> None:
         layout, look = self._layout(), self._look()
@@ -177,8 +182,8 @@ class FullScreen:
 
     def _move(self, across: int, down: int) -> None:
         x, y = self._cursor
-        clues = self.game.board.clues
-        size = self.game.board.size
+        clues = self._board.clues
+        size = self._board.size
         # From a clue the next one of its edge; into the grid; or from a square at the edge onto a clue.
         if (y in (-1, size) and across) or (x in (-1, size) and down):
             places = [(x + across * step, y + down * step) for step in range(1, size)]
@@ -199,12 +204,12 @@ class FullScreen:
             self._cursor = squares[(squares.index(self._cursor) + step) % len(squares)]
 
     def _is_on_clue(self) -> bool:
-        return self._cursor in self.game.board.clues
+        return self._cursor in self._board.clues
 
     def _mouse(self) -> None:
         layout = self._layout()
         place = layout.place_at(self._key.line, self._key.column) if layout else None
-        board = self.game.board
+        board = self._board
         if place is None or (place not in board.clues and place not in board.squares):
             return
         if self._key.button == 3:

@@ -58,6 +58,7 @@ ACTIONS: Dict[str, str] = {
 TERMINAL: Dict[str, str] = {
     '\t': 'next square',
     'shift tab': 'square before',
+    'E': 'desk',
     'T': 'lines',
     'Z': 'suspend',
     '\x0c': 'redraw',
@@ -65,11 +66,14 @@ TERMINAL: Dict[str, str] = {
     'resize': 'resize',
 }
 
+#: On the setter's desk: the sign on a side of the square, by which that is the greater one.
+SIGNS: Dict[str, Tuple[int, int]] = {'<': (-1, 0), '>': (1, 0), '^': (0, -1), 'v': (0, 1)}
+
 #: Keys that walk along the steps of a hint.
 ALONG: Dict[str, int] = {'left': -1, 'up': -1, 'right': 1, 'down': 1}
 
 #: Keys that do their work where the board has no room, too.
-WITHOUT_BOARD = {'n', 'o', 'w', 'i', '?', 'T', 'Z', '\x0c', 'q', '\x03', 'resize'}
+WITHOUT_BOARD = {'n', 'o', 'w', 'i', 'E', '?', 'T', 'Z', '\x0c', 'q', '\x03', 'resize'}
 
 #: Keys that close a page and do nothing else.
 CLOSING = {'enter', ' ', 'escape', 'q', '?', '\x03', 'mouse'}

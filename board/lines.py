@@ -40,6 +40,7 @@ SHORT: Dict[str, str] = {
     'o': 'open',
     'w': 'save',
     'i': 'id',
+    'E': 'desk',
     's': 'show',
 }
 
@@ -51,21 +52,22 @@ OTHERS: Dict[str, str] = {
 }
 
 NO_BOARD = 'The board needs a terminal with a screen.'
+OFF_GRID = 'Rows and columns count from 1 to {size}.'
 
 
 class LineMode:
     """A game at a prompt."""
 
-    def __init__(self, game: Game, has_board: Callable[[], bool]) -> None:
-        """Whether the board can be shown is asked when the player wants it."""
-        self._prompt: Asking = asking()
+    def __init__(self, game: Game, has_board: Callable[[], bool], prompt: Optional[Asking] = None) -> None:
+        """Whether the board can be shown is asked when the player wants it. The prompt may be another one's."""
+        self._prompt: Asking = prompt or asking()
         self._game = game
         self._has_board = has_board
         game.played_by(self, BY_LINES)
         self._is_told = False
         self._is_over = False
         #: Whether the player goes on with the board.
-        self._wants_board = False
+        self.wants_board = False
         #: Whether it was told that the program is at work, since something was typed.
         self._has_told = False
         self._trouble = ''
@@ -124,9 +126,9 @@ class LineMode:
         finally:
             # A signal or a closed window ends it, too.
             self._prompt.leave()
-            if not self._wants_board:
+            if not self.wants_board:
                 self._game.leave()
-        return None if self._wants_board else 0
+        return None if self.wants_board else 0
 
     def _begin_with(self, start: Start) -> bool:
         """Whether there is a game: the one of another front, or one that begins or goes on."""
@@ -159,7 +161,7 @@ class LineMode:
         try:
             move = typed_move(line, size)
         except OutOfGrid:
-            say(f'Rows and columns count from 1 to {size}.')
+            say(OFF_GRID.format(size=size))
             return
         if move:
             self._move(move)
@@ -182,7 +184,7 @@ class LineMode:
 
     def _to_board(self) -> None:
         if self._has_board():
-            self._wants_board = self._is_over = True
+            self.wants_board = self._is_over = True
         else:
             say(NO_BOARD)
 
@@ -223,7 +225,7 @@ class LineMode:
         say(*filter(None, [self._game.message]))
         self._game.message = ''
         if self._game.trouble and self._game.trouble != self._trouble:
-            say(f'The game is not kept: {self._game.trouble}.')
+            say(self._game.told_trouble)
         self._trouble = self._game.trouble
 
     def _position(self) -> str:

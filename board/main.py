@@ -170,9 +170,9 @@ def by_turns(game: Game, start: Start, is_lines: bool) -> int:
 def in_lines(game: Game, start: Start) -> Optional[int]:
     """The line mode; nothing where the player goes on with the board."""
     from board.course_lines import CourseLines
-    from board.lines import LineMode
+    from board.desk_lines import GameLines
 
-    front = CourseLines(game, has_screen) if isinstance(game, Course) else LineMode(game, has_screen)
+    front = CourseLines(game, has_screen) if isinstance(game, Course) else GameLines(game, has_screen)
     return front.run(start)
 
 
@@ -182,10 +182,10 @@ def on_screen(game: Game, start: Start) -> Optional[int]:
     if screen is None:
         return None
     from board.course_screen import CourseScreen
-    from board.fullscreen import FullScreen
+    from board.desk_screen import GameScreen
 
     with screen:
-        front = CourseScreen(screen, game) if isinstance(game, Course) else FullScreen(screen, game)
+        front = CourseScreen(screen, game) if isinstance(game, Course) else GameScreen(screen, game)
         refusal = front.begin(start)
         if not refusal:
             front.run()

@@ -14,8 +14,26 @@ KEYS: List[str] = [
     'h hint: where to look, then the steps, then the number;  H all steps',
     'c can these numbers be completed;  b undo until they can;  S solve',
     'n new game   o open: a game that was put away, a file   w save as',
-    'i the ID   : a command of the program   Z to the shell, fg comes back',
-    'T lines of text, and back   q quit: the game is kept for the next start',
+    'E set or check a puzzle   i the ID   : a command of the program',
+    'T lines of text, and back   Z to the shell, fg comes back',
+    'q quit: the game is kept for the next start',
+]
+
+#: Those of the setter's desk.
+DESK: List[str] = [
+    'arrows Tab mouse  move; Towers: onto every place of the edge',
+    '1 to 9          a clue at the edge, or a given number; the same again: none',
+    '0 Space Delete  no clue, no given',
+    '< > ^ v         Unequal: the sign on that side, open to the square that is',
+    '                chosen; the same again: none',
+    'u Ctrl-Z undo   r Ctrl-R redo',
+    'h why there is no solution, step by step;  H all these steps',
+    'c all that is said, with the names of what is marked',
+    'M take out what is not needed, which has a -;  S show the solution',
+    'p play it, once it has exactly one solution',
+    'n another board: a blank one, the draft of a game, or the puzzle of the game',
+    'i the ID   w save as a file   T lines of text, and back',
+    'E Escape q      back to the game, which is as it was; the draft is kept',
 ]
 
 #: Those of the course, where they are others.
@@ -69,6 +87,25 @@ COURSE_LINES: List[str] = [
     'quit                   leave; the game before is as it was; q',
 ]
 
+#: The line mode of the setter's desk.
+DESK_LINES: List[str] = [
+    '  clue above 1 3         clue 3 above column 1; 0 takes it out (Towers); so do',
+    '                         below 1, left of 2, right 2',
+    '  given r1c2 4           the given number 4; r1c2 4 is the same',
+    '  sign r1c1 > r1c2       r1c1 is greater (Unequal); sign r1c1 r1c2 0 takes it out',
+    '  check, c               has it no, one or several solutions, and why',
+    '  why, why 2             the steps that show that there is none; step 2',
+    '  undo, redo             the puzzle before a change, and after it; u, r',
+    '  thin, M                take out what is not needed',
+    '  play, p                play it, once it has exactly one solution',
+    '  blank 5                a blank board of that size; undo brings the puzzle back',
+    '  game                   the puzzle of the game, to be changed',
+    '  desk unequal           the draft of the other game',
+    '  r1c2, above 1, row 1, column 2, board, clues, show   what there is',
+    '  id, save FILE, rules, help, T   as in a game',
+    '  back, E, q             back to the game; the draft is kept',
+]
+
 #: The line mode's help: what is typed, and what it does.
 LINES: List[str] = [
     'A square is r1c2, or its row and its column, which count from 1, as 1 2.',
@@ -94,11 +131,12 @@ LINES: List[str] = [
     '  grade                  the grade; "our steps" are those that hints show',
     '  save FILE, load FILE   save the game; load a saved one; Tab completes',
     '  open, open 2, delete 2   list the kept games; open number 2; delete it',
+    '  desk [GAME] [SIZE]     set or check a puzzle; with a size on a blank board; E',
     '  rules, help            the rules of this game; this list',
     '                         (puzzles-play --lines learn is a course)',
     '  T                      to the board, where T comes back',
     '',
-    'Letters are the keys of the board: h H u r R m P M c b S n o w i q.',
+    'Letters are the keys of the board: h H u r R m P M c b S n o w i E q.',
     '',
     'and the program\'s own commands:',
     '',

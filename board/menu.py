@@ -34,6 +34,8 @@ class Row(NamedTuple):
 class Menu:
     """Up and down go through the lines, left and right change what one says, Enter begins the game. Digits are a size, or a number in its line."""
 
+    title = 'A new game'
+
     def __init__(self, screen: Screen, state: State, present: Choice) -> None:
         """A game as the present one is chosen at first."""
         self._screen = screen
@@ -133,7 +135,7 @@ class Menu:
 
     def _pieces(self) -> List[Piece]:
         lines, columns = self._screen.size
-        pieces = [Piece(0, 1, 'A new game', Style.TITLE)]
+        pieces = [Piece(0, 1, self.title, Style.TITLE)]
         line = 2
         for at, row in enumerate(self._rows()):
             pieces.append(Piece(line, 1, ('> ' if at == self._line else '  ') + row.title, Style.TITLE if at == self._line else Style.PLAIN))
@@ -150,11 +152,14 @@ class Menu:
             for part in wrapped(self._sentence, columns - 2):
                 pieces.append(Piece(line, 1, part, Style.TITLE))
                 line += 1
-        for text in [self._note(), games.bank_trouble(self._game), 'Enter begins it; the present game is put away.', 'Arrows choose, Escape or q goes back.']:
+        for text in [*self._notes(), 'Arrows choose, Escape or q goes back.']:
             for part in wrapped(text, columns - 2) or ['']:
                 pieces.append(Piece(line, 1, part))
                 line += 1
         return pieces
+
+    def _notes(self) -> List[str]:
+        return [self._note(), games.bank_trouble(self._game), 'Enter begins it; the present game is put away.']
 
     def _note(self) -> str:
         if self._kind == BY_ID:

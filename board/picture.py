@@ -5,7 +5,7 @@ from __future__ import annotations
 import re
 import textwrap
 from enum import Enum
-from typing import Iterator, List, NamedTuple, Optional, Tuple
+from typing import Iterator, List, NamedTuple, Optional, Sequence, Tuple
 
 from board.layout import Layout, wanted
 from playing import shared_texts
@@ -52,7 +52,7 @@ class Look(NamedTuple):
     cursor: Optional[Place] = None
     is_pencil: bool = False
     message: str = ''
-    #: Why the game isn't kept; nothing where it is.
+    #: The sentence on why the game isn't kept; nothing where it is.
     trouble: str = ''
     #: Whether lines can be drawn by other characters than + - |.
     has_lines: bool = True
@@ -64,6 +64,8 @@ class Look(NamedTuple):
     grade: str = ''
     #: What keys do while one walks along the steps of a hint; nothing otherwise.
     way: str = ''
+    #: What the title says, where that isn't how far a game is.
+    title: Sequence[str] = ()
 
 
 #: The corners and crossings of the grid by rows, then the line across and the one down.
@@ -85,7 +87,7 @@ KEYS_ASIDE = ['1-9 number  p pencil', '0 clear     m all marks', 'u undo      r 
 def picture(board: Board, layout: Layout, look: Look) -> List[Piece]:
     """The whole screen."""
     pieces = [*_grid(layout, look), *_edge(layout, look), *_squares(board, layout, look), *_shown(board, layout, look)]
-    pieces += [*_signs(board, layout), *_clues(board, layout, look), *_left(board, layout)]
+    pieces += [*_signs(board, layout), *_clues(board, layout, look), *([] if look.title else _left(board, layout))]
     return pieces + list(_texts_below(board, layout, look) if layout.side is None else _texts_aside(board, layout, look, layout.side))
 
 
@@ -135,8 +137,7 @@ def counts(board: Board) -> List[str]:
 
 def told(board: Board, look: Look, layout: Layout) -> str:
     """The message; where there is none, what there is to say of a full board, or of the square of the cursor."""
-    trouble = f'The game is not kept: {look.trouble}.' if look.trouble else ''
-    return f'{look.message or _told_of(board, look, layout)} {trouble}'.strip()
+    return f'{look.message or _told_of(board, look, layout)} {look.trouble}'.strip()
 
 
 def told_of_full(board: Board, hints: int) -> str:
@@ -316,15 +317,17 @@ def _shown(board: Board, layout: Layout, look: Look) -> Iterator[Piece]:
 def _signs(board: Board, layout: Layout) -> Iterator[Piece]:
     for sign in board.signs:
         style = Style.WRONG if sign.is_wrong else Style.CLUE
-        (x, y), (other_x, other_y) = sorted([sign.greater, sign.less], key=lambda place: (place[1], place[0]))
-        is_first_less = (x, y) == sign.less
-        if y == other_y:
-            line, column = layout.centre((x, y))[0], layout.corner((other_x, y))[1] - 1
-            text = '<' if is_first_less else '>'
-        else:
-            line, column = layout.corner((x, other_y))[0] - 1, layout.centre((x, y))[1]
-            text = '^' if is_first_less else 'v'
-        yield Piece(line, column, text + ('!' if sign.is_wrong else ''), style)
+        is_first_less = sign.less[::-1] < sign.greater[::-1]
+        text = ('<' if is_first_less else '>') if sign.greater[1] == sign.less[1] else '^' if is_first_less else 'v'
+        yield Piece(*between(layout, sign.greater, sign.less), text + ('!' if sign.is_wrong else ''), style)
+
+
+def between(layout: Layout, one: Place, other: Place) -> Tuple[int, int]:
+    """Where the sign of two neighbours is."""
+    (x, y), (other_x, other_y) = sorted([one, other])
+    if y == other_y:
+        return layout.centre((x, y))[0], layout.corner((other_x, y))[1] - 1
+    return layout.corner((x, other_y))[0] - 1, layout.centre((x, y))[1]
 
 
 def _clues(board: Board, layout: Layout, look: Look) -> Iterator[Piece]:
@@ -332,7 +335,7 @@ def _clues(board: Board, layout: Layout, look: Look) -> Iterator[Piece]:
     for place, clue in board.clues.items():
         is_shown = place in look.shown.rests_on
         style = Style.WRONG if clue.is_wrong else Style.SHOWN if is_shown else Style.DONE if clue.is_done else Style.CLUE
-        text = f'{clue.number}{"!" if clue.is_wrong else "*" if is_shown else done if clue.is_done else " "}'
+        text = f'{clue.number or " "}{"!" if clue.is_wrong else "*" if is_shown else done if clue.is_done else " "}'
         yield Piece(*layout.centre(place), text, style, place == look.cursor)
 
 
@@ -346,7 +349,7 @@ def _message(board: Board, layout: Layout, look: Look) -> List[Piece]:
 
 def _texts_below(board: Board, layout: Layout, look: Look) -> Iterator[Piece]:
     between = f' {LINES[-1] if look.has_lines else "-"} '
-    told = [
+    told: List[Sequence[str]] = [look.title, look.title[:-1]] if look.title else [
         [name(board), said, state(board), hints_told(look.hints), 'PENCIL' if look.is_pencil else '', between.join(counts(board))]
         for said in (grades(board, look.grade), grade(board))
     ]
@@ -373,12 +376,14 @@ def _texts_aside(board: Board, layout: Layout, look: Look, side: int) -> Iterato
 
 def _side_title(board: Board, look: Look) -> List[str]:
     words = [name(board), *grades(board, look.grade).split(', '), *counts(board), state(board), hints_told(look.hints), 'PENCIL' if look.is_pencil else '']
-    return [word for word in words if word]
+    return [word for word in look.title or words if word]
 
 
 def _keys_aside(layout: Layout, look: Look, side: int) -> List[str]:
     """What keys do; while one walks along the steps of a hint what they do then, which leaves more room for its sentences."""
-    return wrapped(look.way, layout.columns - side) if look.way else KEYS_ASIDE
+    # What one key does stands on one line.
+    whole = '  '.join(words.replace(' ', '\0') for words in look.way.split('  '))
+    return [line.replace('\0', ' ') for line in wrapped(whole, layout.columns - side)] or KEYS_ASIDE
 
 
 def _keys_line(board: Board, layout: Layout, look: Look, side: int) -> int:

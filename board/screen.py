@@ -209,7 +209,9 @@ class Screen:
     def has_key(self, is_taken: bool) -> bool:
         """Whether a key was pressed; it is taken away, or left for `key`. Raises as that."""
         self._fill(0)
-        return bool(self._keys) and (self._keys.popleft() if is_taken else self._keys[0]).name != 'resize'
+        if is_taken:
+            return bool(self._keys) and self._keys.popleft().name != 'resize'
+        return any(key.name != 'resize' for key in self._keys)
 
     def _fill(self, seconds: Optional[float]) -> bool:
         """Waits for keys, or for a signal. False where there was something to read, and nothing came."""

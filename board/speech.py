@@ -6,7 +6,8 @@ from typing import List, Mapping, Sequence, Tuple
 
 from playing.board import Board, Sign
 from playing.games import GRADES
-from playing.naming import Place, clue_name, listed, name
+from playing.naming import Place, clue_name, listed, name, side
+from playing.verdict import Verdict
 
 
 def row(board: Board, y: int) -> str:
@@ -44,6 +45,32 @@ def clue(board: Board, place: Place) -> str:
         return 'There is no clue there.'
     words = ['done' if found.is_done else '', 'contradicted' if found.is_wrong else '']
     return ', '.join([clue_name(place, found.number, board.size), *filter(None, words)])
+
+
+def item(board: Board, places: Sequence[Place]) -> str:
+    """A clue, a given or a sign by its place or its squares, or that there is none."""
+    place, number, other = places[0], board.numbers.get(places[0]), places[-1]
+    if other != place:
+        way = {(sign.greater, sign.less): '>' for sign in board.signs}
+        way.update({(sign.less, sign.greater): '<' for sign in board.signs})
+        return f'sign {name(place)} {way[place, other]} {name(other)}' if (place, other) in way else f'no sign between {name(place)} and {name(other)}'
+    if place in board.squares:
+        return f'given {number} in {name(place)}' if number else f'no given in {name(place)}'
+    clue = board.clues.get(place)
+    return clue_name(place, clue.number, board.size) if clue else f'no clue {side(place, board.size)}'
+
+
+def verdict(board: Board, verdict: Verdict, why: str) -> List[str]:
+    """What is said of a puzzle, with the items that this speaks of, and the numbers of two solutions."""
+    marked = '; '.join(item(board, places) for places in verdict.marked)
+    differ = (left(verdict.differ, board.row(y)) for y in range(board.size))
+    return [text for text in (verdict.told(why, 'below'), marked, *differ) if text]
+
+
+def items(board: Board) -> str:
+    """How many a puzzle has."""
+    count = len(board.clues) + len(board.signs)
+    return f'{count} {"clue" if board.session.game == "towers" else "sign"}{"" if count == 1 else "s"}, {len(board.givens)} given'
 
 
 def clues(board: Board) -> List[str]:

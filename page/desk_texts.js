@@ -1,13 +1,13 @@
 // The sentences of the setter's desk.
+import {BEYOND, NONE_BLAMED, SEEKING, SOLUTIONS} from './shared_texts.js';
 import {counted} from './texts.js';
 
 /** @typedef {import('./turns.js').Game} Game */
 /** @typedef {import('./objects.js').Board} Board */
 
 export const TITLE = 'Check or set';
-export const LATE = 'Looking for solutions…';
-export const RULINGS = {no: '✗ No solution', one: '✓ Exactly one solution', two: '≥2 Several solutions'};
-export const TRIED = 'No chain of steps shows it; all ways were tried.';
+export const LATE = `${SEEKING}…`;
+export const RULINGS = {no: `✗ ${SOLUTIONS.none}`, one: `✓ ${SOLUTIONS.one}`, two: `≥2 ${SOLUTIONS.several}`};
 export const UNREAD_DRAFT = 'A draft that can’t be read is kept beside this one, as it is.';
 export const MOVED_DRAFT = 'Another tab has changed this draft in between. Look again.';
 
@@ -23,7 +23,7 @@ export const SIDES = [['left', [-1, 0], '←'], ['above', [0, -1], '↑'], ['bel
 export const TOOLS = {solve: 'Solution', thin: 'Thin out', game: 'My game', link: 'Link', save: 'Save', print: 'Print', play: 'Play'};
 
 /** @param {string} grade */
-export const gradeText = (grade) => (grade ? `It is ${grade} by our steps.` : 'It is beyond our steps.');
+export const gradeText = (grade) => (grade ? `It is ${grade} by our steps.` : BEYOND);
 
 /** @param {number} steps */
 export const chainText = (steps) => (steps > 1 ? `Why? shows it in ${steps} steps.` : 'Why? shows it.');
@@ -40,7 +40,7 @@ export function spareText(spare, grade) {
 
 /** @param {number} blamed */
 export function blamedText(blamed) {
-  if (!blamed) return 'No single item is to blame.';
+  if (!blamed) return NONE_BLAMED;
   return `Without ${blamed > 1 ? `any one of the ${blamed} in circles` : 'the one in a circle'} there is a solution.`;
 }
 

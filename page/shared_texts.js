@@ -15,6 +15,15 @@ export const NEVER_RIGHT = 'Not even the board at the start can be completed.';
 export const RIGHT = 'Right.';
 export const NOT_YET = 'Not yet.';
 export const STOPPED = 'Stopped. Nothing has changed.';
+export const SEEKING = 'Looking for solutions';
+export const TRIED = 'No chain of steps shows it; all ways were tried.';
+export const BEYOND = 'It is beyond our steps.';
+export const NONE_BLAMED = 'No single item is to blame.';
+export const SOLUTIONS = {
+  none: 'No solution',
+  one: 'Exactly one solution',
+  several: 'Several solutions',
+};
 export const STILL_COMPLETABLE = {
   one: 'These numbers can still be completed, in one way.',
   several: 'These numbers can still be completed, in several ways.',

@@ -1,7 +1,8 @@
 // What is said of a puzzle on the setter's desk: how many solutions it has, and why, from the module's answers.
 import {namesOf} from './desk_picture.js';
-import {RULINGS, TRIED, blamedText, chainText, differText, gradeText, spareText} from './desk_texts.js';
+import {RULINGS, blamedText, chainText, differText, gradeText, spareText} from './desk_texts.js';
 import {GRADES} from './games.js';
+import {TRIED} from './shared_texts.js';
 
 /** @typedef {import('./objects.js').Board} Board */
 /** @typedef {import('./objects.js').Hint} Hint */

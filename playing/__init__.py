@@ -25,6 +25,8 @@ kept_game    the present game in the program, kept after each change
 present      what can be done with it
 game         how a game begins, and what becomes of the one before
 course       a card in the place of the present game
+verdict      how many solutions a puzzle has, and why, from the program's answers
+desk         a puzzle that is set or checked, in the place of the present game, and its drafts
 version      what is said of the version
 command      how the commands begin and end
 

@@ -142,6 +142,9 @@ class Reply(NamedTuple):
     hint: Optional[Hint] = None
     #: The letter of the puzzle's grade.
     grade: Optional[str] = None
+    #: Two solutions at most, as numbers in reading order; and items of the puzzle, as the program lists them.
+    solutions: Optional[List[List[int]]] = None
+    spare: Optional[Mapping[str, Any]] = None
     #: The line was carried out or refused, and memory for the reply was lacking.
     is_lost: bool = False
 
@@ -153,7 +156,7 @@ def reply_of(data: Mapping[str, Any]) -> Reply:
     session = session_of(data['session']) if data['session'] else None
     board = board_of(data['board'], session) if session and data.get('board') else None
     hint = hint_of(data['hint']) if data.get('hint') else None
-    return Reply(data['refused'], list(data['reply']), session, board, data.get('completable'), hint, data.get('grade'))
+    return Reply(data['refused'], list(data['reply']), session, board, data.get('completable'), hint, data.get('grade'), data.get('solutions'), data.get('spare'))
 
 
 def hint_of(data: Mapping[str, Any]) -> Hint:

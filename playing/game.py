@@ -25,6 +25,9 @@ class Start(NamedTuple):
 class Game(PresentGame):
     """The present game, and those that follow it."""
 
+    #: The game whose draft has its place on the setter's desk, where another front goes on; nothing where none has.
+    at_desk = ''
+
     def start(self, game: str, what: str) -> bool:
         """Goes on with a game, or begins that of an ID or a file."""
         if not what:

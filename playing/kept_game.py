@@ -5,7 +5,7 @@ from __future__ import annotations
 import contextlib
 import os
 import time
-from typing import Optional, Protocol
+from typing import Optional, Protocol, Tuple
 
 from playing import beside, choices, files, shared_texts, texts
 from playing.beside import Beside, beside_in
@@ -18,7 +18,7 @@ from playing.state import NotKept, Slot, State
 from playing.texts import Ways
 
 #: Lines over which the program may take long; and how many seconds it may take over any other before a player can stop that, too.
-LONG = ('solve', 'completable', 'list ')
+LONG = ('solve', 'completable', 'list ', 'solutions', 'spare', 'thin')
 PATIENCE = 3.0
 
 
@@ -37,6 +37,8 @@ class KeptGame:
 
     front: Front
     ways: Ways
+    #: What a player calls it.
+    word = 'game'
 
     def __init__(self, path: str, state: State) -> None:
         self.path = path
@@ -76,6 +78,11 @@ class KeptGame:
     @property
     def kind(self) -> str:
         return self.board.session.game
+
+    @property
+    def told_trouble(self) -> str:
+        """The sentence on why it isn't kept; nothing where it is."""
+        return f'The {self.word} is not kept: {self.trouble}.' if self.trouble else ''
 
     def waiting(self, is_long: bool = False) -> Waiting:
         """For what the program begins now: whether the player doesn't want to wait for it any longer."""
@@ -126,7 +133,7 @@ class KeptGame:
     def may_be_left(self) -> bool:
         """Whether nothing is lost by that, or the player says so."""
         self.keep_again()
-        return not self.trouble or self.front.confirm(texts.NOT_KEPT.format(why=self.trouble))
+        return not self.trouble or self.front.confirm(texts.NOT_KEPT.format(word=self.word, why=self.trouble))
 
     def leave(self) -> None:
         """Leaves the kept game for the next start, and ends the program. A game that isn't kept is tried to be, whatever ends the front."""
@@ -201,10 +208,14 @@ class KeptGame:
             self._is_saved = True
         self._write()
 
+    def _to_keep(self) -> Tuple[str, bytes]:
+        """What is kept, and by which name."""
+        return self.kind, self._saved
+
     def _write(self) -> None:
-        """Keeps the save."""
+        """Keeps it."""
         try:
-            self.message = f'{self.message} {self.state.keep(self.kind, self._saved)}'.strip()
+            self.message = f'{self.message} {self.state.keep(*self._to_keep())}'.strip()
             self._is_kept, self.trouble = True, ''
         except NotKept as reason:
             self.trouble = str(reason)

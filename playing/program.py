@@ -13,7 +13,7 @@ from playing.board import Reply, reply_of
 from playing.files import why
 
 #: How long a line may take before somebody is asked whether to go on waiting, and from then on between two questions.
-FIRST_WAIT, NEXT_WAIT = 0.4, 0.1
+FIRST_WAIT, NEXT_WAIT = 0.3, 0.1
 
 #: The name that the program is called by, whatever its file is called: by this one it answers in objects.
 NAME = 'puzzles-json'

@@ -21,6 +21,19 @@ RIGHT = 'Right.'
 NOT_YET = 'Not yet.'
 STOPPED = 'Stopped. Nothing has changed.'
 
+#: On the setter's desk.
+SEEKING = 'Looking for solutions'
+TRIED = 'No chain of steps shows it; all ways were tried.'
+BEYOND = 'It is beyond our steps.'
+NONE_BLAMED = 'No single item is to blame.'
+
+#: The verdict, by how many solutions there are.
+SOLUTIONS = {
+    'none': 'No solution',
+    'one': 'Exactly one solution',
+    'several': 'Several solutions',
+}
+
 #: By the answers to `completable`.
 STILL_COMPLETABLE = {
     'one': 'These numbers can still be completed, in one way.',

@@ -25,7 +25,7 @@ OLD_NAME = re.compile(r'(\d{8}-\d{6})-(\d{3,})-([a-z]+)(-solved)?\.sav')
 WINDOWS = 20
 
 NO_FOLDER = 'neither XDG_STATE_HOME nor HOME names a folder'
-OTHER_WINDOW = 'Another window has the last game; this one is kept in {name}.'
+OTHER_WINDOW = 'Another window has the last {word}; this one is kept in {name}.'
 
 
 class NotKept(Exception):
@@ -114,8 +114,11 @@ class Slot(NamedTuple):
 class State:
     """The folder. Where there is none, or nothing can be written to it, keeping raises `NotKept`, and nothing else does."""
 
-    def __init__(self, env: Mapping[str, str]) -> None:
+    def __init__(self, env: Mapping[str, str], ending: str = '.sav', word: str = 'game') -> None:
+        """What is kept is a game, or is called by another word; the names of its files end so."""
         self._folder = folder_of(env)
+        self._ending = ending
+        self._word = word
         #: Where the present game is kept.
         self.slot = Slot(None, None)
         self._chosen: Dict[str, str] = {}
@@ -135,14 +138,14 @@ class State:
             slot, is_there = _slot(path), os.path.lexists(path)
             if slot.file:
                 name = os.path.basename(path)
-                other = OTHER_WINDOW.format(name=name) if is_taken else ''
-                return slot._replace(told=f'{_told(passed, name)} {other}'.strip())
+                other = OTHER_WINDOW.format(word=self._word, name=name) if is_taken else ''
+                return slot._replace(told=f'{self._told(passed, name)} {other}'.strip())
             reason = reason or slot.fault
             is_taken = is_taken or (is_there and not slot.why)
             if slot.why and is_there:
                 passed.append(f'{path} {slot.why}')
-        why = f'nothing can be written to {self._folder} ({reason})' if reason else 'no file is left for one more game of this kind'
-        return Slot(None, None, told=_told(passed), why=why)
+        why = f'nothing can be written to {self._folder} ({reason})' if reason else f'no file is left for one more {self._word} of this kind'
+        return Slot(None, None, told=self._told(passed), why=why)
 
     def take(self, slot: Slot) -> None:
         """Keeps the present game there from here on."""
@@ -169,7 +172,7 @@ class State:
             free = next((slot for slot in map(_slot, self._free(file.game)) if slot.file), None)
             if free is None or free.file is None:
                 raise NotKept(f'{file.path} {other}')
-            told = _told([f'{file.path} {other}'], os.path.basename(free.file.path))
+            told = self._told([f'{file.path} {other}'], os.path.basename(free.file.path))
             self.take(free)
             file = free.file
         _keep(file.path, content)
@@ -330,7 +333,12 @@ class State:
     def _paths(self, game: str) -> List[str]:
         if self._folder is None:
             return []
-        return [os.path.join(self._folder, f'{game}.sav' if at == 0 else f'{game}-{at + 1}.sav') for at in range(WINDOWS)]
+        return [os.path.join(self._folder, f'{game}{f"-{at + 1}" if at else ""}{self._ending}') for at in range(WINDOWS)]
+
+    def _told(self, passed: List[str], name: str = '') -> str:
+        """The sentence on files that were passed over, and the name of the one that was had instead."""
+        then = f', and this {self._word} is kept in {name}' if name else ''
+        return f"{'; '.join(passed)}: a file that can't be read stays as it is{then}." if passed else ''
 
 
 def _slot(path: str) -> Slot:
@@ -346,12 +354,6 @@ def _slot(path: str) -> Slot:
         os.close(lock)
         return Slot(None, None, why=found.why)
     return Slot(LockedFile(path, lock), found.content if found.kind is files.Kind.READ else None, files.read(beside.file_of(path)).content)
-
-
-def _told(passed: List[str], name: str = '') -> str:
-    """The sentence on files that were passed over, and the name of the one that was had instead."""
-    then = f', and this game is kept in {name}' if name else ''
-    return f"{'; '.join(passed)}: a file that can't be read stays as it is{then}." if passed else ''
 
 
 def _unlink(path: str) -> None:

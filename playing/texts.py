@@ -21,10 +21,11 @@ class Ways(NamedTuple):
     done: str
     commands: str
     back: str
+    why: str
 
 
-BY_KEYS = Ways('0 clears it', "a digit on a square, or ':move R2,0,3'", "'D0,-1'", '? shows the keys', 'b')
-BY_LINES = Ways("'r1c2 0' clears it", "'r1c2 3' (row, column, number), or 'p r1c2 3'", "'d above 1'", "'help' lists them all", "'back'")
+BY_KEYS = Ways('0 clears it', "a digit on a square, or ':move R2,0,3'", "'D0,-1'", '? shows the keys', 'b', 'h')
+BY_LINES = Ways("'r1c2 0' clears it", "'r1c2 3' (row, column, number), or 'p r1c2 3'", "'d above 1'", "'help' lists them all", "'back'", "'why'")
 
 #: A move, in SIZE squares by SIZE. What the front end says of its ways is put in.
 MOVES: Dict[str, str] = {
@@ -36,6 +37,15 @@ MOVES: Dict[str, str] = {
     'NoSolution': 'No solution exists for this puzzle.',
     'SeveralSolutions': 'Multiple solutions exist for this puzzle: none is filled in.',
 }
+
+#: On the setter's desk: an item that a puzzle of the game can't have.
+ITEMS: Mapping[str, str] = {
+    'towers': 'Towers has no signs: it has clues at the edge.',
+    'unequal': 'A sign stands between two neighbours, and Unequal has no clues at the edge.',
+}
+WHY_NOT = 'There is a solution, so nothing says why there is none.'
+NO_THINNING = 'There is nothing to thin out: no item is marked as not needed.'
+NO_PLAY = 'Only a puzzle with exactly one solution can be played.'
 
 #: A clue's done mark.
 NO_CLUE = 'A done mark is for a clue at the edge, as in {done}.'
@@ -101,7 +111,7 @@ WRONG = "These numbers can't be completed: undo some."
 GREETING = 'A new game. Arrows move, 1-9 put a number in. h: a hint, ?: all keys.'
 
 STAYS = 'The present game stays.'
-NOT_KEPT = 'The game is not kept ({why}). Quit and lose it?'
+NOT_KEPT = 'The {word} is not kept ({why}). Quit and lose it?'
 NO_VIEW = "The program doesn't say which numbers are possible."
 
 LOST = 'Out of memory. The command may or may not have been carried out: look at the board.'
@@ -117,6 +127,8 @@ def of_line(line: str, name: str, game: str, size: int, ways: Ways) -> str:
         return LINES[name].format(commands=ways.commands)
     if line.startswith('new'):
         return of_id(name, game)
+    if name == 'OffGrid' and line.startswith('item'):
+        return ITEMS[game]
     if name == 'OffGrid' and line.startswith('move D'):
         return NO_CLUE.format(size=size, done=ways.done) if game == 'towers' else 'Done marks are for the clues of Towers: Unequal has none.'
     found = MOVES.get(name, 'The program refuses that: {name}.')

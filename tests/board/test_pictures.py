@@ -19,6 +19,10 @@ PICTURES = Path(__file__).resolve().parent / 'pictures'
 #: All marks, two equal numbers, pencil marks taken away, and a clue that is done where there is one.
 KEYS = 'm1<right>1<right><down>p12p<down><left><left><left>d'
 
+#: At the desk: a puzzle whose clues can each be left out; and two clues of which one must be wrong.
+SPARE = '3:3/2/1/1/2/2/3/2/1/1/2/2'
+NINE, BLAMED = '9:///////////////////////////////////', '<up>1<right>1'
+
 #: Clears the sentence that the last key may have left.
 LAST = '<right>'
 
@@ -32,11 +36,14 @@ class Picture(NamedTuple):
     term: str = 'xterm-256color'
     locale: str = 'C.UTF-8'
 
+    #: What is set or checked at the desk, in place of what is pressed in the game of the usual puzzle: what it is called, the puzzle, and the keys.
+    desk: Tuple[str, str, str] = ('', '', '')
+
     @property
     def name(self) -> str:
         lines, columns = self.screen
         plain = '-plain' if self.locale == 'C' else ''
-        return f'{self.game}-{self.size}-{columns}x{lines}{plain}.txt'
+        return f'{self.game}-{self.size}-{self.desk[0]}{columns}x{lines}{plain}.txt'
 
 
 ALL: List[Picture] = [
@@ -45,6 +52,10 @@ ALL: List[Picture] = [
     *(Picture(game, 5, (20, 40)) for game in ('towers', 'unequal')),
     *(Picture(game, 9, (60, 200)) for game in ('towers', 'unequal')),
     *(Picture(game, 6, term='vt100', locale='C') for game in ('towers', 'unequal')),
+    *(Picture('towers', 3, term=term, locale=locale, desk=('spare-', SPARE, '')) for term, locale in (('xterm-256color', 'C.UTF-8'), ('vt100', 'C'))),
+    Picture('towers', 9, desk=('blamed-', NINE, BLAMED)),
+    Picture('unequal', 4, desk=('several-', '4:0,0,0R,0,0,0,0,0,0,0U,0,0,0,3,0,0,', '')),
+    Picture('unequal', 9, (24, 44), desk=('wrong-', '9:' + '0,' * 81, '1>v<right>2<down><left>2')),
 ]
 
 
@@ -55,10 +66,11 @@ def text_of(screen: Screen) -> str:
 def seen(front: BoardFront, picture: Picture, wanted: str) -> str:
     """What stands on the screen at the end, as soon as that is what is wanted, or when it stays otherwise."""
     env = front.env(picture.term, picture.locale)
-    id = made(picture.game, picture.size, 'e')[0]
+    id = picture.desk[1] or made(picture.game, picture.size, 'e')[0]
+    keys = f'E<left><enter>{picture.desk[2]}' if picture.desk[1] else KEYS + LAST
     with front.window([picture.game, id], picture.screen, env) as window:
         window.wait_until(lambda screen: any('0/0' in line for line in screen.text()))
-        window.press(KEYS + LAST + '?')
+        window.press(keys + '?')
         window.wait_until(lambda screen: any('any' in line and 'back' in line for line in screen.text()))
         window.press('x')
         window.wait_until(lambda screen: text_of(screen) == wanted, 5)
