@@ -137,18 +137,16 @@ class DeskLines(LineMode):
         """The draft of a game, or a blank board of a size."""
         desk, words = self._desk, text.lower().split()
         games, sizes = [word for word in words if word in GAMES], [word for word in words if word not in GAMES]
-        game = (games or [desk.kind])[0]
         if len(games) > 1 or len(sizes) > 1 or not set(sizes) <= set(map(str, SIZES)):
             say(NO_BOARD)
-        elif game == desk.kind or (desk.may_be_left() and desk.turn_to(game, int((sizes or ['5'])[0]))):
+        elif desk.turn_to((games or [desk.kind])[0], int((sizes or ['5'])[0])):
             if sizes:
                 desk.change(f'blank {sizes[0]}')
             self._begun()
 
     def _take_game(self, _: str) -> None:
-        desk, board = self._desk, self._before.board
-        if self._before.kind == desk.kind or (desk.may_be_left() and desk.turn_to(self._before.kind, board.size)):
-            desk.take_puzzle(board.session.id)
+        board = self._before.board
+        if self._desk.turn_to(self._before.kind, board.size) and self._desk.take_puzzle(board.session.id):
             self._begun()
 
     def _play_it(self, _: str) -> None:

@@ -185,7 +185,7 @@ class DeskScreen(FullScreen):
         """Another board, if one is chosen."""
         desk, board = self._desk, self._desk.board
         choice = DeskMenu(self._screen, self._before, Choice(desk.kind, board.size)).run(desk.message)
-        if choice is None or (choice.game != desk.kind and not (desk.may_be_left() and desk.turn_to(choice.game, choice.size))):
+        if choice is None or not desk.turn_to(choice.game, choice.size):
             return
         self._at_start()
         if choice.grade == BLANK:

@@ -14,9 +14,8 @@ KEYS: List[str] = [
     'h hint: where to look, then the steps, then the number;  H all steps',
     'c can these numbers be completed;  b undo until they can;  S solve',
     'n new game   o open: a game that was put away, a file   w save as',
-    'E set or check a puzzle   i the ID   : a command of the program',
-    'T lines of text, and back   Z to the shell, fg comes back',
-    'q quit: the game is kept for the next start',
+    'i the ID   E set or check a puzzle   : a command of the program',
+    'T lines of text, and back   Z to the shell   q quit: the game is kept',
 ]
 
 #: Those of the setter's desk.

@@ -66,7 +66,9 @@ class Desk(Game):
         self.verdict = Verdict()
 
     def turn_to(self, game: str, size: int) -> bool:
-        """Goes on with the draft of a game; where there is none, with a blank board of this size. A draft that can't be read stays as it is, and is named."""
+        """Has the draft of a game; where none is kept, a blank board of this size. What can't be read as a draft stays as it is, and is named."""
+        if self.has_game and (game == self.kind or not self.may_be_left()):
+            return game == self.kind
         passed: List[str] = []
         try:
             slot, draft, program = self._found(game, size, passed)
@@ -142,8 +144,8 @@ class Desk(Game):
 
     def thin(self) -> bool:
         """Takes out what isn't needed."""
-        self.judge()
-        if self.verdict.kind == 'one' and self.verdict.marked:
+        self.message = ''
+        if self.judge().kind == 'one' and self.verdict.marked:
             return self.change(f'thin {self.verdict.letter}'.strip())
         self.message = self.message or texts.NO_THINNING
         return False
@@ -159,20 +161,19 @@ class Desk(Game):
 
     def judge(self) -> Verdict:
         """The verdict, as far as the player waits for it."""
-        self.message = ''
         for _ in self.judging():
             pass
         return self.verdict
 
     def ruled(self) -> Verdict:
         """The same, perhaps without the items that are marked."""
-        self.message = ''
         if not self.verdict.kind:
             next(self.judging(), None)
         return self.verdict
 
     def playable(self) -> Optional[Choice]:
         """The puzzle as a game, where it has exactly one solution."""
+        self.message = ''
         if self.ruled().kind == 'one':
             return Choice(self.kind, self.board.size, id=self.board.session.id)
         self.message = self.message or texts.NO_PLAY

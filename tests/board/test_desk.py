@@ -125,7 +125,16 @@ GAMES: List[BoardGame] = [
         'items that are not needed are marked, and go',
         ['towers', '3:3/2/1/1/2/2/3/2/1/1/2/2'],
         [
-            Look(PRESENT, ['Exactly one solution. It is easy by our steps.', 'Each of the 12 with a - is not needed for that grade.', '-3              -2              -1', '3 -│', '│-1']),
+            Look(
+                PRESENT,
+                [
+                    'Exactly one solution. It is easy by our steps.',
+                    'Each of the 12 with a - is not needed for that grade.',
+                    '-3              -2              -1',
+                    '3 -│',
+                    '│-1',
+                ],
+            ),
             Look('c', ['Each of the 12 below is not needed for that grade.', 'clue 3 above column 1; clue 2 above column 2; ']),
             Look('xm', ['All items are needed for that grade.', 'change 2/2']),
             Look('u', ['12 clues, 0 given', 'Each of the 12']),
