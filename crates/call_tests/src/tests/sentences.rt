@@ -82,7 +82,7 @@ fn said_lines<P: Game + StepNames>(
 ) -> Result<bool, AllocError> {
     let chain = chain_of(alloc, said.3, said.4)?;
     let told = told_steps(alloc, p, view_of(grid), chain.steps.as_slice())?;
-    let lines = chain_lines(alloc, grid, told.as_slice(), chain.goal)?;
+    let lines = chain_lines(alloc, p, grid, told.as_slice(), chain.goal)?;
     Ok(are_lines(lines.as_slice(), said.5))
 }
 
