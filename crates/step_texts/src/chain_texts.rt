@@ -46,6 +46,7 @@ pub fn refutation_lines<P: StepNames>(
 }
 
 // The sentences of told steps, each with its number.
+#[tactic(auto, using(crate::proofs::Grouped::shorter))]
 fn say_steps<P: StepNames>(text: &mut Writing, p: &P, told: &[ToldStep]) -> Result<(), AllocError> {
     let mut rest = told;
     let mut number = 0usize;

@@ -18,6 +18,7 @@ use std::alloc::{AllocError, Global};
 /// Those are one sentence that stand side by side and strike the same one number, all of them at the greater end of a sign, all at the lesser
 /// one, or all by clues alone from which too few towers would be seen, or too many. They hold at once: what a sign asks of its other end isn't
 /// changed by this number being struck there, and a clue alone asks nothing.
+#[tactic(auto, using(crate::proofs::Grouped::one_group, crate::proofs::Grouped::all_grouped, crate::proofs::Grouped::shorter))]
 pub fn told_groups<P: StepNames>(
     alloc: Global,
     p: &P,
