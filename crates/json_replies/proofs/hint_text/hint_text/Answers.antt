@@ -10,7 +10,7 @@ use Rattle.json_replies.specs.Counts.{count_data}
 use Rattle.json_replies.specs.Texts.{text_data, list_data}
 use Rattle.json_replies.specs.Steps.{steps_data}
 use Rattle.json_replies.specs.HintObjects.{IsHintValue, SaidData, said_of, view_data, hint_data}
-use Rattle.json_replies.specs.Inner.WrittenData.{MembersFollow, said_members}
+use Rattle.json_replies.specs.Inner.WrittenData.{MembersFollow, said_data, said_members}
 use Rattle.json_replies.proofs.HintSpellings.{hint_value_fits}
 use Rattle.json_replies.proofs.ViewsAlike.{same_view}
 use Rattle.json_replies.proofs.WrittenData.{object_follows, more_members, key_follows, member_is, written_alone}
@@ -43,7 +43,7 @@ returns g c =
     } in
     let said = subst (λ (s : SaidData). MembersFollow (said_members s (list_data count_data groups)) c.begin_object.new.self c.write_said.new.writer)
     (c.said_of.ensures ∙ ap (λ v. said_of v letter hint) (c.size.ensures.value ∙ c.requires.size))
-    (subst (λ (ns : List ℕ). MembersFollow (said_members _ (list_data count_data ns)) c.begin_object.new.self c.write_said.new.writer)
+    (subst (λ (ns : List ℕ). MembersFollow (said_members (said_data c.said_of.result) (list_data count_data ns)) c.begin_object.new.self c.write_said.new.writer)
     c.as_slice-3.ensures.value c.in_ok-write_said.ensures) in
     let steps = member_is (ap (steps_data w clue over) c.as_slice-4.ensures.value) (key_follows c.in_ok-key.ensures c.in_ok-write_steps.ensures) in
     let lines = member_is (ap (λ lines. list_data text_data (line_texts lines)) c.as_slice-5.ensures.value)

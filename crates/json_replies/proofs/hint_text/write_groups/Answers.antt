@@ -8,8 +8,8 @@ use Rattle.json_replies.proofs.hint_text.write_groups.Goals as goal
 pub loop-steps-preserved : goal.loop-steps-preserved
 loop-steps-preserved c =
     let groups = c.args.groups.now in
-    item_follows count_data groups c.loop-steps.steps-index (take_more groups c.loop-steps.steps-index c.steps-item.result (omega arith))
-    c.steps-item.is refl c.loop-steps.invariant c.in_ok-write_number.ensures
+    item_follows count_data groups c.loop-steps.steps-index (take_more groups c.loop-steps.steps-index 0 (omega arith)) refl refl
+    c.loop-steps.invariant c.in_ok-write_number.ensures
 
 pub returns : goal.returns
 returns c =
