@@ -167,6 +167,24 @@ fn chains_are_said(rt: HostRuntime) {
                 "So r4c4 is 1: 3 and 4 stand in its row or column, and 2, 5 and 6 are ruled out above.",
             ],
         ),
+        Said(
+            Described::Unequal("0D,0,0,0,0R,0,0,0L,0,"),
+            3,
+            "000000000",
+            &[
+                Worked(Why::Sign(0, 3), &[(3, "3")]),
+                Worked(Why::Sign(4, 5), &[(5, "3")]),
+            ],
+            Goal::OnlyPlace {
+                line: 1,
+                index: 1,
+                value: 3,
+            },
+            &[
+                "1. R2c1 and r2c3 are each less than a neighbour: they are not 3.",
+                "So r2c2 is 3: no other square of row 2 can be 3.",
+            ],
+        ),
     ];
     check(&rt, rt.alloc(), ROWS);
 }
