@@ -288,7 +288,7 @@ class LineMode:
     def _end_hint(self, walk: HintWalk) -> None:
         before = self._game.board
         if not walk.is_refutation:
-            say(walk.part(len(walk.steps)).text)
+            say(walk.part(walk.length - 1).text)
         self._game.end_hint()
         after = self._game.board
         if after is not before:

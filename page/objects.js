@@ -12,7 +12,7 @@
  */
 /**
  * @typedef {{kind: 'follows' | 'nothing' | 'contradiction', cell: number | null, number: number | null, line: number | null, grade: string | null,
- *   view?: number[][], steps: Step[], text: string[]}} Hint
+ *   view?: number[][], steps: Step[], groups: number[], text: string[]}} Hint
  */
 /** @typedef {{clues: {x: number, y: number}[], signs: {greater: number, less: number}[], givens: number[]}} Items */
 /**

@@ -47,7 +47,7 @@ export class Walk {
       return walked.steps.length ? lookAt(walked.steps[0], walked.size) : lookAtGoal(walked.hint.line, walked.size);
     }
     this.stage = 'reason';
-    const {steps: {length}, sentences} = walked;
+    const {groups: {length}, sentences} = walked;
     this.shown = walked.shown(length === 1 ? 0 : length);
     return length === 1 ? sentences.join(' ') : [sentences[length], inSteps(length)].filter(Boolean).join(' ');
   }

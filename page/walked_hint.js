@@ -1,4 +1,4 @@
-// A hint, part by part: where to look, what a step rules out, and what is left after it. All of it stands in the hint's object.
+// A hint, part by part: where to look, what a sentence rules out, and what is left before it. All of it stands in the hint's object.
 import {placeAt, placeOf, sentences} from './objects.js';
 
 /** @typedef {import('./objects.js').Hint} Hint */
@@ -29,11 +29,14 @@ export function restsOn({clue, x, y, greater, less, cells}, size) {
 export class WalkedHint {
   /** @param {Hint} hint @param {number} size */
   constructor(hint, size) {
+    const rest = [...hint.steps];
     this.hint = hint;
     this.size = size;
     this.steps = hint.steps;
-    /** All of it: a sentence for each step, and the last. */
-    this.sentences = [...this.steps.map((step) => step.text.map((text) => text.trim()).join(' ')), ...sentences(hint.text).slice(-1)];
+    /** All sentences: those of steps, without their numbers, and the last. */
+    this.sentences = sentences(hint.text).map((text) => text.replace(/^[0-9]+[.] /, ''));
+    /** The steps of each sentence but the last. */
+    this.groups = hint.groups.map((length) => rest.splice(0, length));
   }
 
   /** The move that the hint comes down to; nothing where there is none. */
@@ -59,19 +62,19 @@ export class WalkedHint {
   // What a sentence says.
   /** @param {number} at @returns {Shown} */
   shown(at) {
-    const step = this.steps[at];
-    if (!step) return {...NOTHING_SHOWN, framed: this.goalLine(), left: this.left(this.steps.length)};
-    const struck = new Map(step.strikes.map(({cell, numbers}) => [cell, numbers]));
-    return {framed: [], rests: restsOn(step, this.size), struck, left: this.left(at)};
+    const steps = this.groups[at];
+    if (!steps) return {...NOTHING_SHOWN, framed: this.goalLine(), left: this.left(at)};
+    const struck = new Map(steps.flatMap(({strikes}) => strikes).map(({cell, numbers}) => [cell, numbers]));
+    return {framed: [], rests: steps.flatMap((step) => restsOn(step, this.size)), struck, left: this.left(at)};
   }
 
-  // What is left in each square before a step: what is in view, without what the steps above strike.
+  // What is left in each square before a sentence: what is in view, without what the steps above strike.
   /** @param {number} before */
   left(before) {
     const {view} = this.hint;
     if (!view) return null;
     const left = view.map((numbers) => [...numbers]);
-    for (const {cell, numbers} of this.steps.slice(0, before).flatMap(({strikes}) => strikes)) {
+    for (const {cell, numbers} of this.groups.slice(0, before).flat().flatMap(({strikes}) => strikes)) {
       left[cell] = left[cell].filter((number) => !numbers.includes(number));
     }
     return left;

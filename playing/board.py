@@ -116,6 +116,8 @@ class Hint(NamedTuple):
     text: List[str] = []
     #: What is in view of each square before the first step, in reading order: its number, or those that don't stand in its row or column.
     view: List[List[int]] = []
+    #: How many steps each sentence is of, but for the last.
+    groups: List[int] = []
 
     def steps(self, size: int) -> List[Step]:
         """The steps, on a board of this size."""
@@ -161,7 +163,9 @@ def reply_of(data: Mapping[str, Any]) -> Reply:
 
 def hint_of(data: Mapping[str, Any]) -> Hint:
     """A hint; a program that tells no steps has none."""
-    return Hint(data['kind'], data['cell'], data['number'], data.get('grade'), data.get('line'), data.get('steps', []), data.get('text', []), data.get('view', []))
+    told = data.get('steps', [])
+    groups = data.get('groups', [1] * len(told))
+    return Hint(data['kind'], data['cell'], data['number'], data.get('grade'), data.get('line'), told, data.get('text', []), data.get('view', []), groups)
 
 
 def session_of(data: Mapping[str, Any]) -> Session:

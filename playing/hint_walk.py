@@ -1,13 +1,14 @@
-"""A hint as a walk: where to look, the steps one after the other with what is left before each, and at the end the number, or what is to be undone."""
+"""A hint as a walk: where to look, its sentences one after the other with what is left before each, and at the end the number, or what is to be undone."""
 
 from __future__ import annotations
 
 from enum import Enum
-from typing import Dict, FrozenSet, List, NamedTuple, Optional
+from itertools import chain, islice
+from typing import Dict, FrozenSet, Iterator, List, NamedTuple, Optional
 
 from playing.board import Board, Hint
 from playing.naming import Place, line_name, name
-from playing.steps import Shown, line_squares, look_at, sentences
+from playing.steps import Shown, Step, line_squares, look_at, sentences
 
 
 class HintPart(NamedTuple):
@@ -36,6 +37,8 @@ class HintWalk:
         self.moves = moves
         self.place = hint.square(board.size)
         self.steps = hint.steps(board.size)
+        #: The steps of each sentence.
+        self.groups = list(_grouped(self.steps, hint.groups))
         self._size = board.size
         self._view = hint.in_view(board) if hint.view else None
         self._id, self._numbers, self._position = board.session.id, dict(board.numbers), board.session.position
@@ -74,8 +77,8 @@ class HintWalk:
 
     @property
     def length(self) -> int:
-        """How many sentences there are: one of each step, and the last."""
-        return len(self.steps) + 1
+        """How many sentences there are: those of the steps, and the last."""
+        return len(self.groups) + 1
 
     def look(self) -> HintPart:
         """Where to look first."""
@@ -84,25 +87,31 @@ class HintWalk:
         return HintPart(self._look_at_square(), Shown(self._end_squares()), self.place)
 
     def part(self, at: int) -> HintPart:
-        """A step, with what is left before it; or the end."""
-        if at < len(self.steps):
-            step = self.steps[at]
-            return HintPart(step.text, Shown(step.rests_on(self._size), self.left(at), step.struck), self.place)
+        """A sentence, with what is left before its steps; or the end."""
+        if at < len(self.groups):
+            steps = self.groups[at]
+            rests_on = frozenset(chain.from_iterable(step.rests_on(self._size) for step in steps))
+            struck = {strike.place: strike.numbers for step in steps for strike in step.strikes}
+            return HintPart(self._sentence(at), Shown(rests_on, self.left(at), struck), self.place)
         return HintPart(self._end(), Shown(self._end_squares(), self.left(at)), self.place)
 
     def whole(self) -> List[str]:
-        """All sentences, the steps numbered."""
+        """All sentences, those of steps numbered."""
         return sentences(self.hint.text) or [self._look_at_square(), self._end()]
 
     def left(self, at: int) -> Optional[Dict[Place, List[int]]]:
-        """The numbers that are left in each empty square before a step; nothing where the program doesn't say what is in view."""
+        """The numbers that are left in each empty square before a sentence; nothing where the program doesn't say what is in view."""
         if self._view is None:
             return None
         left = {place: set(numbers) for place, numbers in self._view.items()}
-        for step in self.steps[:at]:
+        for step in chain.from_iterable(self.groups[:at]):
             for strike in step.strikes:
                 left.get(strike.place, set()).difference_update(strike.numbers)
         return {place: sorted(numbers) for place, numbers in left.items()}
+
+    def _sentence(self, at: int) -> str:
+        """That of steps, without its number."""
+        return sentences(self.hint.text)[at].partition(' ')[2]
 
     def _end(self) -> str:
         """What the steps show."""
@@ -124,3 +133,10 @@ class HintWalk:
         if self.place is None:
             return 'Look for an empty square whose row and column have all numbers.'
         return f'Look at {name(self.place)}: one number is left there, as the others stand in its row or column.'
+
+
+def _grouped(steps: List[Step], groups: List[int]) -> Iterator[List[Step]]:
+    """The steps of each sentence, by how many they are."""
+    rest = iter(steps)
+    for length in groups:
+        yield list(islice(rest, length))

@@ -122,6 +122,17 @@ GAMES: List[Game] = [
         ],
     ),
     Game(
+        'steps of one sentence',
+        ['unequal', '4de:0,0L,0,0L,0,0D,0,0D,0,0L,0,0,0,0,0,0,'],
+        [
+            Step(['hint'], ['Look at the sign between r2c2 and r3c2.']),
+            Step(['hint'], ["1. R3c2, r3c4 and r3c1 are each less than a neighbour: they are not 4.\n'hint' again"], hides=['2.', 'So r']),
+            Step(['why 1'], ['Left before it: r2c2 ', '; r3c4 1, 2, 3 or 4.\nR3c2, r3c4 and r3c1 are each']),
+            Step(['why 2'], ['So r3c3 is 4: no other square of row 3 can be 4.']),
+            Step(['why 3'], ['by a number from 1 to 2.']),
+        ],
+    ),
+    Game(
         'sentences',
         ['towers', '3:///////////,1c3c2'],
         [

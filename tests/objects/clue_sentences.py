@@ -12,6 +12,9 @@ MOST_SQUARES, MOST_NUMBERS = 3, 8
 #: What is told of the line where more has to be known.
 OF_THE_LINE = {'stand': ', with the numbers in ', 'clue': ', by what is left in '}
 
+#: Where a clue stands, by its side of the edge.
+SIDES = ('above column', 'below column', 'left of row', 'right of row')
+
 #: What may stand in each square of a clue's line.
 Line = Dict[int, FrozenSet[int]]
 
@@ -28,7 +31,7 @@ class Seen(NamedTuple):
 def clue_sentence(puzzle: TowersPuzzle, left: Left, step: Step) -> str:
     size, kind, clue = puzzle.size, step.reason.kind, puzzle.clues[step.reason.place]
     side, at = divmod(step.reason.place, size)
-    named = f"Clue {clue} {('above column', 'below column', 'left of row', 'right of row')[side]} {at + 1}"
+    named = f"Clue {clue} {SIDES[side]} {at + 1}"
     plain = {1: 'the nearest tower is the tallest', size: 'all towers are seen and rise'}
     if kind == 'bound' and clue in plain:
         return f'{named}: {plain[clue]}, so {losses(size, step)}.'

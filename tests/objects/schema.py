@@ -67,6 +67,7 @@ HINT: Dict[str, Any] = {
     'by': (None, 'value', 'line'),
     'cell': (None, CELL),
     'grade': (None, *GRADES),
+    'groups': [range(1, 730)],
     'kind': KINDS,
     'line': (None, LINE),
     'number': (None, NUMBER),

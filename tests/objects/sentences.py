@@ -5,6 +5,7 @@ import textwrap
 from typing import FrozenSet, List, Sequence
 
 from tests.objects.clue_sentences import clue_sentence
+from tests.objects.groups import Told, grouped, sentence_of_group
 from tests.objects.reading import Object
 from tests.objects.words import capital, joined, line_name, losses, square, squares
 from tests.second_implementation.puzzles import Numbers, Puzzle
@@ -18,13 +19,15 @@ WIDTH = 100
 
 def expect_text(puzzle: Puzzle, numbers: Numbers, hint: Object, chain: Sequence[Step]) -> None:
     before = left = view = in_view(puzzle.size, numbers)
-    whole: List[str] = []
-    for at, (step, told) in enumerate(zip(chain, hint['steps'])):
-        sentence = sentence_of(puzzle, left, step)
-        assert told['text'] == cut(sentence)
-        whole += cut(f'{at + 1}. {sentence}')
+    each_step: List[Told] = []
+    for step, told in zip(chain, hint['steps']):
+        each_step.append(Told(step, left, sentence_of(puzzle, left, step)))
+        assert told['text'] == cut(each_step[-1].sentence)
         before = left
         left = after(puzzle, left, [step]) or left
+    groups = list(grouped(puzzle, each_step))
+    assert hint['groups'] == [len(group) for group in groups]
+    whole = [line for at, group in enumerate(groups) for line in cut(f'{at + 1}. {sentence_of_group(puzzle, group)}')]
     end = contradiction(puzzle.size, numbers, view, before, chain[-1:], hint) if hint['kind'] == 'contradiction' else conclusion(puzzle, numbers, view, hint)
     assert hint['text'] == [*whole, *cut(end)]
 

@@ -146,4 +146,5 @@ def test_sentence(pair: Pair, room: Room, told: Sentence) -> None:
     ended = run([pair.objects, told.game], room, input=script)
     hint = json.loads(ended.output.splitlines()[-1])['hint']
     texts = [*(step['text'] for step in hint['steps']), hint['text']]
-    assert any(' '.join(line.strip() for line in text).endswith(told.text) for text in texts)
+    said = ' '.join(line.strip() for text in texts for line in text)
+    assert f' {told.text} ' in f' {said} '

@@ -207,9 +207,9 @@ said_fits w letter (Refuted grade refutation) =
     record { by = null_fits 0; cell = null_fits 0; grade = word_fits (letter grade); line = null_fits 0; number = null_fits 0 }
 said_fits w letter Nothing = record { by = null_fits 0; cell = null_fits 0; grade = null_fits 0; line = null_fits 0; number = null_fits 0 }
 
-object_fits : (said : SaidData) (steps text seen : Data) → SaidFits said → IsShallow 6 steps → IsShallow 1 text → IsShallow 2 seen
-    → IsShallow 7 (hint_data said steps text seen)
-object_fits said steps text seen fit f h i =
+object_fits : (said : SaidData) (groups steps text seen : Data) → SaidFits said → IsShallow 1 groups → IsShallow 6 steps → IsShallow 1 text
+    → IsShallow 2 seen → IsShallow 7 (hint_data said groups steps text seen)
+object_fits said groups steps text seen fit j f h i =
     let a = fit.by in
     let b = fit.cell in
     let c = fit.grade in
@@ -223,10 +223,12 @@ object_fits said steps text seen fit f h i =
     let ff = f.flat in
     let hh = h.flat in
     let ii = i.flat in
+    let jj = j.flat in
     record {
       whole = no_float_or (has_float said.by) _ a.whole (no_float_or (has_float said.cell) _ b.whole (no_float_or (has_float said.grade) _ c.whole
+          (no_float_or (has_float groups) _ j.whole
           (no_float_or (has_float said.line) _ d.whole (no_float_or (has_float said.number) _ e.whole (no_float_or (has_float steps) _ f.whole
-          (no_float_or (has_float text) _ h.whole (no_float_or (has_float seen) false i.whole refl)))))));
+          (no_float_or (has_float text) _ h.whole (no_float_or (has_float seen) false i.whole refl))))))));
       flat = omega arith;
     }
 
@@ -235,5 +237,6 @@ pub hint_value_fits : (w : ℕ) (letter : Grade → List ℕ) (clue : ℕ → �
     (g : GridValue) (hint : NextHint) (value : Data) → IsHintValue w letter clue is_over Struck g hint value → IsShallow 7 value
 hint_value_fits w letter clue is_over Struck g hint value told =
     subst (IsShallow 7) (sym told.is)
-    (object_fits (said_of w letter hint) (steps_data w clue is_over told.steps) (list_data text_data told.text) (view_data told.view)
-    (said_fits w letter hint) (steps_fit w clue is_over told.steps) (texts_fit told.text) (view_fits told.view))
+    (object_fits (said_of w letter hint) (list_data count_data told.groups) (steps_data w clue is_over told.steps) (list_data text_data told.text)
+    (view_data told.view) (said_fits w letter hint) (list_fits 0 count_data count_fits told.groups) (steps_fit w clue is_over told.steps)
+    (texts_fit told.text) (view_fits told.view))

@@ -1,5 +1,5 @@
 -- The object of a hint: what it says, what is in view of the grid, and the steps from there, each with its sentence.
-use Rattle.std.specs.Prelude.{◌≡◌, ℕ, Bool, List, [], ◌∷◌, codes, Option, Some, None}
+use Rattle.std.specs.Prelude.{◌≡◌, ℕ, Bool, List, [], ◌∷◌, length, codes, Option, Some, None}
 use Rattle.std.specs.List.{range_with_len}
 use Rattle.serde_json.specs.Data.{Data, null, string, object, no_members, member}
 use Rattle.latin_board.specs.Squares.{GridValue}
@@ -12,6 +12,7 @@ use Rattle.step_chains.specs.declared.chain.Step.{Step}
 use Rattle.step_chains.specs.declared.hints.NextHint.{NextHint}
 use Rattle.step_chains.specs.declared.hints.NextHint.TheVariants.{Follows, Refuted, Nothing}
 use Rattle.step_texts.specs.declared.told.ToldStep.{ToldStep}
+use Rattle.step_texts.specs.Groups.{AreGroups}
 use Rattle.step_texts.specs.Lines.{AreShort}
 use Rattle.step_texts.specs.Told.{AreTold}
 use Rattle.json_replies.specs.Boards.{listed_data, when, squares}
@@ -79,19 +80,20 @@ left_data c cell = listed_data (λ n. when (may_be c cell n) (count_data n)) (ra
 abbrev pub view_data : CandidatesValue → Data
 view_data c = listed_data (λ cell. left_data c cell ∷ []) (squares c.size)
 
--- what a hint says, its steps, all sentences, and what is in view, as one object
-abbrev pub hint_data : SaidData → Data → Data → Data → Data
-hint_data said steps text view = object
+-- what a hint says, how many steps each sentence is of, the steps, all sentences, and what is in view, as one object
+abbrev pub hint_data : SaidData → Data → Data → Data → Data → Data
+hint_data said groups steps text view = object
     (member (codes "by") said.by
     (member (codes "cell") said.cell
     (member (codes "grade") said.grade
+    (member (codes "groups") groups
     (member (codes "kind") (string said.kind)
     (member (codes "line") said.line
     (member (codes "number") said.number
     (member (codes "steps") steps
     (member (codes "text") text
     (member (codes "view") view
-    no_members)))))))))
+    no_members))))))))))
 
 -- sentences in short lines, and none where nothing is said
 abbrev pub IsTextOf : NextHint → List (List ℕ) → Type 0
@@ -107,10 +109,13 @@ pub record IsHintValue (w : ℕ) (letter : Grade → List ℕ) (clue : ℕ → �
   pub in_view : IsView g view
   pub steps : List ToldStep
   pub told : AreTold Struck w view (steps_in hint) steps
+  pub groups : List ℕ
+  pub grouped : AreGroups (length steps) groups
   pub text : List (List ℕ)
   pub lines : IsTextOf hint text
   pub is : value
-      ≡ hint_data (said_of w letter hint) (steps_data w clue is_over steps) (list_data text_data text) (view_data view)
+      ≡ hint_data (said_of w letter hint) (list_data count_data groups) (steps_data w clue is_over steps)
+      (list_data text_data text) (view_data view)
 
 -- the goal of its chain, if it has one, is one of the size
 abbrev pub IsGoalTold : ℕ → NextHint → Type 0

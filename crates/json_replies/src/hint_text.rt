@@ -6,6 +6,8 @@ ghost use Rattle.std.specs.Option.{option_copied};
 ghost use Rattle.step_texts.specs.Lines.{line_texts};
 ghost use Rattle.named_steps.specs.Chains.{IsView};
 ghost use Rattle.trail_solver.specs.Candidates.{CandidatesValue};
+ghost use Rattle.json_replies.specs.Counts.{count_data};
+ghost use Rattle.json_replies.specs.Texts.{list_data};
 ghost use Rattle.json_replies.specs.HintObjects.{IsGoalTold, IsHintValue, IsTextOf, by_word, goal_line_data};
 ghost use Rattle.json_replies.specs.HintObjects.{left_data, said_of, steps_in, view_data, without_number};
 ghost use Rattle.json_replies.specs.Inner.ObjectTexts.{IsTextWhere};
@@ -13,14 +15,18 @@ ghost use Rattle.json_replies.specs.Inner.WrittenData.{count_or_null, said_data,
 ghost use Rattle.json_replies.specs.Inner.WrittenData.{Follow, MembersFollow};
 
 use crate::lists::square_count;
-use crate::written::{write_lines, write_number_at, write_number_when, write_word_at};
+use crate::written::{
+    write_lines, write_number, write_number_at, write_number_when, write_word_at,
+};
 use crate::written_steps::write_steps;
 use json::Writer;
 use latin_board::{Grid, Size};
 use named_steps::Goal;
 use std::alloc::{AllocError, Global};
 use step_chains::{NextHint, Step, view_of};
-use step_texts::{Line, StepNames, ToldStep, chain_lines, refutation_lines, told_steps};
+use step_texts::{
+    Line, StepNames, ToldStep, chain_lines, refutation_lines, told_groups, told_steps,
+};
 use trail_solver::Candidates;
 
 /// A hint of a grid as an object: what it says, what is in view, and the steps from there, each with its sentence.
@@ -36,10 +42,15 @@ pub(crate) fn hint_text<P: StepNames>(
         (P.edge_clue_of p.now) (P.says_greater_of p.now) (StruckBy P.puzzle P.own p.now) grid.now hint.now) text.items) }
 {
     let told = told_steps(alloc, p, view_of(grid), steps_in(hint))?;
-    let lines = text_of(alloc, grid, told.as_slice(), hint)?;
+    let groups = told_groups(alloc, p, told.as_slice())?;
+    let lines = text_of(alloc, p, grid, told.as_slice(), hint)?;
     let mut writer = Writer::new(Vec::new(alloc));
     writer.begin_object()?;
-    write_said(&mut writer, said_of::<P>(grid.size(), hint))?;
+    write_said(
+        &mut writer,
+        said_of::<P>(grid.size(), hint),
+        groups.as_slice(),
+    )?;
     writer.key("steps")?;
     write_steps(alloc, &mut writer, p, told.as_slice())?;
     writer.key("text")?;
@@ -126,8 +137,9 @@ fn steps_in(hint: &NextHint) -> &[Step]
 }
 
 // The sentences of a hint.
-fn text_of(
+fn text_of<P: StepNames>(
     alloc: Global,
+    p: &P,
     grid: &Grid,
     told: &[ToldStep],
     hint: &NextHint,
@@ -135,9 +147,10 @@ fn text_of(
     ensures { IfOk result (λ lines. IsTextOf hint.now (line_texts lines.items)) }
 {
     match hint {
-        NextHint::Follows { chain, .. } => chain_lines(alloc, grid, told, chain.goal),
+        NextHint::Follows { chain, .. } => chain_lines(alloc, p, grid, told, chain.goal),
         NextHint::Refuted { refutation, .. } => refutation_lines(
             alloc,
+            p,
             grid,
             told,
             refutation.cell,
@@ -146,16 +159,31 @@ fn text_of(
     }
 }
 
-// Writes what a hint says.
-fn write_said(writer: &mut Writer, said: Said) -> Result<(), AllocError>
-    ensures { OnOk result (MembersFollow (said_members (said_data said)) writer.old writer.new) }
+// Writes what a hint says, and how many steps each of its sentences is of.
+fn write_said(writer: &mut Writer, said: Said, groups: &[usize]) -> Result<(), AllocError>
+    ensures { OnOk result (MembersFollow (said_members (said_data said) (list_data count_data groups.now))
+        writer.old writer.new) }
 {
     write_word_at(writer, "by", said.by)?;
     write_number_at(writer, "cell", said.cell)?;
     write_word_at(writer, "grade", said.grade)?;
+    writer.key("groups")?;
+    write_groups(writer, groups)?;
     write_word_at(writer, "kind", Some(said.kind))?;
     write_number_at(writer, "line", said.line)?;
     write_number_at(writer, "number", said.number)?;
+    Ok(())
+}
+
+// Writes how many steps each sentence is of.
+fn write_groups(writer: &mut Writer, groups: &[usize]) -> Result<(), AllocError>
+    ensures { OnOk result (Follow (list_data count_data groups.now ∷ []) writer.old writer.new) }
+{
+    writer.begin_array()?;
+    for steps in groups {
+        write_number(writer, *steps)?;
+    }
+    writer.end_array()?;
     Ok(())
 }
 

@@ -1,4 +1,5 @@
 -- How grades are named, lines of text, which steps are told together, and what is told of them.
+pub mod Groups
 pub mod Letters
 pub mod Lines
 pub mod Looks

@@ -3,15 +3,18 @@ ghost use Rattle.std.specs.Prelude.{IfOk};
 ghost use Rattle.step_texts.specs.Lines.{AreShort, line_texts};
 
 use crate::endings::{say_empty, say_goal};
+use crate::groups::{first_group, say_group};
+use crate::step_names::StepNames;
 use crate::told::ToldStep;
 use crate::writing::{Line, Writing};
 use latin_board::Grid;
 use named_steps::Goal;
 use std::alloc::{AllocError, Global};
 
-/// The told steps of a grid, numbered from 1, and then the number that they show.
-pub fn chain_lines(
+/// The told steps of a grid, with the number of each sentence, and then the number that they show.
+pub fn chain_lines<P: StepNames>(
     alloc: Global,
+    p: &P,
     grid: &Grid,
     told: &[ToldStep],
     goal: Goal,
@@ -19,15 +22,16 @@ pub fn chain_lines(
     ensures { IfOk result (λ lines. AreShort (line_texts lines.items)) }
 {
     let mut text = Writing::new(alloc);
-    say_steps(&mut text, told)?;
+    say_steps(&mut text, p, told)?;
     say_goal(&mut text, grid, goal)?;
     text.end()?;
     Ok(text.into_lines())
 }
 
-/// The told steps of a grid, numbered from 1, and then the square, or the number of a line, that they leave nothing.
-pub fn refutation_lines(
+/// The told steps of a grid, with the number of each sentence, and then the square, or the number of a line, that they leave nothing.
+pub fn refutation_lines<P: StepNames>(
     alloc: Global,
+    p: &P,
     grid: &Grid,
     told: &[ToldStep],
     cell: usize,
@@ -35,19 +39,25 @@ pub fn refutation_lines(
     ensures { IfOk result (λ lines. AreShort (line_texts lines.items)) }
 {
     let mut text = Writing::new(alloc);
-    say_steps(&mut text, told)?;
+    say_steps(&mut text, p, told)?;
     say_empty(&mut text, grid, told, cell)?;
     text.end()?;
     Ok(text.into_lines())
 }
 
-// Told steps, each with its number.
-fn say_steps(text: &mut Writing, told: &[ToldStep]) -> Result<(), AllocError> {
-    for at in 0..told.len() {
-        text.number(at.saturating_add(1))?;
+// The sentences of told steps, each with its number.
+#[tactic(auto, using(crate::proofs::Grouped::shorter))]
+fn say_steps<P: StepNames>(text: &mut Writing, p: &P, told: &[ToldStep]) -> Result<(), AllocError> {
+    let mut rest = told;
+    let mut number = 0usize;
+    while !rest.is_empty() {
+        let (group, more) = rest.split_at(first_group(p, rest));
+        number = number.saturating_add(1);
+        text.number(number)?;
         text.say(". ")?;
-        text.say_lines(told[at].text.as_slice())?;
+        say_group(text, p, group)?;
         text.end()?;
+        rest = more;
     }
     Ok(())
 }

@@ -16,6 +16,7 @@
 mod chain_texts;
 mod clue_sentences;
 mod endings;
+mod groups;
 mod known_squares;
 mod left;
 mod looks;
@@ -30,6 +31,7 @@ mod told_laws;
 mod writing;
 
 pub use chain_texts::{chain_lines, refutation_lines};
+pub use groups::told_groups;
 pub use step_names::StepNames;
 pub use telling::told_steps;
 pub use told::{Strike, ToldStep};

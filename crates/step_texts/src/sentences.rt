@@ -144,8 +144,8 @@ fn say_end(
     text.number(end as usize)
 }
 
-// The clue at a place of the edge; 0 of any other.
-fn edge_clue<P: StepNames>(p: &P, place: usize) -> EdgeClue {
+/// The clue at a place of the edge; 0 of any other.
+pub(crate) fn edge_clue<P: StepNames>(p: &P, place: usize) -> EdgeClue {
     let size = p.size();
     let clue = if place < 4 * size.get() as usize {
         p.edge_clue(place as u8)
@@ -155,8 +155,8 @@ fn edge_clue<P: StepNames>(p: &P, place: usize) -> EdgeClue {
     EdgeClue { size, place, clue }
 }
 
-// Whether a sign says that the first of two squares has the greater number; not so of squares that the grid doesn't have.
-fn is_greater<P: StepNames>(p: &P, first: usize, second: usize) -> bool {
+/// Whether a sign says that the first of two squares has the greater number; not so of squares that the grid doesn't have.
+pub(crate) fn is_greater<P: StepNames>(p: &P, first: usize, second: usize) -> bool {
     let width = p.size().get() as usize;
     first < width * width && second < width * width && p.says_greater(first, second)
 }

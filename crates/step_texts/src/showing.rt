@@ -34,8 +34,8 @@ impl Showing {
         }
     }
 
-    // What these counts are, beside the clue.
-    fn beside(counts: NumberSet, clue: u8) -> Showing {
+    /// What these counts are, beside the clue.
+    pub(crate) fn beside(counts: NumberSet, clue: u8) -> Showing {
         let (Some(least), Some(greatest)) = (counts.least(), counts.greatest()) else {
             return Showing::Never;
         };

@@ -68,7 +68,7 @@ fn is_said<P: StepNames>(alloc: Global, p: &P, grid: &Grid, row: &Refuted) -> bo
     let Ok(told) = told_steps(alloc, p, view_of(grid), steps) else {
         return false;
     };
-    match refutation_lines(alloc, grid, told.as_slice(), refutation.cell) {
+    match refutation_lines(alloc, p, grid, told.as_slice(), refutation.cell) {
         Ok(told) => {
             told.len() == row.4.len()
                 && (0..row.4.len()).all(|at| told[at].as_slice() == row.4[at].as_bytes())

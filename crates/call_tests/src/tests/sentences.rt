@@ -82,7 +82,7 @@ fn said_lines<P: Game + StepNames>(
 ) -> Result<bool, AllocError> {
     let chain = chain_of(alloc, said.3, said.4)?;
     let told = told_steps(alloc, p, view_of(grid), chain.steps.as_slice())?;
-    let lines = chain_lines(alloc, grid, told.as_slice(), chain.goal)?;
+    let lines = chain_lines(alloc, p, grid, told.as_slice(), chain.goal)?;
     Ok(are_lines(lines.as_slice(), said.5))
 }
 
@@ -165,6 +165,24 @@ fn chains_are_said(rt: HostRuntime) {
                 "5. R4c4 is less than r3c4, which is at most 3: r4c4 is not 5 or 6.",
                 "6. In column 4 r2c4 and r3c4 take 2 and 3 among them: r4c4 is not 2.",
                 "So r4c4 is 1: 3 and 4 stand in its row or column, and 2, 5 and 6 are ruled out above.",
+            ],
+        ),
+        Said(
+            Described::Unequal("0D,0,0,0,0R,0,0,0L,0,"),
+            3,
+            "000000000",
+            &[
+                Worked(Why::Sign(0, 3), &[(3, "3")]),
+                Worked(Why::Sign(4, 5), &[(5, "3")]),
+            ],
+            Goal::OnlyPlace {
+                line: 1,
+                index: 1,
+                value: 3,
+            },
+            &[
+                "1. R2c1 and r2c3 are each less than a neighbour: they are not 3.",
+                "So r2c2 is 3: no other square of row 2 can be 3.",
             ],
         ),
     ];

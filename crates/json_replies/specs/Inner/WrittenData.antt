@@ -76,7 +76,7 @@ said_data s =
     }
 
 -- the first members of a hint
-abbrev pub said_members : SaidData → List (List ℕ × Data)
-said_members said =
-    (codes "by", said.by) ∷ (codes "cell", said.cell) ∷ (codes "grade", said.grade) ∷ (codes "kind", string said.kind)
-    ∷ (codes "line", said.line) ∷ (codes "number", said.number) ∷ []
+abbrev pub said_members : SaidData → Data → List (List ℕ × Data)
+said_members said groups =
+    (codes "by", said.by) ∷ (codes "cell", said.cell) ∷ (codes "grade", said.grade) ∷ (codes "groups", groups)
+    ∷ (codes "kind", string said.kind) ∷ (codes "line", said.line) ∷ (codes "number", said.number) ∷ []

@@ -1,0 +1,213 @@
+//! Told steps side by side that say the same of their squares, and the one sentence of them.
+ghost use Rattle.std.specs.Prelude.{◌<◌, ◌≤◌, length, IfOk};
+ghost use Rattle.step_texts.specs.Groups.{AreGroups};
+
+use crate::left::one;
+use crate::names::{Joined, between, edge, first_square, square};
+use crate::sentences::{edge_clue, is_greater};
+use crate::showing::Showing;
+use crate::step_names::StepNames;
+use crate::told::{Strike, ToldStep};
+use crate::writing::Writing;
+use named_steps::Reason;
+use number_sets::NumberSet;
+use std::alloc::{AllocError, Global};
+
+/// How many of the told steps each sentence is of.
+///
+/// Those are one sentence that stand side by side and strike the same one number, all of them at the greater end of a sign, all at the lesser
+/// one, or all by clues alone from which too few towers would be seen, or too many. They hold at once: what a sign asks of its other end isn't
+/// changed by this number being struck there, and a clue alone asks nothing.
+#[tactic(auto, using(crate::proofs::Grouped::one_group, crate::proofs::Grouped::all_grouped, crate::proofs::Grouped::shorter))]
+pub fn told_groups<P: StepNames>(
+    alloc: Global,
+    p: &P,
+    told: &[ToldStep],
+) -> Result<Vec<usize>, AllocError>
+    ensures { IfOk result (λ groups. AreGroups (length told.now) groups.items) }
+{
+    let mut groups = Vec::new(alloc);
+    let mut rest = told;
+    while !rest.is_empty() {
+        let steps = first_group(p, rest);
+        groups.push(steps)?;
+        rest = &rest[steps..];
+    }
+    Ok(groups)
+}
+
+/// How many of some told steps are the first sentence's.
+pub(crate) fn first_group<P: StepNames>(p: &P, told: &[ToldStep]) -> usize
+    requires { 1 ≤ length told.now }
+    ensures some { 1 ≤ result }
+    ensures within { result ≤ length told.now }
+{
+    let why = Why::of(p, &told[0]);
+    for at in 1..told.len() {
+        if why.is_none() || Why::of(p, &told[at]) != why {
+            return at;
+        }
+    }
+    told.len()
+}
+
+/// Says told steps that are one sentence.
+pub(crate) fn say_group<P: StepNames>(
+    text: &mut Writing,
+    p: &P,
+    group: &[ToldStep],
+) -> Result<(), AllocError> {
+    let Some((first, others)) = group.split_first() else {
+        return Ok(());
+    };
+    match Why::of(p, first) {
+        Some(why) if !others.is_empty() => say_together(text, p, group, why),
+        _ => text.say_lines(first.text.as_slice()),
+    }
+}
+
+// Why a told step strikes one number, without the square or clue of which it is told.
+#[derive(Clone, Copy, PartialEq, Eq, Debug)]
+enum Why {
+    /// Each square is at the greater end of a sign.
+    Greater(u8),
+    /// Each is at the lesser end.
+    Less(u8),
+    /// From the clue so many towers would be seen.
+    Seen(u8, Showing),
+}
+
+impl Why {
+    fn of<P: StepNames>(p: &P, step: &ToldStep) -> Option<Why> {
+        let number = only_number(step.strikes.as_slice())?;
+        match step.reason {
+            Reason::Sign { from, to } if is_greater(p, from, to) => Some(Why::Less(number)),
+            Reason::Sign { .. } => Some(Why::Greater(number)),
+            Reason::Bound { place } => {
+                let counts = counts_with(step.strikes.as_slice(), number);
+                match Showing::beside(counts, edge_clue(p, place).clue) {
+                    Showing::Never | Showing::Both(_) => None,
+                    beside => Some(Why::Seen(number, beside)),
+                }
+            }
+            _ => None,
+        }
+    }
+}
+
+// The number that is struck in each square, where it is only one.
+fn only_number(strikes: &[Strike]) -> Option<u8> {
+    let number = strikes.first()?.values.single()?;
+    if strikes.iter().all(|strike| strike.values == one(number)) {
+        Some(number)
+    } else {
+        None
+    }
+}
+
+// The counts of towers that are shown with a number in any of the squares.
+fn counts_with(strikes: &[Strike], number: u8) -> NumberSet {
+    let mut counts = NumberSet::empty();
+    for strike in strikes {
+        if let Some(shows) = strike.shows {
+            if number < 10 {
+                counts = counts.union(shows[number as usize]);
+            }
+        }
+    }
+    counts
+}
+
+// The sentence of several told steps.
+fn say_together<P: StepNames>(
+    text: &mut Writing,
+    p: &P,
+    group: &[ToldStep],
+    why: Why,
+) -> Result<(), AllocError> {
+    match why {
+        Why::Greater(number) => {
+            say_squares(text, p, group, true, Joined::And)?;
+            text.say(" are each greater than a neighbour")?;
+            say_neighbour(text, " that is at least ", number, 1)
+        }
+        Why::Less(number) => {
+            say_squares(text, p, group, true, Joined::And)?;
+            text.say(" are each less than a neighbour")?;
+            say_neighbour(text, " that is at most ", number, p.size().get())
+        }
+        Why::Seen(number, showing) => {
+            say_clues(text, p, group)?;
+            text.say(if number == 8 {
+                ": with an "
+            } else {
+                ": with a "
+            })?;
+            text.number(number as usize)?;
+            text.say(" in ")?;
+            say_squares(text, p, group, false, Joined::Or)?;
+            text.say(if showing == Showing::More {
+                " more"
+            } else {
+                " fewer"
+            })?;
+            text.say(" towers would be seen.")
+        }
+    }
+}
+
+// What is left of the neighbours, where that is needed: it isn't if the number is the last of all; and what is struck.
+fn say_neighbour(text: &mut Writing, words: &str, number: u8, last: u8) -> Result<(), AllocError> {
+    if number != last {
+        text.say(words)?;
+        text.number(number as usize)?;
+    }
+    text.say(": they are not ")?;
+    text.number(number as usize)?;
+    text.say(".")
+}
+
+// The clues of told steps.
+fn say_clues<P: StepNames>(
+    text: &mut Writing,
+    p: &P,
+    group: &[ToldStep],
+) -> Result<(), AllocError> {
+    text.say("Clues ")?;
+    for at in 0..group.len() {
+        if let Reason::Bound { place } = group[at].reason {
+            text.number(edge_clue(p, place).clue as usize)?;
+            edge(text, p.size(), place)?;
+        }
+        between(text, group.len() - 1 - at, Joined::And)?;
+    }
+    Ok(())
+}
+
+// The squares in which told steps strike, at the head of a sentence or in it.
+fn say_squares<P: StepNames>(
+    text: &mut Writing,
+    p: &P,
+    group: &[ToldStep],
+    is_head: bool,
+    joined: Joined,
+) -> Result<(), AllocError> {
+    let mut rest = group.iter().fold(
+        0usize,
+        |count, step| count.saturating_add(step.strikes.len()),
+    );
+    let mut is_first = is_head;
+    for step in group {
+        for strike in step.strikes.as_slice() {
+            rest = rest.saturating_sub(1);
+            if is_first {
+                first_square(text, p.size(), strike.cell as usize)?;
+            } else {
+                square(text, p.size(), strike.cell as usize)?;
+            }
+            is_first = false;
+            between(text, rest, joined)?;
+        }
+    }
+    Ok(())
+}
