@@ -58,7 +58,8 @@ CHANGES, MOST_CHANGES = TOP / 'bench' / 'changes.txt', 1000
 
 def told(name: str, times: List[float]) -> None:
     ordered = sorted(times)
-    print(f'{name}: median {statistics.median(ordered):.1f} ms, 95 % {ordered[int(len(ordered) * 0.95) - 1]:.1f} ms, 99 % {ordered[int(len(ordered) * 0.99) - 1]:.1f} ms, of {len(ordered)}')
+    late, latest = (ordered[int(len(ordered) * part) - 1] for part in (0.95, 0.99))
+    print(f'{name}: median {statistics.median(ordered):.1f} ms, 95 % {late:.1f} ms, 99 % {latest:.1f} ms, of {len(ordered)}')
 
 
 def times(count: int, one: Callable[[int], float]) -> List[float]:
