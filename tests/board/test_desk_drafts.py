@@ -135,6 +135,16 @@ def test_long(front: BoardFront) -> None:
         window.leave('qq')
 
 
+def test_long_lines(front: BoardFront) -> None:
+    """In the line mode Ctrl-C ends it."""
+    with front.window(['--lines', 'unequal', slow()]) as window:
+        window.look('desk<enter>', ['0 signs, 0 given; several solutions', 'unequal desk 0/0>'])
+        window.look('game<enter>', ['89 signs, 0 given; no solution', 'unequal desk 1/1>'])
+        window.look('check<enter>', ['unequal desk 1/1> check The program is at work: Ctrl-C stops it.'])
+        window.look('<ctrl-c>', ['No solution. No chain of steps shows it; all ways were tried.', 'Stopped. Nothing has changed.', 'unequal desk 1/1>'])
+        window.leave('q<enter>q<enter>')
+
+
 def test_lines_and_back(front: BoardFront) -> None:
     """T goes to the line mode at the desk, and comes back to it."""
     with front.window(['towers', ID]) as window:
