@@ -50,6 +50,7 @@ ACTIONS: Dict[str, str] = {
     'i': 'show ID',
     '?': 'help',
     ':': 'command',
+    'E': 'desk',
     'q': 'quit',
     '\x03': 'quit',
 }
@@ -58,7 +59,6 @@ ACTIONS: Dict[str, str] = {
 TERMINAL: Dict[str, str] = {
     '\t': 'next square',
     'shift tab': 'square before',
-    'E': 'desk',
     'T': 'lines',
     'Z': 'suspend',
     '\x0c': 'redraw',

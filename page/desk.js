@@ -46,10 +46,8 @@ export class Desk {
     this.lists = {game: selectOf('desk-game'), size: selectOf('desk-size')};
     const {game, size} = this.lists;
     game.onchange = () => isGame(game.value) && this.turnTo(game.value);
-    size.onchange = () => {
-      const line = `blank ${size.value}`;
-      this.change(() => ({line}));
-    };
+    const blank = (/** @type {string} */ own) => this.change(() => ({line: `blank ${own}`}));
+    size.onchange = () => blank(size.value);
     part('tools').append(...Object.entries(TOOLS).map(([name, text]) => button(text, {'data-do': name, class: 'set'})));
     part('signs').append(...SIDES.map(([side, , arrow]) => button(`${arrow} <>`, {'data-do': side, 'aria-label': side})));
   }
@@ -267,7 +265,7 @@ export class Desk {
 
 // What keys of the board stand for here.
 /** @type {Record<string, string>} */
-const OTHERWISE = {hint: 'why', leave: 'why', all: 'thin', marks: 'play', id: 'link'};
+const OTHERWISE = {hint: 'why', leave: 'why', all: 'thin', marks: 'play', id: 'link', desk: 'quit'};
 
 // What each name stands for.
 /** @type {Record<string, (desk: Desk, page: Page) => unknown>} */

@@ -22,7 +22,7 @@ const STEPS = {
 export const KEYS = {
   Enter: 'enter', p: 'marks', ' ': 'clear', 0: 'clear', Backspace: 'clear', Delete: 'clear', m: 'all', P: 'possible', M: 'tidy',
   u: 'undo', r: 'redo', d: 'done', R: 'restart', h: 'hint', H: 'why', c: 'check', b: 'back', S: 'solve',
-  n: 'new', o: 'games', t: 'daily', w: 'save', i: 'id', '?': 'rules', ':': 'command', q: 'quit', Escape: 'escape',
+  n: 'new', o: 'games', t: 'daily', E: 'desk', w: 'save', i: 'id', '?': 'rules', ':': 'command', q: 'quit', Escape: 'escape',
 };
 
 // The same with Control, or on a Mac with Command; the capital letter with Shift.

@@ -18,8 +18,8 @@ export const KEYS = [
   ['R', 'back to the start'],
   ['n, o, t', 'new game; games to continue; the daily games'],
   ['w, i', 'save to a file; the link and the ID'],
+  ['E', 'check or set a puzzle, and back; there Shift-arrows set the sign on that side'],
   [':', 'a command of the program'],
-  ['Shift-arrows', 'at Check or set a puzzle: the sign on that side'],
   ['?', 'rules and keys'],
 ];
 
