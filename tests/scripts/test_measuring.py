@@ -86,6 +86,14 @@ def test_hints(place: Place) -> None:
     assert re.search(rf'\nunequal 5de  wrong +7{times}$', wrong.said), wrong.said
 
 
+def test_desk(place: Place) -> None:
+    """Each line by which a setter's changes are judged is timed: two clues 1 on one side leave no solution, and the third given leaves one."""
+    file = place.put('setting.txt', b'towers 4: 0,-1,1 1,-1,1\nunequal 3: 0,0,1 1,1,1 0,1,2\n', 0o644)
+    ended = place.run(['bench/time_desk', str(file)], env={'PUZZLES_JSON': place.objects})
+    counts = dict(re.findall(r'^(\w+) +(\d+)(?: +\d+\.\d+){3}$', ended.said, re.MULTILINE))
+    assert counts == {**dict.fromkeys(['item', 'solutions', 'verdict', 'completable'], '5'), 'hint': '1', 'spare': '2', 'grade': '1'}, ended.said
+
+
 def test_made_puzzles(place: Place) -> None:
     """Each puzzle of a maker is one of the size that stands in front, in canonical form, by the program that is proved."""
     count = str(EACH * len(made(place, '', 'bench/make_families')))
