@@ -61,7 +61,7 @@ def sheets(paper: str) -> Iterator[Sheet]:
     yield Sheet(['--large', '--example', '--title', 'A title that is longer than a line ' * 2], sixes()[:2], 5, 1)
     yield Sheet(['--example'], sixes(), 6, 1)
     yield Sheet(['--answers', 'only', '--per-page', '12'], nines(), 0, 1)
-    yield Sheet(['--answers', 'only', '--steps'], nines(), 0, 1, 3 if paper == 'letter' else 2)
+    yield Sheet(['--answers', 'only', '--steps'], nines(), 0, 1, 2)
     yield Sheet(['--answers', 'only', '--steps', '--large'], nines()[2:6], 0, 1, 5)
 
 

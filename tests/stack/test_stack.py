@@ -11,15 +11,15 @@ from typing import NamedTuple
 import pytest
 
 from tests.harness import Room, by_name, run
+from tests.harness.bytecode import bytecode
 from tests.lines.runs import Player, Run
 from tests.second_implementation.grades import LETTERS
 
 STACK = 64 * 1024
 
-#: So often what takes most of it is tried: a system lets the stack begin up to 8 KB lower, each time elsewhere, and after an environment, here one
-#: as large as the manual allows.
-TIMES = 60
-ENVIRONMENT = {'EVERYTHING_ELSE': 2000 * '.'}
+#: So often what takes most of it is tried: a system lets the stack begin up to 8 KB lower, each time elsewhere. So many bytes the words and the
+#: environment take then, as the manual allows.
+TIMES, BEFORE = 60, 2048
 
 #: Each command, on the puzzle itself and on a board with all its marks, and then on a seeded game.
 COMMANDS = Path(__file__).with_name('commands.txt').read_bytes()
@@ -90,5 +90,8 @@ def test_where_the_stack_begins(objects: str, room: Room) -> None:
     words = [objects, 'towers']
     script = b''.join(b'fair 9 h %d\nhint\n' % seed for seed in range(1, 6))
     wanted = run(words, room, input=script)
+    env = {'LC_ALL': 'C', 'PATH': '', **bytecode(), 'EVERYTHING_ELSE': ''}
+    taken = sum(len(text) + 1 for text in [*words, *(f'{name}={text}' for name, text in env.items())])
+    env['EVERYTHING_ELSE'] = (BEFORE - taken) * '.'
     for _ in range(TIMES):
-        assert run(words, room, input=script, env=ENVIRONMENT, limits={resource.RLIMIT_STACK: STACK}) == wanted
+        assert run(words, room, input=script, env=env, limits={resource.RLIMIT_STACK: STACK}) == wanted
