@@ -72,13 +72,14 @@ def test_loaded(pair: Pair) -> None:
     assert answers[0].reply == text
 
 
-@pytest.mark.parametrize(('name', 'why'), [('no/such.sav', 'No such file or directory (os error 2)'), ('.', 'Is a directory (os error 21)')])
+@pytest.mark.parametrize(('name', 'why'), [('no/such.sav', 'no such file or directory'), ('.', 'directory')])
 def test_unread(pair: Pair, room: Room, name: str, why: str) -> None:
-    """A file that can't be read is named, with the cause, after the line that the plain program has of it."""
+    """A file that can't be read is named, with the cause in the system's words, after the line that the plain program has of it."""
     words = ['towers', '--load', name]
     plain, found = run([pair.plain, *words], room), run([pair.objects, *words], room)
-    assert found == plain._replace(error=plain.error + f'{name}: {why}\n'.encode())
-    assert plain.error == b'cannot read the file\n'
+    assert found._replace(error=plain.error) == plain and plain.error == b'cannot read the file\n'
+    first, second, rest = found.error.decode().split('\n')
+    assert (f'{first}\n', rest) == (plain.error.decode(), '') and second.startswith(f'{name}: ') and why in second.lower()
 
 
 def test_line_by_line(pair: Pair) -> None:

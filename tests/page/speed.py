@@ -73,11 +73,11 @@ def verdicts(player: Player) -> Iterator[float]:
     for line in CHANGES.read_text(encoding='ascii').splitlines():
         head, _, changes = line.partition(': ')
         game, size = head.split()
-        kind = 'clues' if game == 'towers' else 'signs'
+        kind = 'clue' if game == 'towers' else 'sign'
         player.write('#desk-game', game)
         player.counts(kind)
         player.write('#desk-size', size)
-        player.counts(f'0 {kind} · 0 given')
+        player.counts(f'0 {kind}s · 0 given')
         player.driver.wait_for(f'document.querySelectorAll(".square").length === {int(size) ** 2} && document.querySelector("#ruling").textContent')
         for change in changes.split():
             yield from taps(player, int(size), [int(word) for word in change.split(',')])

@@ -17,6 +17,9 @@ from tests.second_implementation.grades import LETTERS
 
 STACK = 64 * 1024
 
+#: Which items are spare takes seconds where the search learns, and minutes by qemu.
+SECONDS = 900
+
 #: So often what takes most of it is tried: a system lets the stack begin up to 8 KB lower, each time elsewhere. So many bytes the words and the
 #: environment take then, as the manual allows.
 TIMES, BEFORE = 60, 2048
@@ -70,8 +73,8 @@ def test_puzzles(program: str, room: Room, board: Board) -> None:
 @pytest.mark.parametrize('board', BOARDS, ids=by_name)
 def test_objects(objects: str, room: Room, board: Board) -> None:
     words, script = [objects, board.game, '--id', board.id], FURTHER + COMMANDS + FURTHER + DESK
-    wanted = run(words, room, input=script)
-    assert run(words, room, input=script, limits={resource.RLIMIT_STACK: STACK}) == wanted
+    wanted = run(words, room, input=script, seconds=SECONDS)
+    assert run(words, room, input=script, limits={resource.RLIMIT_STACK: STACK}, seconds=SECONDS) == wanted
     assert wanted.status == 0
 
 

@@ -124,14 +124,14 @@ function write(bytes) {
 }
 
 /**
- * What is done, or this end.
- * @template T @param {string} line @param {() => T} does @returns {T}
+ * What is done, or this end; of a file that is to be read with its name and why it isn't.
+ * @template T @param {string} line @param {() => T} does @param {string} [name] @returns {T}
  */
-function or(line, does) {
+function or(line, does, name) {
   try {
     return does();
-  } catch {
-    throw new End(1, line);
+  } catch (fault) {
+    throw new End(1, name === undefined ? line : `${line}\n${name}: ${fault instanceof Error ? fault.message : fault}`);
   }
 }
 
@@ -150,7 +150,7 @@ function main([path, ...given]) {
     throw new End(2, 'usage: puzzles-json towers | unequal [--id ID] [--load FILE] [--save FILE]');
   }
   const {load, id} = words;
-  const file = load === undefined ? undefined : or('cannot read the file', () => readFileSync(load));
+  const file = load === undefined ? undefined : or('cannot read the file', () => readFileSync(load), load);
   const session = new Session(moduleOf(path), words.game);
   if (file) {
     session.load(file);
