@@ -16,7 +16,7 @@ from playing.game import Game
 from playing.games import SIZES
 from playing.verdict import Item
 
-NOT_HERE = "That is for games. 'help' lists what there is on the desk, 'back' goes back to the game."
+NOT_HERE = "The desk has no such line. 'help' lists those that it has, and 'back' goes back to the game."
 NO_BOARD = "'desk unequal' turns to the draft of a game, 'desk unequal 5' and 'blank 5' to a blank board of a size from 3 to 9."
 
 #: What leads from a game to the desk; on the desk back, or to another board.

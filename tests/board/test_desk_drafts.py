@@ -184,7 +184,7 @@ LINES: List[Tuple[str, Sequence[str]]] = [
         'play', 'Only a puzzle with exactly one solution can be played.',
         'why', 'There is a solution, so nothing says why there is none.',
         'thin', 'There is nothing to thin out: no item is marked as not needed.',
-        'p r1c1 2', "That is for games. 'help' lists what there is on the desk, 'back' goes back to the game.",
+        'p r1c1 2', "The desk has no such line. 'help' lists those that it has, and 'back' goes back to the game.",
         'blank 10', "'desk unequal' turns to the draft of a game, 'desk unequal 5' and 'blank 5' to a blank board of a size from 3 to 9.",
     ]),
     ('unequal', [
@@ -195,7 +195,7 @@ LINES: List[Tuple[str, Sequence[str]]] = [
         'sign r1c1 > r1c4', 'Rows and columns count from 1 to 3.',
         'clue above 1 3', 'A sign stands between two neighbours, and Unequal has no clues at the edge.',
         'sign r1c1 r1c2 0', 'no sign between r1c1 and r1c2; several solutions',
-        'sign r1c1 r1c2', "That is for games. 'help' lists what there is on the desk, 'back' goes back to the game.",
+        'sign r1c1 r1c2', "The desk has no such line. 'help' lists those that it has, and 'back' goes back to the game.",
         'clues', 'r2c1 is greater than r1c1',
     ]),
 ]
