@@ -22,10 +22,7 @@ impl FairFault {
     pub fn number(&self) -> u8
         ensures { result ≡ fair_fault_number self.now }
     {
-        match self {
-            FairFault::NotOffered => 1,
-            FairFault::NoneFound => 2,
-        }
+        *self as u8 + 1
     }
 
     /// The fault's name, as a program prints it.

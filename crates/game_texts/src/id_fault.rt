@@ -46,22 +46,7 @@ impl IdFault {
     pub fn number(&self) -> u8
         ensures { result ≡ id_fault_number self.now }
     {
-        match self {
-            IdFault::BadSize => 1,
-            IdFault::BadLetter => 2,
-            IdFault::AdjacentMode => 3,
-            IdFault::BadParams => 4,
-            IdFault::ForeignSeed => 5,
-            IdFault::NoDescription => 6,
-            IdFault::BadSeed => 7,
-            IdFault::BadClue => 8,
-            IdFault::BadSquares => 9,
-            IdFault::TooFew => 10,
-            IdFault::TooMany => 11,
-            IdFault::OffGrid => 12,
-            IdFault::Contradiction => 13,
-            IdFault::OutOfMemory => 14,
-        }
+        *self as u8 + 1
     }
 
     /// The fault's name, as a program prints it.

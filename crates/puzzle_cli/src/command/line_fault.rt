@@ -22,11 +22,7 @@ impl LineFault {
     pub fn number(&self) -> u8
         ensures { result ≡ line_fault_number self.now }
     {
-        match self {
-            LineFault::LongLine => 1,
-            LineFault::BadCommand => 2,
-            LineFault::NoGame => 3,
-        }
+        *self as u8 + 1
     }
 
     /// The fault's name, as the reply shows it.
