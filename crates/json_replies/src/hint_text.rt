@@ -30,6 +30,7 @@ use step_texts::{
 use trail_solver::Candidates;
 
 /// A hint of a grid as an object: what it says, what is in view, and the steps from there, each with its sentence.
+#[inline(never)]
 pub(crate) fn hint_text<P: StepNames>(
     alloc: Global,
     p: &P,

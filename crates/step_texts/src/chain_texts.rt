@@ -6,10 +6,11 @@ use crate::endings::{say_empty, say_goal};
 use crate::groups::{first_group, say_group};
 use crate::step_names::StepNames;
 use crate::told::ToldStep;
-use crate::writing::{Line, Writing};
+use crate::writing::{Line, Writing, said};
 use latin_board::Grid;
 use named_steps::Goal;
 use std::alloc::{AllocError, Global};
+use std::fmt::Write;
 
 /// The told steps of a grid, with the number of each sentence, and then the number that they show.
 pub fn chain_lines<P: StepNames>(
@@ -23,7 +24,7 @@ pub fn chain_lines<P: StepNames>(
 {
     let mut text = Writing::new(alloc);
     say_steps(&mut text, p, told)?;
-    say_goal(&mut text, grid, goal)?;
+    said(say_goal(&mut text, grid, goal))?;
     text.end()?;
     Ok(text.into_lines())
 }
@@ -40,7 +41,7 @@ pub fn refutation_lines<P: StepNames>(
 {
     let mut text = Writing::new(alloc);
     say_steps(&mut text, p, told)?;
-    say_empty(&mut text, grid, told, cell)?;
+    said(say_empty(&mut text, grid, told, cell))?;
     text.end()?;
     Ok(text.into_lines())
 }
@@ -53,9 +54,9 @@ fn say_steps<P: StepNames>(text: &mut Writing, p: &P, told: &[ToldStep]) -> Resu
     while !rest.is_empty() {
         let (group, more) = rest.split_at(first_group(p, rest));
         number = number.saturating_add(1);
-        text.number(number)?;
-        text.say(". ")?;
-        say_group(text, p, group)?;
+        said(write!(text, "{number}. "))?;
+        text.begin();
+        said(say_group(text, p, group))?;
         text.end()?;
         rest = more;
     }

@@ -2,14 +2,13 @@
 ghost use Rattle.std.specs.Prelude.{◌<◌, length};
 
 use crate::known_squares::{needed_places, say_known, squares_from};
-use crate::names::{Joined, between, edge, edge_line, losses, numbers, square};
+use crate::names::{EdgeClue, GridLine, Joined, List, Losses, Square, Squares, numbers};
 use crate::showing::{Showing, ShownStrike, shown_strikes};
 use crate::told::Strike;
 use crate::writing::Writing;
-use latin_board::Size;
 use number_sets::NumberSet;
 use shown_counts::ClueCounts;
-use std::alloc::AllocError;
+use std::fmt::{self, Write};
 
 /// What is known of the other squares of a clue's line, when it is looked at.
 #[derive(Clone, Copy)]
@@ -22,14 +21,6 @@ pub(crate) enum Knowing {
     Marks,
 }
 
-/// A clue at the edge.
-#[derive(Clone, Copy)]
-pub(crate) struct EdgeClue {
-    pub(crate) size: Size,
-    pub(crate) place: usize,
-    pub(crate) clue: u8,
-}
-
 /// Why a clue strikes, by its line as it is looked at, and what it strikes.
 pub(crate) fn say_clue(
     text: &mut Writing,
@@ -37,32 +28,26 @@ pub(crate) fn say_clue(
     knowing: Knowing,
     line: &ClueCounts,
     strikes: &[Strike],
-) -> Result<(), AllocError> {
-    text.say("Clue ")?;
-    text.number(at.clue as usize)?;
-    edge(text, at.size, at.place)?;
+) -> fmt::Result {
+    let size = at.size;
+    write!(text, "Clue {at}")?;
     match knowing {
         Knowing::Alone if at.clue == 1 => {
-            say_so(text, at.size, ": the nearest tower is the tallest", strikes)
+            write!(
+                text,
+                ": the nearest tower is the tallest, so {}.",
+                Losses { size, strikes }
+            )
         }
-        Knowing::Alone if at.clue == at.size.get() => {
-            say_so(text, at.size, ": all towers are seen and rise", strikes)
+        Knowing::Alone if at.clue == size.get() => {
+            write!(
+                text,
+                ": all towers are seen and rise, so {}.",
+                Losses { size, strikes }
+            )
         }
         _ => say_shown(text, at, knowing, line, strikes),
     }
-}
-
-// A fact, and what is struck by it.
-fn say_so(
-    text: &mut Writing,
-    size: Size,
-    fact: &str,
-    strikes: &[Strike],
-) -> Result<(), AllocError> {
-    text.say(fact)?;
-    text.say(", so ")?;
-    losses(text, size, strikes)?;
-    text.say(".")
 }
 
 // What has to be known, and what would be seen with the numbers that are struck: all with which the same would be seen together.
@@ -72,17 +57,17 @@ fn say_shown(
     knowing: Knowing,
     line: &ClueCounts,
     strikes: &[Strike],
-) -> Result<(), AllocError> {
+) -> fmt::Result {
     let shown = shown_strikes(line, strikes, at.clue);
     let shown = shown.as_slice();
     say_knowing(text, at, knowing, line, strikes, shown)?;
-    text.say(": ")?;
+    write!(text, ": ")?;
     for index in 0..shown.len() {
         for number in 1..10 {
             say_from(text, at, shown, index, number)?;
         }
     }
-    text.say(".")
+    write!(text, ".")
 }
 
 // What has to be known of the other squares: what a few of them have, or otherwise what stands or is left in the line.
@@ -93,21 +78,20 @@ fn say_knowing(
     line: &ClueCounts,
     strikes: &[Strike],
     shown: &[ShownStrike],
-) -> Result<(), AllocError> {
+) -> fmt::Result {
     let words = match knowing {
         Knowing::Alone => return Ok(()),
-        Knowing::Stands => ", with the numbers in ",
-        Knowing::Marks => ", by what is left in ",
+        Knowing::Stands => "with the numbers in",
+        Knowing::Marks => "by what is left in",
     };
-    let Some(places) = needed_places(line, strikes, shown, at.clue) else {
-        text.say(words)?;
-        return edge_line(text, at.size, at.place);
-    };
-    if places.is_empty() {
-        return Ok(());
+    match needed_places(line, strikes, shown, at.clue) {
+        None => write!(text, ", {words} {}", GridLine::from(at.size, at.place)),
+        Some(places) if places.is_empty() => Ok(()),
+        Some(places) => {
+            write!(text, ", where ")?;
+            say_known(text, at, line, places)
+        }
     }
-    text.say(", where ")?;
-    say_known(text, at, line, places)
 }
 
 // What would be seen with a number in the square of a strike and with all others that are alike, where it is the first of them.
@@ -117,7 +101,7 @@ fn say_from(
     shown: &[ShownStrike],
     index: usize,
     number: u8,
-) -> Result<(), AllocError>
+) -> fmt::Result
     requires index { index < length shown.now }
     requires number { number < 16 }
 {
@@ -133,7 +117,7 @@ fn say_from(
         return Ok(());
     }
     if index > 0 || strike.values.least() != Some(number) {
-        text.say("; ")?;
+        write!(text, "; ")?;
     }
     say_showing(text, at, &showing, &shown[index..])
 }
@@ -144,49 +128,30 @@ fn say_showing(
     at: &EdgeClue,
     showing: &Showing,
     shown: &[ShownStrike],
-) -> Result<(), AllocError> {
+) -> fmt::Result {
+    let clue = at.clue;
     if *showing == Showing::Never {
         return say_places(text, at, showing, shown, "no order has ", ", nor ");
     }
     say_places(text, at, showing, shown, "with ", " or with ")?;
+    let towers = if clue == 1 { "tower" } else { "towers" };
     match *showing {
         Showing::Never => Ok(()),
-        Showing::More => say_beside(text, " more than ", at.clue),
-        Showing::Fewer => say_beside(text, " fewer than ", at.clue),
-        Showing::Split { number, places } => say_split(text, at, number, places),
-        Showing::Both(counts) => say_counts(text, counts, at.clue),
+        Showing::More => write!(text, " more than {clue} {towers} would be seen"),
+        Showing::Fewer => write!(text, " fewer than {clue} {towers} would be seen"),
+        Showing::Split { number, places } => {
+            let squares = squares_from(at, places, Joined::Or);
+            write!(
+                text,
+                " fewer than {clue} {towers} would be seen if {number} is in {squares}"
+            )?;
+            write!(text, ", and more if it is elsewhere")
+        }
+        Showing::Both(counts) => {
+            let counts = numbers(counts, Joined::Or);
+            write!(text, " it would be {counts} towers, never {clue}")
+        }
     }
-}
-
-fn say_split(
-    text: &mut Writing,
-    at: &EdgeClue,
-    number: u8,
-    places: NumberSet,
-) -> Result<(), AllocError> {
-    say_beside(text, " fewer than ", at.clue)?;
-    text.say(" if ")?;
-    text.number(number as usize)?;
-    text.say(" is in ")?;
-    squares_from(text, at, places, Joined::Or)?;
-    text.say(", and more if it is elsewhere")
-}
-
-fn say_beside(text: &mut Writing, words: &str, clue: u8) -> Result<(), AllocError> {
-    text.say(words)?;
-    text.number(clue as usize)?;
-    text.say(if clue == 1 {
-        " tower would be seen"
-    } else {
-        " towers would be seen"
-    })
-}
-
-fn say_counts(text: &mut Writing, counts: NumberSet, clue: u8) -> Result<(), AllocError> {
-    text.say(" it would be ")?;
-    numbers(text, counts, Joined::Or)?;
-    text.say(" towers, never ")?;
-    text.number(clue as usize)
 }
 
 // The numbers of the strikes with which this would be seen, each set of them with its squares, after a word before the first and one before
@@ -198,54 +163,43 @@ fn say_places(
     shown: &[ShownStrike],
     first: &str,
     further: &str,
-) -> Result<(), AllocError> {
+) -> fmt::Result {
     for index in 0..shown.len() {
         let set = shown[index].numbers_with(showing);
         let is_told = shown[..index]
             .iter()
             .any(|before| before.numbers_with(showing) == set);
         if !set.is_empty() && !is_told {
-            text.say(if index == 0 { first } else { further })?;
-            say_numbers(text, set)?;
-            say_squares(text, at, showing, shown, set)?;
+            let word = if index == 0 { first } else { further };
+            let article = set.single().map_or("", article_of);
+            let squares = squares_with(at, showing, shown, set);
+            write!(
+                text,
+                "{word}{article}{} in {squares}",
+                numbers(set, Joined::Or)
+            )?;
         }
     }
     Ok(())
 }
 
-// One number with its article, or several.
-fn say_numbers(text: &mut Writing, set: NumberSet) -> Result<(), AllocError> {
-    match set.single() {
-        Some(8) => text.say("an ")?,
-        Some(_) => text.say("a ")?,
-        None => {}
-    }
-    numbers(text, set, Joined::Or)
+/// The article before a number, with a space behind it.
+pub(crate) fn article_of(number: u8) -> &'static str {
+    if number == 8 { "an " } else { "a " }
 }
 
 // The squares of the strikes in which this would be seen with exactly these numbers.
-fn say_squares(
-    text: &mut Writing,
+fn squares_with(
     at: &EdgeClue,
     showing: &Showing,
     shown: &[ShownStrike],
     set: NumberSet,
-) -> Result<(), AllocError> {
-    text.say(" in ")?;
-    for index in 0..shown.len() {
-        if shown[index].numbers_with(showing) == set {
-            square(text, at.size, shown[index].cell as usize)?;
-            let left = count_with(&shown[index + 1..], showing, set);
-            between(text, left, Joined::Or)?;
+) -> Squares {
+    let mut squares = List::new(Joined::Or);
+    for strike in shown {
+        if strike.numbers_with(showing) == set {
+            squares.add(Square::of(at.size, strike.cell as usize));
         }
     }
-    Ok(())
-}
-
-// In how many squares this would be seen with exactly these numbers.
-fn count_with(shown: &[ShownStrike], showing: &Showing, set: NumberSet) -> usize {
-    shown
-        .iter()
-        .filter(|strike| strike.numbers_with(showing) == set)
-        .count()
+    squares
 }

@@ -1,27 +1,25 @@
 //! The sentence of what a chain shows or leaves nothing.
 
 use crate::left::{left_of, one};
-use crate::names::{Joined, line, line_square, no_other, numbers, square};
+use crate::names::{GridLine, Joined, Square, numbers};
 use crate::told::ToldStep;
 use crate::writing::Writing;
 use latin_board::{Grid, Size, line_cell};
 use named_steps::{Goal, Reason};
 use number_sets::NumberSet;
-use std::alloc::AllocError;
+use std::fmt::{self, Write};
 use step_chains::view_of;
 
 /// What a chain shows on a board, and why.
-pub(crate) fn say_goal(text: &mut Writing, grid: &Grid, goal: Goal) -> Result<(), AllocError> {
+pub(crate) fn say_goal(text: &mut Writing, grid: &Grid, goal: Goal) -> fmt::Result {
     let size = grid.size();
-    text.say("So ")?;
     match goal {
         Goal::OnlyValue { cell, value } => {
-            square(text, size, cell)?;
-            say_is(text, value)?;
-            if let Some(at) = line_that_lacks(grid, cell, value) {
-                text.say("it is the last free square of ")?;
-                line(text, size, at, "row ", "column ")?;
-                return text.say(".");
+            let square = Square::of(size, cell);
+            write!(text, "So {square} is {value}: ")?;
+            if let Some(index) = line_that_lacks(grid, cell, value) {
+                let line = GridLine { size, index };
+                return write!(text, "it is the last free square of {line}.");
             }
             let view = view_of(grid);
             say_gone(text, size, left_of(&view, cell), one(value))
@@ -31,18 +29,14 @@ pub(crate) fn say_goal(text: &mut Writing, grid: &Grid, goal: Goal) -> Result<()
             index,
             value,
         } => {
-            line_square(text, size, at, index)?;
-            say_is(text, value)?;
-            no_other(text, "no", size, at, value)?;
-            text.say(".")
+            let line = GridLine { size, index: at };
+            let square = Square::on(size, at, index);
+            write!(
+                text,
+                "So {square} is {value}: no other square of {line} can be {value}."
+            )
         }
     }
-}
-
-fn say_is(text: &mut Writing, value: u8) -> Result<(), AllocError> {
-    text.say(" is ")?;
-    text.number(value as usize)?;
-    text.say(": ")
 }
 
 // The row of a square, or otherwise its column, where all numbers but this one stand there.
@@ -79,11 +73,13 @@ pub(crate) fn say_empty(
     grid: &Grid,
     told: &[ToldStep],
     cell: usize,
-) -> Result<(), AllocError> {
+) -> fmt::Result {
     if let Some((last, before)) = told.split_last() {
         if let Reason::Place { line, index, value } = last.reason {
             if !is_left(grid, before, line, index, value) {
-                return say_no_square(text, grid.size(), line, value);
+                let size = grid.size();
+                let line = GridLine { size, index: line };
+                return write!(text, "So {line} has no square left for {value}.");
             }
         }
     }
@@ -116,55 +112,44 @@ fn struck_of(step: &ToldStep, cell: usize) -> NumberSet {
     struck
 }
 
-fn say_no_square(text: &mut Writing, size: Size, at: usize, value: u8) -> Result<(), AllocError> {
-    text.say("So ")?;
-    line(text, size, at, "row ", "column ")?;
-    text.say(" has no square left for ")?;
-    text.number(value as usize)?;
-    text.say(".")
-}
-
 // That a square of a board is left nothing, and why.
-fn say_no_number(text: &mut Writing, grid: &Grid, cell: usize) -> Result<(), AllocError> {
+fn say_no_number(text: &mut Writing, grid: &Grid, cell: usize) -> fmt::Result {
     let size = grid.size();
     let view = left_of(&view_of(grid), cell);
-    text.say("So ")?;
-    square(text, size, cell)?;
-    text.say(" has no number left: ")?;
+    write!(text, "So {} has no number left: ", Square::of(size, cell))?;
     if is_filled(grid, cell) {
-        text.say("its ")?;
-        numbers(text, view, Joined::And)?;
-        text.say(" is ruled out above.")
+        write!(
+            text,
+            "its {} is ruled out above.",
+            numbers(view, Joined::And)
+        )
     } else {
         say_gone(text, size, view, NumberSet::empty())
     }
 }
 
 // Where the values have gone, but for those that stay, of an empty square with these in view.
-fn say_gone(
-    text: &mut Writing,
-    size: Size,
-    view: NumberSet,
-    stay: NumberSet,
-) -> Result<(), AllocError> {
+fn say_gone(text: &mut Writing, size: Size, view: NumberSet, stay: NumberSet) -> fmt::Result {
     let stood = NumberSet::up_to(size.get()).difference(view);
     let struck = view.difference(stay);
     if !stood.is_empty() {
-        numbers(text, stood, Joined::And)?;
-        text.say(if stood.is_single() {
-            " stands"
-        } else {
-            " stand"
-        })?;
-        text.say(" in its row or column")?;
+        let stand = if stood.is_single() { "stands" } else { "stand" };
+        write!(
+            text,
+            "{} {stand} in its row or column",
+            numbers(stood, Joined::And)
+        )?;
     }
     if !struck.is_empty() {
-        text.say(if stood.is_empty() { "" } else { ", and " })?;
-        numbers(text, struck, Joined::And)?;
-        text.say(if struck.is_single() { " is" } else { " are" })?;
-        text.say(" ruled out above")?;
+        let before = if stood.is_empty() { "" } else { ", and " };
+        let are = if struck.is_single() { "is" } else { "are" };
+        write!(
+            text,
+            "{before}{} {are} ruled out above",
+            numbers(struck, Joined::And)
+        )?;
     }
-    text.say(".")
+    write!(text, ".")
 }
 
 // Whether a square of the grid has a number.

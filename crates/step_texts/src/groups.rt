@@ -2,16 +2,19 @@
 ghost use Rattle.std.specs.Prelude.{◌<◌, ◌≤◌, length, IfOk};
 ghost use Rattle.step_texts.specs.Groups.{AreGroups};
 
+use crate::clue_sentences::article_of;
 use crate::left::one;
-use crate::names::{Joined, between, edge, first_square, square};
+use crate::names::{Joined, List, Square, Squares, between};
 use crate::sentences::{edge_clue, is_greater};
 use crate::showing::Showing;
 use crate::step_names::StepNames;
 use crate::told::{Strike, ToldStep};
 use crate::writing::Writing;
+use latin_board::Size;
 use named_steps::Reason;
 use number_sets::NumberSet;
 use std::alloc::{AllocError, Global};
+use std::fmt::{self, Write};
 
 /// How many of the told steps each sentence is of.
 ///
@@ -56,7 +59,7 @@ pub(crate) fn say_group<P: StepNames>(
     text: &mut Writing,
     p: &P,
     group: &[ToldStep],
-) -> Result<(), AllocError> {
+) -> fmt::Result {
     let Some((first, others)) = group.split_first() else {
         return Ok(());
     };
@@ -124,90 +127,63 @@ fn say_together<P: StepNames>(
     p: &P,
     group: &[ToldStep],
     why: Why,
-) -> Result<(), AllocError> {
+) -> fmt::Result {
+    let size = p.size();
     match why {
         Why::Greater(number) => {
-            say_squares(text, p, group, true, Joined::And)?;
-            text.say(" are each greater than a neighbour")?;
-            say_neighbour(text, " that is at least ", number, 1)
+            let squares = squares_in(size, group, Joined::And);
+            write!(text, "{squares} are each greater than a neighbour")?;
+            say_neighbour(text, "at least", number, 1)
         }
         Why::Less(number) => {
-            say_squares(text, p, group, true, Joined::And)?;
-            text.say(" are each less than a neighbour")?;
-            say_neighbour(text, " that is at most ", number, p.size().get())
+            let squares = squares_in(size, group, Joined::And);
+            write!(text, "{squares} are each less than a neighbour")?;
+            say_neighbour(text, "at most", number, size.get())
         }
         Why::Seen(number, showing) => {
             say_clues(text, p, group)?;
-            text.say(if number == 8 {
-                ": with an "
+            let article = article_of(number);
+            let squares = squares_in(size, group, Joined::Or);
+            let beside = if showing == Showing::More {
+                "more"
             } else {
-                ": with a "
-            })?;
-            text.number(number as usize)?;
-            text.say(" in ")?;
-            say_squares(text, p, group, false, Joined::Or)?;
-            text.say(if showing == Showing::More {
-                " more"
-            } else {
-                " fewer"
-            })?;
-            text.say(" towers would be seen.")
+                "fewer"
+            };
+            write!(
+                text,
+                ": with {article}{number} in {squares} {beside} towers would be seen."
+            )
         }
     }
 }
 
 // What is left of the neighbours, where that is needed: it isn't if the number is the last of all; and what is struck.
-fn say_neighbour(text: &mut Writing, words: &str, number: u8, last: u8) -> Result<(), AllocError> {
+fn say_neighbour(text: &mut Writing, words: &str, number: u8, last: u8) -> fmt::Result {
     if number != last {
-        text.say(words)?;
-        text.number(number as usize)?;
+        write!(text, " that is {words} {number}")?;
     }
-    text.say(": they are not ")?;
-    text.number(number as usize)?;
-    text.say(".")
+    write!(text, ": they are not {number}.")
 }
 
 // The clues of told steps.
-fn say_clues<P: StepNames>(
-    text: &mut Writing,
-    p: &P,
-    group: &[ToldStep],
-) -> Result<(), AllocError> {
-    text.say("Clues ")?;
+fn say_clues<P: StepNames>(text: &mut Writing, p: &P, group: &[ToldStep]) -> fmt::Result {
+    write!(text, "Clues ")?;
     for at in 0..group.len() {
         if let Reason::Bound { place } = group[at].reason {
-            text.number(edge_clue(p, place).clue as usize)?;
-            edge(text, p.size(), place)?;
+            write!(text, "{}", edge_clue(p, place))?;
         }
-        between(text, group.len() - 1 - at, Joined::And)?;
+        write!(text, "{}", between(group.len() - 1 - at, Joined::And))?;
     }
     Ok(())
 }
 
-// The squares in which told steps strike, at the head of a sentence or in it.
-fn say_squares<P: StepNames>(
-    text: &mut Writing,
-    p: &P,
-    group: &[ToldStep],
-    is_head: bool,
-    joined: Joined,
-) -> Result<(), AllocError> {
-    let mut rest = group.iter().fold(
-        0usize,
-        |count, step| count.saturating_add(step.strikes.len()),
-    );
-    let mut is_first = is_head;
+// The squares in which told steps strike.
+fn squares_in(size: Size, group: &[ToldStep], joined: Joined) -> Squares {
+    let mut squares = List::new(joined);
     for step in group {
         for strike in step.strikes.as_slice() {
-            rest = rest.saturating_sub(1);
-            if is_first {
-                first_square(text, p.size(), strike.cell as usize)?;
-            } else {
-                square(text, p.size(), strike.cell as usize)?;
-            }
-            is_first = false;
-            between(text, rest, joined)?;
+            squares.add(Square::of(size, strike.cell as usize));
         }
     }
-    Ok(())
+    squares
 }

@@ -1,15 +1,15 @@
 //! What has to be known of a clue's line, for the numbers that are struck to show too many or too few towers.
 ghost use Rattle.std.specs.Prelude.{◌<◌};
 
-use crate::clue_sentences::EdgeClue;
-use crate::names::{Joined, between, numbers, square};
+use crate::names::{EdgeClue, Joined, List, Square, Squares, between, numbers};
 use crate::showing::{ShownStrike, shown_strikes};
 use crate::told::Strike;
 use crate::writing::Writing;
+use arrayvec::ArrayVec;
 use line_steps::view_cell;
 use number_sets::NumberSet;
 use shown_counts::ClueCounts;
-use std::alloc::AllocError;
+use std::fmt::{self, Write};
 
 // How many squares are named at most, and how many numbers are left of those of them that are open.
 const MOST_SQUARES: u32 = 3;
@@ -99,19 +99,37 @@ pub(crate) fn say_known(
     at: &EdgeClue,
     line: &ClueCounts,
     places: NumberSet,
-) -> Result<(), AllocError> {
+) -> fmt::Result {
+    let firsts = first_places(line, places);
+    let firsts = firsts.as_slice();
+    for k in 0..firsts.len() {
+        let may = if firsts[k] < line.width() {
+            line.may(firsts[k])
+        } else {
+            NumberSet::empty()
+        };
+        let alike = places_alike(line, places, may);
+        let squares = squares_from(at, alike, Joined::And);
+        let are = if alike.is_single() { "is" } else { "are" };
+        let behind = between(firsts.len() - 1 - k, Joined::And);
+        write!(text, "{squares} {are} {}{behind}", numbers(may, Joined::Or))?;
+    }
+    Ok(())
+}
+
+// The first of those places at which the same numbers are left, for each set of numbers.
+fn first_places(line: &ClueCounts, places: NumberSet) -> ArrayVec<u8, 9> {
+    let mut firsts = ArrayVec::new();
     let mut rest = places;
     for is_open in [false, true] {
         for index in 0..line.width() {
             if rest.has(index) && line.may(index).is_single() != is_open {
-                let alike = places_alike(line, rest, line.may(index));
-                rest = rest.difference(alike);
-                say_alike(text, at, line, alike)?;
-                between(text, groups_in(line, rest), Joined::And)?;
+                rest = rest.difference(places_alike(line, rest, line.may(index)));
+                let _fits = firsts.try_push(index);
             }
         }
     }
-    Ok(())
+    firsts
 }
 
 // Those of some places at which exactly these numbers are left.
@@ -125,61 +143,24 @@ fn places_alike(line: &ClueCounts, places: NumberSet, may: NumberSet) -> NumberS
     alike
 }
 
-// How many kinds of numbers are left at some places.
-fn groups_in(line: &ClueCounts, places: NumberSet) -> usize {
-    let mut rest = places;
-    let mut groups = 0usize;
-    for index in 0..line.width() {
-        if rest.has(index) {
-            rest = rest.difference(places_alike(line, rest, line.may(index)));
-            groups = groups.saturating_add(1);
-        }
-    }
-    groups
-}
-
-fn say_alike(
-    text: &mut Writing,
-    at: &EdgeClue,
-    line: &ClueCounts,
-    places: NumberSet,
-) -> Result<(), AllocError> {
-    squares_from(text, at, places, Joined::And)?;
-    text.say(if places.is_single() { " is " } else { " are " })?;
-    match places.least() {
-        Some(index) if index < line.width() => numbers(text, line.may(index), Joined::Or),
-        _ => Ok(()),
-    }
-}
-
 /// The squares at some places of a clue's line, in reading order.
-pub(crate) fn squares_from(
-    text: &mut Writing,
-    at: &EdgeClue,
-    places: NumberSet,
-    joined: Joined,
-) -> Result<(), AllocError> {
+pub(crate) fn squares_from(at: &EdgeClue, places: NumberSet, joined: Joined) -> Squares {
     let width = at.size.get();
+    let mut squares = List::new(joined);
     if at.place >= 4 * width as usize {
-        return Ok(());
+        return squares;
     }
     let is_backwards = at.place / width as usize % 2 == 1;
-    let mut rest = places;
     for from_start in 0..width {
         let index = if is_backwards {
             width - 1 - from_start
         } else {
             from_start
         };
-        if rest.has(index) {
-            rest = rest.difference(NumberSet::one(index));
-            square(
-                text,
-                at.size,
-                view_cell(at.size, at.place as u8, index as usize),
-            )?;
-            between(text, rest.len() as usize, joined)?;
+        if places.has(index) {
+            let cell = view_cell(at.size, at.place as u8, index as usize);
+            squares.add(Square::of(at.size, cell));
         }
     }
-    Ok(())
+    squares
 }

@@ -1,10 +1,10 @@
 //! How squares, lines, clues and lists are named.
 
 use crate::told::Strike;
-use crate::writing::Writing;
+use arrayvec::ArrayVec;
 use latin_board::Size;
 use number_sets::NumberSet;
-use std::alloc::AllocError;
+use std::fmt;
 
 /// How the last two of a list are joined.
 #[derive(Clone, Copy)]
@@ -15,198 +15,212 @@ pub(crate) enum Joined {
     Or,
 }
 
-/// A square by its number in reading order, as r2c3.
-pub(crate) fn square(text: &mut Writing, size: Size, cell: usize) -> Result<(), AllocError> {
-    let width = size.get() as usize;
-    text.say("r")?;
-    row_and_column(text, cell / width, cell % width)
+/// A square by its row and column, counted from 0, as `r2c3`.
+#[derive(Clone, Copy, Default)]
+pub(crate) struct Square {
+    row: u8,
+    column: u8,
 }
 
-/// The same at the head of a sentence.
-pub(crate) fn first_square(text: &mut Writing, size: Size, cell: usize) -> Result<(), AllocError> {
-    let width = size.get() as usize;
-    text.say("R")?;
-    row_and_column(text, cell / width, cell % width)
-}
+impl Square {
+    /// The square with this number in reading order.
+    pub(crate) fn of(size: Size, cell: usize) -> Square {
+        let width = size.get() as usize;
+        Square::at(cell / width, cell % width)
+    }
 
-// A row and a column, counted from 1.
-fn row_and_column(text: &mut Writing, row: usize, column: usize) -> Result<(), AllocError> {
-    text.number(row.saturating_add(1))?;
-    text.say("c")?;
-    text.number(column.saturating_add(1))
-}
+    /// The square at an index of a line.
+    pub(crate) fn on(size: Size, line: usize, index: usize) -> Square {
+        let width = size.get() as usize;
+        if line < width {
+            Square::at(line, index)
+        } else {
+            Square::at(index, line - width)
+        }
+    }
 
-/// A row or column by its number, after this word for a row or that for a column.
-pub(crate) fn line(
-    text: &mut Writing,
-    size: Size,
-    line: usize,
-    row: &str,
-    column: &str,
-) -> Result<(), AllocError> {
-    let width = size.get() as usize;
-    if line < width {
-        text.say(row)?;
-        text.number(line + 1)
-    } else {
-        text.say(column)?;
-        text.number(line - width + 1)
+    // Numbers above a byte's are none of a grid's.
+    fn at(row: usize, column: usize) -> Square {
+        Square {
+            row: u8::try_from(row).unwrap_or(u8::MAX),
+            column: u8::try_from(column).unwrap_or(u8::MAX),
+        }
     }
 }
 
-/// The square at a place of a line.
-pub(crate) fn line_square(
-    text: &mut Writing,
-    size: Size,
-    line: usize,
-    index: usize,
-) -> Result<(), AllocError> {
-    text.say("r")?;
-    row_and_column_on(text, size, line, index)
-}
-
-/// The same at the head of a sentence.
-pub(crate) fn first_square_on(
-    text: &mut Writing,
-    size: Size,
-    line: usize,
-    index: usize,
-) -> Result<(), AllocError> {
-    text.say("R")?;
-    row_and_column_on(text, size, line, index)
-}
-
-// The row and column of a place of a line.
-fn row_and_column_on(
-    text: &mut Writing,
-    size: Size,
-    line: usize,
-    index: usize,
-) -> Result<(), AllocError> {
-    let width = size.get() as usize;
-    if line < width {
-        row_and_column(text, line, index)
-    } else {
-        row_and_column(text, index, line - width)
+impl fmt::Display for Square {
+    fn fmt<W: fmt::Write>(&self, f: &mut fmt::Formatter<W>) -> fmt::Result {
+        let row = self.row.saturating_add(1);
+        let column = self.column.saturating_add(1);
+        write!(f, "r{row}c{column}")
     }
 }
 
-/// That no other square of a line than the one that is spoken of can have a value, after this word.
-pub(crate) fn no_other(
-    text: &mut Writing,
-    no: &str,
-    size: Size,
-    at: usize,
-    value: u8,
-) -> Result<(), AllocError> {
-    text.say(no)?;
-    text.say(" other square of ")?;
-    line(text, size, at, "row ", "column ")?;
-    text.say(" can be ")?;
-    text.number(value as usize)
+/// A row or column by its index, as `row 2`.
+#[derive(Clone, Copy)]
+pub(crate) struct GridLine {
+    pub(crate) size: Size,
+    pub(crate) index: usize,
 }
 
-/// Where a clue stands, by its place at the edge.
-pub(crate) fn edge(text: &mut Writing, size: Size, place: usize) -> Result<(), AllocError> {
-    let width = size.get() as usize;
-    let words = match place / width {
-        0 => " above column ",
-        1 => " below column ",
-        2 => " left of row ",
-        _ => " right of row ",
-    };
-    text.say(words)?;
-    text.number(place % width + 1)
+impl GridLine {
+    /// The line on which a clue looks.
+    pub(crate) fn from(size: Size, place: usize) -> GridLine {
+        let width = size.get() as usize;
+        let index = if place < 2 * width {
+            width + place % width
+        } else {
+            place % width
+        };
+        GridLine { size, index }
+    }
 }
 
-/// The row or column of a clue, by its place at the edge.
-pub(crate) fn edge_line(text: &mut Writing, size: Size, place: usize) -> Result<(), AllocError> {
-    let width = size.get() as usize;
-    text.say(if place / width < 2 { "column " } else { "row " })?;
-    text.number(place % width + 1)
+impl fmt::Display for GridLine {
+    fn fmt<W: fmt::Write>(&self, f: &mut fmt::Formatter<W>) -> fmt::Result {
+        let width = self.size.get() as usize;
+        let number = self.index % width + 1;
+        if self.index < width {
+            write!(f, "row {number}")
+        } else {
+            write!(f, "column {number}")
+        }
+    }
 }
 
-/// The numbers of a set, rising.
-pub(crate) fn numbers(
-    text: &mut Writing,
-    set: NumberSet,
+/// A clue at the edge, as `5 above column 2`.
+#[derive(Clone, Copy)]
+pub(crate) struct EdgeClue {
+    pub(crate) size: Size,
+    pub(crate) place: usize,
+    pub(crate) clue: u8,
+}
+
+impl fmt::Display for EdgeClue {
+    fn fmt<W: fmt::Write>(&self, f: &mut fmt::Formatter<W>) -> fmt::Result {
+        let clue = self.clue;
+        let side = match self.place / self.size.get() as usize {
+            0 => "above",
+            1 => "below",
+            2 => "left of",
+            _ => "right of",
+        };
+        let line = GridLine::from(self.size, self.place);
+        write!(f, "{clue} {side} {line}")
+    }
+}
+
+/// Things with commas between them, and a word between the last two.
+#[derive(Drop)]
+pub(crate) struct List<T, const MOST: usize> {
+    items: ArrayVec<T, MOST>,
     joined: Joined,
-) -> Result<(), AllocError> {
-    let mut rest = set;
-    for n in 0..16 {
-        if rest.has(n) {
-            rest = rest.difference(NumberSet::one(n));
-            text.number(n as usize)?;
-            between(text, rest.len() as usize, joined)?;
-        }
-    }
-    Ok(())
 }
 
-/// The squares at some places of a line.
-pub(crate) fn line_squares(
-    text: &mut Writing,
-    size: Size,
-    line: usize,
-    places: NumberSet,
-) -> Result<(), AllocError> {
-    let mut rest = places;
-    for index in 0..16 {
-        if rest.has(index) {
-            rest = rest.difference(NumberSet::one(index));
-            line_square(text, size, line, index as usize)?;
-            between(text, rest.len() as usize, Joined::And)?;
+/// Numbers below 16.
+pub(crate) type Numbers = List<u8, 16>;
+
+/// Squares of a grid.
+pub(crate) type Squares = List<Square, 81>;
+
+impl<T: Default + Drop, const MOST: usize> List<T, MOST> {
+    /// A list of nothing.
+    pub(crate) fn new(joined: Joined) -> List<T, MOST> {
+        List {
+            items: ArrayVec::new(),
+            joined,
         }
     }
-    Ok(())
-}
 
-/// What is struck, the squares that lose the same values together.
-pub(crate) fn losses(text: &mut Writing, size: Size, strikes: &[Strike]) -> Result<(), AllocError> {
-    for at in 0..strikes.len() {
-        let values = strikes[at].values;
-        if count_of(&strikes[..at], values) == 0 {
-            if at > 0 {
-                text.say("; ")?;
-            }
-            losers(text, size, strikes, values)?;
-        }
+    /// Adds something, if there is room.
+    pub(crate) fn add(&mut self, item: T) {
+        let _fits = self.items.try_push(item);
     }
-    Ok(())
 }
 
-// The squares that lose these values, and that they do.
-fn losers(
-    text: &mut Writing,
-    size: Size,
-    strikes: &[Strike],
-    values: NumberSet,
-) -> Result<(), AllocError> {
-    for at in 0..strikes.len() {
-        if strikes[at].values == values {
-            square(text, size, strikes[at].cell as usize)?;
-            between(text, count_of(&strikes[at + 1..], values), Joined::And)?;
+impl<T: fmt::Display, const MOST: usize> fmt::Display for List<T, MOST> {
+    fn fmt<W: fmt::Write>(&self, f: &mut fmt::Formatter<W>) -> fmt::Result {
+        let items = self.items.as_slice();
+        for at in 0..items.len() {
+            let item = &items[at];
+            let behind = between(items.len() - 1 - at, self.joined);
+            write!(f, "{item}{behind}")?;
         }
+        Ok(())
     }
-    let is_one = count_of(strikes, values) == 1;
-    text.say(if is_one { " is not " } else { " are not " })?;
-    numbers(text, values, Joined::Or)
-}
-
-// In how many squares exactly these values are struck.
-fn count_of(strikes: &[Strike], values: NumberSet) -> usize {
-    strikes
-        .iter()
-        .filter(|strike| strike.values == values)
-        .count()
 }
 
 /// What stands before the last so many of a list.
-pub(crate) fn between(text: &mut Writing, left: usize, joined: Joined) -> Result<(), AllocError> {
-    match (left, joined) {
-        (0, _) => Ok(()),
-        (1, Joined::And) => text.say(" and "),
-        (1, Joined::Or) => text.say(" or "),
-        _ => text.say(", "),
+pub(crate) fn between(rest: usize, joined: Joined) -> &'static str {
+    match (rest, joined) {
+        (0, _) => "",
+        (1, Joined::And) => " and ",
+        (1, Joined::Or) => " or ",
+        _ => ", ",
+    }
+}
+
+/// The numbers of a set, rising.
+pub(crate) fn numbers(set: NumberSet, joined: Joined) -> Numbers {
+    let mut list = List::new(joined);
+    for number in 0..16 {
+        if set.has(number) {
+            list.add(number);
+        }
+    }
+    list
+}
+
+/// The squares at some indices of a line.
+pub(crate) fn squares_on(size: Size, line: usize, indices: NumberSet) -> Squares {
+    let mut list = List::new(Joined::And);
+    for index in 0..16 {
+        if indices.has(index) {
+            list.add(Square::on(size, line, index as usize));
+        }
+    }
+    list
+}
+
+/// What is struck, the squares that lose the same values together: `r1c1 is not 2; r1c2 and r1c3 are not 3 or 4`.
+#[derive(Clone, Copy)]
+pub(crate) struct Losses<'a> {
+    pub(crate) size: Size,
+    pub(crate) strikes: &'a [Strike],
+}
+
+impl Losses<'_> {
+    // The squares that lose exactly these values.
+    fn losers(&self, values: NumberSet) -> Squares {
+        let mut list = List::new(Joined::And);
+        for strike in self.strikes {
+            if strike.values == values {
+                list.add(Square::of(self.size, strike.cell as usize));
+            }
+        }
+        list
+    }
+}
+
+impl fmt::Display for Losses<'_> {
+    fn fmt<W: fmt::Write>(&self, f: &mut fmt::Formatter<W>) -> fmt::Result {
+        for at in 0..self.strikes.len() {
+            let values = self.strikes[at].values;
+            let is_told = self.strikes[..at]
+                .iter()
+                .any(|strike| strike.values == values);
+            if !is_told {
+                let before = if at > 0 { "; " } else { "" };
+                let squares = self.losers(values);
+                let are = if squares.items.len() == 1 {
+                    "is"
+                } else {
+                    "are"
+                };
+                let lost = numbers(values, Joined::Or);
+                write!(f, "{before}{squares} {are} not {lost}")?;
+            }
+        }
+        Ok(())
     }
 }

@@ -1,17 +1,16 @@
 //! The sentence of a step.
 
-use crate::clue_sentences::{EdgeClue, Knowing, say_clue};
+use crate::clue_sentences::{Knowing, say_clue};
 use crate::left::{left_of, left_on, one};
-use crate::names::{Joined, first_square, line, line_square, losses, no_other, numbers, square};
+use crate::names::{EdgeClue, GridLine, Joined, Losses, Square, numbers};
 use crate::set_sentences::say_set;
 use crate::step_names::StepNames;
 use crate::told::Strike;
 use crate::writing::Writing;
-use latin_board::Size;
 use named_steps::Reason;
 use number_sets::NumberSet;
 use shown_counts::ClueCounts;
-use std::alloc::AllocError;
+use std::fmt::{self, Write};
 use trail_solver::Candidates;
 
 /// Why a reason strikes, by the candidates before it, or by its clue's line, and what it strikes.
@@ -22,17 +21,11 @@ pub(crate) fn say_step<P: StepNames>(
     reason: Reason,
     line: &Option<ClueCounts>,
     strikes: &[Strike],
-) -> Result<(), AllocError> {
+) -> fmt::Result {
     let size = candidates.size();
     match reason {
-        Reason::Given { cell } => {
-            first_square(text, size, cell)?;
-            text.say(" is given")?;
-        }
-        Reason::Peer { cell } => {
-            first_square(text, size, cell)?;
-            say_left(text, left_of(candidates, cell))?;
-        }
+        Reason::Given { cell } => write!(text, "{} is given", Square::of(size, cell))?,
+        Reason::Peer { cell } => say_left(text, Square::of(size, cell), left_of(candidates, cell))?,
         Reason::Place { line, index, value } => say_place(text, candidates, line, index, value)?,
         Reason::Bound { place } => {
             return say_looked(text, &edge_clue(p, place), Knowing::Alone, line, strikes);
@@ -50,9 +43,7 @@ pub(crate) fn say_step<P: StepNames>(
             values,
         } => say_set(text, candidates, line, squares, values, strikes)?,
     }
-    text.say(": ")?;
-    losses(text, size, strikes)?;
-    text.say(".")
+    write!(text, ": {}.", Losses { size, strikes })
 }
 
 // The sentence of a clue, of whose line there is nothing to say where its place is none of the edge's.
@@ -62,7 +53,7 @@ fn say_looked(
     knowing: Knowing,
     line: &Option<ClueCounts>,
     strikes: &[Strike],
-) -> Result<(), AllocError> {
+) -> fmt::Result {
     match line {
         Some(line) => say_clue(text, at, knowing, line, strikes),
         None => Ok(()),
@@ -70,12 +61,12 @@ fn say_looked(
 }
 
 // What is left of a square.
-fn say_left(text: &mut Writing, left: NumberSet) -> Result<(), AllocError> {
+fn say_left(text: &mut Writing, square: Square, left: NumberSet) -> fmt::Result {
     if left.is_empty() {
-        return text.say(" has no number left");
+        write!(text, "{square} has no number left")
+    } else {
+        write!(text, "{square} is {}", numbers(left, Joined::Or))
     }
-    text.say(" is ")?;
-    numbers(text, left, Joined::Or)
 }
 
 // That a value has one place in a line, or, where it isn't left there either, that it has no other.
@@ -85,17 +76,14 @@ fn say_place(
     at: usize,
     index: usize,
     value: u8,
-) -> Result<(), AllocError> {
+) -> fmt::Result {
     let size = candidates.size();
+    let line = GridLine { size, index: at };
     if one(value).is_subset(left_on(candidates, at, index)) {
-        text.say("In ")?;
-        line(text, size, at, "row ", "column ")?;
-        text.say(" only ")?;
-        line_square(text, size, at, index)?;
-        text.say(" can be ")?;
-        text.number(value as usize)
+        let square = Square::on(size, at, index);
+        write!(text, "In {line} only {square} can be {value}")
     } else {
-        no_other(text, "No", size, at, value)
+        write!(text, "No other square of {line} can be {value}")
     }
 }
 
@@ -107,17 +95,16 @@ fn say_sign<P: StepNames>(
     from: usize,
     to: usize,
     strikes: &[Strike],
-) -> Result<(), AllocError> {
+) -> fmt::Result {
     let size = candidates.size();
     let left = left_of(candidates, from);
-    first_square(text, size, to)?;
+    let square = Square::of(size, to);
+    let other = Square::of(size, from);
     if is_greater(p, from, to) {
-        text.say(" is less than ")?;
-        square(text, size, from)?;
+        write!(text, "{square} is less than {other}")?;
         say_end(text, left, left.greatest(), size.get(), "at most ", strikes)
     } else {
-        text.say(" is greater than ")?;
-        square(text, size, from)?;
+        write!(text, "{square} is greater than {other}")?;
         say_end(text, left, left.least(), 1, "at least ", strikes)
     }
 }
@@ -130,18 +117,14 @@ fn say_end(
     last: u8,
     words: &str,
     strikes: &[Strike],
-) -> Result<(), AllocError> {
-    let Some(end) = end else {
-        return Ok(());
-    };
-    if end == last || strikes.iter().all(|strike| strike.values == one(last)) {
-        return Ok(());
+) -> fmt::Result {
+    match end {
+        Some(end) if end != last && !strikes.iter().all(|strike| strike.values == one(last)) => {
+            let bound = if left.is_single() { "" } else { words };
+            write!(text, ", which is {bound}{end}")
+        }
+        _ => Ok(()),
     }
-    text.say(", which is ")?;
-    if !left.is_single() {
-        text.say(words)?;
-    }
-    text.number(end as usize)
 }
 
 /// The clue at a place of the edge; 0 of any other.

@@ -1,12 +1,12 @@
 //! The sentence of squares of a line that share some numbers: told by them, or by the other squares where those are fewer.
 
 use crate::left::left_on;
-use crate::names::{Joined, first_square_on, line, line_squares, numbers};
+use crate::names::{GridLine, Joined, Square, numbers, squares_on};
 use crate::told::Strike;
 use crate::writing::Writing;
 use latin_board::{Size, line_cell};
 use number_sets::NumberSet;
-use std::alloc::AllocError;
+use std::fmt::{self, Write};
 use trail_solver::Candidates;
 
 /// Why some squares of a line that have only these values between them strike.
@@ -17,27 +17,29 @@ pub(crate) fn say_set(
     squares: NumberSet,
     values: NumberSet,
     strikes: &[Strike],
-) -> Result<(), AllocError> {
+) -> fmt::Result {
     let size = candidates.size();
+    let line = GridLine { size, index: at };
     if let Some(index) = squares.single() {
-        first_square_on(text, size, at, index as usize)?;
-        text.say(" is ")?;
-        return numbers(text, values, Joined::And);
+        let square = Square::on(size, at, index as usize);
+        return write!(text, "{square} is {}", numbers(values, Joined::And));
     }
-    text.say("In ")?;
-    line(text, size, at, "row ", "column ")?;
     let others = Others::of(candidates, at, squares, values);
     if others.are_told(candidates, at, squares, strikes) {
-        text.say(" only ")?;
-        line_squares(text, size, at, others.squares)?;
-        text.say(" can be ")?;
-        return numbers(text, others.values, Joined::Or);
+        let free = squares_on(size, at, others.squares);
+        write!(
+            text,
+            "In {line} only {free} can be {}",
+            numbers(others.values, Joined::Or)
+        )
+    } else {
+        let taken = squares_on(size, at, squares);
+        write!(
+            text,
+            "In {line} {taken} take {} among them",
+            numbers(values, Joined::And)
+        )
     }
-    text.say(" ")?;
-    line_squares(text, size, at, squares)?;
-    text.say(" take ")?;
-    numbers(text, values, Joined::And)?;
-    text.say(" among them")
 }
 
 // What a set leaves of a line: its other open squares, and the numbers that neither the set takes nor a square has alone.

@@ -10,7 +10,7 @@ use crate::looks::{joined_steps, strike_all};
 use crate::sentences::say_step;
 use crate::step_names::StepNames;
 use crate::told::{Strike, ToldStep};
-use crate::writing::Writing;
+use crate::writing::{Writing, said};
 use number_sets::NumberSet;
 use shown_counts::ClueCounts;
 use std::alloc::{AllocError, Global};
@@ -57,14 +57,14 @@ fn told_step<P: StepNames>(
     let line = ClueCounts::of(candidates, first.reason, numbers_in(look));
     let strikes = told_strikes(alloc, candidates, first, &line, look)?;
     let mut text = Writing::new(alloc);
-    say_step(
+    said(say_step(
         &mut text,
         p,
         candidates,
         first.reason,
         &line,
         strikes.as_slice(),
-    )?;
+    ))?;
     text.end()?;
     Ok(ToldStep {
         reason: first.reason,

@@ -5,7 +5,7 @@ ghost use Rattle.step_texts.specs.Lines.{AreShort, line_texts};
 
 use arrayvec::ArrayVec;
 use std::alloc::{AllocError, Global};
-use std::mem;
+use std::{fmt, mem};
 
 /// How many characters a line has at most.
 pub const LINE: usize = 100;
@@ -22,6 +22,8 @@ pub(crate) struct Writing {
     lines: Vec<Line>,
     line: Line,
     word: ArrayVec<u8, WORD>,
+    // Whether a sentence begins, whose first letter is a capital.
+    begins: bool,
     ghost short: { AreShort (line_texts lines.items) },
 }
 
@@ -32,34 +34,22 @@ impl Writing {
             lines: Vec::new(alloc),
             line: ArrayVec::new(),
             word: ArrayVec::new(),
+            begins: true,
         }
     }
 
-    /// Goes on with these characters.
-    pub(crate) fn say(&mut self, text: &str) -> Result<(), AllocError> {
-        for byte in text.as_bytes() {
-            self.byte(*byte)?;
-        }
-        Ok(())
+    /// Begins a sentence.
+    pub(crate) fn begin(&mut self) {
+        self.begins = true;
     }
 
     /// Goes on with a sentence that was cut into lines before.
-    pub(crate) fn say_lines(&mut self, lines: &[Line]) -> Result<(), AllocError> {
+    pub(crate) fn say_lines(&mut self, lines: &[Line]) -> fmt::Result {
         for line in lines {
-            for byte in line.as_slice() {
-                self.byte(*byte)?;
-            }
+            self.bytes(line.as_slice())?;
             self.end_word()?;
         }
         Ok(())
-    }
-
-    /// Goes on with a number in decimal.
-    pub(crate) fn number(&mut self, n: usize) -> Result<(), AllocError> {
-        if n >= 10 {
-            self.number(n / 10)?;
-        }
-        self.byte(b'0' + (n % 10) as u8)
     }
 
     /// Ends the sentence: then there is a line.
@@ -78,6 +68,13 @@ impl Writing {
         self.lines
     }
 
+    fn bytes(&mut self, bytes: &[u8]) -> fmt::Result {
+        for byte in bytes {
+            self.byte(*byte)?;
+        }
+        Ok(())
+    }
+
     fn byte(&mut self, byte: u8) -> Result<(), AllocError> {
         if byte == b' ' {
             return self.end_word();
@@ -85,7 +82,12 @@ impl Writing {
         if self.word.is_full() {
             self.end_word()?;
         }
-        let _fits = self.word.try_push(byte);
+        let _fits = self.word.try_push(if self.begins {
+            byte.to_ascii_uppercase()
+        } else {
+            byte
+        });
+        self.begins = false;
         Ok(())
     }
 
@@ -118,5 +120,20 @@ impl Writing {
 
     fn put(&mut self, bytes: &[u8]) {
         let _fits = self.line.try_extend_from_slice(bytes);
+    }
+}
+
+/// It fails where memory is refused, and nowhere else.
+impl fmt::Write for Writing {
+    fn write_str(&mut self, text: &str) -> fmt::Result {
+        self.bytes(text.as_bytes())
+    }
+}
+
+/// What was written, if there was memory.
+pub(crate) fn said(written: fmt::Result) -> Result<(), AllocError> {
+    match written {
+        Ok(()) => Ok(()),
+        Err(_) => Err(AllocError),
     }
 }
