@@ -45,7 +45,6 @@
 # make bench     times solver, generator, saves and objects, beside the usual
 #                program if it is there; IDS=file times the solver on its lines
 # make hard      times the solver on COUNT=22000 fresh hard puzzles, by SEED=1
-# make climb     looks for MINUTES=3 in each game for puzzles that take long
 # make installcheck, make uninstall   play with what is installed; remove it
 # make dist      packs the last commit, and its programs, in build/
 # make clean     removes build/; the results of checks stay
@@ -58,7 +57,6 @@ IDS ?=
 WORDS ?=
 SEED ?= 1
 COUNT ?= 22000
-MINUTES ?= 3
 SITE ?= build/site
 CRATE ?=
 CRATES ?=
@@ -75,7 +73,7 @@ zshcompdir ?= $(datadir)/zsh/site-functions
 fishcompdir ?= $(datadir)/fish/vendor_completions.d
 DESTDIR ?=
 
-.PHONY: all build programs web site play page sheet test gate trust test-twins test-bodies test-faults exchange bench hard climb check try must-fail fmt dist install uninstall installcheck clean help crate
+.PHONY: all build programs web site play page sheet test gate trust test-twins test-bodies test-faults exchange bench hard check try must-fail fmt dist install uninstall installcheck clean help crate
 
 # Prints the folder of the programs that are of the sources here; where there are none it says what is to be typed.
 READY = tools/programs ready
@@ -153,10 +151,6 @@ hard: export SEED := $(SEED)
 hard: export COUNT := $(COUNT)
 hard:
 	@RT='$(RT)' bench/run --hard "$$SEED" "$$COUNT"
-
-climb: export MINUTES := $(MINUTES)
-climb:
-	@RT='$(RT)' bench/run --climb "$$MINUTES"
 
 check: crate
 	@cd 'crates/$(CRATE)' && '$(RT)' check

@@ -44,8 +44,8 @@ class GameLines(LineMode):
         game, desk = self._game, Desk(self._game.path)
         front = DeskLines(desk, game, self._has_board, self._prompt)
         front.run_with(text)
-        game.at_desk = front.left
-        self.wants_board = self._is_over = bool(front.left)
+        game.at_desk = front.draft_of
+        self.wants_board = self._is_over = bool(front.draft_of)
         if front.choice:
             self._begin(front.choice)
         elif not self._is_over:
@@ -62,7 +62,7 @@ class DeskLines(LineMode):
         self._before = game
         #: What is to be played then; and which game's draft the player goes on with on the board.
         self.choice: Optional[Choice] = None
-        self.left = ''
+        self.draft_of = ''
         self._commands = {
             **{name: self._commands[name] for name in SAME},
             **dict.fromkeys(('back', 'quit'), self._quit),
@@ -113,10 +113,10 @@ class DeskLines(LineMode):
             super()._answer(line)
 
     def _put(self, item: Item, number: int) -> None:
-        known = speech.faults(self._desk.board)
+        before = speech.faults(self._desk.board)
         if self._desk.put(item, number):
             faults = speech.faults(self._desk.board)
-            say(f'{speech.item(self._desk.board, item)}; {self._ruling()}', *([faults] if faults and faults != known else []))
+            say(f'{speech.item(self._desk.board, item)}; {self._ruling()}', *([faults] if faults and faults != before else []))
 
     def _after(self, is_changed: bool) -> None:
         """What there is now, where another puzzle has come."""
@@ -157,7 +157,7 @@ class DeskLines(LineMode):
     def _to_board(self) -> None:
         if self._desk.may_be_left():
             super()._to_board()
-            self.left = self._desk.kind if self.wants_board else ''
+            self.draft_of = self._desk.kind if self.wants_board else ''
 
     def _position(self) -> str:
         return f'desk {self._desk.draft.at}/{len(self._desk.draft.ids) - 1}'

@@ -64,8 +64,8 @@ class GameScreen(FullScreen):
         elif not game.at_desk:
             front.choose_board()
         front.run()
-        game.at_desk = front.left
-        self.wants_lines = self._is_over = bool(front.left)
+        game.at_desk = front.draft_of
+        self.wants_lines = self._is_over = bool(front.draft_of)
         if front.choice:
             self._begin(front.choice)
 
@@ -84,7 +84,7 @@ class DeskScreen(FullScreen):
         self._actions['escape'] = self._quit
         #: What is to be played then; and which game's draft the player goes on with in lines of text.
         self.choice: Optional[Choice] = None
-        self.left = ''
+        self.draft_of = ''
 
     def _all_actions(self) -> Dict[str, Callable[[], object]]:
         desk, there = self._desk, super()._all_actions()
@@ -202,7 +202,7 @@ class DeskScreen(FullScreen):
 
     def _lines(self) -> None:
         if self._desk.may_be_left():
-            self.left, self._is_over = self._desk.kind, True
+            self.draft_of, self._is_over = self._desk.kind, True
 
 
 class DeskMenu(Menu):

@@ -21,7 +21,7 @@ def question(file: str) -> str:
         return ''
     found = files.read(file)
     if found.kind in (files.Kind.READ, files.Kind.TOO_LARGE):
-        what = '' if found.content.startswith(saves.BEGINS) else ', and is no save'
+        what = '' if found.content.startswith(saves.BEGINS) else ', and is not a save'
     else:
         what = ", and can't be read"
     return f'{file} exists{what}. Overwrite it?'

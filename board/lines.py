@@ -210,12 +210,12 @@ class LineMode:
             say(*reply.lines)
         self._say_state(after, speech.faults(before))
 
-    def _say_state(self, board: Board, known: str = '') -> None:
-        """What is contradicted, where that isn't known yet, and whether the board is full, and solved."""
+    def _say_state(self, board: Board, told: str = '') -> None:
+        """What is contradicted, where that isn't told yet, and whether the board is full, and solved."""
         faults = speech.faults(board)
-        if faults and faults != known:
+        if faults and faults != told:
             say(faults)
-        if board.is_full and faults and faults != known:
+        if board.is_full and faults and faults != told:
             say('Full, but not right yet.')
         if board.is_solved and not self._is_told:
             self._is_told = True

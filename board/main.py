@@ -128,10 +128,10 @@ def fault(words: List[str]) -> str:
     # Where an ID or a file was named the next word is one too many.
     word = plain[1] if len(plain) > 1 and (is_id(plain[:1]) or is_there(plain[0])) else unread(plain)
     if word is None:
-        return f"'{''.join(plain[-1:])}' is no number of IDs"
+        return f"'{''.join(plain[-1:])}' is not a number of IDs"
     if '/' in word and len(plain) == 1:
         return f"there is no file '{word}'"
-    return f"'{word}' is no size and no grade" if game or len(plain) > 1 else f"'{word}' is no game, no size, no grade and no file"
+    return f"'{word}' is not a size or a grade" if game or len(plain) > 1 else f"'{word}' is not a game, a size, a grade or a file"
 
 
 def is_id(plain: List[str]) -> bool:

@@ -169,7 +169,7 @@ class Menu:
                 return 'Type the number: the same one is always the same game.'
             return 'the date, for everybody' if self._number == TODAYS else 'each number is another game, and none needs a guess'
         letter = Choice(self._game, self._size, self._kind).letter
-        new, all_ = games.left(self._state, self._game, self._size, letter)
+        new, all_ = games.unplayed(self._state, self._game, self._size, letter)
         return self._state.played_trouble(self._game) or f'{all_} puzzles, {new} of them new to you'
 
 

@@ -103,7 +103,7 @@ class Prompt:
             except KeyboardInterrupt:
                 print()
             except UnicodeDecodeError:
-                print('That is no text.')
+                print('These bytes are not a text.')
             finally:
                 self._is_reading = self._is_stopped = False
                 self.restore()

@@ -205,7 +205,7 @@ def _object(answer: bytes) -> Mapping[str, Any]:
     try:
         told: Mapping[str, Any] = json.loads(answer)
     except ValueError:
-        raise Gone('its answer is no object: it is not puzzles-json') from None
+        raise Gone('its answer is not an object: it is not puzzles-json') from None
     if 'lost' in told:
         raise Gone('there is no memory left')
     return told

@@ -21,7 +21,7 @@ export const NOT_A_SQUARE = 'That is a clue. A tap on it marks it as done.';
 export const AT_START = 'Back at the start. Undo takes that back.';
 export const FILL_IN = 'Fill in the solution? Undo takes it back.';
 export const NEXT_GAME = 'Next game';
-export const NONE_HELD = 'No square gets a number by being pressed now.';
+export const NONE_HELD = 'Pressing a square no longer puts a number in.';
 export const BY_STEPS = 'By our steps: hints of that grade lead to the solution, and nothing has to be guessed.';
 export const AT_WORK = 'The program is at work.';
 export const STOP = 'Stop';
@@ -39,13 +39,13 @@ export const NAME_COPIED = 'This page has no address for others, so the name of 
 export const NAME_HERE = 'This page has no address for others. They put this in at New, under Link or ID:';
 export const RESULT_COPIED = 'The result is copied. It shows nothing of the solution.';
 export const RESULT_HERE = 'Copy this line:';
-export const NO_SUCH_LINK = 'That is no game. Type a link, an ID or a number from 0 to 18446744073709551615.';
+export const NO_SUCH_LINK = 'This is not a game. Type a link, an ID or a number from 0 to 18446744073709551615.';
 export const NO_NUMBER = 'The number of a game goes from 0 to 18446744073709551615.';
 export const FAILED = 'Something failed on this page. The game is as it was kept last.';
 export const NO_GAMES = 'There is no game yet.';
 export const NO_STATISTICS = 'Solve a game to see its time here.';
 export const DROP_FILE = 'That file is too large. A save has at most 16,777,216 bytes.';
-export const NOT_OUR_FILE = 'That is no file of games that this page has written.';
+export const NOT_OUR_FILE = 'This page did not write that file.';
 export const ID_OF = 'The ID of this puzzle';
 export const COMMAND = 'A command of the program:';
 
@@ -70,7 +70,7 @@ export const COMPLETABLE = {
   ...STILL_COMPLETABLE,
 };
 
-// What is said where a setting is switched off, or on.
+// The sentences for a setting that is switched off, or on.
 /** @type {Partial<Record<string, [string, string]>>} */
 export const SET = {
   tidy: [MARKS_STAY, MARKS_GO],
@@ -80,7 +80,7 @@ export const SET = {
 // Refusals of moves.
 /** @type {Record<string, string>} */
 const MOVES = {
-  BadMove: 'That is no move.',
+  BadMove: 'This is not a move.',
   ...REFUSED_MOVES,
   OffGrid: 'There is no square and no clue at that place.',
   OffRange: 'Numbers go from 1 to the size.',
@@ -95,7 +95,7 @@ const IDS = {
   BadSize: 'An ID begins with the size, one digit from 3 to 9, like the 5 in 5!7.',
   AdjacentMode: 'The adjacent mode of Unequal, with an a after the size, is not played here.',
   BadParams: 'Only d and a letter may stand between the size and : or !.',
-  ForeignSeed: 'A seed after # is the usual program’s. Copy its game ID with a : from there.',
+  ForeignSeed: 'Seeds with # work in the usual program only. There, copy the game ID, which has a colon.',
   NoDescription: 'An ID has a : and a description, or a ! and a seed, after the size, as in 5!7.',
   BadSeed: 'A seed goes from 0 to 18446744073709551615, without leading zeros.',
   ...REFUSED_IDS,
@@ -115,15 +115,15 @@ export function refusal(line, name, game) {
   return (isID && IDS[name]) || MOVES[name] || IDS[name] || `The program refuses that: ${name}.`;
 }
 
-// Refusals of saves. What is not among them is damage. The number of a move is put in.
+// Refusals of saves. All others mean damage. The number of a move is put in.
 /** @type {Record<string, string>} */
 const SAVES = {
-  NotASave: 'That is no save file of the collection: one begins with SAVEFILE:41:.',
+  NotASave: 'This is not a save file of the collection: one begins with SAVEFILE:41:.',
   ...REFUSED_SAVES,
   BadState: 'Move NUMBER of that save can’t be made on its board.',
 };
 
-// What there is to say of a text that is no save of these games, and of the name by which the module refuses it.
+// The sentence for a text that isn’t a save of these games, by the name by which the module refuses it.
 /** @param {string} text @param {string} why */
 export function unreadText(text, why) {
   const [, length, rest] = /^GAME {4}:([0-9]{1,3}):(.*)$/ms.exec(text) ?? ['', '0', ''], game = rest.slice(0, Number(length));
@@ -247,7 +247,7 @@ export function brought(taken, refused, there) {
   return [`${capital(counted(taken, 'game'))} imported.`, ...more].filter(Boolean).join(' ');
 }
 
-// What there is to say of games that are kept and can’t be read.
+// The sentence for kept games that can’t be read.
 /** @param {number} count */
 export const unreadGames = (count) => (count ? `${counted(count, 'game')} more can’t be read. The file of all games has each as it is.` : '');
 

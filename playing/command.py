@@ -94,10 +94,10 @@ def with_program(here: str, work: Callable[[str], int], failed: int = 1) -> int:
 
 def program(here: str) -> Optional[str]:
     """The program: the one that PUZZLES_JSON names, that beside the command, or that of the repository where one is ready."""
-    place = os.environ.get('PUZZLES_JSON') or os.path.join(here, 'puzzles-json')
-    if 'PUZZLES_JSON' not in os.environ and not os.path.isfile(place):
-        place = os.path.join(ABOVE, told('ready').strip() or 'build', 'puzzles-json')
-    return os.path.abspath(place) if os.path.isfile(place) else None
+    path = os.environ.get('PUZZLES_JSON') or os.path.join(here, 'puzzles-json')
+    if 'PUZZLES_JSON' not in os.environ and not os.path.isfile(path):
+        path = os.path.join(ABOVE, told('ready').strip() or 'build', 'puzzles-json')
+    return os.path.abspath(path) if os.path.isfile(path) else None
 
 
 def end_by_signals() -> None:

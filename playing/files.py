@@ -91,7 +91,7 @@ def begins(path: str, content: bytes) -> bool:
 def expect_file(found: os.stat_result) -> None:
     """Raises `NoFile` for all but a regular file."""
     if not stat.S_ISREG(found.st_mode):
-        raise NoFile(OTHERS.get(stat.S_IFMT(found.st_mode), 'is no file'))
+        raise NoFile(OTHERS.get(stat.S_IFMT(found.st_mode), 'is not a file'))
 
 
 def other_than_file(path: str) -> str:

@@ -55,7 +55,7 @@ def letters(game: str, size: int) -> List[str]:
     return [letter for letter in GRADES[game] if letter in fair.letters(game, size) or stored(game, size, letter)]
 
 
-def left(state: State, game: str, size: int, letter: str) -> Tuple[int, int]:
+def unplayed(state: State, game: str, size: int, letter: str) -> Tuple[int, int]:
     """How many stored puzzles weren't played, and how many there are."""
     ids = stored(game, size, letter)
     return len(set(ids) - state.played(game)), len(ids)

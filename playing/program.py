@@ -90,7 +90,7 @@ class Program:
             return told
         except ValueError:
             self.stop()
-            raise Gone('its answer is no object: it is not puzzles-json') from None
+            raise Gone('its answer is not an object: it is not puzzles-json') from None
 
     def stop(self) -> None:
         """Ends it. Its game is not saved by that."""

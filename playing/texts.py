@@ -14,7 +14,7 @@ from playing.saves import game_in
 
 
 class Ways(NamedTuple):
-    """How a front end has its players do what a sentence speaks of."""
+    """How players do in a front end what the sentences speak of."""
 
     clear: str
     number: str
@@ -27,10 +27,10 @@ class Ways(NamedTuple):
 BY_KEYS = Ways('0 clears it', "a digit on a square, or ':move R2,0,3'", "'D0,-1'", '? shows the keys', 'b', 'h')
 BY_LINES = Ways("'r1c2 0' clears it", "'r1c2 3' (row, column, number), or 'p r1c2 3'", "'d above 1'", "'help' lists them all", "'back'", "'why'")
 
-#: A move, in SIZE squares by SIZE. What the front end says of its ways is put in.
+#: Moves. The size and the words of the front end are put in.
 MOVES: Dict[str, str] = {
     **shared_texts.REFUSED_MOVES,
-    'BadMove': 'That is no move. Try {number}.',
+    'BadMove': 'This is not a move. Try {number}.',
     'OffGrid': 'Columns and rows count from 0 to {last}.',
     'OffRange': 'Numbers go from 1 to {size}, and 0 clears a square.',
     'FilledSquare': 'The square has a number: {clear} for pencil marks.',
@@ -38,12 +38,12 @@ MOVES: Dict[str, str] = {
     'SeveralSolutions': 'Multiple solutions exist for this puzzle: none is filled in.',
 }
 
-#: On the setter's desk: an item that a puzzle of the game can't have.
+#: On the setter's desk: items that puzzles of the game can't have.
 ITEMS: Mapping[str, str] = {
     'towers': 'Towers has no signs: it has clues at the edge.',
     'unequal': 'A sign stands between two neighbours, and Unequal has no clues at the edge.',
 }
-WHY_NOT = 'There is a solution, so nothing says why there is none.'
+WHY_NOT = 'The puzzle has a solution, so there is no contradiction to show.'
 NO_THINNING = 'There is nothing to thin out: no item is marked as not needed.'
 NO_PLAY = 'Only a puzzle with exactly one solution can be played.'
 
@@ -62,7 +62,7 @@ IDS: Dict[str, str] = {
     'Graded': "A seeded game has no difficulty letter: '5!7'.",
 }
 
-#: The line that begins a fair game. What is offered is put in.
+#: The line that begins a fair game. The letters that are offered are put in.
 FAIR: Dict[str, str] = {
     'BadSize': 'A size is one digit from 3 to 9.',
     'BadLetter': 'The grades of such games are {letters}, {last} from size 4 on.',
@@ -90,7 +90,7 @@ DESCRIPTIONS: Mapping[str, Dict[str, str]] = {
 
 SAVES: Dict[str, str] = {
     **shared_texts.REFUSED_SAVES,
-    'NotASave': "That is no save file of the collection: one begins with 'SAVEFILE:41:'.",
+    'NotASave': "This is not a save file of the collection: one begins with 'SAVEFILE:41:'.",
     'WrongGame': "That save is of another game: 'puzzles-play {other} FILE' opens the saves of {other}.",
     'BadState': "Move {number} of that save can't be made on its board.",
     'Malformed': 'That save is damaged (Malformed).',
@@ -118,7 +118,7 @@ LOST = 'Out of memory. The command may or may not have been carried out: look at
 
 
 def of_line(line: str, name: str, game: str, size: int, ways: Ways) -> str:
-    """What there is to say where a line is refused."""
+    """The sentence for a refused line."""
     if name == 'BadCommand' and re.match('list( |$)', line):
         return "'list 5' shows the first five solutions: a number from 1 to 100."
     if line.startswith('fair'):
@@ -136,14 +136,14 @@ def of_line(line: str, name: str, game: str, size: int, ways: Ways) -> str:
 
 
 def of_solved(status: str, hints: int) -> str:
-    """What there is to say of a solved board, by the session's status and after so many hints."""
+    """The sentence for a solved board, by the session's status and the number of hints."""
     if status == 'helped':
         return shared_texts.FILLED_IN
     return f'Solved, {hints_told(hints)}.' if hints else 'Solved!'
 
 
 def of_wrong(moves: Optional[int], ways: Ways) -> str:
-    """Of numbers that can't be completed: since which moves, where that is known, and how these are taken back."""
+    """The sentence for numbers that can't be completed: since which moves, if that is known, and how to take these back."""
     if moves is None:
         return WRONG
     if moves == 0:
@@ -156,7 +156,7 @@ def last_moves(moves: int) -> str:
 
 
 def gone_back(moves: int, marks: int) -> str:
-    """What was done, where so many moves were undone, and so many pencil marks went with them."""
+    """The sentence after so many moves were undone, and so many pencil marks with them."""
     went = f' with {counted(marks, "pencil mark")}' if marks else ''
     return f'{counted(moves, "move").capitalize()} taken back{went}. Now the numbers can be completed; redo makes {"it" if moves == 1 else "them"} again.'
 
@@ -167,27 +167,27 @@ def counted(number: int, what: str) -> str:
 
 
 def of_id(name: str, game: str) -> str:
-    """What there is to say where an ID is refused."""
+    """The sentence for a refused ID."""
     *first, last = GRADES[game]
     found = IDS.get(name) or LINES.get(name) or DESCRIPTIONS[game].get(name) or 'The program refuses that ID: {name}.'
     return found.format(name=name, letters=f'{", ".join(first)} or {last}')
 
 
 def of_fair(name: str, game: str) -> str:
-    """What there is to say where the line of a fair game is refused."""
+    """The sentence for a refused line of a fair game."""
     letters = [f"'{letter}'" for letter in OFFERED[game]]
     found = FAIR.get(name) or LINES.get(name) or 'The program refuses that game: {name}.'
     return found.format(name=name, letters=f'{", ".join(letters[:-1])} and {letters[-1]}', last=letters[-1])
 
 
 def of_foreign(content: bytes) -> str:
-    """What there is to say of a save of a third game; nothing where it doesn't say of which."""
+    """The sentence for a save of a third game; empty if it doesn't name the game."""
     name = game_in(content)
     return f'That is a save of {name}, which is not played here.' if name else ''
 
 
 def of_save(name: str, game: str) -> str:
-    """What there is to say where a save is refused."""
+    """The sentence for a refused save."""
     other = next(word for word in GAMES if word != game)
     name, _, number = name.partition(' ')
     found = SAVES.get(name) or LINES.get(name) or 'The program refuses that save: {name}.'

@@ -2,5 +2,4 @@
 
 answering   the program, which is begun again where an answer doesn't come in time
 table       times by game and class
-climbing    changes of a puzzle that are kept where they make it slower
 """

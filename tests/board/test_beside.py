@@ -121,7 +121,7 @@ def test_damaged_in_lines(front: BoardFront, room: Room) -> None:
     os.makedirs(os.path.join(room.path, FOLDER))
     room.put(KEPT, b'no save\n')
     with front.window(['--lines', 'towers'], LOW) as window:
-        told = "The game that was kept is put away, as it can't be read: That is no save file of the collection: one begins with 'SAVEFILE:41:'."
+        told = "The game that was kept is put away, as it can't be read: This is not a save file of the collection: one begins with 'SAVEFILE:41:'."
         window.look('', [told, 'towers 1/1>'])
         window.leave('q<enter>')
     old = [path for path in room.paths() if path.startswith(f'{FOLDER}/old/')]

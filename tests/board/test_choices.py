@@ -127,7 +127,7 @@ def test_a_file_first(front: BoardFront, room: Room) -> None:
     """A word that is the name of a file is the file."""
     room.put('6', b'no save')
     with front.window(['towers', '6']) as window:
-        window.look('', ["That is no save file of the collection"])
+        window.look('', ["This is not a save file of the collection"])
         assert window.status() == 3, 'the status'
     os.remove(os.path.join(room.path, '6'))
     with front.window(['towers', '6']) as window:

@@ -110,7 +110,7 @@ GAMES: List[BoardGame] = [
             Look('uuu', ['0 clues, 0 given', 'change 0/3', 'there is nothing to undo. Several solutions.']),
             Look('r', ['1 clue, 0 given', 'change 1/3']),
             Look('p', ['Only a puzzle with exactly one solution can be played. Several solutions.']),
-            Look('h', ['There is a solution, so nothing says why there is none.']),
+            Look('h', ['The puzzle has a solution, so there is no contradiction to show.']),
             Look('M', ['There is nothing to thin out']),
             Look('n<left><enter>', ['2 clues, 0 given', 'change 2/2', 'Exactly one solution. It is easy by our steps. All items are needed for that grade.']),
             Look('S', ['│     1     │     2     │     3     │', 'Exactly one']),

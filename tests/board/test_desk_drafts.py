@@ -182,7 +182,7 @@ LINES: List[Tuple[str, Sequence[str]]] = [
         'above 3', 'There is no clue there.',
         'id', '3:1///////////,a2g',
         'play', 'Only a puzzle with exactly one solution can be played.',
-        'why', 'There is a solution, so nothing says why there is none.',
+        'why', 'The puzzle has a solution, so there is no contradiction to show.',
         'thin', 'There is nothing to thin out: no item is marked as not needed.',
         'p r1c1 2', "The desk has no such line. 'help' lists those that it has, and 'back' goes back to the game.",
         'blank 10', "'desk unequal' turns to the draft of a game, 'desk unequal 5' and 'blank 5' to a blank board of a size from 3 to 9.",

@@ -22,7 +22,7 @@ LEFT = ['choices', 'towers.lock', 'towers.sav', 'unequal.lock']
 
 #: Edits of a save, and the sentence by which it is refused.
 SAVES: List[Tuple[bytes, bytes, str]] = [
-    (b'SAVEFILE', b'XAVEFILE', "That is no save file of the collection: one begins with 'SAVEFILE:41:'."),
+    (b'SAVEFILE', b'XAVEFILE', "This is not a save file of the collection: one begins with 'SAVEFILE:41:'."),
     (b'VERSION :1:1', b'VERSION :1:2', 'That save is of another version. Only version 1 can be read.'),
     (b'CPARAMS :1:3', b'CPARAMS :2:10', 'That save is of a size or a mode that is not played here'),
     (b'DESC    :13:3//////3/////', b'DESC    :1:3', "That save's puzzle, its record DESC, can't be read."),
@@ -114,7 +114,7 @@ def test_saved(front: BoardFront, room: Room) -> None:
     room.put('notes.txt', b'not a save\n')
     with front.window(['towers', ID]) as window:
         window.look('1<right>2', ['2 of 9'])
-        window.look('wFOLDER/notes.txt<enter>', ['notes.txt exists, and is no save. Overwrite it? y/N'])
+        window.look('wFOLDER/notes.txt<enter>', ['notes.txt exists, and is not a save. Overwrite it? y/N'])
         window.look('<enter>', ['Nothing was saved.'])
         assert room.read('notes.txt') == b'not a save\n', 'the notes'
         window.look('w"FOLDER/a game.sav"<enter>', ['Saved in FOLDER/a game.sav'])

@@ -175,7 +175,7 @@ def test_other_names(front: BoardFront, room: Room) -> None:
         with front.window([*words, ID], env=env) as window:
             window.look('', [shown])
         with front.window(words, env={**env, 'PUZZLES_JSON': os.path.join(room.path, 'plain')}) as window:
-            window.look('', ['its answer is no object: it is not'])
+            window.look('', ['its answer is not an object: it is not'])
             assert window.status() == 1, f'the status, {words}'
 
 

@@ -13,7 +13,7 @@ REFUSALS: List[Tuple[str, str]] = [
     ('move R3,0,1', 'Columns and rows count from 0 to 2.'),
     ('move R1,0,4', 'Numbers go from 1 to 3, and 0 clears a square.'),
     ('move R0,0,2', 'That number was given with the puzzle, and stays.'),
-    ('move R1,0', 'That is no move'),
+    ('move R1,0', 'This is not a move'),
     ('move H', 'Moves with H or F (hints and spent signs) are not played here.'),
     ('move D0,-1', 'A done mark is for a clue'),
     ('move S111111111', 'Those numbers are no solution of this puzzle.'),

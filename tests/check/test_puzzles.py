@@ -127,7 +127,7 @@ def test_saves(checker: Checker, room: Room) -> None:
     assert ended.output.decode().replace('\t', ' ') == f'old.sav:1 {ONE_LINE}\ntwo words:1 {ONE_LINE}\n'
     assert ended.error == b'' and ended.status == 0
     assert checker.run([], room.read('old.sav') or b'').output.decode().replace('\t', ' ') == f'-:1 {ONE_LINE}\n'
-    checker.expect('SAVEFILE:41:', 2, [], ['-:1: That is no save file of the collection: one begins with \'SAVEFILE:41:\'.'])
+    checker.expect('SAVEFILE:41:', 2, [], ['-:1: This is not a save file of the collection: one begins with \'SAVEFILE:41:\'.'])
 
 
 def drawn(program: str, room: Room, game: str, ids: Sequence[str]) -> List[str]:

@@ -1,4 +1,4 @@
-"""The sentence of a clue: which numbers in which squares would show too few or too many towers, and what has to be known for that (docs/JSON.md, hint)."""
+"""The sentence of a clue: which numbers in which squares would show too few or too many towers, and what has to be known for that (docs/HINTS.md)."""
 
 from typing import AbstractSet, Dict, FrozenSet, List, NamedTuple, Optional, Sequence, Tuple
 

@@ -1,4 +1,4 @@
-"""Neighbouring steps that are one sentence (docs/JSON.md, hint): signs of one direction, or clues alone from which fewer or more would be seen, that strike the
+"""Neighbouring steps that are one sentence (docs/HINTS.md): signs of one direction, or clues alone from which fewer or more would be seen, that strike the
 same number."""
 
 from typing import Iterator, List, NamedTuple, Optional, Sequence

@@ -1,4 +1,4 @@
-"""The sentences of a hint: each says what its step has, by what is left before it (docs/JSON.md, hint)."""
+"""The sentences of a hint: each says what its step has, by what is left before it (docs/HINTS.md)."""
 
 import re
 import textwrap

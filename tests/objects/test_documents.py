@@ -1,10 +1,10 @@
-"""docs/JSON.md, docs/SCRIPTING.md and README: the clients in docs/clients play, and the examples are what the programs write."""
+"""The documents for scripts: the clients in docs/clients play, and the examples and the sentences of hints are what the programs write."""
 
 import json
 import os
 import re
 import sys
-from typing import Iterator, List, NamedTuple
+from typing import List, NamedTuple
 
 import pytest
 
@@ -12,8 +12,9 @@ from tests.harness import Room, need, run
 from tests.harness.builds import TOP
 from tests.harness.game import HEAD, ID
 from tests.objects.agreement import Pair
-from tests.second_implementation.fair import fair
+from tests.objects.forms import Sentence, sentences, told_by
 from tests.objects.worked_lines import Worked, expect_worked, read_table
+from tests.second_implementation.fair import fair
 
 CLIENTS = TOP / 'docs' / 'clients'
 
@@ -123,28 +124,8 @@ def test_refusals() -> None:
     assert sorted(names) == sorted(told)
 
 
-class Sentence(NamedTuple):
-    """A sentence of a hint, and the game and lines after which it is told."""
-
-    text: str
-    game: str
-    lines: List[str]
-
-
-def sentences() -> Iterator[Sentence]:
-    """Those of the manual, each below its board: an ID, and moves to it. A sentence goes on in lines that are indented more."""
-    section = (TOP / 'docs' / 'JSON.md').read_text(encoding='utf-8').partition('### hint\n')[2].partition('\n### ')[0]
-    for game, board, text in re.findall(r'^    (towers|unequal) (.*)\n((?:      .*\n)+)', section, re.MULTILINE):
-        id, *moves = board.split()
-        for sentence in re.sub(r'\n {9}', ' ', text).splitlines():
-            yield Sentence(sentence.strip(), game, [f'new {id}', *(f'move {move}' for move in moves)])
-
-
-@pytest.mark.parametrize('told', sentences(), ids=lambda told: f'{told.text}')
-def test_sentence(pair: Pair, room: Room, told: Sentence) -> None:
-    script = ''.join(f'{line}\n' for line in [*told.lines, 'hint']).encode()
-    ended = run([pair.objects, told.game], room, input=script)
-    hint = json.loads(ended.output.splitlines()[-1])['hint']
-    texts = [*(step['text'] for step in hint['steps']), hint['text']]
-    said = ' '.join(line.strip() for text in texts for line in text)
-    assert f' {told.text} ' in f' {said} '
+@pytest.mark.parametrize('sentence', sentences(), ids=lambda sentence: f'{sentence.text}')
+def test_sentence(pair: Pair, room: Room, sentence: Sentence) -> None:
+    script = ''.join(f'{line}\n' for line in [*sentence.lines, 'hint']).encode()
+    ended = run([pair.objects, sentence.game], room, input=script)
+    assert sentence.text in told_by(json.loads(ended.output.splitlines()[-1])['hint'])

@@ -11,6 +11,7 @@ import pytest
 
 from tests.harness import Room, run
 from tests.objects.boards import puzzle_of
+from tests.objects.forms import expect_known
 from tests.objects.reading import Object, read_answers
 from tests.objects.solutions import expect_hint
 from tests.objects.steps import expect_steps
@@ -54,6 +55,7 @@ def answers(objects: str, room: Room, game: str, lines: Sequence[str]) -> List[O
 def expect_hint_of(game: str, board: Object, hint: Object) -> None:
     puzzle = puzzle_of(game.title(), board['session']['id'])
     numbers = tuple(board['board']['numbers'])
+    expect_known(hint['hint'])
     expect_hint(puzzle, numbers, hint['hint'])
     expect_steps(puzzle, numbers, hint['hint'])
 

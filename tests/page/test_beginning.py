@@ -70,8 +70,8 @@ def test_day_begins_anew(player: Player, programs: Programs, room: Room) -> None
 REFUSED = [
     ('towers:7!1', 'Seeded games have the sizes 3 to 6.'),
     ('towers:9:', 'The ID has too few clues or squares.'),
-    ('towers:5de#7', 'A seed after # is the usual program’s.'),
-    ('what', 'That is no game.'),
+    ('towers:5de#7', 'Seeds with # work in the usual program only.'),
+    ('what', 'This is not a game.'),
 ]
 
 

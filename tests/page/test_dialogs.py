@@ -15,11 +15,11 @@ REFUSED: List[Tuple[Dict[str, str], str, str]] = [
     ({'number': '12 34'}, 'number', 'The number of a game goes from 0 to'),
     ({'number': '-1'}, 'number', 'The number of a game goes from 0 to'),
     ({'number': '18446744073709551616'}, 'number', 'The number of a game goes from 0 to'),
-    ({'id': 'hello'}, 'id', 'That is no game.'),
+    ({'id': 'hello'}, 'id', 'This is not a game.'),
     ({'id': '7!1'}, 'id', 'Seeded games have the sizes 3 to 6.'),
     ({'id': '5:abc'}, 'id', 'The ID has'),
     ({'id': '3:4///////////'}, 'id', 'The ID has'),
-    ({'id': '#towers:5de#7'}, 'id', 'A seed after # is the usual program’s.'),
+    ({'id': '#towers:5de#7'}, 'id', 'Seeds with # work in the usual program only.'),
 ]
 
 @pytest.mark.gate

@@ -91,7 +91,7 @@ def test_links(player: Player) -> None:
         assert player.value('document.images.length + document.scripts.length') == 3, link
     assert len(player.kept()) == 1
     player.load('what')
-    player.told('That is no game')
+    player.told('This is not a game')
 
 
 @pytest.mark.gate

@@ -41,7 +41,7 @@ def test_bytes(player: Player, programs: Programs, room: Room, seed: bytes) -> N
 def test_empty_file(player: Player) -> None:
     player.sit(TOWERS)
     player.drop(b'')
-    player.told('That is no save file of the collection')
+    player.told('This is not a save file of the collection')
 
 
 def export(player: Player) -> Dict[str, Any]:

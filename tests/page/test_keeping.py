@@ -190,7 +190,7 @@ def test_save_files(player: Player, programs: Programs, room: Room) -> None:
 
 #: What is dropped that is no save of these games, and what is said.
 BAD_FILES: List[Any] = [
-    (b'no save', 'That is no save file of the collection'),
+    (b'no save', 'This is not a save file of the collection'),
     (save_text(0).replace(b'6:Towers', b'28:<img src=x onerror=alert(1)>'), 'That is a save of <img src=x onerror=alert(1)>, which is not played here.'),
     (save_text(2).replace(b'R1,0,2', b'R9,0,2'), 'Move 2 of that save can’t be made on its board.'),
     (17_000_000, 'That file is too large'),
@@ -234,7 +234,7 @@ def test_all_in_one_file(player: Player) -> None:
     player.drop(json.dumps(told).encode(), 'games.json')
     player.told('0 games imported. 2 were here already.')
     player.drop(b'{"format": 1}', 'games.json')
-    player.told('That is no file of games')
+    player.told('This page did not write that file')
     player.load(TOWERS)
     player.begins(0, 0, 'row 1, column 1, 1')
 

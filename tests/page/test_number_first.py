@@ -81,7 +81,7 @@ def test_number_first(player: Player) -> None:
     player.is_called(1, 0, 'row 1, column 2, empty')
     assert player.value(HELD) == '3'
     player.driver.click('[data-number="3"]')
-    player.told('No square gets a number by being pressed now.')
+    player.told('Pressing a square no longer puts a number in.')
     player.driver.click(at(1, 2))
     player.settles()
     assert player.name(1, 2) == 'row 3, column 2, empty' and player.value(HELD) == ''
@@ -144,7 +144,7 @@ def test_number_first_by_finger(piped: Player) -> None:
     piped.driver.hold(at(2, 2))
     piped.is_called(2, 2, 'row 3, column 3, empty, marks 2')
     piped.driver.tap('[data-number="2"]')
-    piped.told('No square gets a number')
+    piped.told('Pressing a square no longer')
     assert piped.moves() == ['R0,0,2', 'R1,1,2', 'P2,2,2']
 
 

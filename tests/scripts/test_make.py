@@ -119,7 +119,6 @@ def test_benches(place: Place) -> None:
         Make('make bench, a file with a blank in its name', ['make', 'bench', f'IDS={puzzles}'], says=[ID, 'towers  ']),
         Make('make bench, a file that is not there', ['make', 'bench', f'IDS={puzzles} too'], 2),
         Make('make hard', ['make', 'hard', 'COUNT=44', 'SEED=3'], says=['unequal waves  ', 'towers one-side  ']),
-        Make('make climb', ['make', 'climb', 'MINUTES=0.001'], says=['towers climbed 9:', 'unequal climbed 9:']),
     ]
     for row in rows:
         expect(place, row, RT_PROGRAM=reader)

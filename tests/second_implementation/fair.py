@@ -23,17 +23,12 @@ def offered(game: str, size: int, letter: str) -> int:
 
 def fair(game: str, size: int, letter: str, seed: int) -> Puzzle:
     """The puzzle of the first draw that doesn't follow by the grade below."""
-    return drawn_game(game, size, letter, seed)[1]
-
-
-def drawn_game(game: str, size: int, letter: str, seed: int) -> Tuple[int, Puzzle]:
-    """Which draw that is, counted from 1, and its puzzle."""
     grade = offered(game, size, letter)
     words = words_of_key(seed.to_bytes(8, 'big') + bytes([size, ord(letter), ord(game[0].upper())]) + bytes(21))
-    for draw in range(1, DRAWS + 1):
+    for _ in range(DRAWS):
         puzzle = drawn_puzzle(game, size, grade, words)
         if grade == LATIN or not follows(puzzle, grade - 1):
-            return draw, puzzle
+            return puzzle
     raise Refused('NoneFound')
 
 

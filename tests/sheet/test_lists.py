@@ -78,7 +78,7 @@ WRONG = [
     Wrong('a long line', b'3:' + b'/' * 5000, 'line 1: A line has 1,024 bytes at most.\n'),
     Wrong('a line of zeros', b'3:\x00', "line 1: Too few parts: a description has one for each square, separated by ','.\n"),
     Wrong('a folder', b'/tmp', 'line 1: /tmp is a folder\n'),
-    Wrong('no save', b'/etc/passwd', "line 1: That is no save file of the collection: one begins with 'SAVEFILE:41:'.\n"),
+    Wrong('no save', b'/etc/passwd', "line 1: This is not a save file of the collection: one begins with 'SAVEFILE:41:'.\n"),
     Wrong('empty', b'', 'standard input has no puzzles\n'),
     Wrong('empty lines', b'\n\r\n \n', 'standard input has no puzzles\n'),
     Wrong('too many', content([TOWERS] * 201), 'There are more than 200 puzzles, and a sheet has 200 at most: --count 200 takes the first ones.\n'),

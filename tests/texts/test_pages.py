@@ -5,7 +5,7 @@ from typing import Dict, Iterator, List, NamedTuple, Sequence
 
 import pytest
 
-from mdoc.page import page
+from mdoc.page import PAGES, Page
 from tests.harness import Room, by_name, need, run
 from tests.objects import schema
 from tests.objects.reading import ALL_OWN
@@ -59,12 +59,13 @@ def too_wide(shown: str) -> Iterator[str]:
     return (line for line in re.sub(STRUCK_TWICE, '', shown).splitlines() if len(line) > COLUMNS)
 
 
-def test_formats(room: Room) -> None:
-    """puzzles(5) is docs/FORMATS.md: tools/manual --write makes it, and leaves out no word."""
-    assert read('man/puzzles.5') == page()
+@pytest.mark.parametrize('page', PAGES, ids=lambda page: f'{page.name}')
+def test_document(room: Room, page: Page) -> None:
+    """A page that is a document: tools/manual --write makes it, and leaves out no word."""
+    assert page.path.read_text(encoding='utf-8') == page.text()
     need('mandoc')
-    shown = re.sub(STRUCK_TWICE, '', run(['mandoc', '-T', 'ascii', str(ROOT / 'man/puzzles.5')], room).output.decode())
-    document = re.sub(r'<!--.*?-->|\]\(#.*?\)|^\|(?: [a-z]+ \|)+$', ' ', read('docs/FORMATS.md'), flags=re.MULTILINE)
+    shown = re.sub(STRUCK_TWICE, '', run(['mandoc', '-T', 'ascii', str(page.path)], room).output.decode())
+    document = re.sub(r'<!--.*?-->|\]\(#.*?\)|^\|(?: [a-z]+ \|)+$', ' ', read(page.document), flags=re.MULTILINE)
     assert sorted(set(re.findall(r'\w+', document.casefold())).difference(re.findall(r'\w+', shown.casefold()))) == []
 
 

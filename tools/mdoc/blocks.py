@@ -1,4 +1,4 @@
-"""The blocks of a document in Markdown, as far as docs/FORMATS.md has them: headings, paragraphs, samples, lists and tables."""
+"""The blocks of a document in Markdown, as far as the manual pages have them: headings, paragraphs, samples, lists and tables."""
 
 from __future__ import annotations
 

@@ -1,45 +1,94 @@
-"""The manual page puzzles(5), which is docs/FORMATS.md in the language of such pages."""
+"""The manual pages that documents are: puzzles(5) is docs/FORMATS.md, and puzzles-hints(7) is docs/HINTS.md, in the language of such pages."""
 
 from __future__ import annotations
 
 import re
 from pathlib import Path
-from typing import Iterator, List, Tuple
+from typing import Iterator, List, NamedTuple, Tuple
 
 from mdoc.blocks import Block, Heading, Items, Paragraph, Sample, Table, blocks
 from mdoc.running import COLUMNS, escaped, lines_of, shown, tag
 
 TOP = Path(__file__).resolve().parent.parent.parent
-DOCUMENT, PAGE = TOP / 'docs' / 'FORMATS.md', TOP / 'man' / 'puzzles.5'
 
 HEAD = r"""
-.\" The texts that the programs read and write.
-.\" This page is docs/FORMATS.md; tools/manual makes it.
-.Dd November 27, 2026
-.Dt PUZZLES 5
+.\" {first}
+.\" This page is {document}; tools/manual makes it.
+.Dd {date}
+.Dt {title} {section}
 .Os
 .Sh NAME
-.Nm puzzles
-.Nd game IDs, moves, saves, replies and refusals of Towers and Unequal
+.Nm {name}
+.Nd {about}
 .Sh DESCRIPTION
 """.lstrip()
 
-FOOT = """
-.Sh SEE ALSO
-.Xr puzzles 6 ,
-.Xr puzzles-check 6 ,
-.Xr puzzles-json 6 ,
-.Xr puzzles-page 6 ,
-.Xr puzzles-play 6 ,
-.Xr puzzles-sheet 6 ,
-.Xr sgt-towers 6 ,
-.Xr sgt-unequal 6
+#: The pages that each of these leads to.
+OTHERS = [
+    'puzzles 5',
+    'puzzles 6',
+    'puzzles-check 6',
+    'puzzles-json 6',
+    'puzzles-page 6',
+    'puzzles-play 6',
+    'puzzles-sheet 6',
+    'sgt-towers 6',
+    'sgt-unequal 6',
+    'puzzles-hints 7',
+]
+
+STANDARDS = """
 .Sh STANDARDS
 The rules, game IDs, move texts and save files are those of Simon Tatham's
 Portable Puzzle Collection.
 Seeded games, done marks as a command, the replies and the refusals are this
 project's own.
 """.lstrip()
+
+
+class Page(NamedTuple):
+    """A page, with the document that it is and what stands at its head and at its end."""
+
+    document: str
+    name: str
+    section: int
+    date: str
+    first: str
+    about: str
+    end: str
+
+    @property
+    def path(self) -> Path:
+        return TOP / 'man' / f'{self.name}.{self.section}'
+
+    def text(self) -> str:
+        document = (TOP / self.document).read_text(encoding='utf-8')
+        head = HEAD.format(title=self.name.upper(), **self._asdict())
+        others = [other for other in OTHERS if other != f'{self.name} {self.section}']
+        leads = ''.join(f'.Xr {other} ,\n' for other in others[:-1]) + f'.Xr {others[-1]}\n'
+        return f'{head}{made(document)}.Sh SEE ALSO\n{leads}{self.end}'
+
+
+PAGES = [
+    Page(
+        'docs/FORMATS.md',
+        'puzzles',
+        5,
+        'November 27, 2026',
+        'The texts that the programs read and write.',
+        'game IDs, moves, saves, replies and refusals of Towers and Unequal',
+        STANDARDS,
+    ),
+    Page(
+        'docs/HINTS.md',
+        'puzzles-hints',
+        7,
+        'November 29, 2026',
+        'The sentences of hints, each with a board.',
+        'sentences of hints of Towers and Unequal',
+        '',
+    ),
+]
 
 #: How wide the first column of a table may be that stands as tags before the second.
 TAG_WIDTH = 26
@@ -132,7 +181,7 @@ def lines(block: Block) -> Iterator[str]:
 
 
 def made(document: str) -> str:
-    """The page of a document."""
+    """The lines of a document, without its title."""
     text: List[str] = []
     after_heading = True
     for block in blocks(document.splitlines())[1:]:
@@ -140,8 +189,4 @@ def made(document: str) -> str:
             text.append('.Pp')
         text += lines(block)
         after_heading = isinstance(block, Heading)
-    return HEAD + ''.join(f'{line}\n' for line in text) + FOOT
-
-
-def page() -> str:
-    return made(DOCUMENT.read_text(encoding='utf-8'))
+    return ''.join(f'{line}\n' for line in text)

@@ -53,7 +53,7 @@ test('sentences', () => {
     [refusal('move R0,0,9', 'GivenSquare', 'towers'), 'That number was given with the puzzle, and stays.'],
     [refusal('new 5x', 'BadLetter', 'unequal'), 'After the size and d comes one of the letters t, e, k, x or r.'],
     [refusal('x', 'Unheard', 'towers'), 'The program refuses that: Unheard.'],
-    [unreadText('x', 'refused: NotASave'), 'That is no save file of the collection: one begins with SAVEFILE:41:.'],
+    [unreadText('x', 'refused: NotASave'), 'This is not a save file of the collection: one begins with SAVEFILE:41:.'],
     [unreadText('x', 'refused: BadState 7'), 'Move 7 of that save can’t be made on its board.'],
     [unreadText('x', 'refused: Missing'), 'That save is damaged (Missing).'],
     [unreadText('SAVEFILE:41:\nGAME    :5:Loopy\n', 'refused: WrongGame'), 'That is a save of Loopy, which is not played here.'],

@@ -148,26 +148,14 @@ fn games_are_played_and_saved(rt: HostRuntime) {
         "--save",
         "new.sav",
     ];
-    const NO_GAME: &[&str] = &["puzzles", "towers", "--save", "new.sav"];
-    const UNSAVED: &[&str] = &["puzzles", "towers", "--load", "old.sav"];
-    const OTHER_FILE: &[&str] = &[
-        "puzzles", "towers", "--load", "old.sav", "--save", "old.sav",
-    ];
     const NO_FILE: &[&str] = &["puzzles", "towers", "--load", "new.sav"];
-    const OTHER_GAME: &[&str] = &["puzzles", "unequal", "--load", "old.sav"];
-    const NO_SIZE: &[&str] = &["puzzles", "unequal", "--id", "2:"];
     const MOVES: &[u8] = b"move R0,0,1\nmove R1,0,2\nquit\n";
     const UNWRITTEN: &str = "cannot write the file";
     const ROWS: &[Played] = &[
         Played(LOADS, false, b"move R1,0,2\n", b"ok\n", 0, ""),
         Played(BEGINS, false, MOVES, b"ok\nok\n", 0, ""),
-        Played(NO_GAME, false, b"undo\n", b"refused: NoGame\n", 0, ""),
-        Played(UNSAVED, false, b"undo\n", b"ok\n", 0, ""),
         Played(LOADS, false, b"undo\n", b"ok\n", 1, UNWRITTEN),
-        Played(OTHER_FILE, false, b"move R1,0,2\n", b"ok\n", 1, UNWRITTEN),
         Played(NO_FILE, false, b"show\n", b"", 1, "cannot read the file"),
-        Played(OTHER_GAME, false, b"show\n", b"", 3, "refused: WrongGame"),
-        Played(NO_SIZE, false, b"show\n", b"", 3, "refused: BadSize"),
         Played(
             LOADS,
             true,

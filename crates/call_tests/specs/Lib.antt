@@ -1,2 +1,0 @@
--- The puzzles of a game of the tests' own.
-pub mod Plain
