@@ -100,6 +100,7 @@ def test_program_killed(front: BoardFront, room: Room) -> None:
 def test_long_work(front: BoardFront, room: Room) -> None:
     """Something moves meanwhile, a key stops it, and the game goes on; in lines it is said once."""
     with front.window(['towers', ID], env=between(front, room)) as window:
+        window.look('', ['move 0/0'])
         window.look('1', ['1 of 9'])
         window.look('c', ['The program is at work. Any key stops it.'])
         before = window.screen.text()
@@ -133,6 +134,7 @@ def test_no_game(front: BoardFront, room: Room) -> None:
 def test_no_answer(front: BoardFront, room: Room) -> None:
     """A move that takes long can be stopped after a while, and a closed window ends the front at once."""
     with front.window(['towers', ID], env=between(front, room)) as window:
+        window.look('', ['move 0/0'])
         window.look('1', ['1 of 9'])
         window.look('<down>3', ['The program is at work. Any key stops it.'])
         window.look('x', ['Stopped. Nothing has changed.', '1 of 9'])
@@ -192,6 +194,7 @@ def wait_for_program(window: Terminal) -> bool:
 def test_no_memory(front: BoardFront, room: Room) -> None:
     """What was done is shown, whether its reply was lost or not, and is kept."""
     with front.window(['towers', ID], env=between(front, room)) as window:
+        window.look('', ['move 0/0'])
         window.look('1', ['1 of 9'])
         window.look('<right>2', ['Out of memory. The command may or may not have been carried out: look at the board.', '2 of 9'])
         window.look('<right>3', ['There is no memory left for that. Nothing has changed.', '2 of 9'])
