@@ -47,6 +47,9 @@ def test_files(checker: Checker, room: Room) -> None:
     assert (ended.status, ended.output.decode().replace('\t', ' ')) == (2, f'?[31m:1 {LINE}')
     told = ["folder: it can't be read (Is a directory)", "none: it can't be read (No such file or directory)", 'empty: it has no puzzles']
     assert ended.error.decode().splitlines() == [f'puzzles-check: {text}' for text in told]
+
+
+def test_closed_input(checker: Checker) -> None:
     assert checker.run([], closed=[0]).expect("-: it can't be read (it is closed)", status=2)
 
 
