@@ -79,6 +79,15 @@ for line in sys.stdin.buffer:
     sys.stdout.buffer.flush()
 """
 
+#: Stands there, too, and takes over the first save longer than a player has to wait for anything else.
+SLOW_SAVE = """\
+#!/usr/bin/env bash
+while read -r line; do
+    if [[ $line = save && ! $saved ]]; then saved=1; sleep 4; fi
+    echo "$line"
+done | exec -a puzzles-json '{program}' "$@"
+"""
+
 
 def between(front: BoardFront, room: Room) -> Dict[str, str]:
     """The environment of a front over the program with something between."""
@@ -189,6 +198,16 @@ def wait_for_program(window: Terminal) -> bool:
             return False
         time.sleep(0.02)
     return True
+
+
+def test_first_save(front: BoardFront, room: Room) -> None:
+    """A key that is pressed while a game is saved for the first time stops nothing, and is heard then."""
+    room.put('between', SLOW_SAVE.format(program=front.program).encode(), 0o755)
+    with front.window(['towers', ID], env={**front.env(), 'PUZZLES_JSON': os.path.join(room.path, 'between')}) as window:
+        window.look('', ['move 0/0', 'The program is at work ..'])
+        window.look('1', ['1 of 9', 'move 1/1'])
+        window.leave('q')
+    assert room.read(KEPT) == save_text(1), 'what is kept'
 
 
 def test_no_memory(front: BoardFront, room: Room) -> None:
