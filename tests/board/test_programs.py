@@ -10,7 +10,7 @@ from typing import Dict
 
 from tests.board.front import BoardFront
 from tests.board.test_lives import is_gone
-from tests.harness import Room
+from tests.harness import SLOWNESS, Room
 from tests.harness.game import ID, save_text
 from tests.harness.terminal import Terminal
 
@@ -192,7 +192,7 @@ def test_other_names(front: BoardFront, room: Room) -> None:
 
 def wait_for_program(window: Terminal) -> bool:
     """Whether the front has started a program, which has a session of its own, or does so in a moment."""
-    end = time.monotonic() + 10
+    end = time.monotonic() + 10 * SLOWNESS
     while not any(os.getsid(pid) == pid for pid in window.programs()):
         if time.monotonic() > end:
             return False

@@ -12,7 +12,7 @@ from typing import List
 import pytest
 
 from tests.check.conftest import PATH, Checker
-from tests.harness import Room
+from tests.harness import SLOWNESS, Room
 from tests.harness.game import ID, PICTURE
 from tests.harness.terminal import Terminal
 
@@ -134,4 +134,4 @@ def test_many(checker: Checker) -> None:
     start = time.monotonic()
     ended = checker.run(['--quick'], f'{ID}\n'.encode() * 10_000, seconds=300)
     assert (ended.status, ended.output.count(b'\n'), ended.error) == (0, 10_000, b'')
-    assert time.monotonic() - start < 120
+    assert time.monotonic() - start < 120 * SLOWNESS
