@@ -130,7 +130,8 @@ def test_no_game(front: BoardFront, room: Room) -> None:
     room.put('without', WITHOUT_GAMES.format(program=front.program).encode(), 0o755)
     env = {**front.env(), 'PUZZLES_JSON': os.path.join(room.path, 'without')}
     with front.window([], env=env) as window:
-        window.look('m', ['Towers 5x5', 'easy', 'move 1/1'])
+        window.look('', ['Towers 5x5', 'easy', 'move 0/0'])
+        window.look('m', ['move 1/1'])
         window.look('n<down>7<enter>', ['A new game', 'That number gives no such game. Try another one.', '[typed: 7]'])
         window.look('q', ['move 1/1'])
         window.look('n<enter>', ['move 0/0', 'That number is always this game.'])
@@ -201,9 +202,14 @@ def wait_for_program(window: Terminal) -> bool:
 
 
 def test_first_save(front: BoardFront, room: Room) -> None:
-    """A key that is pressed while a game is saved for the first time stops nothing, and is heard then."""
+    """A key that is pressed while a game is saved for the first time stops nothing, and is heard then. A card of the course is waited for, too."""
     room.put('between', SLOW_SAVE.format(program=front.program).encode(), 0o755)
-    with front.window(['towers', ID], env={**front.env(), 'PUZZLES_JSON': os.path.join(room.path, 'between')}) as window:
+    env = {**front.env(), 'PUZZLES_JSON': os.path.join(room.path, 'between')}
+    with front.window(['learn', 'towers'], env=env) as window:
+        window.look('', ['The program is at work ..'])
+        window.look('', ['Card 1/6.'])
+        window.leave('q')
+    with front.window(['towers', ID], env=env) as window:
         window.look('', ['move 0/0', 'The program is at work ..'])
         window.look('1', ['1 of 9', 'move 1/1'])
         window.leave('q')
