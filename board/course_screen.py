@@ -54,6 +54,8 @@ class CourseScreen(FullScreen):
 
     def _look(self) -> Look:
         look, course = super()._look(), self._course
+        if not course.has_card:
+            return look
         text = f'Card {course.place}. {course.text(TASK[course.has_number])}'
         shown = Shown(frozenset([course.goal])) if look.shown == Shown() else look.shown
         return look._replace(message=look.message or text, shown=shown, way=look.way or WAY)

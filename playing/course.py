@@ -56,6 +56,11 @@ class Course(Game):
         return True
 
     @property
+    def has_card(self) -> bool:
+        """Not yet while the first one is fetched."""
+        return self._lesson is not None
+
+    @property
     def place(self) -> str:
         """Which card it is, of how many."""
         return f'{self._at + 1}/{len(self._cards)}'

@@ -93,7 +93,8 @@ class KeptGame:
         """The program's reply, with a sentence where it is a refusal; nothing where the program had to be started again."""
         assert self._program
         try:
-            reply = self._program.ask(line, self.waiting(line.startswith(LONG)))
+            # Before the first save there is nothing to go back to.
+            reply = self._program.ask(line, self.waiting(line.startswith(LONG)) if self._saved else lambda: self.front.waiting(False))
         except Stopped:
             self._revive()
             self.message = shared_texts.STOPPED

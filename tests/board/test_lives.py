@@ -11,7 +11,7 @@ import pytest
 
 from board import manual
 from tests.board.front import BoardFront
-from tests.harness import Room, run
+from tests.harness import SLOWNESS, Room, run
 from tests.harness.game import ID, save_text
 from tests.harness.terminal import Terminal
 
@@ -73,7 +73,7 @@ def test_ended(front: BoardFront, room: Room, end: Callable[[Terminal], None], s
 
 def is_gone(pid: int) -> bool:
     """Whether a process has ended, or does so in a moment."""
-    end = time.monotonic() + 5
+    end = time.monotonic() + 5 * SLOWNESS
     while time.monotonic() < end:
         try:
             with open(f'/proc/{pid}/stat', encoding='ascii') as file:

@@ -10,7 +10,7 @@ from typing import Dict
 
 from tests.board.front import BoardFront
 from tests.board.test_lives import is_gone
-from tests.harness import Room
+from tests.harness import SLOWNESS, Room
 from tests.harness.game import ID, save_text
 from tests.harness.terminal import Terminal
 
@@ -79,6 +79,15 @@ for line in sys.stdin.buffer:
     sys.stdout.buffer.flush()
 """
 
+#: Stands there, too, and takes over the first save longer than a player has to wait for anything else.
+SLOW_SAVE = """\
+#!/usr/bin/env bash
+while read -r line; do
+    if [[ $line = save && ! $saved ]]; then saved=1; sleep 4; fi
+    echo "$line"
+done | exec -a puzzles-json '{program}' "$@"
+"""
+
 
 def between(front: BoardFront, room: Room) -> Dict[str, str]:
     """The environment of a front over the program with something between."""
@@ -100,6 +109,7 @@ def test_program_killed(front: BoardFront, room: Room) -> None:
 def test_long_work(front: BoardFront, room: Room) -> None:
     """Something moves meanwhile, a key stops it, and the game goes on; in lines it is said once."""
     with front.window(['towers', ID], env=between(front, room)) as window:
+        window.look('', ['move 0/0'])
         window.look('1', ['1 of 9'])
         window.look('c', ['The program is at work. Any key stops it.'])
         before = window.screen.text()
@@ -120,7 +130,8 @@ def test_no_game(front: BoardFront, room: Room) -> None:
     room.put('without', WITHOUT_GAMES.format(program=front.program).encode(), 0o755)
     env = {**front.env(), 'PUZZLES_JSON': os.path.join(room.path, 'without')}
     with front.window([], env=env) as window:
-        window.look('m', ['Towers 5x5', 'easy', 'move 1/1'])
+        window.look('', ['Towers 5x5', 'easy', 'move 0/0'])
+        window.look('m', ['move 1/1'])
         window.look('n<down>7<enter>', ['A new game', 'That number gives no such game. Try another one.', '[typed: 7]'])
         window.look('q', ['move 1/1'])
         window.look('n<enter>', ['move 0/0', 'That number is always this game.'])
@@ -133,6 +144,7 @@ def test_no_game(front: BoardFront, room: Room) -> None:
 def test_no_answer(front: BoardFront, room: Room) -> None:
     """A move that takes long can be stopped after a while, and a closed window ends the front at once."""
     with front.window(['towers', ID], env=between(front, room)) as window:
+        window.look('', ['move 0/0'])
         window.look('1', ['1 of 9'])
         window.look('<down>3', ['The program is at work. Any key stops it.'])
         window.look('x', ['Stopped. Nothing has changed.', '1 of 9'])
@@ -181,7 +193,7 @@ def test_other_names(front: BoardFront, room: Room) -> None:
 
 def wait_for_program(window: Terminal) -> bool:
     """Whether the front has started a program, which has a session of its own, or does so in a moment."""
-    end = time.monotonic() + 10
+    end = time.monotonic() + 10 * SLOWNESS
     while not any(os.getsid(pid) == pid for pid in window.programs()):
         if time.monotonic() > end:
             return False
@@ -189,9 +201,25 @@ def wait_for_program(window: Terminal) -> bool:
     return True
 
 
+def test_first_save(front: BoardFront, room: Room) -> None:
+    """A key that is pressed while a game is saved for the first time stops nothing, and is heard then. A card of the course is waited for, too."""
+    room.put('between', SLOW_SAVE.format(program=front.program).encode(), 0o755)
+    env = {**front.env(), 'PUZZLES_JSON': os.path.join(room.path, 'between')}
+    with front.window(['learn', 'towers'], env=env) as window:
+        window.look('', ['The program is at work ..'])
+        window.look('', ['Card 1/6.'])
+        window.leave('q')
+    with front.window(['towers', ID], env=env) as window:
+        window.look('', ['move 0/0', 'The program is at work ..'])
+        window.look('1', ['1 of 9', 'move 1/1'])
+        window.leave('q')
+    assert room.read(KEPT) == save_text(1), 'what is kept'
+
+
 def test_no_memory(front: BoardFront, room: Room) -> None:
     """What was done is shown, whether its reply was lost or not, and is kept."""
     with front.window(['towers', ID], env=between(front, room)) as window:
+        window.look('', ['move 0/0'])
         window.look('1', ['1 of 9'])
         window.look('<right>2', ['Out of memory. The command may or may not have been carried out: look at the board.', '2 of 9'])
         window.look('<right>3', ['There is no memory left for that. Nothing has changed.', '2 of 9'])

@@ -18,12 +18,12 @@ users     whom a program can be run as
 from typing import Protocol
 
 from tests.harness.faults import FaultLibrary, Met
-from tests.harness.program import Ended, run
+from tests.harness.program import SLOWNESS, Ended, run
 from tests.harness.room import Folder, Room, Skip
 from tests.harness.skips import need
 from tests.harness.users import User, is_root, need_root
 
-__all__ = ['Ended', 'FaultLibrary', 'Folder', 'Met', 'Room', 'Skip', 'User', 'by_name', 'is_root', 'need', 'need_root', 'run']
+__all__ = ['SLOWNESS', 'Ended', 'FaultLibrary', 'Folder', 'Met', 'Room', 'Skip', 'User', 'by_name', 'is_root', 'need', 'need_root', 'run']
 
 
 class Named(Protocol):

@@ -18,6 +18,9 @@ Word = Union[str, bytes]
 #: What may be ignored around the tests, as in a job in the background or after nohup: no program that they start is to begin so.
 USUAL = (signal.SIGINT, signal.SIGQUIT, signal.SIGHUP, signal.SIGTERM)
 
+#: So many times as long as on a PC everything may take, as by qemu.
+SLOWNESS = float(os.environ.get('SLOWNESS', '1'))
+
 
 class Ended(NamedTuple):
     """How a run ended, and what it wrote. A status below 0 is the signal that ended it."""
@@ -103,7 +106,7 @@ def run(  # pylint: disable=too-many-arguments
         )
         os.umask(old_umask)
     try:
-        output, error = process.communicate(timeout=seconds)
+        output, error = process.communicate(timeout=seconds * SLOWNESS)
     except BaseException:
         process.kill()
         process.communicate()

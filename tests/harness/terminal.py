@@ -12,7 +12,7 @@ from typing import Callable, Dict, List, Mapping, NamedTuple, Optional, Pattern,
 
 import pexpect
 
-from tests.harness.program import make_usual
+from tests.harness.program import SLOWNESS, make_usual
 from tests.harness.screen import Screen, Stream
 from tests.harness.users import User
 
@@ -70,7 +70,7 @@ class Terminal:
                 os.fchown(0, *user.owner)
                 user.become()
 
-        self._seconds = seconds
+        self._seconds = seconds * SLOWNESS
         self._folder = cwd
         self.screen = Screen(*size)
         self._stream = Stream(self.screen)

@@ -8,7 +8,7 @@ from typing import Dict, List, NamedTuple
 
 import pytest
 
-from tests.harness import Room, by_name, run
+from tests.harness import Room, by_name, need, run
 from web_build.kept import MODULE_FILE, PAGE_FILE, read
 from web_build.page import MOST_BYTES, filled, page_of, packed, packed_in, squeezed, unpacked
 from web_build.retarget import GIVEN_LAYOUT, LAYOUT, retargeted
@@ -190,6 +190,7 @@ def test_sections() -> None:
 
 
 def test_packed() -> None:
+    need('zopfli')
     assert unpacked(packed(b'\0asm' * 100)) == b'\0asm' * 100
     with pytest.raises(Unfit, match='not packed'):
         unpacked('AAAA')

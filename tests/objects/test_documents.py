@@ -96,6 +96,8 @@ def test_objects(pair: Pair, room: Room, worked: Worked) -> None:
 def test_example(pair: Pair, room: Room, block: str) -> None:
     """A command, and what it writes. A line that ends in a backslash or a bar goes on in the next one, and so does an object in an indented one."""
     command, _, wanted = unfolded(re.sub(r'\\\n *|(?<=\|)\n *', ' ', block[2:])).partition('\n')
+    if '| node ' in command:
+        need('node')
     room.put('odd.sav', ODD_SAVE)
     for folder in ('docs/clients', 'tests/module', 'programs/web'):
         command = command.replace(folder, str(TOP / folder))

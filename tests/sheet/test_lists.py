@@ -10,7 +10,7 @@ from typing import Iterator, List, NamedTuple
 
 import pytest
 
-from tests.harness import Room, by_name
+from tests.harness import SLOWNESS, Room, by_name
 from tests.harness.game import ID, save_text
 from tests.second_implementation.seeded import generate
 from tests.sheet.making import Maker, content, stored
@@ -128,7 +128,7 @@ def test_long(maker: Maker, room: Room) -> None:
     assert [puzzle.id for puzzle in pictures(ended.output.decode())] == [re.sub('d.:', ':', id) for id in lines[:5]]
     ended = maker.run(['--ids', '-'], content(['x'] * 1_000_000))
     assert (ended.status, ended.error.decode()[:31]) == (3, 'There are more than 200 puzzles')
-    assert time.monotonic() - before < 20
+    assert time.monotonic() - before < 20 * SLOWNESS
 
 
 def test_unread(maker: Maker) -> None:

@@ -9,7 +9,7 @@ from typing import Callable, NamedTuple, Sequence
 
 import pytest
 
-from tests.harness import Folder, Room, by_name
+from tests.harness import SLOWNESS, Folder, Room, by_name
 from tests.harness.game import ID
 from tests.harness.mounts import fill, small_disk
 from tests.harness.terminal import Terminal
@@ -165,7 +165,7 @@ def is_silent(process: int) -> bool:
 
 
 def eventually(holds: Callable[[], object]) -> bool:
-    end = time.monotonic() + 20
+    end = time.monotonic() + 20 * SLOWNESS
     while not holds() and time.monotonic() < end:
         time.sleep(0.02)
     return bool(holds())
