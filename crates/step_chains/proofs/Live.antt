@@ -32,6 +32,7 @@ step_more c d step size fewer (some, live) = (
   λ cell value has. fewer cell value (live cell value has),
 )
 
+-- so steps that are timely by fewer are so by more
 pub timely_more : (c d : CandidatesValue) (steps : List StepValue) → c.size ≡ d.size → IsFewer c d → AreTimely d steps → AreTimely c steps
 timely_more c d [] size fewer h = tt
 timely_more c d (step ∷ steps) size fewer h = (

@@ -140,11 +140,6 @@ aim_stays Struck grade g aim end (inl (cell, same, (view, is, r))) holds = absur
   nothing = r.nothing;
 }))
 
--- a square that is left nothing is no number
-pub no_number : (Struck : Striking) (grade : Grade) (g : GridValue) (cell : ℕ) (goal : Goal) → IsAimOrRefuted Struck grade g (Nothing cell) (Number goal) → ⊥
-no_number Struck grade g cell goal (inl (other, same, refuted)) = absurd (cc)
-no_number Struck grade g cell goal (inr same) = absurd (cc)
-
 -- where the hardest grade leaves something of each square and shows no number, no square is forced
 pub none_forced : (Struck : Striking) → IsAntitone Struck → (g : GridValue) (view d : CandidatesValue) → IsView g view
     → IsClosure Struck Hard view d → HasSome d → ((goal : Goal) → IsOpenShown g d goal → ⊥) → (other : CandidatesValue) (cell : ℕ) → IsView g other
