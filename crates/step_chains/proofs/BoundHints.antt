@@ -7,29 +7,22 @@ use Rattle.trail_solver.specs.Puzzles.{Puzzle}
 use Rattle.named_steps.specs.Chains.{IsView}
 use Rattle.named_steps.specs.declared.goal.Goal.{Goal}
 use Rattle.named_steps.specs.declared.goal.Goal.TheVariants.{OnlyValue}
-use Rattle.line_steps.specs.Left.{IsFewer, without}
 use Rattle.line_steps.specs.Chains.{StepValue}
 use Rattle.line_steps.specs.declared.grade.Grade.{Grade}
-use Rattle.line_steps.proofs.Chains.{IsAntitone, fewer_without}
+use Rattle.line_steps.proofs.Chains.{IsAntitone}
 use Rattle.step_chains.specs.declared.hints.NextHint.{NextHint}
 use Rattle.step_chains.specs.declared.hints.NextHint.TheVariants.{Follows, Refuted, Nothing}
-use Rattle.step_chains.specs.ChainValues.{AreAllNeeded, AreLive, AreNeededForNothing, LeavesNothing, steps_of}
+use Rattle.step_chains.specs.ChainValues.{AreAllNeeded, AreLive, AreNeededForNothing, EndAtOnce, LeavesNothing, steps_of}
 use Rattle.step_chains.specs.NextHints.{IsHint, IsRightHint}
-use Rattle.step_chains.specs.Inner.FromEachView.{AreNeededFrom, IsLiveFrom, IsNextHint, IsLiveHint, IsNeededHint, SaysAllForced}
+use Rattle.step_chains.specs.Inner.FromEachView.{AreNeededFrom, IsTimelyFrom, IsNextHint, IsTimelyHint, IsNeededHint, SaysAllForced}
 use Rattle.step_chains.proofs.Explanations.{leaves_where, shows_in, views_fewer}
+use Rattle.step_chains.proofs.Live.{timely_more, timely_parts}
 use Rattle.line_steps.specs.Reasons.{Striking}
 
--- steps that strike only what is left do so where more is left
-live_more : (c d : CandidatesValue) (steps : List StepValue) → IsFewer c d → AreLive d steps → AreLive c steps
-live_more c d [] fewer live = tt
-live_more c d (step ∷ steps) fewer live = (
-  λ cell value has. fewer cell value (live.0 cell value has),
-  live_more (without c step.strikes) (without d step.strikes) steps (fewer_without c d step.strikes fewer) live.1,
-)
-
 module _ (Struck : Striking) (less : IsAntitone Struck) (g : GridValue) (view : CandidatesValue) (is : IsView g view) where
-  live_in : (steps : List StepValue) → IsLiveFrom g steps → AreLive view steps
-  live_in steps (other, other_is, live) = live_more view other steps (views_fewer g view other is other_is) live
+  live_in : (steps : List StepValue) → IsTimelyFrom g steps → AreLive view steps × EndAtOnce view steps
+  live_in steps (other, other_is, timely) =
+      timely_parts view steps (timely_more view other steps (is.size ∙ sym other_is.size) (views_fewer g view other is other_is) timely)
 
   needed_in : (grade : Grade) (steps : List StepValue) (goal : Goal) → AreNeededFrom Struck grade g steps goal
       → AreAllNeeded Struck grade view steps goal
@@ -46,8 +39,8 @@ module _ (Struck : Striking) (less : IsAntitone Struck) (g : GridValue) (view : 
 
 -- one view for all
 pub hint_bound : (p : Puzzle) (Struck : Striking) → IsAntitone Struck → (g : GridValue) (hint : NextHint) → IsNextHint Struck g hint
-    → IsLiveHint g hint → IsNeededHint Struck g hint → IsRightHint p g hint → SaysAllForced Struck g hint → IsHint p Struck g hint
-hint_bound p Struck less g (Follows grade chain) least live needed right forced =
+    → IsTimelyHint g hint → IsNeededHint Struck g hint → IsRightHint p g hint → SaysAllForced Struck g hint → IsHint p Struck g hint
+hint_bound p Struck less g (Follows grade chain) least timely needed right forced =
     let e = least.0 in
     let steps = steps_of chain.steps.items in
     record {
@@ -55,13 +48,13 @@ hint_bound p Struck less g (Follows grade chain) least live needed right forced 
       in_view = e.in_view;
       is_hint = record {
         least = (e.explains, λ lower below. least.1 lower below e.view e.in_view, λ refuted. least.2 (e.view, e.in_view, refuted));
-        live = live_in Struck less g e.view e.in_view steps live;
+        live = live_in Struck less g e.view e.in_view steps timely;
         needed = needed_in Struck less g e.view e.in_view grade steps chain.goal needed;
         right = right;
         forced = λ cell f. forced e.view cell e.in_view f;
       };
     }
-hint_bound p Struck less g (Refuted grade refutation) least live needed right forced =
+hint_bound p Struck less g (Refuted grade refutation) least timely needed right forced =
     let r = least.0 in
     let steps = steps_of refutation.steps.items in
     record {
@@ -69,13 +62,13 @@ hint_bound p Struck less g (Refuted grade refutation) least live needed right fo
       in_view = r.in_view;
       is_hint = record {
         least = (r.refutes, λ lower below refuted. least.1 lower below (r.view, r.in_view, refuted));
-        live = live_in Struck less g r.view r.in_view steps live;
+        live = live_in Struck less g r.view r.in_view steps timely;
         needed = nothing_in Struck less g r.view r.in_view grade steps refutation.cell needed;
         right = right;
         forced = λ cell f. forced r.view cell r.in_view f;
       };
     }
-hint_bound p Struck less g Nothing least (view, is, live) needed right forced = record {
+hint_bound p Struck less g Nothing least (view, is, timely) needed right forced = record {
   view = view;
   in_view = is;
   is_hint = record {
@@ -89,7 +82,7 @@ hint_bound p Struck less g Nothing least (view, is, live) needed right forced = 
 
 -- the same of a hint, where there was memory for it
 pub result_bound : (p : Puzzle) (Struck : Striking) → IsAntitone Struck → (g : GridValue) (result : Result NextHint OutOfMemory)
-    → IfOk result (IsNextHint Struck g) → IfOk result (IsLiveHint g) → IfOk result (IsNeededHint Struck g) → IfOk result (IsRightHint p g)
+    → IfOk result (IsNextHint Struck g) → IfOk result (IsTimelyHint g) → IfOk result (IsNeededHint Struck g) → IfOk result (IsRightHint p g)
     → IfOk result (SaysAllForced Struck g) → IfOk result (IsHint p Struck g)
-result_bound p Struck less g (Ok hint) least live needed right forced = hint_bound p Struck less g hint least live needed right forced
-result_bound p Struck less g (Err fault) least live needed right forced = tt
+result_bound p Struck less g (Ok hint) least timely needed right forced = hint_bound p Struck less g hint least timely needed right forced
+result_bound p Struck less g (Err fault) least timely needed right forced = tt

@@ -15,11 +15,13 @@ use Rattle.named_steps.proofs.Shown.{closure_shows, shown_less}
 use Rattle.line_steps.specs.declared.grade.Grade.{Grade}
 use Rattle.named_steps.specs.declared.goal.Goal.{Goal}
 use Rattle.named_steps.specs.declared.goal.Goal.TheVariants.{OnlyValue}
-use Rattle.step_chains.specs.ChainValues.{LeavesNothing}
+use Rattle.step_chains.specs.declared.aims.Aim.{Aim}
+use Rattle.step_chains.specs.declared.aims.Aim.TheVariants.{Nothing}
+use Rattle.step_chains.specs.ChainValues.{HasSome, LeavesNothing}
 use Rattle.step_chains.specs.Inner.FromEachView.{NothingIsShown, IsRefutedGrid}
 use Rattle.step_chains.specs.Inner.Replays.{Leads}
 use Rattle.step_chains.specs.Inner.Goals.{IsOpenShown, IsShownByAll}
-use Rattle.step_chains.specs.Inner.Aims.{HasSome}
+use Rattle.step_chains.specs.Inner.Aims.{IsAimOf, IsAimOrNothing, IsAimOrRefuted, aim_goal}
 use Rattle.step_chains.proofs.Followed.{shows_where}
 use Rattle.step_chains.proofs.Tight.{shows_alike}
 use Rattle.line_steps.specs.Reasons.{Striking}
@@ -109,3 +111,32 @@ all_show Struck grade g view d steps goal is leads settled shown =
       left = leads.alike;
       settled = settled;
     }))
+
+-- up to where a square is left nothing they come to that, and otherwise to what all that the grade leaves shows
+pub all_come_to : (Struck : Striking) (grade : Grade) (g : GridValue) (view d : CandidatesValue) (steps : List StepValue)
+    (aim end : Aim) → IsView g view → Leads Struck grade view steps d → (HasSome d → IsSettled Struck grade d)
+    → IsShownByAll Struck grade g (aim_goal aim) → IsAimOrNothing d aim end → Shows Struck grade view steps (aim_goal end)
+all_come_to Struck grade g view d steps aim end is leads settled shown (inl (cell, nothing, same)) =
+    subst (λ (a : Aim). Shows Struck grade view steps (aim_goal a)) (sym same)
+    ((shows_where Struck grade view d steps (OnlyValue cell 0) leads).0 ((empty_shown d cell).0 nothing.1))
+all_come_to Struck grade g view d steps aim end is leads settled shown (inr (some, same)) =
+    subst (λ (a : Aim). Shows Struck grade view steps (aim_goal a)) (sym same)
+    (all_show Struck grade g view d steps (aim_goal aim) is leads (settled some) shown)
+
+-- and by the square they refute the grid's numbers
+pub all_refute : (Struck : Striking) (grade : Grade) (g : GridValue) (view d : CandidatesValue) (steps : List StepValue)
+    (aim end : Aim) → IsView g view → Leads Struck grade view steps d → IsAimOf g.size aim → IsAimOrNothing d aim end
+    → IsAimOf g.size end × IsAimOrRefuted Struck grade g aim end
+all_refute Struck grade g view d steps aim end is leads aim_of (inl (cell, nothing, same)) =
+    let inside : cell < view.size * view.size = subst (λ (w : ℕ). cell < w * w) leads.size nothing.0 in (
+      subst (IsAimOf g.size) (sym same) (subst (λ (w : ℕ). cell < w * w) is.size inside),
+      inl (cell, same, (view, is, record {
+        steps = steps;
+        chain = leads.chain;
+        allowed = leads.allowed;
+        cell = cell;
+        inside = inside;
+        nothing = λ value left. nothing.1 value (leads.alike.1 cell value left);
+      })),
+    )
+all_refute Struck grade g view d steps aim end is leads aim_of (inr (some, same)) = (subst (IsAimOf g.size) (sym same) aim_of, inr same)

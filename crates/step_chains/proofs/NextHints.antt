@@ -1,5 +1,5 @@
 -- The least grade whose steps lead to an aim, and what no steps lead to.
-use Rattle.std.proofs.Common.{◌≡◌, Option, Some, None, ℕ, ◌*◌, ◌<◌, ◌≤◌, Bool, false, List, refl, sym, ◌∙◌, subst, arith, inl, inr, true}
+use Rattle.std.proofs.Common.{◌≡◌, Option, Some, None, ℕ, ◌*◌, ◌<◌, ◌≤◌, Bool, false, List, [], ◌∷◌, refl, sym, ◌∙◌, subst, arith, inl, inr, true}
 use Rattle.std.proofs.lemmas.Bool.{cases_eq, both_ways}
 use Rattle.latin_board.specs.Squares.{GridValue}
 use Rattle.trail_solver.specs.Pairs.{IsPair}
@@ -7,7 +7,7 @@ use Rattle.trail_solver.specs.Candidates.{CandidatesValue, may_be}
 use Rattle.line_steps.specs.Left.{IsLeft, IsEmptied, IsFewer}
 use Rattle.line_steps.specs.Grades.{has_reason, IsLower, rank}
 use Rattle.named_steps.specs.Chains.{IsView}
-use Rattle.line_steps.specs.Chains.{StepValue, LeadsTo}
+use Rattle.line_steps.specs.Chains.{StepValue, LeadsTo, AreOfGrade}
 use Rattle.line_steps.specs.Settled.{IsClosure, IsSettled}
 use Rattle.named_steps.specs.Following.{IsRefuted}
 use Rattle.line_steps.proofs.Leads.{leads_on, leads_size, leads_wider}
@@ -22,11 +22,13 @@ use Rattle.line_steps.specs.declared.grade.Grade.{Grade}
 use Rattle.line_steps.specs.declared.grade.Grade.TheVariants.{Latin, Easy, Hard}
 use Rattle.named_steps.specs.declared.goal.Goal.{Goal}
 use Rattle.named_steps.specs.declared.goal.Goal.TheVariants.{OnlyValue}
+use Rattle.step_chains.specs.declared.aims.Aim.{Aim}
 use Rattle.step_chains.specs.declared.aims.Aim.TheVariants.{Number, Nothing}
+use Rattle.step_chains.specs.ChainValues.{HasSome}
 use Rattle.step_chains.specs.Explanations.{IsRefutation}
 use Rattle.step_chains.specs.NextHints.{IsForcedSquare}
 use Rattle.step_chains.specs.Inner.FromEachView.{IsRefutedGrid, NothingIsShown, NoneBelowRefutes, NoneBelowShows}
-use Rattle.step_chains.specs.Inner.Aims.{AreLeftBy, HasSome, IsLeastBy, IsLeftNothing, IsOver, LeadNowhere}
+use Rattle.step_chains.specs.Inner.Aims.{AreLeftBy, IsAimOrRefuted, IsLeastBy, IsLeftNothing, IsOver, LeadNowhere}
 use Rattle.step_chains.specs.Inner.Goals.{IsOpenShown}
 use Rattle.step_chains.proofs.Explanations.{empty_shown, none_refuted, nothing_shown, shown_by_all, views_fewer}
 use Rattle.line_steps.specs.Reasons.{Striking}
@@ -121,6 +123,23 @@ hard_all (Clue place) = refl
 hard_all (Sign from to) = refl
 hard_all (Set line squares values) = refl
 
+all_hard : (steps : List StepValue) → AreOfGrade Hard steps
+all_hard [] = tt
+all_hard (step ∷ steps) = (hard_all step.reason, all_hard steps)
+
+-- where no steps refute the grid's numbers, all steps come to their aim
+pub aim_stays : (Struck : Striking) (grade : Grade) (g : GridValue) (aim end : Aim) → IsAimOrRefuted Struck grade g aim end
+    → (IsRefutedGrid Struck Hard g → ⊥) → end ≡ aim
+aim_stays Struck grade g aim end (inr same) holds = same
+aim_stays Struck grade g aim end (inl (cell, same, (view, is, r))) holds = absurd (holds (view, is, record {
+  steps = r.steps;
+  chain = r.chain;
+  allowed = all_hard r.steps;
+  cell = r.cell;
+  inside = r.inside;
+  nothing = r.nothing;
+}))
+
 -- where the hardest grade leaves something of each square and shows no number, no square is forced
 pub none_forced : (Struck : Striking) → IsAntitone Struck → (g : GridValue) (view d : CandidatesValue) → IsView g view
     → IsClosure Struck Hard view d → HasSome d → ((goal : Goal) → IsOpenShown g d goal → ⊥) → (other : CandidatesValue) (cell : ℕ) → IsView g other
@@ -148,7 +167,7 @@ none_forced Struck less g view d is closed some none other cell other_is f =
 pub nowhere_left : (Struck : Striking) → IsAntitone Struck → (g : GridValue) (d : CandidatesValue) → IsOver Struck Hard g d
     → ((goal : Goal) → IsOpenShown g d goal → ⊥) → LeadNowhere Struck g
 nowhere_left Struck less g d (view, is, closed, some) none = record {
-  live = (view, is, tt);
+  timely = (view, is, tt);
   shown = nothing_shown Struck less Hard g view d is closed none;
   holds = none_refuted Struck less Hard g view d is closed some;
   forced = none_forced Struck less g view d is closed some none;

@@ -20,9 +20,10 @@ use Rattle.line_steps.specs.declared.reason.Reason.{Reason}
 use Rattle.line_steps.specs.declared.grade.Grade.{Grade}
 use Rattle.named_steps.specs.declared.goal.Goal.{Goal}
 use Rattle.step_chains.specs.declared.chain.Step.{Step}
-use Rattle.step_chains.specs.ChainValues.{step_value, steps_of, AreLive, StrikesLess}
+use Rattle.step_chains.specs.ChainValues.{step_value, steps_of, StrikesLess}
+use Rattle.step_chains.specs.Inner.Replays.{AreTimely}
 use Rattle.step_chains.specs.Inner.Tight.{IsTightFrom, IsNeededFrom, IsNeededBelow, IsNeededAt, IsStepWithout, IsLeftOut, IsNarrowedBelow, IsDoneFrom}
-use Rattle.step_chains.proofs.Live.{live_more}
+use Rattle.step_chains.proofs.Live.{timely_more}
 use Rattle.step_chains.proofs.Tight.{fronts_part, parted, remove_at, shows_with, steps_removed, tight_without}
 use Rattle.line_steps.specs.Reasons.{Striking}
 
@@ -86,14 +87,14 @@ shows_more Struck antitone grade c front back rest less more goal among whole pa
     shows_at Struck antitone grade c front rest less more goal among (chain_split Struck c front (more ∷ back) whole.chain).1.0
     (allowed_at grade front back more whole.allowed) part
 
--- a step that strikes less keeps a chain live
-live_less : (c : CandidatesValue) (front back : List StepValue) (less more : StepValue) → Among less more → AreLive c (front ++ more ∷ back)
-    → AreLive c (front ++ less ∷ back)
-live_less c [] back less more among h = (
-  λ cell value has. h.0 cell value (among cell value has),
-  live_more (without c less.strikes) (without c more.strikes) back (more_fewer c less more among) h.1,
+-- a step that strikes less keeps a chain timely
+timely_less : (c : CandidatesValue) (front back : List StepValue) (less more : StepValue) → Among less more → AreTimely c (front ++ more ∷ back)
+    → AreTimely c (front ++ less ∷ back)
+timely_less c [] back less more among h = (
+  (h.0.0, λ cell value has. h.0.1 cell value (among cell value has)),
+  timely_more (without c less.strikes) (without c more.strikes) back refl (more_fewer c less more among) h.1,
 )
-live_less c (first ∷ front) back less more among h = (h.0, live_less (without c first.strikes) front back less more among h.1)
+timely_less c (first ∷ front) back less more among h = (h.0, timely_less (without c first.strikes) front back less more among h.1)
 
 -- ---- later steps, where a step strikes less
 
@@ -326,13 +327,13 @@ narrowed_on Struck antitone grade c place value old new goal shows o h =
           ];
     }
 
--- and they strike only what is left, if they did before
-pub left_out_live : (Struck : Striking) (grade : Grade) (c : CandidatesValue) (place value : ℕ)
-    (old new : List Step) (goal : Goal) → IsLeftOut Struck grade c place value old new goal → AreLive c (steps_of old) → AreLive c (steps_of new)
-left_out_live Struck grade c place value old new goal o live =
-    subst (AreLive c) (sym (listed new o.front o.back o.now o.new_is))
-    (live_less c (steps_of o.front) (steps_of o.back) (step_value o.now) (step_value o.was) o.among
-    (subst (AreLive c) (listed old o.front o.back o.was o.old_is) live))
+-- and they are timely, if they were before
+pub left_out_timely : (Struck : Striking) (grade : Grade) (c : CandidatesValue) (place value : ℕ)
+    (old new : List Step) (goal : Goal) → IsLeftOut Struck grade c place value old new goal → AreTimely c (steps_of old) → AreTimely c (steps_of new)
+left_out_timely Struck grade c place value old new goal o timely =
+    subst (AreTimely c) (sym (listed new o.front o.back o.now o.new_is))
+    (timely_less c (steps_of o.front) (steps_of o.back) (step_value o.now) (step_value o.was) o.among
+    (subst (AreTimely c) (listed old o.front o.back o.was o.old_is) timely))
 
 -- the values that a step strikes are numbers of the size
 struck_size : (Struck : Striking) (grade : Grade) (c : CandidatesValue) (steps front back : List StepValue)

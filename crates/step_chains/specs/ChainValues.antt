@@ -35,6 +35,15 @@ abbrev pub AreLive : CandidatesValue → List StepValue → Type 0
 AreLive c [] = Unit {0}
 AreLive c (step ∷ steps) = IsLiveStep c step × AreLive (without c step.strikes) steps
 
+-- something is left of each square
+abbrev pub HasSome : CandidatesValue → Type 0
+HasSome c = (cell : ℕ) → cell < c.size * c.size → (value : ℕ) × IsLeft c cell value
+
+-- so it is before each step: the steps end as soon as any square is left nothing
+abbrev pub EndAtOnce : CandidatesValue → List StepValue → Type 0
+EndAtOnce c [] = Unit {0}
+EndAtOnce c (step ∷ steps) = HasSome c × EndAtOnce (without c step.strikes) steps
+
 -- the first step strikes less: by the same reason some of the second's pairs, and this one of them not
 pub record StrikesLess (cell value : ℕ) (less step : StepValue) : Type 0 where
   pub reason : less.reason ≡ step.reason

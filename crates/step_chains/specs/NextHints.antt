@@ -15,7 +15,7 @@ use Rattle.line_steps.specs.declared.grade.Grade.TheVariants.{Hard}
 use Rattle.named_steps.specs.declared.goal.Goal.{Goal}
 use Rattle.step_chains.specs.declared.hints.NextHint.{NextHint}
 use Rattle.step_chains.specs.declared.hints.NextHint.TheVariants.{Follows, Refuted, Nothing}
-use Rattle.step_chains.specs.ChainValues.{AreAllNeeded, AreLive, AreNeededForNothing, steps_of}
+use Rattle.step_chains.specs.ChainValues.{AreAllNeeded, AreLive, AreNeededForNothing, EndAtOnce, steps_of}
 use Rattle.step_chains.specs.Explanations.{Refutes}
 use Rattle.line_steps.specs.Reasons.{Striking}
 
@@ -36,10 +36,12 @@ IsLeastFrom Struck g view (Refuted grade refutation) =
     × ((lower : Grade) → IsLower lower grade → IsRefuted Struck lower view → ⊥)
 IsLeastFrom Struck g view Nothing = NothingFollows Struck Hard g view × (IsRefuted Struck Hard view → ⊥)
 
--- each of its steps strikes only what those before it leave
+-- each of its steps strikes only what those before it leave, and the steps end as soon as any square is left nothing
 abbrev pub HasLiveSteps : CandidatesValue → NextHint → Type 0
-HasLiveSteps view (Follows grade chain) = AreLive view (steps_of chain.steps.items)
-HasLiveSteps view (Refuted grade refutation) = AreLive view (steps_of refutation.steps.items)
+HasLiveSteps view (Follows grade chain) =
+    AreLive view (steps_of chain.steps.items) × EndAtOnce view (steps_of chain.steps.items)
+HasLiveSteps view (Refuted grade refutation) =
+    AreLive view (steps_of refutation.steps.items) × EndAtOnce view (steps_of refutation.steps.items)
 HasLiveSteps view Nothing = Unit {0}
 
 -- and no number of a step can be left out
@@ -66,8 +68,9 @@ pub record IsForcedSquare (Struck : Striking) (g : GridValue) (c : CandidatesVal
       → (reason : Reason) × Struck c reason cell other
 
 -- The hint from these candidates: the steps of the least grade lead to it, each strikes only numbers that are left
--- before it, no number of a step can be left out, what they say is so of each solution that keeps the grid's numbers,
--- and where reasons strike all numbers but one from an empty square at once, something is said.
+-- before it, while something is left of each square, no number of a step can be left out, what they say is so of each
+-- solution that keeps the grid's numbers, and where reasons strike all numbers but one from an empty square at once,
+-- something is said.
 pub record IsHintFrom (p : Puzzle) (Struck : Striking) (g : GridValue) (view : CandidatesValue) (hint : NextHint)
     : Type 0 where
   pub least : IsLeastFrom Struck g view hint

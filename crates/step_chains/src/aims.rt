@@ -1,7 +1,8 @@
 //! What the steps of a chain are to come to.
 ghost use Rattle.std.specs.Prelude.{◌↔◌, IsTrue, MatchOption};
 ghost use Rattle.named_steps.specs.Chains.{IsShown};
-ghost use Rattle.step_chains.specs.Inner.Aims.{IsAimOf, aim_goal, HasSome, IsLeftNothing};
+ghost use Rattle.step_chains.specs.ChainValues.{HasSome};
+ghost use Rattle.step_chains.specs.Inner.Aims.{IsAimOf, IsAimOrNothing, IsLeftNothing, aim_goal};
 
 use crate::chain::Step;
 use latin_board::Size;
@@ -42,6 +43,16 @@ impl Aim {
         match self {
             Aim::Number(goal) => goal.is_shown(candidates),
             Aim::Nothing { cell } => candidates.values(cell).is_empty(),
+        }
+    }
+
+    /// A square that candidates leave nothing, if there is one, and otherwise this aim.
+    pub(crate) fn or_nothing(self, candidates: &Candidates) -> Aim
+        ensures { IsAimOrNothing candidates.now self result }
+    {
+        match first_empty(candidates) {
+            Some(cell) => Aim::Nothing { cell },
+            None => self,
         }
     }
 }

@@ -2,15 +2,16 @@
 ghost use Rattle.line_steps.specs.Reasons.{StruckBy};
 ghost use Rattle.std.specs.Prelude.{◌≡◌, ◌*◌, ◌<◌, IfOk, IfSome};
 ghost use Rattle.named_steps.specs.Chains.{IsExplained};
+ghost use Rattle.line_steps.specs.declared.grade.Grade.TheVariants.{Hard};
 ghost use Rattle.named_steps.specs.declared.goal.Goal.TheVariants.{OnlyValue};
 ghost use Rattle.step_chains.specs.ChainValues.{steps_of};
 ghost use Rattle.step_chains.specs.Explanations.{IsRefutation};
-ghost use Rattle.step_chains.specs.Inner.FromEachView.{AreNeededFrom, IsLiveFrom};
-ghost use Rattle.step_chains.specs.Inner.Aims.{IsAimOf, IsReached, aim_goal};
+ghost use Rattle.step_chains.specs.Inner.FromEachView.{AreNeededFrom, IsRefutedGrid, IsTimelyFrom};
+ghost use Rattle.step_chains.specs.Inner.Aims.{IsAimOf, IsAimOrRefuted, IsReached, aim_goal};
 ghost use Rattle.step_chains.specs.Inner.Goals.{IsOfEmptySquare, IsShownByAll};
 
-use crate::aims::Aim;
-use crate::chain::{Chain, Refutation, Step};
+use crate::aims::{Aim, Aimed};
+use crate::chain::{Chain, Refutation};
 use crate::goals::is_open;
 use crate::kinds::Sought;
 use crate::next_steps::all_steps;
@@ -35,9 +36,10 @@ pub(crate) fn chain_to<P: Steps>(
     requires size { grid.now.size ≡ (P.puzzle p.now).size }
     requires open { IsOfEmptySquare grid.now goal }
     requires shown { IsShownByAll (StruckBy P.puzzle P.own p.now) grade grid.now goal }
+    requires holds { IsRefutedGrid (StruckBy P.puzzle P.own p.now) Hard grid.now → ⊥ }
     ensures is { IfOk result
         (λ chain. IsExplained (StruckBy P.puzzle P.own p.now) grade grid.now (steps_of chain.steps.items) chain.goal) }
-    ensures live { IfOk result (λ chain. IsLiveFrom grid.now (steps_of chain.steps.items)) }
+    ensures timely { IfOk result (λ chain. IsTimelyFrom grid.now (steps_of chain.steps.items)) }
     ensures needed { IfOk result
         (λ chain. AreNeededFrom (StruckBy P.puzzle P.own p.now) grade grid.now (steps_of chain.steps.items) chain.goal) }
 {
@@ -59,7 +61,7 @@ fn short_number<P: Steps>(
     requires { grid.now.size ≡ (P.puzzle p.now).size }
     ensures is { IfOk result (λ found. IfSome found
         (λ chain. IsExplained (StruckBy P.puzzle P.own p.now) grade grid.now (steps_of chain.steps.items) chain.goal)) }
-    ensures live { IfOk result (λ found. IfSome found (λ chain. IsLiveFrom grid.now (steps_of chain.steps.items))) }
+    ensures timely { IfOk result (λ found. IfSome found (λ chain. IsTimelyFrom grid.now (steps_of chain.steps.items))) }
     ensures needed { IfOk result (λ found. IfSome found
         (λ chain. AreNeededFrom (StruckBy P.puzzle P.own p.now) grade grid.now (steps_of chain.steps.items) chain.goal)) }
 {
@@ -89,14 +91,18 @@ fn plain_number<P: Steps>(
     requires size { grid.now.size ≡ (P.puzzle p.now).size }
     requires open { IsOfEmptySquare grid.now goal }
     requires shown { IsShownByAll (StruckBy P.puzzle P.own p.now) grade grid.now goal }
+    requires holds { IsRefutedGrid (StruckBy P.puzzle P.own p.now) Hard grid.now → ⊥ }
     ensures is { IfOk result
         (λ chain. IsExplained (StruckBy P.puzzle P.own p.now) grade grid.now (steps_of chain.steps.items) chain.goal) }
-    ensures live { IfOk result (λ chain. IsLiveFrom grid.now (steps_of chain.steps.items)) }
+    ensures timely { IfOk result (λ chain. IsTimelyFrom grid.now (steps_of chain.steps.items)) }
     ensures needed { IfOk result
         (λ chain. AreNeededFrom (StruckBy P.puzzle P.own p.now) grade grid.now (steps_of chain.steps.items) chain.goal) }
 {
-    let steps = plain_chain(alloc, p, grid, grade, Aim::Number(goal), known)?;
-    Ok(Chain { steps, goal })
+    let found = plain_chain(alloc, p, grid, grade, Aim::Number(goal), known)?;
+    Ok(Chain {
+        steps: found.steps,
+        goal,
+    })
 }
 
 /// A chain that leaves a square nothing, and rather a short one. All steps together leave this one nothing.
@@ -113,7 +119,7 @@ pub(crate) fn refutation_at<P: Steps>(
     requires inside { cell < grid.now.size * grid.now.size }
     requires empty { IsShownByAll (StruckBy P.puzzle P.own p.now) grade grid.now (OnlyValue cell 0) }
     ensures is { IfOk result (λ r. IsRefutation (StruckBy P.puzzle P.own p.now) grade grid.now (steps_of r.steps.items) r.cell) }
-    ensures live { IfOk result (λ r. IsLiveFrom grid.now (steps_of r.steps.items)) }
+    ensures timely { IfOk result (λ r. IsTimelyFrom grid.now (steps_of r.steps.items)) }
     ensures needed { IfOk result
         (λ r. AreNeededFrom (StruckBy P.puzzle P.own p.now) grade grid.now (steps_of r.steps.items) (OnlyValue r.cell 0)) }
 {
@@ -125,11 +131,18 @@ pub(crate) fn refutation_at<P: Steps>(
             });
         }
     }
-    let steps = plain_chain(alloc, p, grid, grade, Aim::Nothing { cell }, known)?;
-    Ok(Refutation { steps, cell })
+    let found = plain_chain(alloc, p, grid, grade, Aim::Nothing { cell }, known)?;
+    let Aim::Nothing { cell } = found.aim else {
+        unreachable!()
+    };
+    Ok(Refutation {
+        steps: found.steps,
+        cell,
+    })
 }
 
-// All steps of the grade's, without those that the aim can be come to without. All of them together come to it.
+// All steps of the grade's while something is left of each square, without those that they come to the same without: a square that is left
+// nothing, or otherwise the aim, to which all of them together come.
 #[inline(never)]
 fn plain_chain<P: Steps>(
     alloc: Global,
@@ -138,17 +151,21 @@ fn plain_chain<P: Steps>(
     grade: Grade,
     aim: Aim,
     known: &mut P::Known,
-) -> Result<Vec<Step>, OutOfMemory>
+) -> Result<Aimed, OutOfMemory>
     requires size { grid.now.size ≡ (P.puzzle p.now).size }
     requires aim { IsAimOf grid.now.size aim }
     requires reached { IsShownByAll (StruckBy P.puzzle P.own p.now) grade grid.now (aim_goal aim) }
+    ensures aim { IfOk result (λ a. IsAimOf grid.now.size a.aim
+        × IsAimOrRefuted (StruckBy P.puzzle P.own p.now) grade grid.now aim a.aim) }
     ensures is { IfOk result
-        (λ steps. IsReached (StruckBy P.puzzle P.own p.now) grade grid.now (steps_of steps.items) (aim_goal aim)) }
-    ensures live { IfOk result (λ steps. IsLiveFrom grid.now (steps_of steps.items)) }
+        (λ a. IsReached (StruckBy P.puzzle P.own p.now) grade grid.now (steps_of a.steps.items) (aim_goal a.aim)) }
+    ensures timely { IfOk result (λ a. IsTimelyFrom grid.now (steps_of a.steps.items)) }
     ensures needed { IfOk result
-        (λ steps. AreNeededFrom (StruckBy P.puzzle P.own p.now) grade grid.now (steps_of steps.items) (aim_goal aim)) }
+        (λ a. AreNeededFrom (StruckBy P.puzzle P.own p.now) grade grid.now (steps_of a.steps.items) (aim_goal a.aim)) }
 {
-    let mut steps = all_steps(alloc, p, grade, &mut view_of(grid), known)?;
+    let mut view = view_of(grid);
+    let mut steps = all_steps(alloc, p, grade, &mut view, known)?;
+    let aim = aim.or_nothing(&view);
     tighten(p, grade, &mut view_of(grid), &mut steps, aim, known);
-    Ok(steps)
+    Ok(Aimed { steps, aim })
 }

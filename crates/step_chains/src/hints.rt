@@ -2,7 +2,7 @@
 ghost use Rattle.line_steps.specs.Reasons.{StruckBy};
 ghost use Rattle.std.specs.Prelude.{◌≡◌, IfOk};
 ghost use Rattle.step_chains.specs.NextHints.{IsHint, IsRightHint};
-ghost use Rattle.step_chains.specs.Inner.FromEachView.{IsNextHint, IsLiveHint, IsNeededHint, SaysAllForced};
+ghost use Rattle.step_chains.specs.Inner.FromEachView.{IsNextHint, IsTimelyHint, IsNeededHint, SaysAllForced};
 
 use crate::aims::Aim;
 use crate::chain::{Chain, Refutation};
@@ -51,7 +51,7 @@ fn hint_knowing<P: Steps>(
 ) -> Result<NextHint, OutOfMemory>
     requires { grid.now.size ≡ (P.puzzle p.now).size }
     ensures least { IfOk result (IsNextHint (StruckBy P.puzzle P.own p.now) grid.now) }
-    ensures live { IfOk result (IsLiveHint grid.now) }
+    ensures timely { IfOk result (IsTimelyHint grid.now) }
     ensures needed { IfOk result (IsNeededHint (StruckBy P.puzzle P.own p.now) grid.now) }
     ensures right { IfOk result (IsRightHint (P.puzzle p.now) grid.now) }
     ensures forced { IfOk result (SaysAllForced (StruckBy P.puzzle P.own p.now) grid.now) }

@@ -1,11 +1,12 @@
-//! All steps that a grade's reasons have, one after another, until they strike nothing more.
+//! All steps that a grade's reasons have, one after another, until they strike nothing more or a square is left nothing.
 ghost use Rattle.line_steps.specs.Reasons.{StruckBy};
 ghost use Rattle.std.specs.Prelude.{◌≡◌, ◌*◌, ◌<◌, MatchOption, IfOk};
 ghost use Rattle.line_steps.specs.Settled.{IsSettled};
-ghost use Rattle.step_chains.specs.ChainValues.{steps_of, AreLive};
-ghost use Rattle.step_chains.specs.Inner.Replays.{Leads};
+ghost use Rattle.step_chains.specs.ChainValues.{steps_of, HasSome};
+ghost use Rattle.step_chains.specs.Inner.Replays.{AreTimely, Leads};
 ghost use Rattle.step_chains.specs.Inner.Quiet.{IsNew, IsIdleIn, IsIdle, IsIdleAt, AreIdleIn};
 
+use crate::aims::first_empty;
 use crate::chain::Step;
 use crate::reasons::{PARTS, Part};
 use latin_board::OutOfMemory;
@@ -13,8 +14,8 @@ use named_steps::{Grade, Reason, Steps};
 use std::alloc::Global;
 use trail_solver::{Candidates, Rules};
 
-/// Takes away all that the grade's reasons strike, one square after another, and tells by which steps. The sizes are equal. `known`
-/// is used and added to, here and in what follows.
+/// Takes away all that the grade's reasons strike, one square after another, while something is left of each, and tells by which steps.
+/// The sizes are equal. `known` is used and added to, here and in what follows.
 pub(crate) fn all_steps<P: Steps>(
     alloc: Global,
     p: &P,
@@ -25,17 +26,35 @@ pub(crate) fn all_steps<P: Steps>(
     requires { candidates.old.size ≡ (P.puzzle p.now).size }
     ensures leads { IfOk result
         (λ steps. Leads (StruckBy P.puzzle P.own p.now) grade candidates.old (steps_of steps.items) candidates.new) }
-    ensures live { IfOk result (λ steps. AreLive candidates.old (steps_of steps.items)) }
-    ensures settled { IfOk result (λ _. IsSettled (StruckBy P.puzzle P.own p.now) grade candidates.new) }
+    ensures timely { IfOk result (λ steps. AreTimely candidates.old (steps_of steps.items)) }
+    ensures settled { IfOk result
+        (λ _. HasSome candidates.new → IsSettled (StruckBy P.puzzle P.own p.now) grade candidates.new) }
 {
     let mut steps = Vec::new(alloc);
-    while let Some(step) = next_step(p, grade, candidates, known) {
+    while let Some(step) = next_in_time(p, grade, candidates, known) {
         candidates.remove_all(step.cell as usize, step.values);
         let _size = candidates.size();
         let _len = candidates.trail_len();
         steps.push(step)?;
     }
     Ok(steps)
+}
+
+// A step of the grade's that strikes something that is left, if there is one and something is left of each square. The sizes are equal.
+fn next_in_time<P: Steps>(
+    p: &P,
+    grade: Grade,
+    candidates: &Candidates,
+    known: &mut P::Known,
+) -> Option<Step>
+    requires { candidates.now.size ≡ (P.puzzle p.now).size }
+    ensures { MatchOption result (HasSome candidates.now → IsSettled (StruckBy P.puzzle P.own p.now) grade candidates.now)
+        (λ step. HasSome candidates.now × IsNew (StruckBy P.puzzle P.own p.now) grade candidates.now step) }
+{
+    match first_empty(candidates) {
+        Some(_) => None,
+        None => next_step(p, grade, candidates, known),
+    }
 }
 
 // A step of the grade's that strikes something that is left, if there is one. The sizes are equal.

@@ -9,11 +9,11 @@ ghost use Rattle.line_steps.specs.Left.{AreAlike, IsFewer};
 ghost use Rattle.named_steps.specs.Chains.{Shows};
 ghost use Rattle.line_steps.specs.Chains.{left_by};
 ghost use Rattle.line_steps.specs.Takes.{Takes};
-ghost use Rattle.step_chains.specs.ChainValues.{step_value, steps_of, AreLive, IsLiveStep};
+ghost use Rattle.step_chains.specs.ChainValues.{step_value, steps_of, IsLiveStep};
 ghost use Rattle.step_chains.specs.Inner.Aims.{IsAimOf, aim_goal};
-ghost use Rattle.step_chains.specs.Inner.Replays.{IsGradeStep, IsGradeChain, Leads};
+ghost use Rattle.step_chains.specs.Inner.Replays.{AreTimely, IsGradeStep, IsGradeChain, IsTimelyStep, Leads};
 
-use crate::aims::Aim;
+use crate::aims::{Aim, first_empty};
 use crate::chain::Step;
 use crate::needs::{Values, left};
 use arrayvec::ArrayVec;
@@ -194,29 +194,39 @@ pub(crate) fn take_values(candidates: &mut Candidates, cells: &ArrayVec<u8, 9>, 
     }
 }
 
-/// Whether each step strikes only values that the steps before it leave. The candidates are afterwards what they were.
-pub(crate) fn are_live(candidates: &mut Candidates, steps: &[Step]) -> bool
+/// Whether the steps before each leave something of each square, and all that it strikes. The candidates are afterwards what they were.
+pub(crate) fn are_timely(candidates: &mut Candidates, steps: &[Step]) -> bool
     ensures same { candidates.new ≡ candidates.old }
-    ensures live { IsTrue result ↔ AreLive candidates.old (steps_of steps.now) }
+    ensures timely { IsTrue result ↔ AreTimely candidates.old (steps_of steps.now) }
 {
     let mark = candidates.mark();
-    let live = go_live(candidates, steps);
+    let timely = go_timely(candidates, steps);
     candidates.give_back(mark);
-    live
+    timely
 }
 
-// Takes away what the steps strike, as far as it is left, and tells whether all of it is.
-fn go_live(candidates: &mut Candidates, steps: &[Step]) -> bool
+// Takes away what the steps strike, as far as it is left, and tells whether all of it is, while something is left of each square.
+fn go_timely(candidates: &mut Candidates, steps: &[Step]) -> bool
     ensures earlier { IsEarlier candidates.old candidates.new }
-    ensures live { IsTrue result ↔ AreLive candidates.old (steps_of steps.now) }
+    ensures timely { IsTrue result ↔ AreTimely candidates.old (steps_of steps.now) }
 {
     for step in steps {
-        if !is_left(candidates, step) {
+        if !is_timely(candidates, step) {
             return false;
         }
         take(candidates, step);
     }
     true
+}
+
+// Whether something is left of each square, and all that a step strikes.
+fn is_timely(candidates: &Candidates, step: &Step) -> bool
+    ensures { IsTrue result ↔ IsTimelyStep candidates.now (step_value step.now) }
+{
+    match first_empty(candidates) {
+        Some(_) => false,
+        None => is_left(candidates, step),
+    }
 }
 
 // Whether all that a step strikes is left.

@@ -3,9 +3,10 @@ ghost use Rattle.line_steps.specs.Reasons.{StruckBy};
 ghost use Rattle.std.specs.Prelude.{◌≡◌, ◌*◌, IfOk, IfSome};
 ghost use Rattle.std.specs.Bool.{OnTrue};
 ghost use Rattle.named_steps.specs.Chains.{IsTight, Shows};
-ghost use Rattle.step_chains.specs.ChainValues.{steps_of, AreLive, AreAllNeeded};
-ghost use Rattle.step_chains.specs.Inner.FromEachView.{AreNeededFrom, IsLiveFrom};
+ghost use Rattle.step_chains.specs.ChainValues.{steps_of, AreAllNeeded};
+ghost use Rattle.step_chains.specs.Inner.FromEachView.{AreNeededFrom, IsTimelyFrom};
 ghost use Rattle.step_chains.specs.Inner.Aims.{IsAimOf, IsReached, aim_goal};
+ghost use Rattle.step_chains.specs.Inner.Replays.{AreTimely};
 
 use crate::aims::{Aim, Aimed};
 use crate::chain::Step;
@@ -15,7 +16,7 @@ use crate::joining::joined;
 use crate::kinds::Sought;
 use crate::layers::Rounds;
 use crate::needs::{left, squares_of};
-use crate::replays::{are_live, come_to};
+use crate::replays::{are_timely, come_to};
 use crate::slices::{gathered, slice};
 use crate::tightening::tighten;
 use crate::view::view_of;
@@ -38,7 +39,7 @@ pub(crate) fn short_chain<P: Steps>(
 ) -> Result<Option<Aimed>, OutOfMemory>
     ensures reached { IfOk result (λ found. IfSome found (λ a. IsAimOf grid.now.size a.aim
         × IsReached (StruckBy P.puzzle P.own p.now) grade grid.now (steps_of a.steps.items) (aim_goal a.aim))) }
-    ensures live { IfOk result (λ found. IfSome found (λ a. IsLiveFrom grid.now (steps_of a.steps.items))) }
+    ensures timely { IfOk result (λ found. IfSome found (λ a. IsTimelyFrom grid.now (steps_of a.steps.items))) }
     ensures needed { IfOk result (λ found. IfSome found
         (λ a. AreNeededFrom (StruckBy P.puzzle P.own p.now) grade grid.now (steps_of a.steps.items) (aim_goal a.aim))) }
 {
@@ -83,7 +84,7 @@ fn shorten_from_view<P: Steps>(
 ) -> bool
     ensures reached { OnTrue result (IsAimOf grid.now.size aim
         × IsReached (StruckBy P.puzzle P.own p.now) grade grid.now (steps_of steps.new.items) (aim_goal aim)) }
-    ensures live { OnTrue result (IsLiveFrom grid.now (steps_of steps.new.items)) }
+    ensures timely { OnTrue result (IsTimelyFrom grid.now (steps_of steps.new.items)) }
     ensures needed { OnTrue result
         (AreNeededFrom (StruckBy P.puzzle P.own p.now) grade grid.now (steps_of steps.new.items) (aim_goal aim)) }
 {
@@ -107,12 +108,12 @@ fn shorten<P: Steps>(
         (Shows (StruckBy P.puzzle P.own p.now) grade candidates.old (steps_of steps.new.items) (aim_goal aim)) }
     ensures tight { OnTrue result
         (IsTight (StruckBy P.puzzle P.own p.now) grade candidates.old (steps_of steps.new.items) (aim_goal aim)) }
-    ensures live { OnTrue result (AreLive candidates.old (steps_of steps.new.items)) }
+    ensures timely { OnTrue result (AreTimely candidates.old (steps_of steps.new.items)) }
     ensures needed { OnTrue result
         (AreAllNeeded (StruckBy P.puzzle P.own p.now) grade candidates.old (steps_of steps.new.items) (aim_goal aim)) }
 {
     let size = candidates.size();
-    if p.size() != size || !aim.is_of(size) || !are_live(candidates, steps.as_slice()) {
+    if p.size() != size || !aim.is_of(size) || !are_timely(candidates, steps.as_slice()) {
         return false;
     }
     if !come_to(p, grade, candidates, steps.as_slice(), aim, known) {

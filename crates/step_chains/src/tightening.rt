@@ -2,8 +2,9 @@
 ghost use Rattle.line_steps.specs.Reasons.{StruckBy};
 ghost use Rattle.std.specs.Prelude.{◌≡◌, ◌↔◌, ◌+◌, ◌<◌, take, length, IsTrue};
 ghost use Rattle.named_steps.specs.Chains.{Shows, IsTight};
-ghost use Rattle.step_chains.specs.ChainValues.{steps_of, AreLive, AreAllNeeded};
+ghost use Rattle.step_chains.specs.ChainValues.{steps_of, AreAllNeeded};
 ghost use Rattle.step_chains.specs.Inner.Aims.{IsAimOf, aim_goal};
+ghost use Rattle.step_chains.specs.Inner.Replays.{AreTimely};
 ghost use Rattle.step_chains.specs.Inner.Tight.{FromEach, IsDoneFrom, IsNarrowedTo, IsLeftOut};
 
 use crate::aims::Aim;
@@ -29,8 +30,8 @@ pub(crate) fn tighten<P: Steps>(
     requires shows { Shows (StruckBy P.puzzle P.own p.now) grade candidates.old (steps_of steps.old.items) (aim_goal aim) }
     ensures same { candidates.new ≡ candidates.old }
     ensures shows { Shows (StruckBy P.puzzle P.own p.now) grade candidates.old (steps_of steps.new.items) (aim_goal aim) }
-    ensures live { AreLive candidates.old (steps_of steps.old.items)
-        → AreLive candidates.old (steps_of steps.new.items) }
+    ensures timely { AreTimely candidates.old (steps_of steps.old.items)
+        → AreTimely candidates.old (steps_of steps.new.items) }
     ensures tight { IsTight (StruckBy P.puzzle P.own p.now) grade candidates.old (steps_of steps.new.items) (aim_goal aim) }
     ensures needed { AreAllNeeded (StruckBy P.puzzle P.own p.now) grade candidates.old (steps_of steps.new.items) (aim_goal aim) }
 {

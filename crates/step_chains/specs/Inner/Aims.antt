@@ -1,5 +1,5 @@
 -- What the steps of a chain come to: a goal, or a square that is left nothing.
-use Rattle.std.specs.Prelude.{ℕ, ◌*◌, ◌<◌, List, []}
+use Rattle.std.specs.Prelude.{◌≡◌, ℕ, ◌*◌, ◌<◌, ◌⊎◌, List, []}
 use Rattle.latin_board.specs.Squares.{GridValue}
 use Rattle.trail_solver.specs.Candidates.{CandidatesValue}
 use Rattle.line_steps.specs.Left.{IsLeft}
@@ -13,8 +13,9 @@ use Rattle.named_steps.specs.declared.goal.Goal.TheVariants.{OnlyValue}
 use Rattle.step_chains.specs.declared.aims.Aim.{Aim}
 use Rattle.step_chains.specs.declared.aims.Aim.TheVariants.{Number, Nothing}
 use Rattle.step_chains.specs.declared.first_aims.LeastAim.{LeastAim}
+use Rattle.step_chains.specs.ChainValues.{HasSome}
 use Rattle.step_chains.specs.NextHints.{IsForcedSquare}
-use Rattle.step_chains.specs.Inner.FromEachView.{IsLiveFrom, IsRefutedGrid, NothingIsShown, NoneBelowShows, NoneBelowRefutes}
+use Rattle.step_chains.specs.Inner.FromEachView.{IsTimelyFrom, IsRefutedGrid, NothingIsShown, NoneBelowShows, NoneBelowRefutes}
 use Rattle.step_chains.specs.Inner.Goals.{IsOfEmptySquare, IsShownByAll}
 use Rattle.line_steps.specs.Reasons.{Striking}
 
@@ -36,13 +37,17 @@ pub record IsReached (Struck : Striking) (grade : Grade) (g : GridValue) (steps 
   pub shows : Shows Struck grade view steps goal
   pub tight : IsTight Struck grade view steps goal
 
--- something is left of each square
-abbrev pub HasSome : CandidatesValue → Type 0
-HasSome c = (cell : ℕ) → cell < c.size * c.size → (value : ℕ) × IsLeft c cell value
-
--- nothing is left of this one
+-- nothing is left of the square
 abbrev pub IsLeftNothing : CandidatesValue → ℕ → Type 0
 IsLeftNothing c cell = (cell < c.size * c.size) × ((value : ℕ) → IsLeft c cell value → ⊥)
+
+-- a square is left nothing, and the second aim is this; or something is left of each, and it is the first
+abbrev pub IsAimOrNothing : CandidatesValue → Aim → Aim → Type 0
+IsAimOrNothing c aim end = ((cell : ℕ) × IsLeftNothing c cell × (end ≡ Nothing cell)) ⊎ (HasSome c × (end ≡ aim))
+
+-- the second aim is the first, or a square that steps of the grade leave nothing
+abbrev pub IsAimOrRefuted : Striking → Grade → GridValue → Aim → Aim → Type 0
+IsAimOrRefuted Struck grade g aim end = ((cell : ℕ) × (end ≡ Nothing cell) × IsRefutedGrid Struck grade g) ⊎ (end ≡ aim)
 
 -- steps of the grade lead from what is in view of the grid to these candidates
 abbrev pub AreLeftBy : Striking → Grade → GridValue → CandidatesValue → Type 0
@@ -54,7 +59,7 @@ IsOver Struck grade g c = (view : CandidatesValue) × IsView g view × IsClosure
 
 -- no steps show a number of an empty square, none refute the grid's numbers, and no square is forced
 pub record LeadNowhere (Struck : Striking) (g : GridValue) : Type 0 where
-  pub live : IsLiveFrom g []
+  pub timely : IsTimelyFrom g []
   pub shown : NothingIsShown Struck Hard g
   pub holds : IsRefutedGrid Struck Hard g → ⊥
   pub forced : (view : CandidatesValue) (cell : ℕ) → IsView g view → IsForcedSquare Struck g view cell → ⊥

@@ -12,9 +12,10 @@ use Rattle.named_steps.specs.declared.goal.Goal.{Goal}
 use Rattle.named_steps.specs.declared.goal.Goal.TheVariants.{OnlyValue}
 use Rattle.step_chains.specs.declared.hints.NextHint.{NextHint}
 use Rattle.step_chains.specs.declared.hints.NextHint.TheVariants.{Follows, Refuted, Nothing}
-use Rattle.step_chains.specs.ChainValues.{AreLive, AreAllNeeded, steps_of}
+use Rattle.step_chains.specs.ChainValues.{AreAllNeeded, steps_of}
 use Rattle.step_chains.specs.Explanations.{IsRefutation}
 use Rattle.step_chains.specs.NextHints.{NothingFollows, IsForcedSquare}
+use Rattle.step_chains.specs.Inner.Replays.{AreTimely}
 use Rattle.line_steps.specs.Reasons.{Striking}
 
 -- no chain of the grade's steps from what is in view shows a number of an empty square
@@ -25,9 +26,9 @@ NothingIsShown Struck grade g = (view : CandidatesValue) → IsView g view → N
 abbrev pub IsRefutedGrid : Striking → Grade → GridValue → Type 0
 IsRefutedGrid Struck grade g = (view : CandidatesValue) × IsView g view × IsRefuted Struck grade view
 
--- from what is in view of the grid each step strikes only what the steps before it leave
-abbrev pub IsLiveFrom : GridValue → List StepValue → Type 0
-IsLiveFrom g steps = (view : CandidatesValue) × IsView g view × AreLive view steps
+-- from what is in view of the grid each step comes while something is left of each square, and strikes only what is left
+abbrev pub IsTimelyFrom : GridValue → List StepValue → Type 0
+IsTimelyFrom g steps = (view : CandidatesValue) × IsView g view × AreTimely view steps
 
 -- and no step can strike less
 abbrev pub AreNeededFrom :
@@ -53,11 +54,11 @@ IsNextHint Struck g (Refuted grade refutation) =
     IsRefutation Struck grade g (steps_of refutation.steps.items) refutation.cell × NoneBelowRefutes Struck grade g
 IsNextHint Struck g Nothing = NothingIsShown Struck Hard g × (IsRefutedGrid Struck Hard g → ⊥)
 
--- each of its steps strikes only what those before it leave of what is in view, of which there is one
-abbrev pub IsLiveHint : GridValue → NextHint → Type 0
-IsLiveHint g (Follows grade chain) = IsLiveFrom g (steps_of chain.steps.items)
-IsLiveHint g (Refuted grade refutation) = IsLiveFrom g (steps_of refutation.steps.items)
-IsLiveHint g Nothing = IsLiveFrom g []
+-- so does each of its steps from what is in view, of which there is one
+abbrev pub IsTimelyHint : GridValue → NextHint → Type 0
+IsTimelyHint g (Follows grade chain) = IsTimelyFrom g (steps_of chain.steps.items)
+IsTimelyHint g (Refuted grade refutation) = IsTimelyFrom g (steps_of refutation.steps.items)
+IsTimelyHint g Nothing = IsTimelyFrom g []
 
 -- and no number of a step can be left out; where nothing is left of a square, nothing but 0 is
 abbrev pub IsNeededHint : Striking → GridValue → NextHint → Type 0

@@ -1,11 +1,12 @@
 -- Chains of a grade, and candidates that stand for what they leave.
-use Rattle.std.specs.Prelude.{◌≡◌, true, List}
+use Rattle.std.specs.Prelude.{◌≡◌, true, List, [], ◌∷◌}
 use Rattle.trail_solver.specs.Candidates.{CandidatesValue}
-use Rattle.line_steps.specs.Left.{AreAlike}
+use Rattle.line_steps.specs.Left.{AreAlike, without}
 use Rattle.line_steps.specs.Grades.{has_reason}
 use Rattle.line_steps.specs.Chains.{StepValue, IsStep, IsChain, AreOfGrade, left_by}
 use Rattle.line_steps.specs.declared.grade.Grade.{Grade}
 use Rattle.line_steps.specs.Reasons.{Striking}
+use Rattle.step_chains.specs.ChainValues.{HasSome, IsLiveStep}
 
 -- the step is one by the candidates, and of a kind that the grade has
 abbrev pub IsGradeStep : Striking → Grade → CandidatesValue → StepValue → Type 0
@@ -22,3 +23,12 @@ pub record Leads (Struck : Striking) (grade : Grade) (c : CandidatesValue) (step
   pub allowed : AreOfGrade grade steps
   pub size : d.size ≡ c.size
   pub alike : AreAlike (left_by c steps) d
+
+-- something is left of each square, and the step strikes only what is left
+abbrev pub IsTimelyStep : CandidatesValue → StepValue → Type 0
+IsTimelyStep c step = HasSome c × IsLiveStep c step
+
+-- so it is of each step, where those before it have struck
+abbrev pub AreTimely : CandidatesValue → List StepValue → Type 0
+AreTimely c [] = Unit {0}
+AreTimely c (step ∷ steps) = IsTimelyStep c step × AreTimely (without c step.strikes) steps

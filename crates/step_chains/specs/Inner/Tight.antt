@@ -8,8 +8,8 @@ use Rattle.line_steps.specs.Chains.{StepValue}
 use Rattle.line_steps.specs.declared.grade.Grade.{Grade}
 use Rattle.named_steps.specs.declared.goal.Goal.{Goal}
 use Rattle.step_chains.specs.declared.chain.Step.{Step}
-use Rattle.step_chains.specs.ChainValues.{StrikesLess, AreLive, step_value, steps_of}
-use Rattle.step_chains.specs.Inner.Replays.{Leads}
+use Rattle.step_chains.specs.ChainValues.{StrikesLess, step_value, steps_of}
+use Rattle.step_chains.specs.Inner.Replays.{AreTimely, Leads}
 use Rattle.line_steps.specs.Reasons.{Striking}
 
 -- no step from a place on can be left out
@@ -83,15 +83,15 @@ pub record IsDoneFrom (Struck : Striking) (grade : Grade)
   pub tight : IsTightFrom place Struck grade c (steps_of steps) goal
   pub needed : IsNeededFrom place Struck grade c (steps_of steps) goal
 
--- the second steps are the first with those from a place on done; they strike only what is left, if the first did
+-- the second steps are the first with those from a place on done; they are timely, if the first are
 pub record IsDoneTo (Struck : Striking) (grade : Grade)
     (c : CandidatesValue) (place : ℕ) (old new : List Step) (goal : Goal) : Type 0 where
   pub done : IsDoneFrom Struck grade c place new goal
-  pub live : AreLive c (steps_of old) → AreLive c (steps_of new)
+  pub timely : AreTimely c (steps_of old) → AreTimely c (steps_of new)
 
 -- so with those after it done, and the step at the place striking nothing that it can do without
 pub record IsNarrowedTo (Struck : Striking) (grade : Grade)
     (c : CandidatesValue) (place : ℕ) (old new : List Step) (goal : Goal) : Type 0 where
   pub done : IsDoneFrom Struck grade c (place + 1) new goal
   pub here : IsNeededAt place Struck grade c (steps_of new) goal
-  pub live : AreLive c (steps_of old) → AreLive c (steps_of new)
+  pub timely : AreTimely c (steps_of old) → AreTimely c (steps_of new)

@@ -9,4 +9,4 @@ returns g c =
     let is = c.hint_knowing.ensures in
     result_bound (g.P.Rules.puzzle p) (StruckBy g.P.Rules.puzzle g.P.Steps.own p)
     (all_less (g.P.Rules.puzzle p) (g.P.Steps.own p) (g.met.P.Steps.own_less p)) c.args.grid.now c.hint_knowing.result
-    is.least is.live is.needed is.right is.forced
+    is.least is.timely is.needed is.right is.forced

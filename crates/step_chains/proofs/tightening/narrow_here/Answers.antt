@@ -6,7 +6,7 @@ use Rattle.step_chains.specs.declared.chain.Step.{Step}
 use Rattle.step_chains.specs.ChainValues.{steps_of}
 use Rattle.step_chains.specs.Inner.Aims.{aim_goal}
 use Rattle.step_chains.specs.Inner.Replays.{Leads}
-use Rattle.step_chains.proofs.Spare.{left_out_live, narrowed_on, needed_all, needed_none}
+use Rattle.step_chains.proofs.Spare.{left_out_timely, narrowed_on, needed_all, needed_none}
 use Rattle.step_chains.proofs.tightening.narrow_here.Goals as goal
 
 pub loop-value-init : goal.loop-value-init
@@ -21,7 +21,7 @@ loop-value-init g c = (
       needed = done.needed;
       here = needed_none (StruckBy g.P.Rules.puzzle g.P.Steps.own c.args.p.now) c.args.grade start c.args.place (steps_of c.args.steps.now.items) (aim_goal c.args.aim) done.shows;
     },
-    λ live. live,
+    λ timely. timely,
   ),
 )
 
@@ -45,7 +45,7 @@ loop-value-preserved g c =
           let out = c.leave_out.ensures.left start here was.0 in (
             out.0,
             narrowed_on Struck (all_less (g.P.Rules.puzzle c.args.p.now) (g.P.Steps.own c.args.p.now) (g.met.P.Steps.own_less c.args.p.now)) c.args.grade start place value old new aim was.0 out.1 was.1,
-            λ live. left_out_live Struck c.args.grade start place value old new aim out.1 (was.2 live),
+            λ timely. left_out_timely Struck c.args.grade start place value old new aim out.1 (was.2 timely),
           ),
     )
 
@@ -64,5 +64,5 @@ returns-clause-narrowed g c = λ start first done.
         needed = was.1.needed;
       };
       here = needed_all Struck c.args.grade start c.args.place c.loop-value.value (steps_of steps) aim small (omega (arith, c.loop-value-test.false)) was.0 was.1.here;
-      live = was.2;
+      timely = was.2;
     }

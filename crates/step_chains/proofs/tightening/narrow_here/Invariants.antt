@@ -1,8 +1,9 @@
 use Rattle.line_steps.specs.Reasons.{StruckBy}
 use Rattle.std.proofs.Common.{◌≡◌, ◌+◌, length, take}
 use Rattle.named_steps.specs.Chains.{Shows}
-use Rattle.step_chains.specs.ChainValues.{steps_of, AreLive}
+use Rattle.step_chains.specs.ChainValues.{steps_of}
 use Rattle.step_chains.specs.Inner.Aims.{aim_goal}
+use Rattle.step_chains.specs.Inner.Replays.{AreTimely}
 use Rattle.step_chains.specs.Inner.Tight.{FromEach, IsDoneFrom, IsNarrowedBelow}
 use Rattle.step_chains.proofs.tightening.narrow_here.Given as goal
 
@@ -13,4 +14,4 @@ invariant-loop-value g l = (l.candidates ≡ l.fn.candidates) × (length l.steps
     (λ c. IsDoneFrom (StruckBy g.P.Rules.puzzle g.P.Steps.own l.p) l.grade c (l.place + 1) l.fn.steps.items (aim_goal l.aim)
     → Shows (StruckBy g.P.Rules.puzzle g.P.Steps.own l.p) l.grade c (steps_of l.steps.items) (aim_goal l.aim)
     × IsNarrowedBelow (StruckBy g.P.Rules.puzzle g.P.Steps.own l.p) l.grade c l.place l.value l.steps.items (aim_goal l.aim)
-    × (AreLive c (steps_of l.fn.steps.items) → AreLive c (steps_of l.steps.items)))
+    × (AreTimely c (steps_of l.fn.steps.items) → AreTimely c (steps_of l.steps.items)))

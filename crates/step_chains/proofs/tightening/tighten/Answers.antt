@@ -4,7 +4,7 @@ use Rattle.std.proofs.Common.{◌≡◌, ◌+◌, ◌-◌, ◌<◌, ◌^◌, ℕ
 use Rattle.trail_solver.specs.Candidates.{CandidatesValue}
 use Rattle.step_chains.specs.Inner.Aims.{aim_goal}
 use Rattle.step_chains.specs.Inner.Tight.{IsDoneFrom, IsNarrowedTo}
-use Rattle.step_chains.proofs.Live.{removed_live}
+use Rattle.step_chains.proofs.Live.{removed_timely}
 use Rattle.step_chains.proofs.Spare.{narrowed_goes, narrowed_stays, parts_at}
 use Rattle.step_chains.proofs.tightening.tighten.Goals as goal
 
@@ -29,7 +29,7 @@ loop-place-preserved-then-is_empty g c =
       record {
         done = narrowed_goes Struck (all_less (g.P.Rules.puzzle c.args.p.now) (g.P.Steps.own c.args.p.now) (g.met.P.Steps.own_less c.args.p.now)) c.args.grade start place steps front back c.remove.new.self.items s aim
             parts at low c.if-is_empty.ensures.members now.done.shows now.done.tight now.done.needed c.remove.ensures.items;
-        live = λ live. removed_live start steps c.remove.new.self.items place inside c.remove.ensures.items (now.live (before.1.live live));
+        timely = λ timely. removed_timely start steps c.remove.new.self.items place inside c.remove.ensures.items (now.timely (before.1.timely timely));
       },
     )
 
@@ -55,6 +55,6 @@ loop-place-preserved g c =
       record {
         done = narrowed_stays Struck (all_less (g.P.Rules.puzzle c.args.p.now) (g.P.Steps.own c.args.p.now) (g.met.P.Steps.own_less c.args.p.now)) c.args.grade start place steps front back s some.0 aim parts at low
             some.1 now.done.shows now.done.tight now.done.needed now.here;
-        live = λ live. now.live (before.1.live live);
+        timely = λ timely. now.timely (before.1.timely timely);
       },
     )
