@@ -22,7 +22,8 @@ use Rattle.line_steps.specs.Reasons.{Striking}
 module _ (Struck : Striking) (less : IsAntitone Struck) (g : GridValue) (view : CandidatesValue) (is : IsView g view) where
   live_in : (steps : List StepValue) → IsTimelyFrom g steps → AreLive view steps × EndAtOnce view steps
   live_in steps (other, other_is, timely) =
-      timely_parts view steps (timely_more view other steps (is.size ∙ sym other_is.size) (views_fewer g view other is other_is) timely)
+      timely_parts view steps
+      (timely_more view other steps (is.size ∙ sym other_is.size) (views_fewer g view other is other_is) timely)
 
   needed_in : (grade : Grade) (steps : List StepValue) (goal : Goal) → AreNeededFrom Struck grade g steps goal
       → AreAllNeeded Struck grade view steps goal

@@ -113,9 +113,10 @@ all_show Struck grade g view d steps goal is leads settled shown =
     }))
 
 -- up to where a square is left nothing they come to that, and otherwise to what all that the grade leaves shows
-pub all_come_to : (Struck : Striking) (grade : Grade) (g : GridValue) (view d : CandidatesValue) (steps : List StepValue)
-    (aim end : Aim) → IsView g view → Leads Struck grade view steps d → (HasSome d → IsSettled Struck grade d)
-    → IsShownByAll Struck grade g (aim_goal aim) → IsAimOrNothing d aim end → Shows Struck grade view steps (aim_goal end)
+pub all_come_to : (Struck : Striking) (grade : Grade) (g : GridValue) (view d : CandidatesValue)
+    (steps : List StepValue) (aim end : Aim) → IsView g view → Leads Struck grade view steps d → (HasSome d → IsSettled Struck grade d)
+    → IsShownByAll Struck grade g (aim_goal aim) → IsAimOrNothing d aim end
+    → Shows Struck grade view steps (aim_goal end)
 all_come_to Struck grade g view d steps aim end is leads settled shown (inl (cell, nothing, same)) =
     subst (λ (a : Aim). Shows Struck grade view steps (aim_goal a)) (sym same)
     ((shows_where Struck grade view d steps (OnlyValue cell 0) leads).0 ((empty_shown d cell).0 nothing.1))
@@ -139,4 +140,5 @@ all_refute Struck grade g view d steps aim end is leads aim_of (inl (cell, nothi
         nothing = λ value left. nothing.1 value (leads.alike.1 cell value left);
       })),
     )
-all_refute Struck grade g view d steps aim end is leads aim_of (inr (some, same)) = (subst (IsAimOf g.size) (sym same) aim_of, inr same)
+all_refute Struck grade g view d steps aim end is leads aim_of (inr (some, same)) =
+    (subst (IsAimOf g.size) (sym same) aim_of, inr same)

@@ -26,14 +26,18 @@ use Rattle.step_chains.proofs.Tight.{parted, remove_at, steps_removed}
 use Rattle.line_steps.specs.Reasons.{Striking}
 
 -- what is left of fewer candidates is left of more
-pub step_more : (c d : CandidatesValue) (step : StepValue) → c.size ≡ d.size → IsFewer c d → IsTimelyStep d step → IsTimelyStep c step
+pub step_more : (c d : CandidatesValue) (step : StepValue) → c.size ≡ d.size → IsFewer c d → IsTimelyStep d step
+    → IsTimelyStep c step
 step_more c d step size fewer (some, live) = (
-  λ cell inside. let (value, left) = some cell (subst (λ (w : ℕ). cell < w * w) size inside) in (value, fewer cell value left),
+  λ cell inside.
+      let (value, left) = some cell (subst (λ (w : ℕ). cell < w * w) size inside) in
+      (value, fewer cell value left),
   λ cell value has. fewer cell value (live cell value has),
 )
 
 -- so steps that are timely by fewer are so by more
-pub timely_more : (c d : CandidatesValue) (steps : List StepValue) → c.size ≡ d.size → IsFewer c d → AreTimely d steps → AreTimely c steps
+pub timely_more : (c d : CandidatesValue) (steps : List StepValue) → c.size ≡ d.size → IsFewer c d
+    → AreTimely d steps → AreTimely c steps
 timely_more c d [] size fewer h = tt
 timely_more c d (step ∷ steps) size fewer h = (
   step_more c d step size fewer h.0,
@@ -41,20 +45,21 @@ timely_more c d (step ∷ steps) size fewer h = (
 )
 
 -- steps strike only what is left, and end as soon as a square is left nothing
-pub timely_parts : (c : CandidatesValue) (steps : List StepValue) → AreTimely c steps → AreLive c steps × EndAtOnce c steps
+pub timely_parts : (c : CandidatesValue) (steps : List StepValue) → AreTimely c steps
+    → AreLive c steps × EndAtOnce c steps
 timely_parts c [] h = (tt, tt)
 timely_parts c (step ∷ steps) h =
     let rest = timely_parts (without c step.strikes) steps h.1 in
     ((h.0.1, rest.0), (h.0.0, rest.1))
 
 -- a step that is left out leaves more
-pub timely_without : (c : CandidatesValue) (front back : List StepValue) (step : StepValue) → AreTimely c (front ++ step ∷ back)
-    → AreTimely c (front ++ back)
+pub timely_without : (c : CandidatesValue) (front back : List StepValue) (step : StepValue)
+    → AreTimely c (front ++ step ∷ back) → AreTimely c (front ++ back)
 timely_without c [] back step h = timely_more c (without c step.strikes) back refl (without_fewer c step.strikes) h.1
 timely_without c (first ∷ front) back step h = (h.0, timely_without (without c first.strikes) front back step h.1)
 
-pub timely_removed : (c : CandidatesValue) (steps : List StepValue) (place : ℕ) → place < length steps → AreTimely c steps
-    → AreTimely c (remove steps place)
+pub timely_removed : (c : CandidatesValue) (steps : List StepValue) (place : ℕ) → place < length steps
+    → AreTimely c steps → AreTimely c (remove steps place)
 timely_removed c steps place low h =
     let at = parted steps place low in
     let front = at.0 in
@@ -64,21 +69,21 @@ timely_removed c steps place low h =
     (timely_without c front back step (subst (AreTimely c) at.3 h))
 
 -- one step more that is timely by what they leave
-pub timely_joined : (c : CandidatesValue) (front : List StepValue) (step : StepValue) → AreTimely c front → IsTimelyStep (left_by c front) step
-    → AreTimely c (front ++ step ∷ [])
+pub timely_joined : (c : CandidatesValue) (front : List StepValue) (step : StepValue) → AreTimely c front
+    → IsTimelyStep (left_by c front) step → AreTimely c (front ++ step ∷ [])
 timely_joined c [] step h now = (now, tt)
 timely_joined c (first ∷ front) step h now = (h.0, timely_joined (without c first.strikes) front step h.1 now)
 
-pub removed_timely : (c : CandidatesValue) (steps more : List Step) (place : ℕ) → place < length steps → more ≡ remove steps place
-    → AreTimely c (steps_of steps) → AreTimely c (steps_of more)
+pub removed_timely : (c : CandidatesValue) (steps more : List Step) (place : ℕ) → place < length steps
+    → more ≡ remove steps place → AreTimely c (steps_of steps) → AreTimely c (steps_of more)
 removed_timely c steps more place low is h =
     subst (AreTimely c) (sym (ap steps_of is ∙ steps_removed steps place))
     (timely_removed c (steps_of steps) place (omega (arith, low, length-map steps step_value)) h)
 
 -- what is new is left, and so the steps and it are timely while something is left of each square
-pub new_timely : (Struck : Striking) (grade : Grade) (c d : CandidatesValue) (steps more : List Step) (s : Step) → d.size ≤ 9
-    → Leads Struck grade c (steps_of steps) d → HasSome d × IsNew Struck grade d s → more ≡ steps ++ s ∷ [] → AreTimely c (steps_of steps)
-    → AreTimely c (steps_of more)
+pub new_timely : (Struck : Striking) (grade : Grade) (c d : CandidatesValue) (steps more : List Step) (s : Step)
+    → d.size ≤ 9 → Leads Struck grade c (steps_of steps) d → HasSome d × IsNew Struck grade d s
+    → more ≡ steps ++ s ∷ [] → AreTimely c (steps_of steps) → AreTimely c (steps_of more)
 new_timely Struck grade c d steps more s small before (some, new) is timely =
     let low = set_below d.size s.cell s.values small (λ v has. (new.left v has).0) in
     let listed : steps_of more ≡ steps_of steps ++ step_value s ∷ [] = ap steps_of is ∙ map-append step_value steps (s ∷ []) in
@@ -86,8 +91,9 @@ new_timely Struck grade c d steps more s small before (some, new) is timely =
     let both = and_parts (cell == s.cell) (has_number s.values v) (sym (has_pair-pairs_of s.cell s.values cell v low) ∙ has) in
     let there = new.left v both.1 in
     subst (λ (k : ℕ). IsLeft d k v) (sym (eqb-true cell s.cell both.0)) (record { pair = there.0; may = there.1 }) in
-    subst (AreTimely c) (sym listed) (timely_joined c (steps_of steps) (step_value s) timely
-    (step_more (left_by c (steps_of steps)) d (step_value s) (left_size c (steps_of steps) ∙ sym before.size) before.alike.0 (some, live)))
+    let here = step_more (left_by c (steps_of steps)) d (step_value s) (left_size c (steps_of steps) ∙ sym before.size)
+    before.alike.0 (some, live) in
+    subst (AreTimely c) (sym listed) (timely_joined c (steps_of steps) (step_value s) timely here)
 
 -- ---- the test of a chain
 
@@ -126,7 +132,9 @@ live_outside c s false low outside some = (
       absurd (outside (live s.cell some.0 listed).pair.inside),
 )
 
-pub timely_split : (c : CandidatesValue) (front back : List StepValue) → AreTimely c (front ++ back) → AreTimely (left_by c front) back
+-- the later steps are timely by what the earlier ones leave
+pub timely_split : (c : CandidatesValue) (front back : List StepValue) → AreTimely c (front ++ back)
+    → AreTimely (left_by c front) back
 timely_split c [] back h = h
 timely_split c (step ∷ front) back h = timely_split (without c step.strikes) front back h.1
 
@@ -146,16 +154,20 @@ left_more c steps i s more =
     ∙ left_append c (steps_of (take i steps)) (step_value s ∷ [])
 
 -- in a timely chain each step is so by what is left before it
-pub timely_here : (c d : CandidatesValue) (steps : List Step) (i : ℕ) (s : Step) → take (i + 1) steps ≡ take i steps ++ s ∷ [] → d.size ≡ c.size
+pub timely_here : (c d : CandidatesValue) (steps : List Step) (i : ℕ) (s : Step)
+    → take (i + 1) steps ≡ take i steps ++ s ∷ [] → d.size ≡ c.size
     → AreAlike (left_by c (steps_of (take i steps))) d → AreTimely c (steps_of steps) → IsTimelyStep d (step_value s)
 timely_here c d steps i s more size alike timely =
     let front = steps_of (take i steps) in
+    let rest = steps_of (drop (i + 1) steps) in
     step_more d (left_by c front) (step_value s) (size ∙ sym (left_size c front)) alike.1
-    (timely_split c front (step_value s ∷ steps_of (drop (i + 1) steps)) (subst (AreTimely c) (parted_at steps i s more) timely)).0
+    (timely_split c front (step_value s ∷ rest) (subst (AreTimely c) (parted_at steps i s more) timely)).0
 
 -- one step more of it
-pub timely_on : (c d e : CandidatesValue) (steps : List Step) (i : ℕ) (s : Step) → take (i + 1) steps ≡ take i steps ++ s ∷ [] → d.size ≡ c.size
-    → AreAlike (left_by c (steps_of (take i steps))) d → AreTimely c (steps_of (take i steps)) → IsTimelyStep d (step_value s)
+pub timely_on : (c d e : CandidatesValue) (steps : List Step) (i : ℕ) (s : Step)
+    → take (i + 1) steps ≡ take i steps ++ s ∷ [] → d.size ≡ c.size
+    → AreAlike (left_by c (steps_of (take i steps))) d → AreTimely c (steps_of (take i steps))
+    → IsTimelyStep d (step_value s)
     → Takes (λ cell v. has_pair (step_value s).strikes cell v ≡ true) d e
     → AreAlike (left_by c (steps_of (take (i + 1) steps))) e × AreTimely c (steps_of (take (i + 1) steps))
 timely_on c d e steps i s more size alike timely here t =

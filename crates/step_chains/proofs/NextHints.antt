@@ -128,8 +128,8 @@ all_hard [] = tt
 all_hard (step ∷ steps) = (hard_all step.reason, all_hard steps)
 
 -- where no steps refute the grid's numbers, all steps come to their aim
-pub aim_stays : (Struck : Striking) (grade : Grade) (g : GridValue) (aim end : Aim) → IsAimOrRefuted Struck grade g aim end
-    → (IsRefutedGrid Struck Hard g → ⊥) → end ≡ aim
+pub aim_stays : (Struck : Striking) (grade : Grade) (g : GridValue) (aim end : Aim)
+    → IsAimOrRefuted Struck grade g aim end → (IsRefutedGrid Struck Hard g → ⊥) → end ≡ aim
 aim_stays Struck grade g aim end (inr same) holds = same
 aim_stays Struck grade g aim end (inl (cell, same, (view, is, r))) holds = absurd (holds (view, is, record {
   steps = r.steps;

@@ -88,13 +88,14 @@ shows_more Struck antitone grade c front back rest less more goal among whole pa
     (allowed_at grade front back more whole.allowed) part
 
 -- a step that strikes less keeps a chain timely
-timely_less : (c : CandidatesValue) (front back : List StepValue) (less more : StepValue) → Among less more → AreTimely c (front ++ more ∷ back)
-    → AreTimely c (front ++ less ∷ back)
+timely_less : (c : CandidatesValue) (front back : List StepValue) (less more : StepValue) → Among less more
+    → AreTimely c (front ++ more ∷ back) → AreTimely c (front ++ less ∷ back)
 timely_less c [] back less more among h = (
   (h.0.0, λ cell value has. h.0.1 cell value (among cell value has)),
   timely_more (without c less.strikes) (without c more.strikes) back refl (more_fewer c less more among) h.1,
 )
-timely_less c (first ∷ front) back less more among h = (h.0, timely_less (without c first.strikes) front back less more among h.1)
+timely_less c (first ∷ front) back less more among h =
+    (h.0, timely_less (without c first.strikes) front back less more among h.1)
 
 -- ---- later steps, where a step strikes less
 
@@ -329,7 +330,8 @@ narrowed_on Struck antitone grade c place value old new goal shows o h =
 
 -- and they are timely, if they were before
 pub left_out_timely : (Struck : Striking) (grade : Grade) (c : CandidatesValue) (place value : ℕ)
-    (old new : List Step) (goal : Goal) → IsLeftOut Struck grade c place value old new goal → AreTimely c (steps_of old) → AreTimely c (steps_of new)
+    (old new : List Step) (goal : Goal) → IsLeftOut Struck grade c place value old new goal
+    → AreTimely c (steps_of old) → AreTimely c (steps_of new)
 left_out_timely Struck grade c place value old new goal o timely =
     subst (AreTimely c) (sym (listed new o.front o.back o.now o.new_is))
     (timely_less c (steps_of o.front) (steps_of o.back) (step_value o.now) (step_value o.was) o.among

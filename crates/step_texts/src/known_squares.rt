@@ -2,7 +2,7 @@
 ghost use Rattle.std.specs.Prelude.{◌<◌};
 
 use crate::names::{EdgeClue, Joined, List, Square, Squares, between, numbers};
-use crate::showing::{ShownStrike, shown_strikes};
+use crate::showing::ShownStrike;
 use crate::told::Strike;
 use crate::writing::Writing;
 use arrayvec::ArrayVec;
@@ -60,14 +60,17 @@ fn without_needless(
 ) -> NumberSet {
     let width = line.width();
     let mut needed = places;
+    let mut kept = NumberSet::empty();
     for from_end in 0..width {
         let index = width - 1 - from_end;
-        let less = needed.difference(NumberSet::one(index));
-        if needed.has(index)
-            && line.may(index).is_single() != is_open
-            && shows_the_same(&line.knowing(less), strikes, shown, clue)
-        {
-            needed = less;
+        // Once too many are kept, the others don't matter.
+        if needed.has(index) && line.may(index).is_single() != is_open && are_few(line, kept) {
+            let less = needed.difference(NumberSet::one(index));
+            if shows_the_same(&line.knowing(less), strikes, shown, clue) {
+                needed = less;
+            } else {
+                kept = kept.union(NumberSet::one(index));
+            }
         }
     }
     needed
@@ -75,10 +78,10 @@ fn without_needless(
 
 // Whether a line shows as much with each number that is struck.
 fn shows_the_same(line: &ClueCounts, strikes: &[Strike], shown: &[ShownStrike], clue: u8) -> bool {
-    let now = shown_strikes(line, strikes, clue);
-    now.iter()
+    strikes
+        .iter()
         .zip(shown)
-        .all(|(strike, before)| before.is_as(strike))
+        .all(|(strike, before)| before.is_as(&ShownStrike::of(line, strike, clue)))
 }
 
 fn are_few(line: &ClueCounts, places: NumberSet) -> bool {

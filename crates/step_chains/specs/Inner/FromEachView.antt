@@ -26,7 +26,7 @@ NothingIsShown Struck grade g = (view : CandidatesValue) → IsView g view → N
 abbrev pub IsRefutedGrid : Striking → Grade → GridValue → Type 0
 IsRefutedGrid Struck grade g = (view : CandidatesValue) × IsView g view × IsRefuted Struck grade view
 
--- from what is in view of the grid each step comes while something is left of each square, and strikes only what is left
+-- from what is in view of the grid each step comes while something is left of each square, and strikes only that
 abbrev pub IsTimelyFrom : GridValue → List StepValue → Type 0
 IsTimelyFrom g steps = (view : CandidatesValue) × IsView g view × AreTimely view steps
 

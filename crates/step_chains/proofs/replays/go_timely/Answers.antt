@@ -15,7 +15,8 @@ returns-then-not-is_timely-clause-timely c =
     take_more steps i s c.loop-step-test.true ∙ ap (λ (x : Step). take i steps ++ x ∷ []) (sym c.step-item.is) in (
       λ e. absurd (false≢true e),
       λ timely. absurd (both_ways c.is_timely.result c.if-not-is_timely.true
-          (c.is_timely.ensures.1 (timely_here c.args.candidates.now c.loop-step.candidates steps i s more c.loop-step.invariant.0 c.loop-step.invariant.1 timely))),
+          (c.is_timely.ensures.1 (timely_here c.args.candidates.now c.loop-step.candidates steps i s more
+          c.loop-step.invariant.0 c.loop-step.invariant.1 timely))),
     )
 
 pub loop-step-preserved : goal.loop-step-preserved
