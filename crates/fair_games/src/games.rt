@@ -121,7 +121,7 @@ fn letter_byte<P: FairGame>(grade: Grade) -> u8
     }
 }
 
-// The same by a stream of random words. `known` serves all draws.
+// The same by a stream of random words. `cache` serves all draws.
 fn find_game<P: FairGame, R: Rng>(rng: &mut R, size: Size, grade: Grade) -> Option<P>
     ensures needed { IfSome result (NeedsItems ⟦<P as Rules>⟧ (StruckBy P.puzzle P.own) grade (P.trial_of grade) size) }
     ensures fair { MatchOption result
@@ -131,10 +131,10 @@ fn find_game<P: FairGame, R: Rng>(rng: &mut R, size: Size, grade: Grade) -> Opti
         (IsFair ⟦<P as Rules>⟧ (StruckBy P.puzzle P.own) grade
         (draw_at (P.trial_of grade) size (P.items_of size) (R.stream rng.old))) }
 {
-    let mut known = P::Known::default();
+    let mut cache = P::Cache::default();
     for _draw in 0..MOST_DRAWS {
-        let puzzle = draw_game(rng, size, grade, &mut known);
-        if is_of_grade(&puzzle, grade, &mut known) {
+        let puzzle = draw_game(rng, size, grade, &mut cache);
+        if is_of_grade(&puzzle, grade, &mut cache) {
             return Some(puzzle);
         }
     }
@@ -142,7 +142,7 @@ fn find_game<P: FairGame, R: Rng>(rng: &mut R, size: Size, grade: Grade) -> Opti
 }
 
 // Draws a square and an order, and prunes by the grade.
-fn draw_game<P: FairGame, R: Rng>(rng: &mut R, size: Size, grade: Grade, known: &mut P::Known) -> P
+fn draw_game<P: FairGame, R: Rng>(rng: &mut R, size: Size, grade: Grade, cache: &mut P::Cache) -> P
     ensures pruned { IsPrunedGame ⟦<P as Rules>⟧ (StruckBy P.puzzle P.own) grade
         (drawn_game (P.trial_of grade) size (P.items_of size) (R.stream rng.old)).0 result }
     ensures follows { FollowsBy (P.puzzle result) (StruckBy P.puzzle P.own result) grade }
@@ -153,17 +153,17 @@ fn draw_game<P: FairGame, R: Rng>(rng: &mut R, size: Size, grade: Grade, known: 
     let cells = width * width;
     let grid = draw_square(rng, size);
     let order = draw_trial(rng, P::trial(grade), P::item_count(size) - cells, cells);
-    pruned(&grid, order.as_slice(), grade, known)
+    pruned(&grid, order.as_slice(), grade, cache)
 }
 
 // Whether a puzzle that follows by a grade doesn't follow by the one below.
-fn is_of_grade<P: Steps>(puzzle: &P, grade: Grade, known: &mut P::Known) -> bool
+fn is_of_grade<P: Steps>(puzzle: &P, grade: Grade, cache: &mut P::Cache) -> bool
     requires { FollowsBy (P.puzzle puzzle.now) (StruckBy P.puzzle P.own puzzle.now) grade }
     ensures { IsTrue result ↔ IsOfGrade ⟦<P as Rules>⟧ (StruckBy P.puzzle P.own) grade puzzle.now }
 {
     match grade {
         Grade::Latin => true,
-        Grade::Easy => !follows_knowing(puzzle, Grade::Latin, known),
-        Grade::Hard => !follows_knowing(puzzle, Grade::Easy, known),
+        Grade::Easy => !follows_knowing(puzzle, Grade::Latin, cache),
+        Grade::Hard => !follows_knowing(puzzle, Grade::Easy, cache),
     }
 }

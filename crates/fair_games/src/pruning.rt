@@ -24,7 +24,7 @@ struct Trying<'a> {
 }
 
 /// The pruned puzzle of a Latin square, where the items are tried in this order. It follows by the grade.
-pub(crate) fn pruned<P: Steps>(grid: &Grid, order: &[u8], grade: Grade, known: &mut P::Known) -> P
+pub(crate) fn pruned<P: Steps>(grid: &Grid, order: &[u8], grade: Grade, cache: &mut P::Cache) -> P
     requires latin { IsLatin grid.now }
     requires trial { IsTrial (P.items_of grid.now.size) order.now }
     ensures pruned { IsPrunedBy ⟦<P as Rules>⟧ (FailsBy (StruckBy P.puzzle P.own) grade grid.now) grid.now order.now result }
@@ -34,14 +34,14 @@ pub(crate) fn pruned<P: Steps>(grid: &Grid, order: &[u8], grade: Grade, known: &
     let last = order.len();
     let trying = Trying { grid, order, grade };
     let mut left = Candidates::all(grid.size());
-    match without_all(full, &trying, 0, last, &mut left, known) {
+    match without_all(full, &trying, 0, last, &mut left, cache) {
         Some(fewer) => fewer,
-        None => split(full, &trying, 0, last, &mut left, known),
+        None => split(full, &trying, 0, last, &mut left, cache),
     }
 }
 
 // The puzzle without the items from one place of the order up to another, where the rest follows. The candidates are a base: from them
-// the steps of the rest lead on as from all pairs; and so they do from what the rest leaves of them. `known` serves
+// the steps of the rest lead on as from all pairs; and so they do from what the rest leaves of them. `cache` serves
 // all tries.
 fn without_all<P: Steps>(
     puzzle: P,
@@ -49,7 +49,7 @@ fn without_all<P: Steps>(
     first: usize,
     last: usize,
     left: &mut Candidates,
-    known: &mut P::Known,
+    cache: &mut P::Cache,
 ) -> Option<P>
     requires latin { IsLatin trying.now.grid.now }
     requires trial { IsTrial (P.items_of trying.now.grid.now.size) trying.now.order.now }
@@ -74,7 +74,7 @@ fn without_all<P: Steps>(
 {
     let _size = trying.grid.size();
     let fewer = without(puzzle, trying.order, first, last);
-    if !settle(&fewer, trying.grade, left, known) {
+    if !settle(&fewer, trying.grade, left, cache) {
         // It never comes to this, since no step strikes the square's numbers.
         return None;
     }
@@ -94,7 +94,7 @@ fn split<P: Steps>(
     first: usize,
     last: usize,
     left: &mut Candidates,
-    known: &mut P::Known,
+    cache: &mut P::Cache,
 ) -> P
     requires latin { IsLatin trying.now.grid.now }
     requires trial { IsTrial (P.items_of trying.now.grid.now.size) trying.now.order.now }
@@ -120,17 +120,17 @@ fn split<P: Steps>(
     }
     let middle = middle_of(first, last);
     let mark = left.mark();
-    match without_all(puzzle, trying, first, middle, left, known) {
+    match without_all(puzzle, trying, first, middle, left, cache) {
         Some(fewer) => {
             left.give_back(mark);
-            split(fewer, trying, middle, last, left, known)
+            split(fewer, trying, middle, last, left, cache)
         }
         None => {
-            let half = split(puzzle, trying, first, middle, left, known);
+            let half = split(puzzle, trying, first, middle, left, cache);
             left.give_back(mark);
-            match without_all(half, trying, middle, last, left, known) {
+            match without_all(half, trying, middle, last, left, cache) {
                 Some(fewer) => fewer,
-                None => split(half, trying, middle, last, left, known),
+                None => split(half, trying, middle, last, left, cache),
             }
         }
     }

@@ -29,7 +29,7 @@ use Rattle.json_replies.specs.ObjectLines.{IsLineOfData, OrLost}
 use Rattle.json_replies.specs.Sessions.{session_data}
 use Rattle.json_replies.specs.Inner.ToldResponses.{TellsResponse, TellsBegun}
 
--- what `obey` owes of a line
+-- what `execute` owes of a line
 abbrev pub Obeys : {P : Type 0} → GameFacts P → Option (History P) → Line → Option (History P) → Result Response Refusal → Type 0
 Obeys f old line new (Ok answer) = IsResponse (λ before read said after. LineGives f before read (Ok (said, after))) is_quit old line answer new
 Obeys f old line new (Err refusal) = (new ≡ old) × (is_quit line ≡ false) × LineGives f old line (Err refusal)

@@ -23,7 +23,7 @@ use crate::session::session_value;
 use crate::shown::{ShownFacts, Shows};
 use latin_board::OutOfMemory;
 use play_midend::Session;
-use puzzle_cli::{Draw, Facts, Format, LineFault, Refusal, Response, Text, obey};
+use puzzle_cli::{Draw, Facts, Format, LineFault, Refusal, Response, Text, execute};
 use std::alloc::Global;
 
 /// Each reply is one JSON object on one line: the refusal or null, the lines that the plain program says, and the session that is left;
@@ -45,7 +45,7 @@ impl<P: Shows> Format<P> for Json {
             None => match read_begin(line) {
                 Some(asked) => begin_response(alloc, session, asked),
                 None => {
-                    let answer = obey(alloc, session, line);
+                    let answer = execute(alloc, session, line);
                     told(alloc, session, answer)
                 }
             },
@@ -73,7 +73,7 @@ fn begin_response<P: Shows>(
     }
 }
 
-// The response that tells what `obey` answered, where this session is left.
+// The response that tells what `execute` answered, where this session is left.
 fn told<P: Draw>(
     alloc: Global,
     session: &Option<Session<P>>,

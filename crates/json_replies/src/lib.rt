@@ -1,6 +1,6 @@
 //! What a puzzle program says as JSON: a reply, the session that it leaves, and the board that is shown.
 //!
-//! [`Json`] is a format of the program: what a line makes of a session ([`obey`](puzzle_cli::obey)) is told as one object on one line.
+//! [`Json`] is a format of the program: what a line makes of a session ([`execute`](puzzle_cli::execute)) is told as one object on one line.
 #![tactic(auto)]
 
 mod begin;

@@ -30,20 +30,20 @@ use trail_solver::{Candidates, Rules};
 /// speed: a game may have quicker ones.
 pub trait Steps: Rules {
     /// What is kept while steps are looked for, so that nothing is looked through twice; it is right for any puzzle.
-    type Known: Default + Drop;
+    type Cache: Default + Drop;
 
     // What a clue or a sign strikes from candidates by a reason of the game's own: pairs of a square and a value. Givens, rows, columns
     // and groups of squares strike as in every game (`AllStrikes`).
     ghost own: { Self → Striking };
 
     /// The values that a clue or a sign strikes in a square, and none for other reasons; the sizes are equal, and the square is one of the
-    /// grid's. `known` may be used and added to, here and in what follows.
+    /// grid's. `cache` may be used and added to, here and in what follows.
     fn own_strikes(
         &self,
         candidates: &Candidates,
         reason: Reason,
         cell: usize,
-        known: &mut Self::Known,
+        cache: &mut Self::Cache,
     ) -> NumberSet
         requires size { candidates.now.size ≡ (Self.Rules.puzzle self.now).size }
         requires inside { cell < candidates.now.size * candidates.now.size }
@@ -56,7 +56,7 @@ pub trait Steps: Rules {
         candidates: &Candidates,
         reason: Reason,
         cell: usize,
-        known: &mut Self::Known,
+        cache: &mut Self::Cache,
     ) -> NumberSet
         requires size { candidates.now.size ≡ (Self.Rules.puzzle self.now).size }
         requires inside { cell < candidates.now.size * candidates.now.size }
@@ -75,7 +75,7 @@ pub trait Steps: Rules {
                 squares,
                 values,
             } => by_any_set(candidates, line, squares, values, cell),
-            _ => self.own_strikes(candidates, reason, cell, known),
+            _ => self.own_strikes(candidates, reason, cell, cache),
         }
     }
 
@@ -86,7 +86,7 @@ pub trait Steps: Rules {
         candidates: &Candidates,
         reason: Reason,
         place: usize,
-        known: &mut Self::Known,
+        cache: &mut Self::Cache,
     ) -> Option<[NumberSet; 9]>
         requires size { candidates.now.size ≡ (Self.Rules.puzzle self.now).size }
         requires place { place < 4 * candidates.now.size }
@@ -103,7 +103,7 @@ pub trait Steps: Rules {
         grade: Grade,
         candidates: &mut Candidates,
         line: u8,
-        known: &mut Self::Known,
+        cache: &mut Self::Cache,
     ) -> Option<NumberSet>
         requires size { candidates.old.size ≡ (Self.Rules.puzzle self.now).size }
         requires line { line < 2 * candidates.old.size }

@@ -14,16 +14,16 @@ pub fn solution_by<P: Steps>(p: &P, grade: Grade) -> Option<Grid>
     ensures { MatchOption result (FollowsBy (P.puzzle p.now) (StruckBy P.puzzle P.own p.now) grade → ⊥)
         (IsSolutionBy (P.puzzle p.now) (StruckBy P.puzzle P.own p.now) grade) }
 {
-    solution_knowing(p, grade, &mut P::Known::default())
+    solution_knowing(p, grade, &mut P::Cache::default())
 }
 
-// The same with `known`.
-fn solution_knowing<P: Steps>(p: &P, grade: Grade, known: &mut P::Known) -> Option<Grid>
+// The same with `cache`.
+fn solution_knowing<P: Steps>(p: &P, grade: Grade, cache: &mut P::Cache) -> Option<Grid>
     ensures { MatchOption result (FollowsBy (P.puzzle p.now) (StruckBy P.puzzle P.own p.now) grade → ⊥)
         (IsSolutionBy (P.puzzle p.now) (StruckBy P.puzzle P.own p.now) grade) }
 {
     let mut candidates = Candidates::all(p.size());
-    if !settle(p, grade, &mut candidates, known) {
+    if !settle(p, grade, &mut candidates, cache) {
         return None;
     }
     let Some(grid) = filled(&candidates) else {
@@ -36,28 +36,28 @@ fn solution_knowing<P: Steps>(p: &P, grade: Grade, known: &mut P::Known) -> Opti
 pub fn follows<P: Steps>(p: &P, grade: Grade) -> bool
     ensures { IsTrue result ↔ FollowsBy (P.puzzle p.now) (StruckBy P.puzzle P.own p.now) grade }
 {
-    follows_knowing(p, grade, &mut P::Known::default())
+    follows_knowing(p, grade, &mut P::Cache::default())
 }
 
-/// As `follows`, with `known`, which is used and added to.
-pub fn follows_knowing<P: Steps>(p: &P, grade: Grade, known: &mut P::Known) -> bool
+/// As `follows`, with `cache`, which is used and added to.
+pub fn follows_knowing<P: Steps>(p: &P, grade: Grade, cache: &mut P::Cache) -> bool
     ensures { IsTrue result ↔ FollowsBy (P.puzzle p.now) (StruckBy P.puzzle P.own p.now) grade }
 {
-    solution_knowing(p, grade, known).is_some()
+    solution_knowing(p, grade, cache).is_some()
 }
 
 /// The least grade by which a puzzle follows, if it follows by any.
 pub fn grade_of<P: Steps>(p: &P) -> Option<Grade>
     ensures { IsGradeOf (P.puzzle p.now) (StruckBy P.puzzle P.own p.now) result }
 {
-    let mut known = P::Known::default();
-    if follows_knowing(p, Grade::Latin, &mut known) {
+    let mut cache = P::Cache::default();
+    if follows_knowing(p, Grade::Latin, &mut cache) {
         return Some(Grade::Latin);
     }
-    if follows_knowing(p, Grade::Easy, &mut known) {
+    if follows_knowing(p, Grade::Easy, &mut cache) {
         return Some(Grade::Easy);
     }
-    if follows_knowing(p, Grade::Hard, &mut known) {
+    if follows_knowing(p, Grade::Hard, &mut cache) {
         return Some(Grade::Hard);
     }
     None

@@ -12,14 +12,14 @@ pub(crate) mod session_machine;
 
 use crate::draw::Draw;
 use crate::line::machine::Response;
-use crate::reply::answers::obey;
+use crate::reply::answers::execute;
 use crate::reply::facts::Facts;
 use crate::reply::text::Text;
 use play_midend::Session;
 use std::alloc::Global;
 
 /// A format in which the lines of a game's session are answered. It says what it likes to a line, and ends the run at the same
-/// lines as any other; what it leaves of the session is what [`obey`](crate::obey) may leave, of that line or of one in its place.
+/// lines as any other; what it leaves of the session is what [`execute`](crate::execute) may leave, of that line or of one in its place.
 pub trait Format<P: Draw> {
     // What may be said to a line, no bytes where it has no reply: the session before, or none, the line, the bytes, the session after.
     ghost reply: { ReplyRule (Option (History P)) };
@@ -43,7 +43,7 @@ impl<P: Draw> Format<P> for Plain {
     ghost leaves_as_answers = { λ _ _ line _ said. (line, (said.0, said.1, said.3)) };
 
     fn answer(alloc: Global, session: &mut Option<Session<P>>, line: Option<&[u8]>) -> Response {
-        match obey(alloc, session, line) {
+        match execute(alloc, session, line) {
             Ok(response) => response,
             Err(refusal) => Response::Reply(Text::refused(refusal.name())),
         }

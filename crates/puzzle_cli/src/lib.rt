@@ -4,7 +4,7 @@
 //! session, asks something of it, or ends the run. [`Draw`] is what a game adds to be played so: its picture. What is
 //! printed of a session can be had alone: [`picture`], [`marks_text`], [`status_text`] and [`done_text`].
 //!
-//! What a line makes of a session is one call, [`obey`], and its answer a value: what is said, or the [`Refusal`]. A [`Format`] tells it in
+//! What a line makes of a session is one call, [`execute`], and its answer a value: what is said, or the [`Refusal`]. A [`Format`] tells it in
 //! its words; [`Plain`] is that of [`run`], which is [`run_with`] at it. The loop over lines alone, for any [`Machine`], is [`run_machine`].
 //!
 //! [`play`] is a whole game in any format: from what the words of a command line say, over the file to load and a run, to the file that
@@ -42,7 +42,7 @@ pub use line::line_loop::run_machine;
 pub use line::machine::{Machine, Response};
 pub use program::game_files::{GameFiles, Unwritten};
 pub use program::play;
-pub use reply::answers::obey;
+pub use reply::answers::execute;
 pub use reply::facts::Facts;
 pub use reply::new_session::begin_game;
 pub use reply::refusal::Refusal;

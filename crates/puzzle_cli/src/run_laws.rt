@@ -10,7 +10,7 @@ ghost use Rattle.puzzle_cli.specs.Faithful.{BothPicturesShowNumbers, ViewsTellBo
 use crate::draw::Draw;
 use crate::reply::facts::Facts;
 
-/// The laws of what [`obey`](crate::obey) makes of lines, in any game; each format tells it in its words.
+/// The laws of what [`execute`](crate::execute) makes of lines, in any game; each format tells it in its words.
 ///
 /// Each line is read in one way. Of the bytes that [`run`](crate::run) writes, `refused: ` and a name tell that the line left the
 /// session, and any others are the answer as it was given: so what is said here of answers holds of what is written. A reply is

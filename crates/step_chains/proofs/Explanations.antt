@@ -131,14 +131,22 @@ pub all_refute : (Struck : Striking) (grade : Grade) (g : GridValue) (view d : C
 all_refute Struck grade g view d steps aim end is leads aim_of (inl (cell, nothing, same)) =
     let inside : cell < view.size * view.size = subst (λ (w : ℕ). cell < w * w) leads.size nothing.0 in (
       subst (IsAimOf g.size) (sym same) (subst (λ (w : ℕ). cell < w * w) is.size inside),
-      inl (cell, same, (view, is, record {
-        steps = steps;
-        chain = leads.chain;
-        allowed = leads.allowed;
-        cell = cell;
-        inside = inside;
-        nothing = λ value left. nothing.1 value (leads.alike.1 cell value left);
-      })),
+      inl (
+        cell,
+        same,
+        (
+          view,
+          is,
+          record {
+            steps = steps;
+            chain = leads.chain;
+            allowed = leads.allowed;
+            cell = cell;
+            inside = inside;
+            nothing = λ value left. nothing.1 value (leads.alike.1 cell value left);
+          },
+        ),
+      ),
     )
 all_refute Struck grade g view d steps aim end is leads aim_of (inr (some, same)) =
     (subst (IsAimOf g.size) (sym same) aim_of, inr same)

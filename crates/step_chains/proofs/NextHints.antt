@@ -131,14 +131,18 @@ all_hard (step ∷ steps) = (hard_all step.reason, all_hard steps)
 pub aim_stays : (Struck : Striking) (grade : Grade) (g : GridValue) (aim end : Aim)
     → IsAimOrRefuted Struck grade g aim end → (IsRefutedGrid Struck Hard g → ⊥) → end ≡ aim
 aim_stays Struck grade g aim end (inr same) holds = same
-aim_stays Struck grade g aim end (inl (cell, same, (view, is, r))) holds = absurd (holds (view, is, record {
-  steps = r.steps;
-  chain = r.chain;
-  allowed = all_hard r.steps;
-  cell = r.cell;
-  inside = r.inside;
-  nothing = r.nothing;
-}))
+aim_stays Struck grade g aim end (inl (cell, same, (view, is, r))) holds = absurd (holds (
+  view,
+  is,
+  record {
+    steps = r.steps;
+    chain = r.chain;
+    allowed = all_hard r.steps;
+    cell = r.cell;
+    inside = r.inside;
+    nothing = r.nothing;
+  },
+))
 
 -- where the hardest grade leaves something of each square and shows no number, no square is forced
 pub none_forced : (Struck : Striking) → IsAntitone Struck → (g : GridValue) (view d : CandidatesValue) → IsView g view

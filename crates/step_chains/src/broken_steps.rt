@@ -22,7 +22,7 @@ pub(crate) struct Spared {
 }
 
 /// Whether one of the steps that look where a number is spared isn't one of the grade's. Where none of these is broken,
-/// another may be. The candidates are afterwards what they were, and the sizes are equal. `known` is used and added to.
+/// another may be. The candidates are afterwards what they were, and the sizes are equal. `cache` is used and added to.
 #[inline(never)]
 pub(crate) fn has_broken<P: Steps>(
     p: &P,
@@ -30,7 +30,7 @@ pub(crate) fn has_broken<P: Steps>(
     candidates: &mut Candidates,
     steps: &[Step],
     spared: Spared,
-    known: &mut P::Known,
+    cache: &mut P::Cache,
 ) -> bool
     requires { candidates.old.size ≡ (P.puzzle p.now).size }
     ensures same { candidates.new ≡ candidates.old }
@@ -38,7 +38,7 @@ pub(crate) fn has_broken<P: Steps>(
         (IsGradeChain (StruckBy P.puzzle P.own p.now) grade candidates.old (steps_of steps.now) → ⊥) }
 {
     let mark = candidates.mark();
-    let broken = find_broken(p, grade, candidates, steps, spared, known);
+    let broken = find_broken(p, grade, candidates, steps, spared, cache);
     candidates.give_back(mark);
     broken
 }
@@ -50,7 +50,7 @@ fn find_broken<P: Steps>(
     candidates: &mut Candidates,
     steps: &[Step],
     spared: Spared,
-    known: &mut P::Known,
+    cache: &mut P::Cache,
 ) -> bool
     requires { candidates.old.size ≡ (P.puzzle p.now).size }
     ensures earlier { IsEarlier candidates.old candidates.new }
@@ -63,7 +63,7 @@ fn find_broken<P: Steps>(
         if looks_at(size, &steps[place], spared) {
             take_all(candidates, &steps[taken..place]);
             taken = place;
-            if is_broken(p, grade, candidates, &steps[place], spared, known) {
+            if is_broken(p, grade, candidates, &steps[place], spared, cache) {
                 return true;
             }
         }
@@ -78,17 +78,17 @@ fn is_broken<P: Steps>(
     candidates: &mut Candidates,
     step: &Step,
     spared: Spared,
-    known: &mut P::Known,
+    cache: &mut P::Cache,
 ) -> bool
     requires { candidates.old.size ≡ (P.puzzle p.now).size }
     ensures same { candidates.new ≡ candidates.old }
     ensures broken { OnTrue result (IsGradeStep (StruckBy P.puzzle P.own p.now) grade candidates.old (step_value step.now) → ⊥) }
 {
     let Reason::Clue { place } = step.reason else {
-        return !is_step(p, grade, candidates, step, known);
+        return !is_step(p, grade, candidates, step, cache);
     };
     let mark = candidates.mark();
-    let broken = breaks_clue(p, grade, candidates, step, place, spared, known);
+    let broken = breaks_clue(p, grade, candidates, step, place, spared, cache);
     candidates.give_back(mark);
     broken
 }
@@ -102,7 +102,7 @@ fn breaks_clue<P: Steps>(
     step: &Step,
     place: usize,
     spared: Spared,
-    known: &mut P::Known,
+    cache: &mut P::Cache,
 ) -> bool
     requires { candidates.old.size ≡ (P.puzzle p.now).size }
     ensures earlier { IsEarlier candidates.old candidates.new }
@@ -113,7 +113,7 @@ fn breaks_clue<P: Steps>(
     if are_stuck(candidates, &squares_from(candidates.size(), place)) {
         return false;
     }
-    !is_step(p, grade, candidates, step, known)
+    !is_step(p, grade, candidates, step, cache)
 }
 
 // Whether a step looks where a number is spared, and may need that it isn't. Nothing is ensured of it, as nothing

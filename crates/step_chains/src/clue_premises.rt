@@ -31,7 +31,7 @@ pub(crate) fn few_of_clue<P: Steps>(
     needs: &Values,
     step: &Step,
     place: usize,
-    known: &mut P::Known,
+    cache: &mut P::Cache,
 ) -> Values {
     let cells = squares_from(candidates.size(), place);
     let clue = ClueStep { step, place, cells };
@@ -39,10 +39,10 @@ pub(crate) fn few_of_clue<P: Steps>(
     let mark = candidates.mark();
     take_values(candidates, &clue.cells, &rest);
     keep_in(candidates, step.cell, step.values);
-    keep_fillings(p, candidates, &clue, known);
+    keep_fillings(p, candidates, &clue, cache);
     if !left(candidates, step.cell as usize).is_empty() {
         rest = *gone;
-        leave_out_each(p, candidates, before, &mut rest, needs, &clue, known);
+        leave_out_each(p, candidates, before, &mut rest, needs, &clue, cache);
     }
     if mark.len() <= candidates.trail_len() {
         candidates.give_back(mark);
@@ -58,13 +58,13 @@ fn leave_out_each<P: Steps>(
     rest: &mut Values,
     needs: &Values,
     clue: &ClueStep,
-    known: &mut P::Known,
+    cache: &mut P::Cache,
 ) {
     let looked = Squares::of(&clue.cells);
     for i in 0..before.len() {
         let made = &before[before.len() - 1 - i];
         if looked.has(made.cell) {
-            leave_out(p, candidates, rest, needs, clue, made, known);
+            leave_out(p, candidates, rest, needs, clue, made, cache);
         }
     }
 }
@@ -78,7 +78,7 @@ fn leave_out<P: Steps>(
     needs: &Values,
     clue: &ClueStep,
     made: &Step,
-    known: &mut P::Known,
+    cache: &mut P::Cache,
 ) {
     let cell = made.cell as usize;
     let spare = made.values.difference(needs.of(cell));
@@ -91,7 +91,7 @@ fn leave_out<P: Steps>(
     let mark = candidates.mark();
     keep_in(candidates, made.cell, possible);
     take_values(candidates, &clue.cells, rest);
-    let needed = filled_in(p, candidates, clue, made.cell, known);
+    let needed = filled_in(p, candidates, clue, made.cell, cache);
     if mark.len() <= candidates.trail_len() {
         candidates.give_back(mark);
     }
@@ -104,10 +104,10 @@ fn keep_fillings<P: Steps>(
     p: &P,
     candidates: &mut Candidates,
     clue: &ClueStep,
-    known: &mut P::Known,
+    cache: &mut P::Cache,
 ) {
     let reason = &clue.step.reason;
-    let row = struck_along(p, candidates, reason, clue.place, &clue.cells, known);
+    let row = struck_along(p, candidates, reason, clue.place, &clue.cells, cache);
     for k in 0..clue.cells.len() {
         if k < 9 {
             take_from(candidates, clue.cells[k], row[k]);
@@ -121,14 +121,14 @@ fn filled_in<P: Steps>(
     candidates: &Candidates,
     clue: &ClueStep,
     cell: u8,
-    known: &mut P::Known,
+    cache: &mut P::Cache,
 ) -> NumberSet {
     let mut filled = NumberSet::empty();
     if are_stuck(candidates, &clue.cells) {
         return filled;
     }
     let reason = &clue.step.reason;
-    let row = struck_along(p, candidates, reason, clue.place, &clue.cells, known);
+    let row = struck_along(p, candidates, reason, clue.place, &clue.cells, cache);
     for k in 0..clue.cells.len() {
         if k < 9 && clue.cells[k] == cell {
             filled = left(candidates, cell as usize).difference(row[k]);

@@ -31,7 +31,7 @@ pub(crate) fn chain_to<P: Steps>(
     grid: &Grid,
     grade: Grade,
     goal: Goal,
-    known: &mut P::Known,
+    cache: &mut P::Cache,
 ) -> Result<Chain, OutOfMemory>
     requires size { grid.now.size ≡ (P.puzzle p.now).size }
     requires open { IsOfEmptySquare grid.now goal }
@@ -43,10 +43,10 @@ pub(crate) fn chain_to<P: Steps>(
     ensures needed { IfOk result
         (λ chain. AreNeededFrom (StruckBy P.puzzle P.own p.now) grade grid.now (steps_of chain.steps.items) chain.goal) }
 {
-    if let Some(chain) = short_number(alloc, p, grid, grade, known)? {
+    if let Some(chain) = short_number(alloc, p, grid, grade, cache)? {
         return Ok(chain);
     }
-    plain_number(alloc, p, grid, grade, goal, known)
+    plain_number(alloc, p, grid, grade, goal, cache)
 }
 
 // The same, where one is found.
@@ -56,7 +56,7 @@ fn short_number<P: Steps>(
     p: &P,
     grid: &Grid,
     grade: Grade,
-    known: &mut P::Known,
+    cache: &mut P::Cache,
 ) -> Result<Option<Chain>, OutOfMemory>
     requires { grid.now.size ≡ (P.puzzle p.now).size }
     ensures is { IfOk result (λ found. IfSome found
@@ -65,7 +65,7 @@ fn short_number<P: Steps>(
     ensures needed { IfOk result (λ found. IfSome found
         (λ chain. AreNeededFrom (StruckBy P.puzzle P.own p.now) grade grid.now (steps_of chain.steps.items) chain.goal)) }
 {
-    if let Some(found) = short_chain(alloc, p, grid, grade, Sought::NumberShown, known)? {
+    if let Some(found) = short_chain(alloc, p, grid, grade, Sought::NumberShown, cache)? {
         if let Aim::Number(goal) = found.aim {
             if is_open(grid, goal) {
                 return Ok(Some(Chain {
@@ -86,7 +86,7 @@ fn plain_number<P: Steps>(
     grid: &Grid,
     grade: Grade,
     goal: Goal,
-    known: &mut P::Known,
+    cache: &mut P::Cache,
 ) -> Result<Chain, OutOfMemory>
     requires size { grid.now.size ≡ (P.puzzle p.now).size }
     requires open { IsOfEmptySquare grid.now goal }
@@ -98,7 +98,7 @@ fn plain_number<P: Steps>(
     ensures needed { IfOk result
         (λ chain. AreNeededFrom (StruckBy P.puzzle P.own p.now) grade grid.now (steps_of chain.steps.items) chain.goal) }
 {
-    let found = plain_chain(alloc, p, grid, grade, Aim::Number(goal), known)?;
+    let found = plain_chain(alloc, p, grid, grade, Aim::Number(goal), cache)?;
     Ok(Chain {
         steps: found.steps,
         goal,
@@ -113,7 +113,7 @@ pub(crate) fn refutation_at<P: Steps>(
     grid: &Grid,
     grade: Grade,
     cell: usize,
-    known: &mut P::Known,
+    cache: &mut P::Cache,
 ) -> Result<Refutation, OutOfMemory>
     requires size { grid.now.size ≡ (P.puzzle p.now).size }
     requires inside { cell < grid.now.size * grid.now.size }
@@ -123,7 +123,7 @@ pub(crate) fn refutation_at<P: Steps>(
     ensures needed { IfOk result
         (λ r. AreNeededFrom (StruckBy P.puzzle P.own p.now) grade grid.now (steps_of r.steps.items) (OnlyValue r.cell 0)) }
 {
-    if let Some(found) = short_chain(alloc, p, grid, grade, Sought::SquareEmptied, known)? {
+    if let Some(found) = short_chain(alloc, p, grid, grade, Sought::SquareEmptied, cache)? {
         if let Aim::Nothing { cell } = found.aim {
             return Ok(Refutation {
                 steps: found.steps,
@@ -131,7 +131,7 @@ pub(crate) fn refutation_at<P: Steps>(
             });
         }
     }
-    let found = plain_chain(alloc, p, grid, grade, Aim::Nothing { cell }, known)?;
+    let found = plain_chain(alloc, p, grid, grade, Aim::Nothing { cell }, cache)?;
     let Aim::Nothing { cell } = found.aim else {
         unreachable!()
     };
@@ -150,7 +150,7 @@ fn plain_chain<P: Steps>(
     grid: &Grid,
     grade: Grade,
     aim: Aim,
-    known: &mut P::Known,
+    cache: &mut P::Cache,
 ) -> Result<Aimed, OutOfMemory>
     requires size { grid.now.size ≡ (P.puzzle p.now).size }
     requires aim { IsAimOf grid.now.size aim }
@@ -164,8 +164,8 @@ fn plain_chain<P: Steps>(
         (λ a. AreNeededFrom (StruckBy P.puzzle P.own p.now) grade grid.now (steps_of a.steps.items) (aim_goal a.aim)) }
 {
     let mut view = view_of(grid);
-    let mut steps = all_steps(alloc, p, grade, &mut view, known)?;
+    let mut steps = all_steps(alloc, p, grade, &mut view, cache)?;
     let aim = aim.or_nothing(&view);
-    tighten(p, grade, &mut view_of(grid), &mut steps, aim, known);
+    tighten(p, grade, &mut view_of(grid), &mut steps, aim, cache);
     Ok(Aimed { steps, aim })
 }

@@ -22,20 +22,20 @@ pub(crate) struct LeastAim {
 /// of an empty square that the steps of the least grade show, where any do. Each grade goes on from what the one below it leaves, which is
 /// on the stack only here, and not while a chain is searched.
 #[inline(never)]
-pub(crate) fn first_aim<P: Steps>(p: &P, grid: &Grid, known: &mut P::Known) -> Option<LeastAim>
+pub(crate) fn first_aim<P: Steps>(p: &P, grid: &Grid, cache: &mut P::Cache) -> Option<LeastAim>
     requires { grid.now.size ≡ (P.puzzle p.now).size }
     ensures { MatchOption result (LeadNowhere (StruckBy P.puzzle P.own p.now) grid.now) (IsLeastAim (StruckBy P.puzzle P.own p.now) grid.now) }
 {
     let mut settled = view_of(grid);
-    if let Some(cell) = go_on(p, Grade::Latin, grid, &mut settled, known) {
+    if let Some(cell) = go_on(p, Grade::Latin, grid, &mut settled, cache) {
         return Some(emptied(Grade::Latin, cell));
     }
     let by_latin = shown_goal(&settled, grid);
-    if let Some(cell) = go_on(p, Grade::Easy, grid, &mut settled, known) {
+    if let Some(cell) = go_on(p, Grade::Easy, grid, &mut settled, cache) {
         return Some(emptied(Grade::Easy, cell));
     }
     let by_easy = shown_goal(&settled, grid);
-    if let Some(cell) = go_on(p, Grade::Hard, grid, &mut settled, known) {
+    if let Some(cell) = go_on(p, Grade::Hard, grid, &mut settled, cache) {
         return Some(emptied(Grade::Hard, cell));
     }
     match (by_latin, by_easy, shown_goal(&settled, grid)) {
@@ -52,14 +52,14 @@ fn go_on<P: Steps>(
     grade: Grade,
     grid: &Grid,
     settled: &mut Candidates,
-    known: &mut P::Known,
+    cache: &mut P::Cache,
 ) -> Option<usize>
     requires size { grid.now.size ≡ (P.puzzle p.now).size }
     requires from { AreLeftBy (StruckBy P.puzzle P.own p.now) grade grid.now settled.old }
     ensures left { AreLeftBy (StruckBy P.puzzle P.own p.now) grade grid.now settled.new }
     ensures over { MatchOption result (IsOver (StruckBy P.puzzle P.own p.now) grade grid.now settled.new) (IsLeftNothing settled.new) }
 {
-    settle(p, grade, settled, known);
+    settle(p, grade, settled, cache);
     first_empty(settled)
 }
 

@@ -37,17 +37,17 @@ pub fn next_hint<P: Steps>(alloc: Global, p: &P, grid: &Grid) -> Result<NextHint
     requires { grid.now.size ≡ (P.puzzle p.now).size }
     ensures { IfOk result (IsHint (P.puzzle p.now) (StruckBy P.puzzle P.own p.now) grid.now) }
 {
-    // `known` serves all that follows, since it takes ten kilobytes of the stack.
-    let mut known = P::Known::default();
-    hint_knowing(alloc, p, grid, &mut known)
+    // `cache` serves all that follows, since it takes ten kilobytes of the stack.
+    let mut cache = P::Cache::default();
+    hint_knowing(alloc, p, grid, &mut cache)
 }
 
-// The same with `known`, which is used and added to.
+// The same with `cache`, which is used and added to.
 fn hint_knowing<P: Steps>(
     alloc: Global,
     p: &P,
     grid: &Grid,
-    known: &mut P::Known,
+    cache: &mut P::Cache,
 ) -> Result<NextHint, OutOfMemory>
     requires { grid.now.size ≡ (P.puzzle p.now).size }
     ensures least { IfOk result (IsNextHint (StruckBy P.puzzle P.own p.now) grid.now) }
@@ -58,19 +58,19 @@ fn hint_knowing<P: Steps>(
 {
     laws::<P>();
     let _valid = p.size();
-    let Some(first) = first_aim(p, grid, known) else {
+    let Some(first) = first_aim(p, grid, cache) else {
         return Ok(NextHint::Nothing);
     };
     match first.aim {
         Aim::Number(goal) => {
-            let chain = chain_to(alloc, p, grid, first.grade, goal, known)?;
+            let chain = chain_to(alloc, p, grid, first.grade, goal, cache)?;
             Ok(NextHint::Follows {
                 grade: first.grade,
                 chain,
             })
         }
         Aim::Nothing { cell } => {
-            let refutation = refutation_at(alloc, p, grid, first.grade, cell, known)?;
+            let refutation = refutation_at(alloc, p, grid, first.grade, cell, cache)?;
             Ok(NextHint::Refuted {
                 grade: first.grade,
                 refutation,

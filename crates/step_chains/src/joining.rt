@@ -27,14 +27,14 @@ pub(crate) fn joined<P: Steps>(
     candidates: &mut Candidates,
     steps: Vec<Step>,
     aim: Aim,
-    known: &mut P::Known,
+    cache: &mut P::Cache,
 ) -> Result<Vec<Step>, OutOfMemory> {
     let mut now = steps;
     if now.len() > MOST_STEPS {
         return Ok(now);
     }
     for _ in 0..MOST_JOINS {
-        match joined_once(alloc, p, grade, candidates, now.as_slice(), aim, known)? {
+        match joined_once(alloc, p, grade, candidates, now.as_slice(), aim, cache)? {
             Some(next) => now = next,
             None => return Ok(now),
         }
@@ -50,12 +50,12 @@ fn joined_once<P: Steps>(
     candidates: &mut Candidates,
     steps: &[Step],
     aim: Aim,
-    known: &mut P::Known,
+    cache: &mut P::Cache,
 ) -> Result<Option<Vec<Step>>, OutOfMemory> {
     for from_end in 0..steps.len() {
         let early = steps.len() - 1 - from_end;
         if is_start(steps, early) {
-            let next = joined_from(alloc, p, grade, candidates, steps, early, aim, known)?;
+            let next = joined_from(alloc, p, grade, candidates, steps, early, aim, cache)?;
             if next.is_some() {
                 return Ok(next);
             }
@@ -64,7 +64,7 @@ fn joined_once<P: Steps>(
     Ok(None)
 }
 
-// The same of the place of a look and one after it.
+// The same of the index of a look and one after it.
 fn joined_from<P: Steps>(
     alloc: Global,
     p: &P,
@@ -73,7 +73,7 @@ fn joined_from<P: Steps>(
     steps: &[Step],
     early: usize,
     aim: Aim,
-    known: &mut P::Known,
+    cache: &mut P::Cache,
 ) -> Result<Option<Vec<Step>>, OutOfMemory>
     requires { early < length steps.now }
 {
@@ -81,7 +81,7 @@ fn joined_from<P: Steps>(
         if steps[late].is_same_look(&steps[early]) && is_start(steps, late) {
             for at in [late, early] {
                 let next = with_both_at(alloc, steps, early, late, at)?;
-                if leads(p, grade, candidates, next.as_slice(), aim, known) {
+                if leads(p, grade, candidates, next.as_slice(), aim, cache) {
                     return Ok(Some(next));
                 }
             }
@@ -90,7 +90,7 @@ fn joined_from<P: Steps>(
     Ok(None)
 }
 
-// Whether a look begins at a place: the step before it has another reason.
+// Whether a look begins at an index: the step before it has another reason.
 fn is_start(steps: &[Step], at: usize) -> bool
     requires { at < length steps.now }
 {
@@ -104,10 +104,10 @@ fn leads<P: Steps>(
     candidates: &mut Candidates,
     steps: &[Step],
     aim: Aim,
-    known: &mut P::Known,
+    cache: &mut P::Cache,
 ) -> bool {
     let size = candidates.size();
-    p.size() == size && aim.is_of(size) && come_to(p, grade, candidates, steps, aim, known)
+    p.size() == size && aim.is_of(size) && come_to(p, grade, candidates, steps, aim, cache)
 }
 
 // The steps where all that the looks from two places on strike is struck at one of them, square by square.
@@ -121,31 +121,31 @@ fn with_both_at(
     let (early_end, late_end) = (end_of(steps, early), end_of(steps, late));
     let mut both = Values::none();
     let mut next = Vec::new(alloc);
-    for place in 0..steps.len() {
-        let is_of_both = (early <= place && place < early_end)
-            || (late <= place && place < late_end);
+    for index in 0..steps.len() {
+        let is_of_both = (early <= index && index < early_end)
+            || (late <= index && index < late_end);
         if is_of_both {
-            both.add(steps[place].cell as usize, steps[place].values);
+            both.add(steps[index].cell as usize, steps[index].values);
         }
     }
-    for place in 0..steps.len() {
-        let is_of_both = (early <= place && place < early_end)
-            || (late <= place && place < late_end);
-        if place == at {
-            list_all(&mut next, &steps[place].reason, &both)?;
+    for index in 0..steps.len() {
+        let is_of_both = (early <= index && index < early_end)
+            || (late <= index && index < late_end);
+        if index == at {
+            list_all(&mut next, &steps[index].reason, &both)?;
         }
         if !is_of_both {
-            next.push(steps[place])?;
+            next.push(steps[index])?;
         }
     }
     Ok(next)
 }
 
-// Where the look from a place on ends.
+// Where the look from an index on ends.
 fn end_of(steps: &[Step], start: usize) -> usize {
-    for place in 0..steps.len() {
-        if place > start && is_start(steps, place) {
-            return place;
+    for index in 0..steps.len() {
+        if index > start && is_start(steps, index) {
+            return index;
         }
     }
     steps.len()

@@ -58,7 +58,7 @@ pub(crate) struct Rounds<'a, P: Steps> {
     standing: Seen,
     clues: Looks<PLACES>,
     groups: Looks<LINES>,
-    pub(crate) known: &'a mut P::Known,
+    pub(crate) cache: &'a mut P::Cache,
 }
 
 impl<'a, P: Steps> Rounds<'a, P> {
@@ -67,7 +67,7 @@ impl<'a, P: Steps> Rounds<'a, P> {
         alloc: Global,
         view: Candidates,
         sought: Sought,
-        known: &'a mut P::Known,
+        cache: &'a mut P::Cache,
     ) -> Rounds<'a, P> {
         Rounds {
             start: view.mark(),
@@ -87,7 +87,7 @@ impl<'a, P: Steps> Rounds<'a, P> {
             standing: Seen::nothing(),
             clues: Looks::none(),
             groups: Looks::none(),
-            known,
+            cache,
         }
     }
 
@@ -369,7 +369,7 @@ impl<'a, P: Steps> Rounds<'a, P> {
             if let Some(Reason::Sign { from, to }) = Part::Signs.nth(&self.now, place) {
                 let (from, to) = if at_lesser { (to, from) } else { (from, to) };
                 let reason = Reason::Sign { from, to };
-                let values = struck(p, &self.now, &reason, to, self.known);
+                let values = struck(p, &self.now, &reason, to, self.cache);
                 self.has_signs |= !values.is_empty();
                 if greatest.is_subset(values) == at_lesser {
                     self.list(grade, &reason, to, values)?;
@@ -423,7 +423,7 @@ impl<'a, P: Steps> Rounds<'a, P> {
         place: usize,
     ) -> Result<bool, OutOfMemory> {
         let cells = squares_from(self.now.size(), place);
-        let row = struck_along(p, &self.now, reason, place, &cells, self.known);
+        let row = struck_along(p, &self.now, reason, place, &cells, self.cache);
         let mut strikes = false;
         for k in 0..cells.len() {
             if k < 9 {
@@ -456,7 +456,7 @@ impl<'a, P: Steps> Rounds<'a, P> {
         reason: &Reason,
         cell: usize,
     ) -> Result<(), OutOfMemory> {
-        let values = struck(p, &self.now, reason, cell, self.known);
+        let values = struck(p, &self.now, reason, cell, self.cache);
         self.list(grade, reason, cell, values)
     }
 

@@ -15,13 +15,13 @@ use std::alloc::Global;
 use trail_solver::{Candidates, Rules};
 
 /// Takes away all that the grade's reasons strike, one square after another, while something is left of each, and tells by which steps.
-/// The sizes are equal. `known` is used and added to, here and in what follows.
+/// The sizes are equal. `cache` is used and added to, here and in what follows.
 pub(crate) fn all_steps<P: Steps>(
     alloc: Global,
     p: &P,
     grade: Grade,
     candidates: &mut Candidates,
-    known: &mut P::Known,
+    cache: &mut P::Cache,
 ) -> Result<Vec<Step>, OutOfMemory>
     requires { candidates.old.size ≡ (P.puzzle p.now).size }
     ensures leads { IfOk result
@@ -31,7 +31,7 @@ pub(crate) fn all_steps<P: Steps>(
         (λ _. HasSome candidates.new → IsSettled (StruckBy P.puzzle P.own p.now) grade candidates.new) }
 {
     let mut steps = Vec::new(alloc);
-    while let Some(step) = next_in_time(p, grade, candidates, known) {
+    while let Some(step) = next_in_time(p, grade, candidates, cache) {
         candidates.remove_all(step.cell as usize, step.values);
         let _size = candidates.size();
         let _len = candidates.trail_len();
@@ -45,7 +45,7 @@ fn next_in_time<P: Steps>(
     p: &P,
     grade: Grade,
     candidates: &Candidates,
-    known: &mut P::Known,
+    cache: &mut P::Cache,
 ) -> Option<Step>
     requires { candidates.now.size ≡ (P.puzzle p.now).size }
     ensures { MatchOption result (HasSome candidates.now → IsSettled (StruckBy P.puzzle P.own p.now) grade candidates.now)
@@ -53,7 +53,7 @@ fn next_in_time<P: Steps>(
 {
     match first_empty(candidates) {
         Some(_) => None,
-        None => next_step(p, grade, candidates, known),
+        None => next_step(p, grade, candidates, cache),
     }
 }
 
@@ -62,7 +62,7 @@ fn next_step<P: Steps>(
     p: &P,
     grade: Grade,
     candidates: &Candidates,
-    known: &mut P::Known,
+    cache: &mut P::Cache,
 ) -> Option<Step>
     requires { candidates.now.size ≡ (P.puzzle p.now).size }
     ensures { MatchOption result (IsSettled (StruckBy P.puzzle P.own p.now) grade candidates.now)
@@ -71,7 +71,7 @@ fn next_step<P: Steps>(
     let _valid = p.size();
     let _size = candidates.size();
     for part in 0..PARTS.len() {
-        if let Some(step) = step_in_part(p, grade, candidates, PARTS[part], known) {
+        if let Some(step) = step_in_part(p, grade, candidates, PARTS[part], cache) {
             return Some(step);
         }
     }
@@ -84,14 +84,14 @@ fn step_in_part<P: Steps>(
     grade: Grade,
     candidates: &Candidates,
     part: Part,
-    known: &mut P::Known,
+    cache: &mut P::Cache,
 ) -> Option<Step>
     requires { candidates.now.size ≡ (P.puzzle p.now).size }
     ensures { MatchOption result (AreIdleIn (StruckBy P.puzzle P.own p.now) grade candidates.now part)
         (IsNew (StruckBy P.puzzle P.own p.now) grade candidates.now) }
 {
-    for place in 0..part.count(candidates.size()) {
-        if let Some(step) = step_at(p, grade, candidates, part, place, known) {
+    for index in 0..part.count(candidates.size()) {
+        if let Some(step) = step_at(p, grade, candidates, part, index, cache) {
             return Some(step);
         }
     }
@@ -104,15 +104,15 @@ fn step_at<P: Steps>(
     grade: Grade,
     candidates: &Candidates,
     part: Part,
-    place: usize,
-    known: &mut P::Known,
+    index: usize,
+    cache: &mut P::Cache,
 ) -> Option<Step>
     requires { candidates.now.size ≡ (P.puzzle p.now).size }
-    ensures { MatchOption result (IsIdleAt (StruckBy P.puzzle P.own p.now) grade candidates.now part place)
+    ensures { MatchOption result (IsIdleAt (StruckBy P.puzzle P.own p.now) grade candidates.now part index)
         (IsNew (StruckBy P.puzzle P.own p.now) grade candidates.now) }
 {
-    let reason = part.nth(candidates, place)?;
-    step_by(p, grade, candidates, &reason, known)
+    let reason = part.nth(candidates, index)?;
+    step_by(p, grade, candidates, &reason, cache)
 }
 
 // What a reason strikes of what is left, in the first square where it does.
@@ -121,7 +121,7 @@ fn step_by<P: Steps>(
     grade: Grade,
     candidates: &Candidates,
     reason: &Reason,
-    known: &mut P::Known,
+    cache: &mut P::Cache,
 ) -> Option<Step>
     requires { candidates.now.size ≡ (P.puzzle p.now).size }
     ensures { MatchOption result (IsIdle (StruckBy P.puzzle P.own p.now) grade candidates.now reason.now)
@@ -129,7 +129,7 @@ fn step_by<P: Steps>(
 {
     let width = candidates.size().get() as usize;
     for cell in 0..width * width {
-        if let Some(step) = step_in(p, grade, candidates, reason, cell, known) {
+        if let Some(step) = step_in(p, grade, candidates, reason, cell, cache) {
             return Some(step);
         }
     }
@@ -143,7 +143,7 @@ fn step_in<P: Steps>(
     candidates: &Candidates,
     reason: &Reason,
     cell: usize,
-    known: &mut P::Known,
+    cache: &mut P::Cache,
 ) -> Option<Step>
     requires size { candidates.now.size ≡ (P.puzzle p.now).size }
     requires inside { cell < candidates.now.size * candidates.now.size }
@@ -154,7 +154,7 @@ fn step_in<P: Steps>(
     if !grade.has(*reason) {
         return None;
     }
-    let struck = p.strikes(candidates, *reason, cell, known);
+    let struck = p.strikes(candidates, *reason, cell, cache);
     let values = struck.intersection(candidates.values(cell));
     if values.is_empty() {
         return None;

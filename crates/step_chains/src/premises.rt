@@ -21,18 +21,18 @@ pub(crate) fn few_premises<P: Steps>(
     gone: &Values,
     needs: &Values,
     step: &Step,
-    known: &mut P::Known,
+    cache: &mut P::Cache,
 ) -> Values {
     match step.reason {
         Reason::Peer { .. } | Reason::Place { .. } | Reason::Set { .. } => {
             all_premises(candidates.size(), gone, step)
         }
         Reason::Clue { place } => few_of_clue(
-            p, candidates, before, gone, needs, step, place, known,
+            p, candidates, before, gone, needs, step, place, cache,
         ),
-        Reason::Stand { .. } => few_standing(p, candidates, before, gone, needs, step, known),
+        Reason::Stand { .. } => few_standing(p, candidates, before, gone, needs, step, cache),
         Reason::Given { .. } | Reason::Bound { .. } => Values::none(),
-        Reason::Sign { .. } => few_by_trial(p, candidates, before, gone, needs, step, known),
+        Reason::Sign { .. } => few_by_trial(p, candidates, before, gone, needs, step, cache),
     }
 }
 
@@ -63,11 +63,11 @@ fn few_by_trial<P: Steps>(
     gone: &Values,
     needs: &Values,
     step: &Step,
-    known: &mut P::Known,
+    cache: &mut P::Cache,
 ) -> Values {
     let cells = looked_at(candidates.size(), &step.reason);
     let mut rest = needed_in(&cells, gone, needs);
-    if strikes_by(p, candidates, &cells, &rest, step, known) {
+    if strikes_by(p, candidates, &cells, &rest, step, cache) {
         return rest;
     }
     rest = *gone;
@@ -75,7 +75,7 @@ fn few_by_trial<P: Steps>(
     for i in 0..before.len() {
         let made = &before[before.len() - 1 - i];
         if looked.has(made.cell) {
-            leave_out(p, candidates, &cells, &mut rest, needs, step, made, known);
+            leave_out(p, candidates, &cells, &mut rest, needs, step, made, cache);
         }
     }
     rest
@@ -90,11 +90,11 @@ fn few_standing<P: Steps>(
     gone: &Values,
     needs: &Values,
     step: &Step,
-    known: &mut P::Known,
+    cache: &mut P::Cache,
 ) -> Values {
     let cells = looked_at(candidates.size(), &step.reason);
     let mut rest = needed_in(&cells, gone, needs);
-    if strikes_by(p, candidates, &cells, &rest, step, known) {
+    if strikes_by(p, candidates, &cells, &rest, step, cache) {
         return rest;
     }
     let mut open = gone_where_one_stands(candidates, &cells, gone);
@@ -103,7 +103,7 @@ fn few_standing<P: Steps>(
         let cell = before[before.len() - 1 - i].cell as usize;
         let spare = open.of(cell).difference(needs.of(cell));
         if !spare.is_empty() {
-            leave_out_values(p, candidates, &cells, &mut rest, step, cell, spare, known);
+            leave_out_values(p, candidates, &cells, &mut rest, step, cell, spare, cache);
             open.remove(cell, spare);
         }
     }
@@ -135,11 +135,11 @@ fn leave_out<P: Steps>(
     needs: &Values,
     step: &Step,
     made: &Step,
-    known: &mut P::Known,
+    cache: &mut P::Cache,
 ) {
     let cell = made.cell as usize;
     let spare = made.values.difference(needs.of(cell));
-    if spare.is_empty() || leave_out_values(p, candidates, cells, rest, step, cell, spare, known) {
+    if spare.is_empty() || leave_out_values(p, candidates, cells, rest, step, cell, spare, cache) {
         return;
     }
     if spare.is_single() {
@@ -155,7 +155,7 @@ fn leave_out<P: Steps>(
                 step,
                 cell,
                 NumberSet::one(value),
-                known,
+                cache,
             );
         }
     }
@@ -170,10 +170,10 @@ fn leave_out_values<P: Steps>(
     step: &Step,
     cell: usize,
     values: NumberSet,
-    known: &mut P::Known,
+    cache: &mut P::Cache,
 ) -> bool {
     rest.remove(cell, values);
-    if strikes_by(p, candidates, cells, rest, step, known) {
+    if strikes_by(p, candidates, cells, rest, step, cache) {
         return true;
     }
     rest.add(cell, values);
@@ -187,7 +187,7 @@ fn strikes_by<P: Steps>(
     cells: &ArrayVec<u8, 9>,
     gone: &Values,
     step: &Step,
-    known: &mut P::Known,
+    cache: &mut P::Cache,
 ) -> bool {
     let mark = candidates.mark();
     take_values(candidates, cells, gone);
@@ -196,7 +196,7 @@ fn strikes_by<P: Steps>(
         candidates,
         &step.reason,
         step.cell as usize,
-        known,
+        cache,
     ));
     if mark.len() <= candidates.trail_len() {
         candidates.give_back(mark);

@@ -22,14 +22,14 @@ use number_sets::NumberSet;
 use trail_solver::{Candidates, Rules};
 
 /// Whether the steps are a chain of the grade's from the candidates and come to the aim. The candidates are afterwards what they were.
-/// The sizes are equal, and the aim is one of the size. `known` is used and added to, here and in what follows.
+/// The sizes are equal, and the aim is one of the size. `cache` is used and added to, here and in what follows.
 pub(crate) fn come_to<P: Steps>(
     p: &P,
     grade: Grade,
     candidates: &mut Candidates,
     steps: &[Step],
     aim: Aim,
-    known: &mut P::Known,
+    cache: &mut P::Cache,
 ) -> bool
     requires size { candidates.old.size ≡ (P.puzzle p.now).size }
     requires aim { IsAimOf candidates.old.size aim }
@@ -38,7 +38,7 @@ pub(crate) fn come_to<P: Steps>(
         ↔ Shows (StruckBy P.puzzle P.own p.now) grade candidates.old (steps_of steps.now) (aim_goal aim) }
 {
     let mark = candidates.mark();
-    let shows = leads_to(p, grade, candidates, steps, aim, known);
+    let shows = leads_to(p, grade, candidates, steps, aim, cache);
     candidates.give_back(mark);
     shows
 }
@@ -61,7 +61,7 @@ fn leads_to<P: Steps>(
     candidates: &mut Candidates,
     steps: &[Step],
     aim: Aim,
-    known: &mut P::Known,
+    cache: &mut P::Cache,
 ) -> bool
     requires size { candidates.old.size ≡ (P.puzzle p.now).size }
     requires aim { IsAimOf candidates.old.size aim }
@@ -69,7 +69,7 @@ fn leads_to<P: Steps>(
     ensures shows { IsTrue result
         ↔ Shows (StruckBy P.puzzle P.own p.now) grade candidates.old (steps_of steps.now) (aim_goal aim) }
 {
-    if !follow(p, grade, candidates, steps, known) {
+    if !follow(p, grade, candidates, steps, cache) {
         return false;
     }
     aim.is_met(candidates)
@@ -81,7 +81,7 @@ fn follow<P: Steps>(
     grade: Grade,
     candidates: &mut Candidates,
     steps: &[Step],
-    known: &mut P::Known,
+    cache: &mut P::Cache,
 ) -> bool
     requires { candidates.old.size ≡ (P.puzzle p.now).size }
     ensures earlier { IsEarlier candidates.old candidates.new }
@@ -91,7 +91,7 @@ fn follow<P: Steps>(
         (IsGradeChain (StruckBy P.puzzle P.own p.now) grade candidates.old (steps_of steps.now) → ⊥) }
 {
     for step in steps {
-        if !follow_one(p, grade, candidates, step, known) {
+        if !follow_one(p, grade, candidates, step, cache) {
             return false;
         }
     }
@@ -104,7 +104,7 @@ fn follow_one<P: Steps>(
     grade: Grade,
     candidates: &mut Candidates,
     step: &Step,
-    known: &mut P::Known,
+    cache: &mut P::Cache,
 ) -> bool
     requires { candidates.old.size ≡ (P.puzzle p.now).size }
     ensures earlier { IsEarlier candidates.old candidates.new }
@@ -112,7 +112,7 @@ fn follow_one<P: Steps>(
     ensures takes { OnTrue result
         (Takes (λ cell v. has_pair (step_value step.now).strikes cell v ≡ true) candidates.old candidates.new) }
 {
-    if !is_step(p, grade, candidates, step, known) {
+    if !is_step(p, grade, candidates, step, cache) {
         return false;
     }
     take(candidates, step);
@@ -125,7 +125,7 @@ pub(crate) fn is_step<P: Steps>(
     grade: Grade,
     candidates: &Candidates,
     step: &Step,
-    known: &mut P::Known,
+    cache: &mut P::Cache,
 ) -> bool
     requires { candidates.now.size ≡ (P.puzzle p.now).size }
     ensures { IsTrue result ↔ IsGradeStep (StruckBy P.puzzle P.own p.now) grade candidates.now (step_value step.now) }
@@ -134,7 +134,7 @@ pub(crate) fn is_step<P: Steps>(
         return false;
     }
     let _bits = step.values.bits();
-    let set = struck(p, candidates, &step.reason, step.cell as usize, known);
+    let set = struck(p, candidates, &step.reason, step.cell as usize, cache);
     step.values.is_subset(set)
 }
 
@@ -144,7 +144,7 @@ pub(crate) fn struck<P: Steps>(
     candidates: &Candidates,
     reason: &Reason,
     cell: usize,
-    known: &mut P::Known,
+    cache: &mut P::Cache,
 ) -> NumberSet
     ensures { (v : ℕ) → (has_number result v ≡ true) ↔ ((candidates.now.size ≡ (P.puzzle p.now).size)
         × (IsPair candidates.now.size cell v × StruckBy P.puzzle P.own p.now candidates.now reason.now cell v)) }
@@ -154,7 +154,7 @@ pub(crate) fn struck<P: Steps>(
     if p.size() != size || cell >= width * width {
         return NumberSet::empty();
     }
-    p.strikes(candidates, *reason, cell, known)
+    p.strikes(candidates, *reason, cell, cache)
 }
 
 /// Takes away what a step lists.

@@ -135,15 +135,15 @@ pub(crate) fn struck_along<P: Steps>(
     reason: &Reason,
     place: usize,
     cells: &ArrayVec<u8, 9>,
-    known: &mut P::Known,
+    cache: &mut P::Cache,
 ) -> [NumberSet; 9] {
     let size = candidates.size();
     if p.size() == size && place < 4 * size.get() as usize {
-        if let Some(row) = p.strikes_from(candidates, *reason, place, known) {
+        if let Some(row) = p.strikes_from(candidates, *reason, place, cache) {
             return row;
         }
     }
-    struck_in_each(p, candidates, reason, cells, known)
+    struck_in_each(p, candidates, reason, cells, cache)
 }
 
 // The same, square by square.
@@ -152,12 +152,12 @@ fn struck_in_each<P: Steps>(
     candidates: &Candidates,
     reason: &Reason,
     cells: &ArrayVec<u8, 9>,
-    known: &mut P::Known,
+    cache: &mut P::Cache,
 ) -> [NumberSet; 9] {
     let mut row = [NumberSet::empty(); 9];
     for k in 0..cells.len() {
         if k < 9 {
-            row[k] = struck(p, candidates, reason, cells[k] as usize, known);
+            row[k] = struck(p, candidates, reason, cells[k] as usize, cache);
         }
     }
     row

@@ -35,7 +35,7 @@ pub(crate) fn short_chain<P: Steps>(
     grid: &Grid,
     grade: Grade,
     sought: Sought,
-    known: &mut P::Known,
+    cache: &mut P::Cache,
 ) -> Result<Option<Aimed>, OutOfMemory>
     ensures reached { IfOk result (λ found. IfSome found (λ a. IsAimOf grid.now.size a.aim
         × IsReached (StruckBy P.puzzle P.own p.now) grade grid.now (steps_of a.steps.items) (aim_goal a.aim))) }
@@ -43,11 +43,11 @@ pub(crate) fn short_chain<P: Steps>(
     ensures needed { IfOk result (λ found. IfSome found
         (λ a. AreNeededFrom (StruckBy P.puzzle P.own p.now) grade grid.now (steps_of a.steps.items) (aim_goal a.aim))) }
 {
-    let Some(found) = least_chain(alloc, p, grid, grade, sought, known)? else {
+    let Some(found) = least_chain(alloc, p, grid, grade, sought, cache)? else {
         return Ok(None);
     };
-    let mut found = ended(alloc, p, grid, grade, found, known)?;
-    if !shorten_from_view(p, grid, grade, &mut found.steps, found.aim, known) {
+    let mut found = ended(alloc, p, grid, grade, found, cache)?;
+    if !shorten_from_view(p, grid, grade, &mut found.steps, found.aim, cache) {
         return Ok(None);
     }
     Ok(Some(found))
@@ -61,14 +61,14 @@ fn ended<P: Steps>(
     grid: &Grid,
     grade: Grade,
     found: Aimed,
-    known: &mut P::Known,
+    cache: &mut P::Cache,
 ) -> Result<Aimed, OutOfMemory> {
     if found.steps.is_empty() {
         return Ok(found);
     }
     let mut view = view_of(grid);
     let Aimed { steps, aim } = cut(alloc, &mut view, found)?;
-    let steps = joined(alloc, p, grade, &mut view, steps, aim, known)?;
+    let steps = joined(alloc, p, grade, &mut view, steps, aim, cache)?;
     cut(alloc, &mut view, Aimed { steps, aim })
 }
 
@@ -80,7 +80,7 @@ fn shorten_from_view<P: Steps>(
     grade: Grade,
     steps: &mut Vec<Step>,
     aim: Aim,
-    known: &mut P::Known,
+    cache: &mut P::Cache,
 ) -> bool
     ensures reached { OnTrue result (IsAimOf grid.now.size aim
         × IsReached (StruckBy P.puzzle P.own p.now) grade grid.now (steps_of steps.new.items) (aim_goal aim)) }
@@ -89,7 +89,7 @@ fn shorten_from_view<P: Steps>(
         (AreNeededFrom (StruckBy P.puzzle P.own p.now) grade grid.now (steps_of steps.new.items) (aim_goal aim)) }
 {
     let mut view = view_of(grid);
-    shorten(p, grade, &mut view, steps, aim, known)
+    shorten(p, grade, &mut view, steps, aim, cache)
 }
 
 // Leaves out what can be left out, where the steps come to the aim; and tells whether they do.
@@ -100,7 +100,7 @@ fn shorten<P: Steps>(
     candidates: &mut Candidates,
     steps: &mut Vec<Step>,
     aim: Aim,
-    known: &mut P::Known,
+    cache: &mut P::Cache,
 ) -> bool
     ensures same { candidates.new ≡ candidates.old }
     ensures of { OnTrue result (IsAimOf candidates.old.size aim) }
@@ -116,10 +116,10 @@ fn shorten<P: Steps>(
     if p.size() != size || !aim.is_of(size) || !are_timely(candidates, steps.as_slice()) {
         return false;
     }
-    if !come_to(p, grade, candidates, steps.as_slice(), aim, known) {
+    if !come_to(p, grade, candidates, steps.as_slice(), aim, cache) {
         return false;
     }
-    tighten(p, grade, candidates, steps, aim, known);
+    tighten(p, grade, candidates, steps, aim, cache);
     true
 }
 
@@ -132,9 +132,9 @@ fn least_chain<P: Steps>(
     grid: &Grid,
     grade: Grade,
     sought: Sought,
-    known: &mut P::Known,
+    cache: &mut P::Cache,
 ) -> Result<Option<Aimed>, OutOfMemory> {
-    let mut rounds = Rounds::of(alloc, view_of(grid), sought, known);
+    let mut rounds = Rounds::of(alloc, view_of(grid), sought, cache);
     let mut least = Least {
         chain: None,
         cost: usize::MAX,
@@ -323,9 +323,9 @@ impl Least {
             &mut rounds.now,
             rounds.steps.as_slice(),
             aim,
-            rounds.known,
+            rounds.cache,
         )?;
-        let steps = gathered(alloc, p, &mut rounds.now, needed.as_slice(), rounds.known)?;
+        let steps = gathered(alloc, p, &mut rounds.now, needed.as_slice(), rounds.cache)?;
         let cost = cost_of(steps.as_slice());
         if cost < self.cost {
             self.cost = cost;

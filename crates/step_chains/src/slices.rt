@@ -20,7 +20,7 @@ pub(crate) fn slice<P: Steps>(
     candidates: &mut Candidates,
     steps: &[Step],
     aim: Aim,
-    known: &mut P::Known,
+    cache: &mut P::Cache,
 ) -> Result<Vec<Step>, OutOfMemory> {
     let mut needs = needs_of(candidates, aim);
     let mut gone = Values::none();
@@ -29,8 +29,8 @@ pub(crate) fn slice<P: Steps>(
     }
     let mut kept = Vec::new(alloc);
     for i in 0..steps.len() {
-        let place = steps.len() - 1 - i;
-        let step = &steps[place];
+        let index = steps.len() - 1 - i;
+        let step = &steps[index];
         let cell = step.cell as usize;
         let values = step.values.intersection(needs.of(cell));
         gone.remove(cell, step.values);
@@ -41,7 +41,7 @@ pub(crate) fn slice<P: Steps>(
                 cell: step.cell,
                 values,
             };
-            let rest = few_premises(p, candidates, &steps[..place], &gone, &needs, &step, known);
+            let rest = few_premises(p, candidates, &steps[..index], &gone, &needs, &step, cache);
             for at in looked_at(candidates.size(), &step.reason) {
                 needs.add(at as usize, rest.of(at as usize));
             }
@@ -60,17 +60,17 @@ pub(crate) fn gathered<P: Steps>(
     p: &P,
     candidates: &mut Candidates,
     steps: &[Step],
-    known: &mut P::Known,
+    cache: &mut P::Cache,
 ) -> Result<Vec<Step>, OutOfMemory> {
     let mark = candidates.mark();
     let mut found = Vec::new(alloc);
-    for place in 0..steps.len() {
-        let step = &steps[place];
+    for index in 0..steps.len() {
+        let step = &steps[index];
         let is_gone = step
             .values
             .is_disjoint(left(candidates, step.cell as usize));
         if !is_gone {
-            gather(p, candidates, &steps[place..], &mut found, known)?;
+            gather(p, candidates, &steps[index..], &mut found, cache)?;
         }
     }
     if mark.len() <= candidates.trail_len() {
@@ -86,13 +86,13 @@ fn gather<P: Steps>(
     candidates: &mut Candidates,
     steps: &[Step],
     found: &mut Vec<Step>,
-    known: &mut P::Known,
+    cache: &mut P::Cache,
 ) -> Result<(), OutOfMemory> {
     let Some(first) = steps.first() else {
         return Ok(());
     };
     let reason = &first.reason;
-    let now = struck_now(p, candidates, steps, reason, known);
+    let now = struck_now(p, candidates, steps, reason, cache);
     for cell in 0..CELLS {
         let values = now.of(cell);
         if !values.is_empty() {
@@ -114,16 +114,16 @@ fn struck_now<P: Steps>(
     candidates: &Candidates,
     steps: &[Step],
     reason: &Reason,
-    known: &mut P::Known,
+    cache: &mut P::Cache,
 ) -> Values {
-    let by_clue = struck_by_clue(p, candidates, reason, known);
+    let by_clue = struck_by_clue(p, candidates, reason, cache);
     let mut now = Values::none();
     for step in steps {
         if step.reason == *reason {
             let cell = step.cell as usize;
             let strikes = match &by_clue {
                 Some(all) => all.of(cell),
-                None => struck(p, candidates, reason, cell, known),
+                None => struck(p, candidates, reason, cell, cache),
             };
             let values = step.values.intersection(left(candidates, cell));
             now.add(cell, values.intersection(strikes));
@@ -137,14 +137,14 @@ fn struck_by_clue<P: Steps>(
     p: &P,
     candidates: &Candidates,
     reason: &Reason,
-    known: &mut P::Known,
+    cache: &mut P::Cache,
 ) -> Option<Values> {
     let place = match *reason {
         Reason::Bound { place } | Reason::Stand { place } | Reason::Clue { place } => place,
         _ => return None,
     };
     let cells = squares_from(candidates.size(), place);
-    let row = struck_along(p, candidates, reason, place, &cells, known);
+    let row = struck_along(p, candidates, reason, place, &cells, cache);
     let mut all = Values::none();
     for k in 0..cells.len() {
         if k < 9 {

@@ -16,14 +16,14 @@ use trail_solver::{Candidates, Rules};
 
 /// Leaves out, from the last step to the first, each number without which the steps still come to the aim, and each step of which none is
 /// left. No number and no step of what remains can be left out. The candidates are afterwards what they were. The steps come to the aim,
-/// and the sizes are equal. `known` is used and added to, here and in what follows.
+/// and the sizes are equal. `cache` is used and added to, here and in what follows.
 pub(crate) fn tighten<P: Steps>(
     p: &P,
     grade: Grade,
     candidates: &mut Candidates,
     steps: &mut Vec<Step>,
     aim: Aim,
-    known: &mut P::Known,
+    cache: &mut P::Cache,
 )
     requires size { candidates.old.size ≡ (P.puzzle p.now).size }
     requires aim { IsAimOf candidates.old.size aim }
@@ -35,14 +35,14 @@ pub(crate) fn tighten<P: Steps>(
     ensures tight { IsTight (StruckBy P.puzzle P.own p.now) grade candidates.old (steps_of steps.new.items) (aim_goal aim) }
     ensures needed { AreAllNeeded (StruckBy P.puzzle P.own p.now) grade candidates.old (steps_of steps.new.items) (aim_goal aim) }
 {
-    let mut place = steps.len();
-    while place > 0 {
-        place -= 1;
-        narrow(p, grade, candidates, steps, place, aim, known);
-        let step = steps[place];
+    let mut index = steps.len();
+    while index > 0 {
+        index -= 1;
+        narrow(p, grade, candidates, steps, index, aim, cache);
+        let step = steps[index];
         let _bits = step.values.bits();
         if step.values.is_empty() {
-            steps.remove(place);
+            steps.remove(index);
         }
     }
 }
@@ -53,21 +53,21 @@ fn narrow<P: Steps>(
     grade: Grade,
     candidates: &mut Candidates,
     steps: &mut Vec<Step>,
-    place: usize,
+    index: usize,
     aim: Aim,
-    known: &mut P::Known,
+    cache: &mut P::Cache,
 )
     requires size { candidates.old.size ≡ (P.puzzle p.now).size }
     requires aim { IsAimOf candidates.old.size aim }
-    requires inside { place < length steps.old.items }
+    requires inside { index < length steps.old.items }
     ensures same { candidates.new ≡ candidates.old }
     ensures length { length steps.new.items ≡ length steps.old.items }
-    ensures narrowed { IsDoneFrom (StruckBy P.puzzle P.own p.now) grade candidates.old (place + 1) steps.old.items (aim_goal aim)
-        → IsNarrowedTo (StruckBy P.puzzle P.own p.now) grade candidates.old place steps.old.items steps.new.items (aim_goal aim) }
+    ensures narrowed { IsDoneFrom (StruckBy P.puzzle P.own p.now) grade candidates.old (index + 1) steps.old.items (aim_goal aim)
+        → IsNarrowedTo (StruckBy P.puzzle P.own p.now) grade candidates.old index steps.old.items steps.new.items (aim_goal aim) }
 {
     let mark = candidates.mark();
-    take_all(candidates, &steps[..place]);
-    narrow_here(p, grade, candidates, steps, place, aim, known);
+    take_all(candidates, &steps[..index]);
+    narrow_here(p, grade, candidates, steps, index, aim, cache);
     candidates.give_back(mark);
 }
 
@@ -77,23 +77,23 @@ fn narrow_here<P: Steps>(
     grade: Grade,
     candidates: &mut Candidates,
     steps: &mut Vec<Step>,
-    place: usize,
+    index: usize,
     aim: Aim,
-    known: &mut P::Known,
+    cache: &mut P::Cache,
 )
     requires size { candidates.old.size ≡ (P.puzzle p.now).size }
     requires aim { IsAimOf candidates.old.size aim }
-    requires inside { place < length steps.old.items }
+    requires inside { index < length steps.old.items }
     ensures same { candidates.new ≡ candidates.old }
     ensures length { length steps.new.items ≡ length steps.old.items }
-    ensures front { take place steps.new.items ≡ take place steps.old.items }
-    ensures narrowed { FromEach (StruckBy P.puzzle P.own p.now) grade place steps.old.items candidates.old
-        (λ c. IsDoneFrom (StruckBy P.puzzle P.own p.now) grade c (place + 1) steps.old.items (aim_goal aim)
-        → IsNarrowedTo (StruckBy P.puzzle P.own p.now) grade c place steps.old.items steps.new.items (aim_goal aim)) }
+    ensures front { take index steps.new.items ≡ take index steps.old.items }
+    ensures narrowed { FromEach (StruckBy P.puzzle P.own p.now) grade index steps.old.items candidates.old
+        (λ c. IsDoneFrom (StruckBy P.puzzle P.own p.now) grade c (index + 1) steps.old.items (aim_goal aim)
+        → IsNarrowedTo (StruckBy P.puzzle P.own p.now) grade c index steps.old.items steps.new.items (aim_goal aim)) }
 {
     let _size = candidates.size();
     for value in 1..10 {
-        leave_out(p, grade, candidates, steps, place, value, aim, known);
+        leave_out(p, grade, candidates, steps, index, value, aim, cache);
     }
 }
 
@@ -103,69 +103,69 @@ fn leave_out<P: Steps>(
     grade: Grade,
     candidates: &mut Candidates,
     steps: &mut Vec<Step>,
-    place: usize,
+    index: usize,
     value: u8,
     aim: Aim,
-    known: &mut P::Known,
+    cache: &mut P::Cache,
 )
     requires size { candidates.old.size ≡ (P.puzzle p.now).size }
     requires aim { IsAimOf candidates.old.size aim }
-    requires inside { place < length steps.old.items }
+    requires inside { index < length steps.old.items }
     requires value { value < 16 }
     ensures same { candidates.new ≡ candidates.old }
     ensures length { length steps.new.items ≡ length steps.old.items }
-    ensures front { take place steps.new.items ≡ take place steps.old.items }
-    ensures left { FromEach (StruckBy P.puzzle P.own p.now) grade place steps.old.items candidates.old
+    ensures front { take index steps.new.items ≡ take index steps.old.items }
+    ensures left { FromEach (StruckBy P.puzzle P.own p.now) grade index steps.old.items candidates.old
         (λ c. Shows (StruckBy P.puzzle P.own p.now) grade c (steps_of steps.old.items) (aim_goal aim)
         → Shows (StruckBy P.puzzle P.own p.now) grade c (steps_of steps.new.items) (aim_goal aim)
-        × IsLeftOut (StruckBy P.puzzle P.own p.now) grade c place value steps.old.items steps.new.items (aim_goal aim)) }
+        × IsLeftOut (StruckBy P.puzzle P.own p.now) grade c index value steps.old.items steps.new.items (aim_goal aim)) }
 {
-    let step = steps[place];
+    let step = steps[index];
     let _bits = step.values.bits();
     if !step.values.has(value) {
         return;
     }
     let less = step.without(value);
     let _less_bits = less.values.bits();
-    steps[place] = less;
+    steps[index] = less;
     if !shows_on(
         p,
         grade,
         candidates,
         steps.as_slice(),
-        place,
+        index,
         value,
         aim,
-        known,
+        cache,
     ) {
-        steps[place] = step;
+        steps[index] = step;
     }
 }
 
-// Whether the steps come to the aim, where what those before a place list is taken away, of a chain of the grade's, and the one at the place
+// Whether the steps come to the aim, where what those before an index list is taken away, of a chain of the grade's, and the one at the index
 // spares a value. Mostly the value breaks a step by a clue, and then the others need not be followed.
 fn shows_on<P: Steps>(
     p: &P,
     grade: Grade,
     candidates: &mut Candidates,
     steps: &[Step],
-    place: usize,
+    index: usize,
     value: u8,
     aim: Aim,
-    known: &mut P::Known,
+    cache: &mut P::Cache,
 ) -> bool
     requires size { candidates.old.size ≡ (P.puzzle p.now).size }
     requires aim { IsAimOf candidates.old.size aim }
-    requires inside { place < length steps.now }
+    requires inside { index < length steps.now }
     requires value { value < 16 }
     ensures same { candidates.new ≡ candidates.old }
-    ensures shows { FromEach (StruckBy P.puzzle P.own p.now) grade place steps.now candidates.old
+    ensures shows { FromEach (StruckBy P.puzzle P.own p.now) grade index steps.now candidates.old
         (λ c. IsTrue result ↔ Shows (StruckBy P.puzzle P.own p.now) grade c (steps_of steps.now) (aim_goal aim)) }
 {
-    let cell = steps[place].cell;
-    let rest = &steps[place..];
-    if has_broken(p, grade, candidates, rest, Spared { cell, value }, known) {
+    let cell = steps[index].cell;
+    let rest = &steps[index..];
+    if has_broken(p, grade, candidates, rest, Spared { cell, value }, cache) {
         return false;
     }
-    come_to(p, grade, candidates, rest, aim, known)
+    come_to(p, grade, candidates, rest, aim, cache)
 }

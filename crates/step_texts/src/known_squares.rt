@@ -78,10 +78,9 @@ fn without_needless(
 
 // Whether a line shows as much with each number that is struck.
 fn shows_the_same(line: &ClueCounts, strikes: &[Strike], shown: &[ShownStrike], clue: u8) -> bool {
-    strikes
-        .iter()
-        .zip(shown)
-        .all(|(strike, before)| before.is_as(&ShownStrike::of(line, strike, clue)))
+    strikes.iter().zip(shown).all(|(strike, before)| before.is_as(&ShownStrike::of(
+        line, strike, clue,
+    )))
 }
 
 fn are_few(line: &ClueCounts, places: NumberSet) -> bool {

@@ -22,7 +22,7 @@ pub(crate) fn joined_steps<P: Steps>(
     candidates: &Candidates,
     first: &Step,
     steps: &[Step],
-    known: &mut P::Known,
+    cache: &mut P::Cache,
 ) -> usize
     ensures within { result ≤ length steps.now }
     ensures room { result + 1 < 2 ^ 64 }
@@ -34,7 +34,7 @@ pub(crate) fn joined_steps<P: Steps>(
     let mut last = first.cell;
     for at in 0..steps.len() {
         let step = &steps[at];
-        if !is_joinable(p, candidates, first.reason, last, step, known) {
+        if !is_joinable(p, candidates, first.reason, last, step, cache) {
             return at;
         }
         last = step.cell;
@@ -50,7 +50,7 @@ fn is_joinable<P: Steps>(
     reason: Reason,
     after: u8,
     step: &Step,
-    known: &mut P::Known,
+    cache: &mut P::Cache,
 ) -> bool
     ensures { IsTrue result
         ↔ IsJoinable (StruckBy P.puzzle P.own p.now) (P.puzzle p.now).size candidates.now reason after step.now }
@@ -58,14 +58,14 @@ fn is_joinable<P: Steps>(
     if step.reason != reason || step.cell <= after {
         return false;
     }
-    holds_at(p, candidates, step, known)
+    holds_at(p, candidates, step, cache)
 }
 
 // Whether a step strikes by what is left numbers that are left.
-fn holds_at<P: Steps>(p: &P, candidates: &Candidates, step: &Step, known: &mut P::Known) -> bool
+fn holds_at<P: Steps>(p: &P, candidates: &Candidates, step: &Step, cache: &mut P::Cache) -> bool
     ensures { IsTrue result ↔ HoldsAt (StruckBy P.puzzle P.own p.now) (P.puzzle p.now).size candidates.now step.now }
 {
-    let values = struck_left(p, candidates, &step.reason, step.cell as usize, known);
+    let values = struck_left(p, candidates, &step.reason, step.cell as usize, cache);
     step.values.is_subset(values)
 }
 
@@ -75,7 +75,7 @@ fn struck_left<P: Steps>(
     candidates: &Candidates,
     reason: &Reason,
     cell: usize,
-    known: &mut P::Known,
+    cache: &mut P::Cache,
 ) -> NumberSet
     ensures { (v : ℕ) → (has_number result v ≡ true) ↔ ((candidates.now.size ≡ (P.puzzle p.now).size)
         × (IsPair candidates.now.size cell v × (may_be candidates.now cell v ≡ true)
@@ -86,7 +86,7 @@ fn struck_left<P: Steps>(
     if p.size() != size || cell >= width * width {
         return NumberSet::empty();
     }
-    p.strikes(candidates, *reason, cell, known)
+    p.strikes(candidates, *reason, cell, cache)
         .intersection(candidates.values(cell))
 }
 

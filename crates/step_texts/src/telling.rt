@@ -19,7 +19,7 @@ use trail_solver::{Candidates, Rules};
 
 /// The steps of a chain from candidates on, as they are told: those side by side that have one reason, hold at once and are in reading order
 /// are one.
-// `known` is in this frame alone, so that it isn't on the stack of those who search for chains before they tell them.
+// `cache` is in this frame alone, so that it isn't on the stack of those who search for chains before they tell them.
 #[inline(never)]
 pub fn told_steps<P: StepNames>(
     alloc: Global,
@@ -31,11 +31,11 @@ pub fn told_steps<P: StepNames>(
         (λ told. AreTold (StruckBy P.puzzle P.own p.now) (P.Rules.puzzle p.now).size candidates steps.now told.items) }
 {
     let mut candidates = candidates;
-    let mut known = P::Known::default();
+    let mut cache = P::Cache::default();
     let mut told = Vec::new(alloc);
     let mut rest = steps;
     while let Some(first) = rest.first() {
-        let joined = joined_steps(p, &candidates, first, &rest[1..], &mut known);
+        let joined = joined_steps(p, &candidates, first, &rest[1..], &mut cache);
         let (look, more) = rest.split_at(joined + 1);
         told.push(told_step(alloc, p, &candidates, first, look)?)?;
         strike_all(&mut candidates, look);

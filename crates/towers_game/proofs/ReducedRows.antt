@@ -4,7 +4,7 @@ use Rattle.std.proofs.lemmas.Bool.{both_ways, cases_lt, true_from_ne_false}
 use Rattle.std.proofs.lemmas.List.{get_or-take, length-take-le}
 use Rattle.number_sets.specs.Sets.{has_number, IsEmpty, IsSingle}
 use Rattle.tower_lines.specs.LineFillings.{IsFilling}
-use Rattle.towers_game.specs.Inner.KnownRows.{IsReduced, IsReducedSet, IsLone, IsWithout}
+use Rattle.towers_game.specs.Inner.RowCache.{IsReduced, IsReducedSet, IsLone, IsWithout}
 use Rattle.towers_game.specs.Inner.RowSets.{AreKept}
 use Rattle.towers_game.proofs.RowFillings.{HaveFillings, kept_of_both, has_taken}
 

@@ -4,8 +4,8 @@ use Rattle.std.proofs.lemmas.Bool.{both_ways, cases_eq, cases_lt}
 use Rattle.std.proofs.lemmas.List.{get_or_past, get_or-replicate, get_or-set_same, get_or-set_other, length-replicate, length-take-le}
 use Rattle.number_sets.specs.Sets.{has_number}
 use Rattle.number_sets.proofs.Members.{has_number-none}
-use Rattle.towers_game.specs.declared.towers.known_rows.TheConstants.{SLOTS}
-use Rattle.towers_game.specs.Inner.KnownRows.{IsKnown, AreKnown}
+use Rattle.towers_game.specs.declared.towers.row_cache.TheConstants.{SLOTS}
+use Rattle.towers_game.specs.Inner.RowCache.{IsCached, AreCached}
 use Rattle.towers_game.specs.Inner.RowSets.{AreKept, AreWithin}
 use Rattle.towers_game.proofs.RowFillings.{HaveFillings, kept_of_both, has_taken}
 
@@ -18,7 +18,7 @@ nothing_has k value = elim (cases_lt k 9) [
 ]
 
 -- a row of no squares has no fillings' values
-pub none_known : AreKnown (replicate SLOTS 0) (replicate SLOTS 0) (replicate SLOTS (replicate 9 0)) (replicate SLOTS (replicate 9 0))
+pub none_known : AreCached (replicate SLOTS 0) (replicate SLOTS 0) (replicate SLOTS (replicate 9 0)) (replicate SLOTS (replicate 9 0))
 none_known = record {
   each = λ place low.
       let empty : List ℕ = replicate 9 0 in
@@ -26,21 +26,21 @@ none_known = record {
       let rows : List (List ℕ) = replicate SLOTS empty in
       let width : slice_index widths place ≡ 0 = get_or-replicate SLOTS place 0 0 low in
       let kept : slice_index_or rows place [] ≡ empty = get_or-replicate SLOTS place empty [] low in
-      let none : IsKnown 0 (slice_index widths place) (slice_index_or rows place []) empty = record {
+      let none : IsCached 0 (slice_index widths place) (slice_index_or rows place []) empty = record {
         room = omega arith;
         stays = λ k value. (
           λ has. absurd (both_ways (has_number (slice_index empty k) value) (nothing_has k value) has),
           λ s. absurd (omega (arith, s.inside)),
         );
       } in
-      subst (λ (n : ℕ). IsKnown n (slice_index widths place) (slice_index_or rows place []) (slice_index_or rows place [])) (sym width)
-      (subst (λ (found : List ℕ). IsKnown 0 (slice_index widths place) (slice_index_or rows place []) found) (sym kept) none);
+      subst (λ (n : ℕ). IsCached n (slice_index widths place) (slice_index_or rows place []) (slice_index_or rows place [])) (sym width)
+      (subst (λ (found : List ℕ). IsCached 0 (slice_index widths place) (slice_index_or rows place []) found) (sym kept) none);
 }
 
 -- the row of one slot is another one, of which this is kept
 pub one_known : (widths clues : List ℕ) (sets kept : List (List ℕ)) (place width clue : ℕ) (row found : List ℕ)
-    → length widths ≡ SLOTS → length clues ≡ SLOTS → length sets ≡ SLOTS → length kept ≡ SLOTS → place < SLOTS → AreKnown widths clues sets kept → IsKnown width clue row found
-    → AreKnown (set widths place width) (set clues place clue) (set sets place row) (set kept place found)
+    → length widths ≡ SLOTS → length clues ≡ SLOTS → length sets ≡ SLOTS → length kept ≡ SLOTS → place < SLOTS → AreCached widths clues sets kept → IsCached width clue row found
+    → AreCached (set widths place width) (set clues place clue) (set sets place row) (set kept place found)
 one_known widths clues sets kept place width clue row found ws cs ss ks low known new = record {
   each = λ k inside. elim (cases_eq k place) [
     | inl same ↦
@@ -61,7 +61,7 @@ one_known widths clues sets kept place width clue row found ws cs ss ks low know
 }
 
 -- of a row between what is known and what is kept of it the same is kept
-pub kept_between : (width clue : ℕ) (sets kept row : List ℕ) → IsKnown width clue sets kept → width ≤ 9 → length row ≡ 9
+pub kept_between : (width clue : ℕ) (sets kept row : List ℕ) → IsCached width clue sets kept → width ≤ 9 → length row ≡ 9
     → AreWithin kept row → AreWithin row sets → AreKept (take width row) clue kept
 kept_between width clue sets kept row known small count low high =
     let first : List ℕ = take width sets in

@@ -1,5 +1,5 @@
 -- Words that the contracts of private functions alone use.
-pub mod KnownRows
+pub mod RowCache
 pub mod RowSets
 pub mod TowersFields
 pub mod TowersLooks

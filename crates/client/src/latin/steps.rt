@@ -8,7 +8,7 @@ use trail_solver::{Candidates, Rules};
 impl Steps for Latin {
     ghost use Rattle.clue_rules.specs.Reasons.{NoneOwn};
 
-    type Known = ();
+    type Cache = ();
 
     ghost own = { λ _. NoneOwn };
 
@@ -17,7 +17,7 @@ impl Steps for Latin {
         _candidates: &Candidates,
         _reason: Reason,
         _cell: usize,
-        _known: &mut (),
+        _cache: &mut (),
     ) -> NumberSet {
         NumberSet::empty()
     }

@@ -1,4 +1,4 @@
--- The response that tells what `obey` answered, and what is told to a line that begins a game.
+-- The response that tells what `execute` answered, and what is told to a line that begins a game.
 use Rattle.std.specs.Prelude.{◌≡◌, ℕ, List, Option, Result, Ok, Err}
 use Rattle.play_midend.specs.Histories.{History}
 use Rattle.puzzle_cli.specs.declared.line.machine.Response.{Response}

@@ -26,7 +26,7 @@ impl<'a> LinePass for GivensAlone<'a> {
     ghost use Rattle.line_steps.specs.Reasons.{NoneOwn};
     ghost use Rattle.line_steps.specs.declared.grade.Grade.TheVariants.{Hard};
 
-    type Known = ();
+    type Cache = ();
 
     ghost puzzle = { λ s. given_puzzle s.givens.now };
 
@@ -44,7 +44,7 @@ impl<'a> LinePass for GivensAlone<'a> {
         &self,
         _candidates: &mut Candidates,
         _line: u8,
-        _known: &mut (),
+        _cache: &mut (),
     ) -> NumberSet {
         NumberSet::empty()
     }

@@ -18,7 +18,7 @@ use trail_solver::Candidates;
 /// A puzzle whose reasons of a grade strike along rows and columns: its givens, and its clues or signs.
 pub trait LinePass {
     /// What is kept while lines are looked along, so that nothing is looked through twice; it is right for any puzzle.
-    type Known;
+    type Cache;
 
     ghost puzzle: { Self → Puzzle };
 
@@ -41,7 +41,7 @@ pub trait LinePass {
         &self,
         candidates: &mut Candidates,
         line: u8,
-        known: &mut Self::Known,
+        cache: &mut Self::Cache,
     ) -> NumberSet
         requires size { candidates.old.size ≡ (puzzle self.now).size }
         requires line { line < 2 * candidates.old.size }

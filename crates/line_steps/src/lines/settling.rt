@@ -27,7 +27,7 @@ use trail_solver::Candidates;
 pub(crate) fn settle_lines<P: LinePass>(
     p: &P,
     candidates: &mut Candidates,
-    known: &mut P::Known,
+    cache: &mut P::Cache,
 ) -> bool
     requires { candidates.old.size ≡ (P.puzzle p.now).size }
     ensures leads { LeadsTo (StruckBy P.puzzle P.own p.now) (P.grade p.now) candidates.old candidates.new }
@@ -39,12 +39,12 @@ pub(crate) fn settle_lines<P: LinePass>(
     let width = candidates.size().get();
     strike_givens(p, candidates);
     let mut waiting = Waiting::first(2 * width);
-    look(p, candidates, &mut waiting, known)
+    look(p, candidates, &mut waiting, cache)
 }
 
 /// Narrows by all reasons of the highest grade: until no pair is left that a given rules out, or rows and columns, a clue or a sign by the
 /// candidates at first or by those that are left. False only where no solution was among the candidates.
-pub fn narrow_lines<P: LinePass>(p: &P, candidates: &mut Candidates, known: &mut P::Known) -> bool
+pub fn narrow_lines<P: LinePass>(p: &P, candidates: &mut Candidates, cache: &mut P::Cache) -> bool
     requires size { candidates.old.size ≡ (P.puzzle p.now).size }
     requires valid { P.valid p.now }
     requires highest { P.grade p.now ≡ Hard }
@@ -60,7 +60,7 @@ pub fn narrow_lines<P: LinePass>(p: &P, candidates: &mut Candidates, known: &mut
     ensures emptied { OnFalse result (IsEmptied candidates.new) }
 {
     p.strike_first(candidates);
-    settle_lines(p, candidates, known)
+    settle_lines(p, candidates, cache)
 }
 
 /// Narrows after a square lost candidates.
@@ -68,7 +68,7 @@ pub fn narrow_lines_from<P: LinePass>(
     p: &P,
     candidates: &mut Candidates,
     cell: usize,
-    known: &mut P::Known,
+    cache: &mut P::Cache,
 ) -> bool
     requires size { candidates.old.size ≡ (P.puzzle p.now).size }
     requires inside { cell < candidates.old.size * candidates.old.size }
@@ -77,7 +77,7 @@ pub fn narrow_lines_from<P: LinePass>(
     ensures keeps { KeepsSolutions (P.puzzle p.now) candidates.old candidates.new }
     ensures refutes { OnFalse result (HasNoSolutionWithin (P.puzzle p.now) candidates.old) }
 {
-    settle_from(p, candidates, cell, known)
+    settle_from(p, candidates, cell, cache)
 }
 
 /// Takes away what is struck along the lines of a square, and along those that this leads to. Answers false where a square is left nothing.
@@ -86,7 +86,7 @@ pub(crate) fn settle_from<P: LinePass>(
     p: &P,
     candidates: &mut Candidates,
     cell: usize,
-    known: &mut P::Known,
+    cache: &mut P::Cache,
 ) -> bool
     requires size { candidates.old.size ≡ (P.puzzle p.now).size }
     requires inside { cell < candidates.old.size * candidates.old.size }
@@ -94,7 +94,7 @@ pub(crate) fn settle_from<P: LinePass>(
     ensures emptied { OnFalse result (IsEmptied candidates.new) }
 {
     let mut waiting = Waiting::of_cell(candidates.size(), cell);
-    look(p, candidates, &mut waiting, known)
+    look(p, candidates, &mut waiting, cache)
 }
 
 /// Looks along the lines that wait, one after another, until none does, or a square is left nothing; and tells whether none does. Along a
@@ -103,7 +103,7 @@ pub(crate) fn look<P: LinePass>(
     p: &P,
     candidates: &mut Candidates,
     waiting: &mut Waiting,
-    known: &mut P::Known,
+    cache: &mut P::Cache,
 ) -> bool
     requires size { candidates.old.size ≡ (P.puzzle p.now).size }
     ensures leads { LeadsTo (StruckBy P.puzzle P.own p.now) (P.grade p.now) candidates.old candidates.new }
@@ -124,7 +124,7 @@ pub(crate) fn look<P: LinePass>(
         } else if let Some(line) = waiting.take_clues(clues_from, count) {
             squares_from = 0;
             clues_from = line + 1;
-            if !look_at_clues(p, candidates, line, waiting, known) {
+            if !look_at_clues(p, candidates, line, waiting, cache) {
                 return false;
             }
         } else {
@@ -168,7 +168,7 @@ fn look_at_clues<P: LinePass>(
     candidates: &mut Candidates,
     line: u8,
     waiting: &mut Waiting,
-    known: &mut P::Known,
+    cache: &mut P::Cache,
 ) -> bool
     requires size { candidates.old.size ≡ (P.puzzle p.now).size }
     requires line { line < 2 * candidates.old.size }
@@ -181,7 +181,7 @@ fn look_at_clues<P: LinePass>(
     ensures emptied { OnFalse result (IsEmptied candidates.new) }
 {
     let width = candidates.size().get();
-    let places = p.strike_by_clues(candidates, line, known);
+    let places = p.strike_by_clues(candidates, line, cache);
     if is_emptied_at(candidates, line, places) {
         return false;
     }

@@ -28,7 +28,7 @@ pub(crate) fn strike_by_reasons<P: Steps>(
     grade: Grade,
     candidates: &mut Candidates,
     line: u8,
-    known: &mut P::Known,
+    cache: &mut P::Cache,
 ) -> NumberSet
     requires size { candidates.old.size ≡ (P.puzzle p.now).size }
     requires line { line < 2 * candidates.old.size }
@@ -40,7 +40,7 @@ pub(crate) fn strike_by_reasons<P: Steps>(
     let mut changed = NumberSet::empty();
     for n in 0..2 * size.get() + 4 {
         let reason = reason_along(size, line, n);
-        let more = strike_by_reason(p, grade, candidates, line, &reason, known);
+        let more = strike_by_reason(p, grade, candidates, line, &reason, cache);
         changed = changed.union(more);
     }
     changed
@@ -53,7 +53,7 @@ fn strike_by_reason<P: Steps>(
     candidates: &mut Candidates,
     line: u8,
     reason: &Reason,
-    known: &mut P::Known,
+    cache: &mut P::Cache,
 ) -> NumberSet
     requires size { candidates.old.size ≡ (P.puzzle p.now).size }
     requires line { line < 2 * candidates.old.size }
@@ -65,7 +65,7 @@ fn strike_by_reason<P: Steps>(
     if !grade.has(*reason) {
         return NumberSet::empty();
     }
-    let row = reason_row(p, candidates, line, reason, known);
+    let row = reason_row(p, candidates, line, reason, cache);
     strike_row(candidates, line, &row)
 }
 
@@ -75,7 +75,7 @@ fn reason_row<P: Steps>(
     candidates: &Candidates,
     line: u8,
     reason: &Reason,
-    known: &mut P::Known,
+    cache: &mut P::Cache,
 ) -> [NumberSet; 9]
     requires size { candidates.now.size ≡ (P.puzzle p.now).size }
     requires line { line < 2 * candidates.now.size }
@@ -84,7 +84,7 @@ fn reason_row<P: Steps>(
     let size = candidates.size();
     let mut row = [NumberSet::empty(); 9];
     for k in 0..size.get() {
-        row[k as usize] = p.strikes(candidates, *reason, line_cell(size, line, k), known);
+        row[k as usize] = p.strikes(candidates, *reason, line_cell(size, line, k), cache);
     }
     row
 }

@@ -19,7 +19,7 @@ pub(crate) struct GradePass<'a, P: Steps> {
 }
 
 impl<'a, P: Steps> LinePass for GradePass<'a, P> {
-    type Known = P::Known;
+    type Cache = P::Cache;
 
     ghost puzzle = { λ s. P.Rules.puzzle s.p.now };
 
@@ -37,14 +37,14 @@ impl<'a, P: Steps> LinePass for GradePass<'a, P> {
         &self,
         candidates: &mut Candidates,
         line: u8,
-        known: &mut P::Known,
+        cache: &mut P::Cache,
     ) -> NumberSet {
         if !has_clues(self.grade) {
             return NumberSet::empty();
         }
-        match self.p.strike_by_clues(self.grade, candidates, line, known) {
+        match self.p.strike_by_clues(self.grade, candidates, line, cache) {
             Some(places) => places,
-            None => strike_by_reasons(self.p, self.grade, candidates, line, known),
+            None => strike_by_reasons(self.p, self.grade, candidates, line, cache),
         }
     }
 

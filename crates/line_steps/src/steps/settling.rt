@@ -18,13 +18,13 @@ use trail_solver::{Candidates, Rules};
 
 /// Takes away all that the reasons of a grade strike, one after another. It answers true where they strike nothing that is left any more:
 /// something is left then of each square, and each number has a place in each row and column. It answers false as soon as they leave a
-/// square nothing. If it answers true, the same is left in whatever order the reasons are taken. The sizes are equal. `known` is used
+/// square nothing. If it answers true, the same is left in whatever order the reasons are taken. The sizes are equal. `cache` is used
 /// and added to, and all that is taken away can be given back by a mark.
 pub fn settle<P: Steps>(
     p: &P,
     grade: Grade,
     candidates: &mut Candidates,
-    known: &mut P::Known,
+    cache: &mut P::Cache,
 ) -> bool
     requires { candidates.old.size ≡ (P.puzzle p.now).size }
     ensures leads { LeadsTo (StruckBy P.puzzle P.own p.now) grade candidates.old candidates.new }
@@ -38,7 +38,7 @@ pub fn settle<P: Steps>(
     strike_givens(&pass, candidates);
     let mut waiting = Waiting::first(2 * width);
     loop {
-        if !look(&pass, candidates, &mut waiting, known) {
+        if !look(&pass, candidates, &mut waiting, cache) {
             return false;
         }
         if !has_groups(grade) {

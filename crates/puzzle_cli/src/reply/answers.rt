@@ -35,7 +35,7 @@ use std::alloc::Global;
 ///
 /// A line that is refused leaves the session as it was, and ends no run.
 #[tactic(auto, using(crate::proofs::CommandLaws::goes_on))]
-pub fn obey<P: Draw>(
+pub fn execute<P: Draw>(
     alloc: Global,
     session: &mut Option<Session<P>>,
     line: Option<&[u8]>,
@@ -57,13 +57,13 @@ pub fn obey<P: Draw>(
         }
         Some(Command::Ask(request)) => match session {
             None => Err(Refusal::Line(LineFault::NoGame)),
-            Some(session) => Ok(Response::Reply(ask(alloc, session, request)?)),
+            Some(session) => Ok(Response::Reply(answer_request(alloc, session, request)?)),
         },
     }
 }
 
 // What a session says to a request.
-fn ask<P: Draw>(
+fn answer_request<P: Draw>(
     alloc: Global,
     session: &mut Session<P>,
     request: Request<&[u8]>,
@@ -77,14 +77,14 @@ fn ask<P: Draw>(
         (RequestTakesMemory ⟦<P as Facts>⟧.facts session.old (request_copied request.entry))) }
 {
     match request {
-        Request::Act(action) => act(session, action),
-        Request::Tell(view) => Ok(tell(alloc, session, view)?),
+        Request::Act(action) => answer_action(session, action),
+        Request::Tell(view) => Ok(text_of_view(alloc, session, view)?),
         Request::Listing(limit) => Ok(Text::Long(solution_list(alloc, session, limit)?)),
     }
 }
 
 // What a session says to a call.
-fn act<P: Draw>(session: &mut Session<P>, action: Action<&[u8]>) -> Result<Text, Refusal>
+fn answer_action<P: Draw>(session: &mut Session<P>, action: Action<&[u8]>) -> Result<Text, Refusal>
     ensures ok { IfOk result (λ text. RequestGives ⟦<P as Facts>⟧.facts session.old
         (Request.Act (action_copied action.entry)) (Ok (text_bytes text, Some session.new))) }
     ensures err { OnErr result (session.new ≡ session.old) }
@@ -94,7 +94,7 @@ fn act<P: Draw>(session: &mut Session<P>, action: Action<&[u8]>) -> Result<Text,
         (Request.Act (action_copied action.entry)))) }
 {
     let _board = session.board();
-    let answer = call(session, action);
+    let answer = carry_out(session, action);
     match action {
         Action::Solve => solve_reply(session, answer),
         _ => {
@@ -105,7 +105,7 @@ fn act<P: Draw>(session: &mut Session<P>, action: Action<&[u8]>) -> Result<Text,
 }
 
 // Makes a call of the session.
-fn call<P: Draw>(session: &mut Session<P>, action: Action<&[u8]>) -> Result<(), PlayFault>
+fn carry_out<P: Draw>(session: &mut Session<P>, action: Action<&[u8]>) -> Result<(), PlayFault>
     ensures answered { ActionAnswered (P.puzzle session.old.puzzle) session.old
         (action_copied action.entry) result session.new }
     ensures err { OnErr result (session.new ≡ session.old) }
@@ -120,7 +120,11 @@ fn call<P: Draw>(session: &mut Session<P>, action: Action<&[u8]>) -> Result<(), 
 }
 
 // What is told of a session.
-fn tell<P: Draw>(alloc: Global, session: &Session<P>, view: View) -> Result<Text, OutOfMemory>
+fn text_of_view<P: Draw>(
+    alloc: Global,
+    session: &Session<P>,
+    view: View,
+) -> Result<Text, OutOfMemory>
     ensures ok { IfOk result (λ text.
         text_bytes text ≡ view_text ⟦<P as Facts>⟧.facts session.now view) }
     ensures err { OnErr result (ViewTakesMemory view) }

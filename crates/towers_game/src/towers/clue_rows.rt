@@ -53,14 +53,14 @@ fn is_far(place: u8, width: u8) -> bool
     }
 }
 
-/// The values of the size that the clue at a place rules out in each square from there. `known` is used and added
+/// The values of the size that the clue at a place rules out in each square from there. `cache` is used and added
 /// to.
 pub(crate) fn unfilled_row<R: RowFillings>(
     candidates: &Candidates,
     look: Look,
     place: u8,
     clue: u8,
-    known: &mut R,
+    cache: &mut R,
 ) -> [NumberSet; 9]
     requires place { place < 4 * candidates.now.size }
     requires clue { clue ≤ candidates.now.size }
@@ -70,7 +70,7 @@ pub(crate) fn unfilled_row<R: RowFillings>(
 {
     let width = candidates.size().get();
     let left = left_row(candidates, place);
-    let kept = known.supported(&may_row(look, &left, width), width, clue);
+    let kept = cache.supported(&may_row(look, &left, width), width, clue);
     missing_row(width, &kept)
 }
 
@@ -89,7 +89,7 @@ pub(crate) fn striking_row<R: RowFillings>(
     look: Look,
     place: u8,
     clue: u8,
-    known: &mut R,
+    cache: &mut R,
 ) -> Option<[NumberSet; 9]>
     requires place { place < 4 * candidates.now.size }
     requires clue { clue ≤ candidates.now.size }
@@ -101,7 +101,7 @@ pub(crate) fn striking_row<R: RowFillings>(
 {
     let width = candidates.size().get();
     let left = left_row(candidates, place);
-    let kept = known.supported(&may_row(look, &left, width), width, clue);
+    let kept = cache.supported(&may_row(look, &left, width), width, clue);
     if are_within(&left, &kept) {
         return None;
     }

@@ -6,19 +6,19 @@ ghost use Rattle.towers_game.specs.Fillings.{IsUnfilled};
 ghost use Rattle.towers_game.specs.Rows.{May};
 
 use crate::towers::clue_rows::{Look, unfilled_row};
-use crate::towers::known_rows::KnownRows;
+use crate::towers::row_cache::RowCache;
 use line_steps::view_cell;
 use number_sets::NumberSet;
 use trail_solver::Candidates;
 
-/// The values of the size that the clue at a place rules out in a square. `known` is used and added to.
+/// The values of the size that the clue at a place rules out in a square. `cache` is used and added to.
 pub(crate) fn by_clue(
     candidates: &Candidates,
     look: Look,
     place: u8,
     clue: u8,
     cell: usize,
-    known: &mut KnownRows,
+    cache: &mut RowCache,
 ) -> NumberSet
     requires place { place < 4 * candidates.now.size }
     requires clue { clue ≤ candidates.now.size }
@@ -30,7 +30,7 @@ pub(crate) fn by_clue(
     let size = candidates.size();
     for k in 0..size.get() as usize {
         if view_cell(size, place, k) == cell {
-            let row = unfilled_row(candidates, look, place, clue, known);
+            let row = unfilled_row(candidates, look, place, clue, cache);
             return row[k];
         }
     }

@@ -23,7 +23,7 @@ impl LinePass for Towers {
     ghost use Rattle.towers_game.specs.Towers.{IsTowers, towers_puzzle};
     ghost use Rattle.line_steps.specs.declared.grade.Grade.TheVariants.{Hard};
 
-    type Known = EachRow;
+    type Cache = EachRow;
 
     ghost puzzle = { towers_puzzle };
 
@@ -41,9 +41,9 @@ impl LinePass for Towers {
         &self,
         candidates: &mut Candidates,
         line: u8,
-        known: &mut EachRow,
+        cache: &mut EachRow,
     ) -> NumberSet {
-        strike_views(self, Look::Marks, candidates, line, known)
+        strike_views(self, Look::Marks, candidates, line, cache)
     }
 
     fn strike_first(&self, candidates: &mut Candidates) {
@@ -66,7 +66,7 @@ pub(crate) fn strike_views<R: RowFillings>(
     look: Look,
     candidates: &mut Candidates,
     line: u8,
-    known: &mut R,
+    cache: &mut R,
 ) -> NumberSet
     requires size { candidates.old.size ≡ p.now.size }
     requires line { line < 2 * candidates.old.size }
@@ -76,8 +76,8 @@ pub(crate) fn strike_views<R: RowFillings>(
 {
     let size = candidates.size();
     let front = front_place(size, line);
-    let from_front = strike_view(p, look, candidates, line, front, known);
-    let from_back = strike_view(p, look, candidates, line, front + size.get(), known);
+    let from_front = strike_view(p, look, candidates, line, front, cache);
+    let from_back = strike_view(p, look, candidates, line, front + size.get(), cache);
     from_front.union(from_back)
 }
 
@@ -88,7 +88,7 @@ fn strike_view<R: RowFillings>(
     candidates: &mut Candidates,
     line: u8,
     place: u8,
-    known: &mut R,
+    cache: &mut R,
 ) -> NumberSet
     requires size { candidates.old.size ≡ p.now.size }
     requires place { place < 4 * candidates.old.size }
@@ -102,7 +102,7 @@ fn strike_view<R: RowFillings>(
     if clue == 0 {
         return NumberSet::empty();
     }
-    match striking_row(candidates, look, place, clue, known) {
+    match striking_row(candidates, look, place, clue, cache) {
         Some(row) => strike_row(candidates, line, &along_line(&row, place, width)),
         None => NumberSet::empty(),
     }

@@ -1,7 +1,7 @@
 //! Which numbers the fillings of a row of sets have, where a filling has one number of each set and shows what the clue says.
 //!
-//! `EachRow`, for the search, looks every row through anew. `KnownRows`, for steps, remembers those that it has looked through
-//! (`known_rows`).
+//! `EachRow`, for the search, looks every row through anew. `RowCache`, for steps, remembers those that it has looked through
+//! (`row_cache`).
 
 ghost use Rattle.std.specs.Prelude.{ℕ, ◌≤◌, take, slice_index};
 ghost use Rattle.std.specs.Bool.{OnTrue};

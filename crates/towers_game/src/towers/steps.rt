@@ -9,8 +9,8 @@ ghost use Rattle.towers_game.specs.Rows.{May};
 use crate::towers::Towers;
 use crate::towers::clue_rows::{Look, unfilled_row};
 use crate::towers::clue_strikes::by_clue;
-use crate::towers::known_rows::KnownRows;
 use crate::towers::lines::strike_views;
+use crate::towers::row_cache::RowCache;
 use line_steps::{Grade, Reason, Steps};
 use number_sets::NumberSet;
 use trail_solver::{Candidates, Rules};
@@ -19,7 +19,7 @@ impl Steps for Towers {
     ghost use Rattle.towers_game.specs.TowersReasons.{IsTowersOwn};
     ghost use Rattle.towers_game.specs.Laws.TowersReasons as reasons;
 
-    type Known = KnownRows;
+    type Cache = RowCache;
 
     ghost own = { IsTowersOwn };
 
@@ -28,17 +28,17 @@ impl Steps for Towers {
         candidates: &Candidates,
         reason: Reason,
         cell: usize,
-        known: &mut KnownRows,
+        cache: &mut RowCache,
     ) -> NumberSet {
         match reason {
             Reason::Bound { place } => {
-                by_any_clue(self, candidates, Look::Alone, place, cell, known)
+                by_any_clue(self, candidates, Look::Alone, place, cell, cache)
             }
             Reason::Stand { place } => {
-                by_any_clue(self, candidates, Look::Stands, place, cell, known)
+                by_any_clue(self, candidates, Look::Stands, place, cell, cache)
             }
             Reason::Clue { place } => {
-                by_any_clue(self, candidates, Look::Marks, place, cell, known)
+                by_any_clue(self, candidates, Look::Marks, place, cell, cache)
             }
             _ => NumberSet::empty(),
         }
@@ -49,17 +49,17 @@ impl Steps for Towers {
         candidates: &Candidates,
         reason: Reason,
         place: usize,
-        known: &mut KnownRows,
+        cache: &mut RowCache,
     ) -> Option<[NumberSet; 9]> {
         match reason {
             Reason::Bound { place: at } => {
-                row_of_clue(self, candidates, Look::Alone, at, place, known)
+                row_of_clue(self, candidates, Look::Alone, at, place, cache)
             }
             Reason::Stand { place: at } => {
-                row_of_clue(self, candidates, Look::Stands, at, place, known)
+                row_of_clue(self, candidates, Look::Stands, at, place, cache)
             }
             Reason::Clue { place: at } => {
-                row_of_clue(self, candidates, Look::Marks, at, place, known)
+                row_of_clue(self, candidates, Look::Marks, at, place, cache)
             }
             _ => None,
         }
@@ -70,12 +70,12 @@ impl Steps for Towers {
         grade: Grade,
         candidates: &mut Candidates,
         line: u8,
-        known: &mut KnownRows,
+        cache: &mut RowCache,
     ) -> Option<NumberSet> {
         match grade {
             Grade::Latin => Some(NumberSet::empty()),
-            Grade::Easy => Some(strike_views(self, Look::Stands, candidates, line, known)),
-            Grade::Hard => Some(strike_views(self, Look::Marks, candidates, line, known)),
+            Grade::Easy => Some(strike_views(self, Look::Stands, candidates, line, cache)),
+            Grade::Hard => Some(strike_views(self, Look::Marks, candidates, line, cache)),
         }
     }
 
@@ -98,7 +98,7 @@ fn by_any_clue(
     look: Look,
     place: usize,
     cell: usize,
-    known: &mut KnownRows,
+    cache: &mut RowCache,
 ) -> NumberSet
     requires size { candidates.now.size ≡ p.now.size }
     requires inside { cell < candidates.now.size * candidates.now.size }
@@ -113,7 +113,7 @@ fn by_any_clue(
     if clue == 0 {
         return NumberSet::empty();
     }
-    by_clue(candidates, look, place as u8, clue, cell, known)
+    by_clue(candidates, look, place as u8, clue, cell, cache)
 }
 
 // What a clue strikes in each of the squares from a place, where it is the clue's own.
@@ -123,7 +123,7 @@ fn row_of_clue(
     look: Look,
     at: usize,
     place: usize,
-    known: &mut KnownRows,
+    cache: &mut RowCache,
 ) -> Option<[NumberSet; 9]>
     requires size { candidates.now.size ≡ p.now.size }
     requires place { place < 4 * candidates.now.size }
@@ -133,7 +133,7 @@ fn row_of_clue(
     if at != place {
         return None;
     }
-    Some(clue_row(p, candidates, look, place, known))
+    Some(clue_row(p, candidates, look, place, cache))
 }
 
 // What a clue strikes in each of the squares from its place.
@@ -142,7 +142,7 @@ fn clue_row(
     candidates: &Candidates,
     look: Look,
     place: usize,
-    known: &mut KnownRows,
+    cache: &mut RowCache,
 ) -> [NumberSet; 9]
     requires size { candidates.now.size ≡ p.now.size }
     requires place { place < 4 * candidates.now.size }
@@ -154,5 +154,5 @@ fn clue_row(
     if clue == 0 {
         return [NumberSet::empty(); 9];
     }
-    unfilled_row(candidates, look, place as u8, clue, known)
+    unfilled_row(candidates, look, place as u8, clue, cache)
 }

@@ -24,7 +24,7 @@ impl LinePass for Unequal {
     ghost use Rattle.unequal_game.specs.Unequal.{IsUnequal, unequal_puzzle};
     ghost use Rattle.line_steps.specs.declared.grade.Grade.TheVariants.{Hard};
 
-    type Known = ();
+    type Cache = ();
 
     ghost puzzle = { unequal_puzzle };
 
@@ -38,7 +38,7 @@ impl LinePass for Unequal {
         self.givens.get(cell)
     }
 
-    fn strike_by_clues(&self, candidates: &mut Candidates, line: u8, _known: &mut ()) -> NumberSet {
+    fn strike_by_clues(&self, candidates: &mut Candidates, line: u8, _cache: &mut ()) -> NumberSet {
         strike_signs(self, candidates, line)
     }
 

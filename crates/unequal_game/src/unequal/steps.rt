@@ -15,7 +15,7 @@ impl Steps for Unequal {
     ghost use Rattle.unequal_game.specs.UnequalReasons.{IsUnequalOwn};
     ghost use Rattle.unequal_game.specs.Laws.UnequalReasons as reasons;
 
-    type Known = ();
+    type Cache = ();
 
     ghost own = { IsUnequalOwn };
 
@@ -24,7 +24,7 @@ impl Steps for Unequal {
         candidates: &Candidates,
         reason: Reason,
         cell: usize,
-        _known: &mut (),
+        _cache: &mut (),
     ) -> NumberSet {
         match reason {
             Reason::Sign { from, to } => by_any_sign(self, candidates, from, to, cell),
@@ -37,7 +37,7 @@ impl Steps for Unequal {
         grade: Grade,
         candidates: &mut Candidates,
         line: u8,
-        _known: &mut (),
+        _cache: &mut (),
     ) -> Option<NumberSet> {
         let _valid = self.size();
         match grade {

@@ -16,7 +16,7 @@ returns-then-not-has-clause-left g c = λ start first shows.
     let s = c.index.result.now in
     let low : s.values < 2 ^ 16 = subst (λ (n : ℕ). n < 2 ^ 16) c.bits-bits.ensures (omega arith) in (
       shows,
-      left_none (StruckBy g.P.Rules.puzzle g.P.Steps.own c.args.p.now) c.args.grade start c.args.place c.args.value c.args.steps.now.items s (aim_goal c.args.aim)
+      left_none (StruckBy g.P.Rules.puzzle g.P.Steps.own c.args.p.now) c.args.grade start c.args.index c.args.value c.args.steps.now.items s (aim_goal c.args.aim)
           c.requires.inside c.index.ensures low (sym c.has.ensures ∙ c.if-not-has.true),
     )
 
@@ -24,17 +24,17 @@ pub returns-then-not-shows_on-clause-left : goal.returns-then-not-shows_on-claus
 returns-then-not-shows_on-clause-left g c = λ start first shows.
     let Struck = StruckBy g.P.Rules.puzzle g.P.Steps.own c.args.p.now in
     let old = c.args.steps.now.items in
-    let place = c.args.place in
+    let index = c.args.index in
     let s = c.index.result.now in
     let t = c.without-less.result in
     let set = c.as_slice.result.now in
     let low : s.values < 2 ^ 16 = subst (λ (n : ℕ). n < 2 ^ 16) c.bits-bits.ensures (omega arith) in
     let few : t.values < 2 ^ 16 = subst (λ (n : ℕ). n < 2 ^ 16) c.bits-less_bits.ensures (omega arith) in
-    let front : take place set ≡ take place old = ap (take place) c.as_slice.ensures.value ∙ take-set old place t in
+    let front : take index set ≡ take index old = ap (take index) c.as_slice.ensures.value ∙ take-set old index t in
     let here = subst (λ (xs : List Step). Leads Struck c.args.grade start (steps_of xs) c.args.candidates.now) (sym front) first in (
       subst (λ (xs : List Step). Shows Struck c.args.grade start (steps_of xs) (aim_goal c.args.aim))
-          (sym (set_back old place s t c.requires.inside c.index.ensures)) shows,
-      left_with Struck (all_less (g.P.Rules.puzzle c.args.p.now) (g.P.Steps.own c.args.p.now) (g.met.P.Steps.own_less c.args.p.now)) c.args.grade start place c.args.value old set s t (aim_goal c.args.aim) c.requires.inside
+          (sym (set_back old index s t c.requires.inside c.index.ensures)) shows,
+      left_with Struck (all_less (g.P.Rules.puzzle c.args.p.now) (g.P.Steps.own c.args.p.now) (g.met.P.Steps.own_less c.args.p.now)) c.args.grade start index c.args.value old set s t (aim_goal c.args.aim) c.requires.inside
           c.index.ensures low few c.without-less.ensures c.as_slice.ensures.value shows
           (λ shown. both_ways c.shows_on.result c.if-not-shows_on.true ((c.shows_on.ensures.shows start here).1 shown)),
     )
@@ -43,15 +43,15 @@ pub returns-else-not-shows_on-clause-left : goal.returns-else-not-shows_on-claus
 returns-else-not-shows_on-clause-left g c = λ start first shows.
     let Struck = StruckBy g.P.Rules.puzzle g.P.Steps.own c.args.p.now in
     let old = c.args.steps.now.items in
-    let place = c.args.place in
+    let index = c.args.index in
     let s = c.index.result.now in
     let t = c.without-less.result in
     let set = c.as_slice.result.now in
     let low : s.values < 2 ^ 16 = subst (λ (n : ℕ). n < 2 ^ 16) c.bits-bits.ensures (omega arith) in
     let few : t.values < 2 ^ 16 = subst (λ (n : ℕ). n < 2 ^ 16) c.bits-less_bits.ensures (omega arith) in
-    let front : take place set ≡ take place old = ap (take place) c.as_slice.ensures.value ∙ take-set old place t in
+    let front : take index set ≡ take index old = ap (take index) c.as_slice.ensures.value ∙ take-set old index t in
     let here = subst (λ (xs : List Step). Leads Struck c.args.grade start (steps_of xs) c.args.candidates.now) (sym front) first in (
       subst (λ (xs : List Step). Shows Struck c.args.grade start (steps_of xs) (aim_goal c.args.aim)) c.as_slice.ensures.value
           ((c.shows_on.ensures.shows start here).0 c.if-not-shows_on.false),
-      left_less Struck c.args.grade start place c.args.value old s t (aim_goal c.args.aim) c.requires.inside c.index.ensures low few c.without-less.ensures,
+      left_less Struck c.args.grade start index c.args.value old s t (aim_goal c.args.aim) c.requires.inside c.index.ensures low few c.without-less.ensures,
     )

@@ -19,7 +19,7 @@ loop-value-init g c = (
     record {
       tight = done.tight;
       needed = done.needed;
-      here = needed_none (StruckBy g.P.Rules.puzzle g.P.Steps.own c.args.p.now) c.args.grade start c.args.place (steps_of c.args.steps.now.items) (aim_goal c.args.aim) done.shows;
+      here = needed_none (StruckBy g.P.Rules.puzzle g.P.Steps.own c.args.p.now) c.args.grade start c.args.index (steps_of c.args.steps.now.items) (aim_goal c.args.aim) done.shows;
     },
     λ timely. timely,
   ),
@@ -28,7 +28,7 @@ loop-value-init g c = (
 pub loop-value-preserved : goal.loop-value-preserved
 loop-value-preserved g c =
     let Struck = StruckBy g.P.Rules.puzzle g.P.Steps.own c.args.p.now in
-    let place = c.args.place in
+    let index = c.args.index in
     let value = c.loop-value.value in
     let before = c.loop-value.invariant in
     let old = c.loop-value.steps.items in
@@ -38,14 +38,14 @@ loop-value-preserved g c =
       c.leave_out.ensures.length ∙ before.1,
       c.leave_out.ensures.front ∙ before.2,
       λ start first done.
-          let here : Leads Struck c.args.grade start (steps_of (take place old)) c.loop-value.candidates =
-          subst (λ (d : CandidatesValue). Leads Struck c.args.grade start (steps_of (take place old)) d) (sym before.0)
+          let here : Leads Struck c.args.grade start (steps_of (take index old)) c.loop-value.candidates =
+          subst (λ (d : CandidatesValue). Leads Struck c.args.grade start (steps_of (take index old)) d) (sym before.0)
           (subst (λ (xs : List Step). Leads Struck c.args.grade start (steps_of xs) c.args.candidates.now) (sym before.2) first) in
           let was = before.3 start first done in
           let out = c.leave_out.ensures.left start here was.0 in (
             out.0,
-            narrowed_on Struck (all_less (g.P.Rules.puzzle c.args.p.now) (g.P.Steps.own c.args.p.now) (g.met.P.Steps.own_less c.args.p.now)) c.args.grade start place value old new aim was.0 out.1 was.1,
-            λ timely. left_out_timely Struck c.args.grade start place value old new aim out.1 (was.2 timely),
+            narrowed_on Struck (all_less (g.P.Rules.puzzle c.args.p.now) (g.P.Steps.own c.args.p.now) (g.met.P.Steps.own_less c.args.p.now)) c.args.grade start index value old new aim was.0 out.1 was.1,
+            λ timely. left_out_timely Struck c.args.grade start index value old new aim out.1 (was.2 timely),
           ),
     )
 
@@ -63,6 +63,6 @@ returns-clause-narrowed g c = λ start first done.
         tight = was.1.tight;
         needed = was.1.needed;
       };
-      here = needed_all Struck c.args.grade start c.args.place c.loop-value.value (steps_of steps) aim small (omega (arith, c.loop-value-test.false)) was.0 was.1.here;
+      here = needed_all Struck c.args.grade start c.args.index c.loop-value.value (steps_of steps) aim small (omega (arith, c.loop-value-test.false)) was.0 was.1.here;
       timely = was.2;
     }

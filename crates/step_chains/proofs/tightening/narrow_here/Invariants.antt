@@ -9,9 +9,9 @@ use Rattle.step_chains.proofs.tightening.narrow_here.Given as goal
 
 abbrev pub invariant-loop-value : goal.invariant-loop-value
 invariant-loop-value g l = (l.candidates ≡ l.fn.candidates) × (length l.steps.items ≡ length l.fn.steps.items)
-    × (take l.place l.steps.items ≡ take l.place l.fn.steps.items)
-    × FromEach (StruckBy g.P.Rules.puzzle g.P.Steps.own l.p) l.grade l.place l.fn.steps.items l.fn.candidates
-    (λ c. IsDoneFrom (StruckBy g.P.Rules.puzzle g.P.Steps.own l.p) l.grade c (l.place + 1) l.fn.steps.items (aim_goal l.aim)
+    × (take l.index l.steps.items ≡ take l.index l.fn.steps.items)
+    × FromEach (StruckBy g.P.Rules.puzzle g.P.Steps.own l.p) l.grade l.index l.fn.steps.items l.fn.candidates
+    (λ c. IsDoneFrom (StruckBy g.P.Rules.puzzle g.P.Steps.own l.p) l.grade c (l.index + 1) l.fn.steps.items (aim_goal l.aim)
     → Shows (StruckBy g.P.Rules.puzzle g.P.Steps.own l.p) l.grade c (steps_of l.steps.items) (aim_goal l.aim)
-    × IsNarrowedBelow (StruckBy g.P.Rules.puzzle g.P.Steps.own l.p) l.grade c l.place l.value l.steps.items (aim_goal l.aim)
+    × IsNarrowedBelow (StruckBy g.P.Rules.puzzle g.P.Steps.own l.p) l.grade c l.index l.value l.steps.items (aim_goal l.aim)
     × (AreTimely c (steps_of l.fn.steps.items) → AreTimely c (steps_of l.steps.items)))

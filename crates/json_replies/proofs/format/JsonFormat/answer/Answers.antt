@@ -38,10 +38,10 @@ returns-in-None-read_begin g c =
     let f = facts g in
     let b = boards g in
     let old = c.args.session.now in
-    let new = c.obey-answer.new.session in
+    let new = c.execute-answer.new.session in
     let line = option_copied c.args.line in
-    let obey = c.obey-answer in
-    responds f old new line line (JsonReply f b) is_quit obey.result c.told.result refl
+    let execute = c.execute-answer in
+    responds f old new line line (JsonReply f b) is_quit execute.result c.told.result refl
     (λ outcome bytes gives leaves told. plain_told f b old new line outcome bytes (sym c.in-None.ensures)
     (λ asked is. absurd (cc (c.in-None-read_begin.ensures.only asked is))) gives leaves told)
-    (obeyed f old new line obey.result obey.ensures.ok obey.ensures.err obey.ensures.goes_on obey.ensures.why) c.told.ensures
+    (obeyed f old new line execute.result execute.ensures.ok execute.ensures.err execute.ensures.goes_on execute.ensures.why) c.told.ensures

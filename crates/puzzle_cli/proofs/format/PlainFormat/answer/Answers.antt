@@ -7,7 +7,7 @@ use Rattle.puzzle_cli.proofs.format.PlainFormat.answer.Goals as goal
 
 pub returns-in-Ok : goal.returns-in-Ok
 returns-in-Ok g c =
-    said_plainly (facts_of g.P.Rules g.P.Game g.P.Draw) c.args.session.now c.obey.new.session (option_copied c.args.line) c.in-Ok.response
+    said_plainly (facts_of g.P.Rules g.P.Game g.P.Draw) c.args.session.now c.execute.new.session (option_copied c.args.line) c.in-Ok.response
     c.in-Ok.ensures.ok
 
 pub returns-in-Err : goal.returns-in-Err

@@ -1,7 +1,7 @@
 //! The memory of `row_fillings`: what was found of rows of sets, so that no row is looked through twice.
 ghost use Rattle.std.specs.Prelude.{◌≡◌, ◌↔◌, ℕ, ◌<◌, ◌≤◌, true, take, IfSome};
 ghost use Rattle.number_sets.specs.Sets.{has_number};
-ghost use Rattle.towers_game.specs.Inner.KnownRows.{IsKnown, IsLone, IsReduced, IsWithout};
+ghost use Rattle.towers_game.specs.Inner.RowCache.{IsCached, IsLone, IsReduced, IsWithout};
 ghost use Rattle.towers_game.specs.Inner.RowSets.{AreKept};
 
 use crate::towers::row_fillings::RowFillings;
@@ -25,7 +25,7 @@ const SPREAD: u32 = 2_654_435_761;
 /// Rows of sets that were looked at, each with its clue and what was found of it, in one of the four slots that its sets and its clue
 /// give. They speak of sets and clues alone, so they stay right whatever is taken away, and in any puzzle.
 #[derive(Debug, Drop)]
-pub struct KnownRows {
+pub struct RowCache {
     widths: [u8; SLOTS],
     clues: [u8; SLOTS],
     sets: [[NumberSet; 9]; SLOTS],
@@ -33,22 +33,22 @@ pub struct KnownRows {
     turns: [u8; BUCKETS],
 }
 
-impl Model for KnownRows {
-    ghost use Rattle.towers_game.specs.Inner.KnownRows.{AreKnown};
+impl Model for RowCache {
+    ghost use Rattle.towers_game.specs.Inner.RowCache.{AreCached};
 
     // Nobody is told what it holds.
     ghost Value = { Unit {0} };
 
     ghost view = { λ k. tt };
 
-    ghost invariant = { λ k. AreKnown k.widths k.clues k.sets k.kept };
+    ghost invariant = { λ k. AreCached k.widths k.clues k.sets k.kept };
 }
 
-impl Default for KnownRows {
+impl Default for RowCache {
     /// Nothing yet: rows of no squares.
-    fn default() -> KnownRows {
+    fn default() -> RowCache {
         let nothing = [NumberSet::empty(); 9];
-        KnownRows {
+        RowCache {
             widths: [0; SLOTS],
             clues: [0; SLOTS],
             sets: [nothing; SLOTS],
@@ -58,7 +58,7 @@ impl Default for KnownRows {
     }
 }
 
-impl RowFillings for KnownRows {
+impl RowFillings for RowCache {
     /// The row is known from then on.
     fn supported(&mut self, sets: &[NumberSet; 9], width: u8, clue: u8) -> [NumberSet; 9] {
         let row = reduced(sets);
@@ -72,7 +72,7 @@ impl RowFillings for KnownRows {
     }
 }
 
-impl KnownRows {
+impl RowCache {
     // What is kept of a row, where it is known in one of a bucket's slots.
     fn find(
         &self,
@@ -125,7 +125,7 @@ impl KnownRows {
         kept: &[NumberSet; 9],
     )
         requires bucket { bucket < BUCKETS }
-        requires known { IsKnown width clue sets.now kept.now }
+        requires known { IsCached width clue sets.now kept.now }
     {
         let turn = self.turns[bucket];
         self.turns[bucket] = turn.wrapping_add(1);
@@ -149,7 +149,7 @@ impl KnownRows {
         kept: &[NumberSet; 9],
     )
         requires slot { slot < SLOTS }
-        requires known { IsKnown width clue sets.now kept.now }
+        requires known { IsCached width clue sets.now kept.now }
     {
         self.widths[slot] = width;
         self.clues[slot] = clue;

@@ -1,5 +1,5 @@
 use Rattle.towers_game.proofs.ReducedRows.{kept_reduced}
-use Rattle.towers_game.proofs.towers.known_rows.KnownRowsRowFillings.supported.Goals as goal
+use Rattle.towers_game.proofs.towers.row_cache.RowCacheRowFillings.supported.Goals as goal
 
 pub returns : goal.returns
 returns c =

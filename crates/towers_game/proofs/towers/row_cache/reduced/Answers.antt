@@ -1,10 +1,10 @@
 use Rattle.std.proofs.Common.{ℕ, ◌∙◌, subst, arith}
 use Rattle.std.proofs.lemmas.Grind.{get_or_default_zero}
 use Rattle.std.proofs.lemmas.List.{length-set}
-use Rattle.towers_game.specs.Inner.KnownRows.{IsReducedSet, IsWithout}
+use Rattle.towers_game.specs.Inner.RowCache.{IsReducedSet, IsWithout}
 use Rattle.towers_game.proofs.ReducedRows.{reduced_set}
 use Rattle.line_steps.proofs.FilledLemmas.{row_next}
-use Rattle.towers_game.proofs.towers.known_rows.reduced.Goals as goal
+use Rattle.towers_game.proofs.towers.row_cache.reduced.Goals as goal
 
 pub loop-k-preserved : goal.loop-k-preserved
 loop-k-preserved c =

@@ -2,7 +2,7 @@ use Rattle.std.proofs.Common.{Err, ap, inl}
 use Rattle.std.specs.Option.{option_copied}
 use Rattle.std.proofs.lemmas.Result.{err_from_is_err_and}
 use Rattle.puzzle_cli.proofs.CommandLaws.{goes_on}
-use Rattle.puzzle_cli.proofs.reply.answers.obey.Goals as goal
+use Rattle.puzzle_cli.proofs.reply.answers.execute.Goals as goal
 
 pub returns-in_err-read_command-clause-goes_on : goal.returns-in_err-read_command-clause-goes_on
 returns-in_err-read_command-clause-goes_on g c =

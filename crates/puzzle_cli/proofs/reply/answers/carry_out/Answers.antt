@@ -5,7 +5,7 @@ use Rattle.play_midend.specs.Laws
 use Rattle.play_midend.specs.Laws.{FromStart}
 use Rattle.puzzle_cli.specs.declared.command.Action.TheVariants.{Play, Undo, Redo, Restart}
 use Rattle.puzzle_cli.proofs.ActionReplies.{answered, unread_answered, solve_answered}
-use Rattle.puzzle_cli.proofs.reply.answers.call.Goals as goal
+use Rattle.puzzle_cli.proofs.reply.answers.carry_out.Goals as goal
 
 pub returns-in_err-read_move-in-Play-clause-answered : goal.returns-in_err-read_move-in-Play-clause-answered
 returns-in_err-read_move-in-Play-clause-answered g c =

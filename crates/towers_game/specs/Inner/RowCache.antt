@@ -2,18 +2,18 @@
 use Rattle.std.specs.Prelude.{◌≡◌, ◌≢◌, ℕ, ◌<◌, ◌≤◌, true, false, [], List, length, take, slice_index}
 use Rattle.std.specs.Prelude.{slice_index_or}
 use Rattle.number_sets.specs.Sets.{has_number, IsSubset, IsSingle}
-use Rattle.towers_game.specs.declared.towers.known_rows.TheConstants.{SLOTS}
+use Rattle.towers_game.specs.declared.towers.row_cache.TheConstants.{SLOTS}
 use Rattle.towers_game.specs.Inner.RowSets.{AreKept}
 
 -- of the first sets of a row, so many as the width, these are kept
-pub record IsKnown (width clue : ℕ) (sets kept : List ℕ) : Type 0 where
+pub record IsCached (width clue : ℕ) (sets kept : List ℕ) : Type 0 where
   pub room : width ≤ length sets
   pub stays : AreKept (take width sets) clue kept
 
 -- so in each of the slots
-pub record AreKnown (widths clues : List ℕ) (sets kept : List (List ℕ)) : Type 0 where
+pub record AreCached (widths clues : List ℕ) (sets kept : List (List ℕ)) : Type 0 where
   pub each : (slot : ℕ) → slot < SLOTS
-      → IsKnown (slice_index widths slot) (slice_index clues slot) (slice_index_or sets slot [])
+      → IsCached (slice_index widths slot) (slice_index clues slot) (slice_index_or sets slot [])
       (slice_index_or kept slot [])
 
 -- the number is the only one of some of the row's first sets
