@@ -1,6 +1,6 @@
 //! A row: a set for each square of a line, in the order in which a clue sees them, and whether one row is within another.
 //!
-//! What such a row's fillings have is in `row_fillings`, what of that is remembered is in `known_rows`, and `low_towers` uses no row.
+//! What such a row's fillings have is in `row_fillings`, what of that is remembered is in `row_cache`, and `low_towers` uses no row.
 
 ghost use Rattle.std.specs.Bool.{MatchBool};
 ghost use Rattle.towers_game.specs.Inner.RowSets.{AreWithin};
