@@ -42,8 +42,8 @@
 # make trust     counts the lines to read to believe each promise; PROMISE=solve
 #                prints these lines, and so does another name that it prints, or
 #                CRATE::FUNCTION
-# make bench     times solver, generator, saves and objects, beside the usual
-#                program if it is there; IDS=file times the solver on its lines
+# make bench     times solver, fair games and answers, the first two beside the
+#                usual program if it is there; IDS=file times the solver on its lines
 # make hard      times the solver on COUNT=22000 fresh hard puzzles, by SEED=1
 # make installcheck, make uninstall   play with what is installed; remove it
 # make dist      packs the last commit, and its programs, in build/

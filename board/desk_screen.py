@@ -106,7 +106,7 @@ class DeskScreen(FullScreen):
         if not may_stop:
             return super().waiting(False)
         self._dialogues.tell(f'{shared_texts.SEEKING}. The next key ends that.  {moving(time.monotonic())}')
-        return self._screen.has_key(False)
+        return self._screen.has_key()
 
     def _answer(self, key: str) -> None:
         if key != 'resize':
@@ -138,7 +138,7 @@ class DeskScreen(FullScreen):
         """The board at once; then what there is to say of it, as long as no key waits, and no steps are shown."""
         super()._draw()
         judging = self._desk.judging()
-        while self._step is None and not self._screen.has_key(False) and next(judging, None) is not None:
+        while self._step is None and not self._screen.has_key() and next(judging, None) is not None:
             super()._draw()
         if self.game.message == shared_texts.STOPPED:
             self.game.message = ''

@@ -51,6 +51,8 @@ class FullScreen:
         #: Which step of a hint is shown, while the arrows walk along them, and what keys do then.
         self._step: Optional[int] = None
         self._way = ''
+        #: How many keys waited when it was first offered that a key stops what the program does; nothing while that isn't offered.
+        self._before_offer: Optional[int] = None
         self._is_over = False
         #: Whether the player goes on in lines of text.
         self.wants_lines = False
@@ -96,8 +98,16 @@ class FullScreen:
         return self._dialogues.confirm(question)
 
     def waiting(self, may_stop: bool) -> bool:
+        """A key that was pressed before it was offered to stop stops nothing, and is heard afterwards."""
         self._dialogues.tell(f'The program is at work{". Any key stops it." if may_stop else " .."}  {moving(time.monotonic())}')
-        return self._screen.has_key(may_stop) and may_stop
+        waiting = self._screen.waiting_keys()
+        if not may_stop or self._before_offer is None:
+            self._before_offer = waiting if may_stop else None
+            return False
+        is_stopped = waiting > self._before_offer
+        if is_stopped:
+            self._screen.drop_last_key()
+        return is_stopped
 
     # --- the run ---
 
@@ -123,6 +133,7 @@ class FullScreen:
                 self.game.leave()
 
     def _answer(self, key: str) -> None:
+        self._before_offer = None
         if key != 'resize':
             self.game.message = ''
             self.game.keep_again()

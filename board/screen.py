@@ -206,12 +206,19 @@ class Screen:
         """It is the next one again."""
         self._keys.appendleft(key)
 
-    def has_key(self, is_taken: bool) -> bool:
-        """Whether a key was pressed; it is taken away, or left for `key`. Raises as that."""
+    def has_key(self) -> bool:
+        """Whether a key was pressed; it is left for `key`. Raises as that."""
+        return self.waiting_keys() > 0
+
+    def waiting_keys(self) -> int:
+        """How many keys were pressed that `key` hasn't given yet. Raises as that."""
         self._fill(0)
-        if is_taken:
-            return bool(self._keys) and self._keys.popleft().name != 'resize'
-        return any(key.name != 'resize' for key in self._keys)
+        return sum(key.name != 'resize' for key in self._keys)
+
+    def drop_last_key(self) -> None:
+        """Takes away the key that was pressed last, of those that `key` hasn't given yet."""
+        at = max(at for at, key in enumerate(self._keys) if key.name != 'resize')
+        del self._keys[at]
 
     def _fill(self, seconds: Optional[float]) -> bool:
         """Waits for keys, or for a signal. False where there was something to read, and nothing came."""

@@ -7,7 +7,7 @@ from typing import Any, Dict, Iterator, List, NamedTuple
 import pytest
 
 #: What the cases of a folder share, the fixtures there too; and more that says of an assertion what pytest says.
-SHARED = ['scripts.place', 'scripts.small', 'installing.site', 'lines.runs', 'objects.agreement', 'saving.game', 'exchange.sides']
+SHARED = ['scripts.place', 'installing.site', 'lines.runs', 'objects.agreement', 'saving.game', 'exchange.sides']
 pytest_plugins = [f'tests.{name}' for name in SHARED]
 for name in ('board', 'check', 'faults', 'harness', 'objects', 'page', 'sheet'):
     pytest.register_assert_rewrite(f'tests.{name}')

@@ -5,7 +5,6 @@ squares   random Latin squares, and squares by a formula
 signs     the makers for Unequal
 clues     the makers for Towers
 listed    all families by name, and the lines of their puzzles
-changes   a puzzle with a few items changed
 
 Puzzles are those of `tests/second_implementation`, which writes their descriptions.
 """

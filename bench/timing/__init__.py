@@ -1,5 +1,5 @@
-"""Times puzzles one by one, each with a limit, by a program that answers each line.
+"""Programs that are asked line by line, and what each answer took.
 
-answering   the program, which is begun again where an answer doesn't come in time
-table       times by game and class
+answering   one that answers a puzzle with a time, and is begun again where an answer doesn't come
+making      our puzzles-json, and the usual program's generator
 """

@@ -41,7 +41,7 @@ class Answering:
         return self
 
     def __exit__(self, *_: object) -> None:
-        self._stop()
+        self.stop()
 
     def ask(self, line: str) -> Optional[Timed]:
         """The answer to a puzzle, or nothing where it doesn't come in time."""
@@ -51,11 +51,11 @@ class Answering:
         before = processor_time(process.pid)
         stdin.write(line.encode() + b'\n')
         if not self._answers(process, before):
-            self._stop()
+            self.stop()
             return None
         answer = stdout.readline().split()
         if len(answer) != 2 or not all(word.isdigit() for word in answer):
-            self._stop()
+            self.stop()
             raise Unread(f'cannot read {line}')
         nanoseconds, solutions = map(int, answer)
         return Timed(min(nanoseconds, processor_time(process.pid) - before or nanoseconds), solutions)
@@ -74,24 +74,13 @@ class Answering:
                 left = min(self.limit - used, end - time.monotonic())
         return False
 
-    def least(self, line: str, rounds: int) -> Optional[Timed]:
-        """The shortest time of some answers in a row, since others may work on the machine; a slow one isn't asked for again."""
-        best = self.ask(line)
-        spent = best.nanoseconds if best else 0
-        for _ in range(rounds - 1):
-            if best is None or spent > self.limit * 1e8:
-                break
-            again = self.ask(line)
-            best = min(best, again or best)
-            spent += best.nanoseconds
-        return best
-
     def _begin(self) -> subprocess.Popen[bytes]:
         process = subprocess.Popen(self._words, stdin=subprocess.PIPE, stdout=subprocess.PIPE, bufsize=0)
         self._process = process
         return process
 
-    def _stop(self) -> None:
+    def stop(self) -> None:
+        """Ends it, until the next question."""
         if self._process:
             self._process.kill()
             self._process.communicate()

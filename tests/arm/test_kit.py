@@ -10,7 +10,7 @@ from typing import Iterator, List
 import pytest
 
 from arm_build.program import KIT_C
-from building.changes import command
+from building.kit import command
 from tests.harness import Room, run
 from tests.harness.builds import TOP
 from tests.harness.room import Skip

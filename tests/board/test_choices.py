@@ -92,8 +92,7 @@ def test_words(front: BoardFront, room: Room) -> None:
         window.look('n', ['[Towers]', '[7]', '[hard]', '[random]'])
         window.look('<up><up><right>', ['[Unequal]', '[6]', '[extreme]', '200 puzzles, 199 of them new to you'])
         window.look('q', ['Towers 7x7'], ['A new game'])
-        window.press('q')
-        window.status()
+        window.leave('q')
     for path in [path for path in room.paths() if path.endswith('.sav')]:
         room.remove(path)
     for words, shows in [(['unequal'], ['Unequal 6x6', 'extreme']), (['towers'], ['Towers 7x7', 'hard', 'Hard 7, number '])]:

@@ -123,8 +123,7 @@ def test_saved(front: BoardFront, room: Room) -> None:
         assert room.read('a game.sav') == save_text(3), 'the save again'
         window.look('wFOLDER/notes.txt<enter>y', ['Saved in FOLDER/notes.txt'])
         window.look('wFOLDER/nothing/game.sav<enter>', ["There is no folder 'FOLDER/nothing'."])
-        window.press('q')
-        window.status()
+        window.leave('q')
     with front.window([os.path.join(room.path, 'a game.sav')]) as window:
         window.look('', ['3 of 9', 'move 3/3'])
     assert [path for path in room.paths() if not path.startswith('state/')] == ['a game.sav', 'notes.txt'], 'what lies there'

@@ -34,9 +34,14 @@ class Window(NamedTuple):
 
 WINDOWS: List[Window] = [
     Window('towers', 3, (24, 80), 5, (6, 45)),
+    Window('towers', 4, (24, 80), 3, (6, 41)),
+    Window('unequal', 4, (24, 80), 3, (6, 35)),
     Window('towers', 5, (24, 80), 3, (6, 49)),
     Window('unequal', 6, (24, 80), 1, (6, 51)),
     Window('towers', 7, (24, 80), 1, (19, 1)),
+    Window('unequal', 7, (24, 80), 1, (17, 1)),
+    Window('towers', 8, (24, 80), 1, (21, 1)),
+    Window('unequal', 8, (24, 80), 1, (19, 1)),
     Window('towers', 9, (24, 80), 1, (22, 1)),
     Window('unequal', 9, (24, 80), 1, (21, 1)),
     Window('unequal', 5, (43, 132), 7, (6, 83)),

@@ -67,8 +67,7 @@ def test_ended(front: BoardFront, room: Room, end: Callable[[Terminal], None], s
     assert all(is_gone(pid) for pid in programs), programs
     with front.window([]) as window:
         window.look('', ['Towers 3x3', '1 of 9', 'move 1/2'])
-        window.press('q')
-        window.status()
+        window.leave('q')
 
 
 def is_gone(pid: int) -> bool:
@@ -136,8 +135,7 @@ def test_damaged(front: BoardFront, room: Room) -> None:
     with front.window(['towers'], (30, 100)) as window:
         window.look('', ["can't be read: That save is damaged (Missing)", 'Towers 5x5'])
         window.look('o', ["0 ", "towers, can't be read", 'a file ..'])
-        window.press('qq')
-        window.status()
+        window.leave('qq')
     old = [path for path in room.paths() if path.startswith('state/puzzles/old/')]
     assert [room.read(path) for path in old] == [save_text(2)[:150]], 'it is put away'
 
@@ -148,10 +146,8 @@ def test_two_windows(front: BoardFront, room: Room) -> None:
         with front.window(['towers', ID]) as second:
             second.look('', ['Another window has the last game; this one is kept in towers-2.sav.'])
             second.look('1<right>2', ['2 of 9'], ['Another window'])
-            second.press('q')
-            second.status()
-        first.press('q')
-        first.status()
+            second.leave('q')
+        first.leave('q')
     assert [room.read(KEPT), room.read('state/puzzles/towers-2.sav')] == [save_text(1), save_text(2)], 'both games'
 
 

@@ -1,36 +1,67 @@
-"""What the commands in Python do where standard output is closed, or nothing can be written to it: a line on standard error and status 1."""
+"""What the commands in Python do where nothing can be written to standard output, or where the program isn't there or ends: a line on standard error."""
 
 from __future__ import annotations
 
 import os
 import subprocess
-from typing import List, Sequence, Tuple
+from typing import Dict, List, Sequence, Tuple
 
 import pytest
 
 from tests.board.front import BoardFront
 from tests.harness.builds import TOP
+from tests.harness.game import ID
 
-SHEET = str(TOP / 'sheet' / 'puzzles-sheet')
+#: The commands, by their folders and the status that says so.
+COMMANDS: Dict[str, Tuple[str, int]] = {'puzzles-play': ('board', 1), 'puzzles-sheet': ('sheet', 1), 'puzzles-check': ('check', 3)}
 
-#: What a command writes: its name, and the words.
+#: What a command writes: its name, and the words. There is a list of puzzles.
 WRITTEN: List[Tuple[str, Sequence[str]]] = [
     ('puzzles-play', ['--help']),
     ('puzzles-play', ['--version']),
     ('puzzles-play', ['--ids', 'towers', '3']),
     ('puzzles-sheet', ['--help']),
     ('puzzles-sheet', ['-V']),
-    ('puzzles-sheet', ['towers', '--count', '1']),
+    ('puzzles-sheet', ['--ids', 'list']),
+    ('puzzles-check', ['--help']),
+    ('puzzles-check', ['--version']),
+    ('puzzles-check', ['--quick', 'list']),
 ]
 
-#: A shell that runs the command with such an output, and the reason that is told.
-OUTPUTS = [('"$0" "$@" > /dev/full', 'No space left on device'), ('"$0" "$@" >&-', 'Bad file descriptor')]
+#: A shell that runs the command with such an output, and the reason that is told. One that reads nothing is gone once there is something to be read.
+OUTPUTS = [
+    ('"$0" "$@" > /dev/full', 'No space left on device'),
+    ('"$0" "$@" >&-', 'Bad file descriptor'),
+    ('trap "" PIPE; (sleep 0.1; "$0" "$@"; echo $? > status) | true; exit $(cat status)', 'Broken pipe'),
+]
+
+#: What stands for the program, and how what is told begins then.
+PROGRAMS = [
+    ('/no program', 'the program is not built yet: run make\n'),
+    ('/bin/cat', 'the program has ended: '),
+    ('/bin/false', 'the program has ended: status 1\n'),
+]
 
 
-@pytest.mark.parametrize(('shell', 'reason'), OUTPUTS, ids=['full', 'closed'])
+def told(front: BoardFront, name: str, words: Sequence[str], shell: str, **env: str) -> Tuple[int, str]:
+    """The status of a command, and what it says on standard error after its name."""
+    folder, status = COMMANDS[name]
+    front.room.put('list', f'{ID}\n'.encode())
+    command, own = ['sh', '-c', shell, str(TOP / folder / name), *words], {**os.environ, **front.env(), **env}
+    ended = subprocess.run(command, env=own, cwd=front.room.path, stderr=subprocess.PIPE, encoding='utf-8', check=False)
+    return ended.returncode - status, ended.stderr.partition(f'{name}: ')[2]
+
+
+@pytest.mark.parametrize(('shell', 'reason'), OUTPUTS, ids=['full', 'closed', 'gone'])
 @pytest.mark.parametrize(('name', 'words'), WRITTEN, ids=[' '.join([name, *words]) for name, words in WRITTEN])
 def test_output(front: BoardFront, shell: str, reason: str, name: str, words: Sequence[str]) -> None:
-    path = SHEET if name == 'puzzles-sheet' else front.path
-    env = {**os.environ, **front.env()}
-    ended = subprocess.run(['sh', '-c', shell, path, *words], env=env, cwd=front.room.path, stderr=subprocess.PIPE, encoding='utf-8', check=False)
-    assert (ended.returncode, ended.stderr) == (1, f'{name}: standard output: {reason}\n')
+    assert told(front, name, words, shell) == (0, f'standard output: {reason}\n')
+
+
+@pytest.mark.parametrize(('program', 'begins'), PROGRAMS)
+@pytest.mark.parametrize(('name', 'words'), [('puzzles-sheet', ['--ids', 'list', '--output', 'page.html']), ('puzzles-check', ['list'])])
+def test_program(front: BoardFront, program: str, begins: str, name: str, words: Sequence[str]) -> None:
+    """One that isn't there, that isn't the program, or that ends. Nothing is written then."""
+    status, error = told(front, name, words, '"$0" "$@" > output', PUZZLES_JSON=program)
+    assert (status, error[: len(begins)]) == (0, begins)
+    assert (front.room.read('output'), front.room.names()) == (b'', ['list', 'output'])

@@ -1,4 +1,4 @@
-"""Pictures of the board at each size, as text files for a person to look at, which a terminal has to show."""
+"""Pictures of the board with squares of each depth, as text files for a person to look at, which a terminal has to show. Other sizes are in `test_layout`."""
 
 from __future__ import annotations
 
@@ -8,7 +8,6 @@ from typing import List, NamedTuple, Tuple
 
 import pytest
 
-from playing.games import SIZES
 from tests.board.front import USUAL, BoardFront
 from tests.harness import by_name
 from tests.harness.puzzles import made
@@ -47,10 +46,10 @@ class Picture(NamedTuple):
 
 
 ALL: List[Picture] = [
-    *(Picture(game, size) for game in ('towers', 'unequal') for size in SIZES),
-    *(Picture(game, size, (43, 132)) for game in ('towers', 'unequal') for size in (5, 9)),
+    *(Picture(game, size) for game in ('towers', 'unequal') for size in (3, 5, 6, 9)),
     *(Picture(game, 5, (20, 40)) for game in ('towers', 'unequal')),
-    *(Picture(game, 9, (60, 200)) for game in ('towers', 'unequal')),
+    Picture('unequal', 5, (43, 132)),
+    Picture('towers', 9, (43, 132)),
     *(Picture(game, 6, term='vt100', locale='C') for game in ('towers', 'unequal')),
     *(Picture('towers', 3, term=term, locale=locale, desk=('spare-', SPARE, '')) for term, locale in (('xterm-256color', 'C.UTF-8'), ('vt100', 'C'))),
     Picture('towers', 9, desk=('blamed-', NINE, BLAMED)),

@@ -11,6 +11,7 @@ from typing import Dict
 from tests.board.front import BoardFront
 from tests.board.test_lives import is_gone
 from tests.harness import SLOWNESS, Room
+from tests.harness.between import put_between
 from tests.harness.game import ID, save_text
 from tests.harness.terminal import Terminal
 
@@ -22,64 +23,34 @@ SILENT = b'#!/bin/sh\nexec sleep 100\n'
 #: A program that answers by plain lines.
 PLAIN = b'#!/bin/sh\nwhile read -r line; do echo ok; done\n'
 
-#: Stands between the front and the program. It takes long over `completable` and one move, and the memory for some replies is lacking: for one the move is
-#: made and its reply is lost, the other one is refused.
+#: Takes long over `completable` and one move, and the memory for some replies is lacking: for one the move is made and its reply is lost, the other one is
+#: refused.
 BETWEEN = """\
-#!/usr/bin/env python3
-import json, subprocess, sys, time
-program = subprocess.Popen(['{program}', *sys.argv[1:]], stdin=subprocess.PIPE, stdout=subprocess.PIPE, close_fds=False)
-for line in sys.stdin.buffer:
     if line in (b'completable\\n', b'move R0,1,3\\n'):
         time.sleep(100)
-    asked = b'board\\n' if line == b'move R2,0,3\\n' else line
-    program.stdin.write(asked)
-    program.stdin.flush()
-    reply = program.stdout.readline()
+    reply = answer(b'board\\n' if line == b'move R2,0,3\\n' else line)
     if line == b'move R1,0,2\\n':
-        reply = json.dumps(dict(lost='OutOfMemory')).encode() + b'\\n'
+        reply = dict(lost='OutOfMemory')
     if line == b'move R2,0,3\\n':
-        reply = json.dumps(dict(json.loads(reply), refused='OutOfMemory', reply=['refused: OutOfMemory'])).encode() + b'\\n'
-    sys.stdout.buffer.write(reply)
-    sys.stdout.buffer.flush()
-program.stdin.close()
-sys.exit(program.wait())
+        reply.update(refused='OutOfMemory', reply=['refused: OutOfMemory'])
 """
 
-
-#: Stands there, too, and has no game of the number 7, nor of the first three numbers that it is asked for at a start.
+#: Has no game of the number 7, nor of the first three numbers that it is asked for at a start.
 WITHOUT_GAMES = """\
-#!/usr/bin/env python3
-import json, subprocess, sys
-program = subprocess.Popen(['{program}', *sys.argv[1:]], stdin=subprocess.PIPE, stdout=subprocess.PIPE, close_fds=False)
-asked = 0
-for line in sys.stdin.buffer:
-    is_fair = line.startswith(b'fair ')
-    asked += is_fair
-    lacks = is_fair and (asked <= 3 or line.endswith(b' 7\\n'))
-    program.stdin.write(b'status\\n' if lacks else line)
-    program.stdin.flush()
-    reply = program.stdout.readline()
-    sys.stdout.buffer.write(json.dumps(dict(json.loads(reply), refused='NoneFound')).encode() + b'\\n' if lacks else reply)
-    sys.stdout.buffer.flush()
+    asked += line.startswith(b'fair ')
+    lacks = line.startswith(b'fair ') and (asked <= 3 or line.endswith(b' 7\\n'))
+    reply = {**answer(b'status\\n'), 'refused': 'NoneFound'} if lacks else answer(line)
 """
 
-#: Stands there, too, and has no memory for the first two saves.
+#: Has no memory for the first two saves.
 WITHOUT_SAVES = """\
-#!/usr/bin/env python3
-import json, subprocess, sys
-program = subprocess.Popen(['{program}', *sys.argv[1:]], stdin=subprocess.PIPE, stdout=subprocess.PIPE, close_fds=False)
-asked = 0
-for line in sys.stdin.buffer:
     asked += line == b'save\\n'
-    lacks = line == b'save\\n' and asked <= 2
-    program.stdin.write(line)
-    program.stdin.flush()
-    reply = program.stdout.readline()
-    sys.stdout.buffer.write(json.dumps(dict(json.loads(reply), refused='OutOfMemory', reply=[])).encode() + b'\\n' if lacks else reply)
-    sys.stdout.buffer.flush()
+    reply = answer(line)
+    if line == b'save\\n' and asked <= 2:
+        reply.update(refused='OutOfMemory', reply=[])
 """
 
-#: Stands there, too, and takes over the first save longer than a player has to wait for anything else.
+#: Stands before the program, and takes over the first save longer than a player has to wait for anything else.
 SLOW_SAVE = """\
 #!/usr/bin/env bash
 while read -r line; do
@@ -89,10 +60,9 @@ done | exec -a puzzles-json '{program}' "$@"
 """
 
 
-def between(front: BoardFront, room: Room) -> Dict[str, str]:
+def between(front: BoardFront, room: Room, rule: str = BETWEEN) -> Dict[str, str]:
     """The environment of a front over the program with something between."""
-    room.put('between', BETWEEN.format(program=front.program).encode(), 0o755)
-    return {**front.env(), 'PUZZLES_JSON': os.path.join(room.path, 'between')}
+    return {**front.env(), 'PUZZLES_JSON': put_between(room, front.program, rule)}
 
 
 def test_program_killed(front: BoardFront, room: Room) -> None:
@@ -127,8 +97,7 @@ def test_long_work(front: BoardFront, room: Room) -> None:
 
 def test_no_game(front: BoardFront, room: Room) -> None:
     """Where a number by chance has no game the next one is taken; where it was typed that is told, and the game before stays."""
-    room.put('without', WITHOUT_GAMES.format(program=front.program).encode(), 0o755)
-    env = {**front.env(), 'PUZZLES_JSON': os.path.join(room.path, 'without')}
+    env = between(front, room, WITHOUT_GAMES)
     with front.window([], env=env) as window:
         window.look('', ['Towers 5x5', 'easy', 'move 0/0'])
         window.look('m', ['move 1/1'])
@@ -149,6 +118,13 @@ def test_no_answer(front: BoardFront, room: Room) -> None:
         window.look('<down>3', ['The program is at work. Any key stops it.'])
         window.look('x', ['Stopped. Nothing has changed.', '1 of 9'])
         window.look('2', ['2 of 9', 'move 2/2'])
+        # A key that was pressed before the offer to stop stops nothing, and is heard afterwards.
+        window.press('3')
+        window.press('u')
+        window.look('', ['The program is at work. Any key stops it.'])
+        assert not window.wait_until(lambda screen: 'Stopped.' in screen.text(), 0.5), 'the key before the offer has stopped it'
+        window.look('x', ['1 of 9', 'move 1/2'])
+        window.look('r', ['2 of 9', 'move 2/2'])
         programs = window.programs()
         window.press('3')
         time.sleep(0.2)
@@ -229,8 +205,7 @@ def test_no_memory(front: BoardFront, room: Room) -> None:
 
 def test_no_save(front: BoardFront, room: Room) -> None:
     """A game that has no save yet is not put away without a question, and each key tries to keep it."""
-    room.put('without', WITHOUT_SAVES.format(program=front.program).encode(), 0o755)
-    with front.window(['towers', ID], env={**front.env(), 'PUZZLES_JSON': os.path.join(room.path, 'without')}) as window:
+    with front.window(['towers', ID], env=between(front, room, WITHOUT_SAVES)) as window:
         window.look('', ['The game is not kept: There is no memory left for that. Nothing has changed.', '0 of 9'])
         window.look('n<enter>', ["The present game can't be put away", 'Lose it? y/N'])
         window.look('x', ['The present game stays.', 'Towers 3x3'])

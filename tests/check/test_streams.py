@@ -76,33 +76,6 @@ def test_as_they_come(checker: Checker, room: Room) -> None:
         assert process.wait() == 0
 
 
-def test_outputs(checker: Checker) -> None:
-    """One that is full, one that nobody reads any more, and none at all."""
-    with open('/dev/full', 'wb') as full:
-        asked: List[List[str]] = [[], ['--help'], ['--version']]
-        for words in asked:
-            ended = checker.run(words, ID.encode(), stdout=full.fileno())
-            assert (ended.status, ended.error) == (3, b'puzzles-check: standard output: No space left on device\n'), words
-    reading, writing = os.pipe()
-    os.close(reading)
-    ended = checker.run(['--quick'], f'{ID}\n'.encode() * 5000, stdout=writing)
-    os.close(writing)
-    assert (ended.status, ended.error) == (3, b'puzzles-check: standard output: Broken pipe\n')
-    ended = checker.run([], ID.encode(), closed=[1])
-    assert (ended.status, ended.error) == (3, b'puzzles-check: standard output: Bad file descriptor\n')
-
-
-def test_program(checker: Checker) -> None:
-    """One that isn't there, that isn't the program, or that ends."""
-    for program, told in (
-        ('/no program', b'puzzles-check: the program is not built yet: run make\n'),
-        ('/bin/cat', b'puzzles-check: the program has ended: '),
-        ('/bin/false', b'puzzles-check: the program has ended: status 1\n'),
-    ):
-        ended = checker.run([], ID.encode(), env={'PUZZLES_JSON': program})
-        assert (ended.status, ended.output) == (3, b'') and ended.error.startswith(told), program
-
-
 @pytest.mark.parametrize('number', [signal.SIGINT, signal.SIGTERM])
 def test_stopped(checker: Checker, room: Room, number: signal.Signals) -> None:
     """It leaves no program that runs."""

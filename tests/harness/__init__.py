@@ -5,7 +5,8 @@ skips     what would make it possible to try what can't be tried here
 program   one run: words, input, folder, user, limits, streams; and how it ended
 terminal  a run in a terminal, with what is typed to it and what it shows
 screen    the screen of that terminal
-browser   a browser without a window, and what it prints
+browser   a browser without a window, and what it prints; with `driver`, what all have in common, `firefox` and `webkit`
+between   what stands between puzzles-json and who asks it
 builds    where the repository is, and copies of programs
 bytecode  what Python compiles of scripts, kept for a run
 game      a small game, what its saves are, and the new files that saves leave

@@ -10,10 +10,9 @@ import os
 import select
 import signal
 import subprocess
-import time
 from typing import Any, Dict, List, Mapping, Optional, Tuple
 
-from tests.harness.driver import PageLeft
+from tests.harness.driver import BLANK, LEFT, RIGHT, Driver, PageLeft
 from tests.harness.room import Room
 from tests.harness.skips import need
 
@@ -45,15 +44,19 @@ KEYS = {'Enter': 13, 'Escape': 27, 'Backspace': 8, 'Delete': 46, 'Tab': 9, 'Arro
 #: As the protocol counts them.
 CONTROL = 2
 
-Point = Tuple[float, float]
+#: So wide is no phone.
+PHONES = 500
+
+#: What the buttons of a mouse are called.
+BUTTONS = {LEFT: 'left', RIGHT: 'right'}
 
 
-class Browser:
+class Browser(Driver):
     """One window, and those that are opened from it. Where there is no browser the case is skipped."""
 
     def __init__(self, room: Room, seconds: float = 60) -> None:
+        super().__init__(seconds)
         need('chromium')
-        self._seconds = seconds
         self._came, self._number = b'', 0
         #: What the pages have complained of: errors of scripts, and what their policies have refused.
         self.complaints: List[str] = []
@@ -78,13 +81,15 @@ class Browser:
         os.close(told)
         os.close(answers)
         self._session: Mapping[str, str] = {}
-        self._windows: List[Tuple[str, Mapping[str, str]]] = []
-        self.open()
+        #: Each window, and how it is asked.
+        self._windows: Dict[str, Mapping[str, str]] = {}
+        try:
+            self._window = self.open()
+        except BaseException:
+            self.end()
+            raise
 
-    def __enter__(self) -> Browser:
-        return self
-
-    def __exit__(self, *_: object) -> None:
+    def end(self) -> None:
         self.kill()
         self._process.wait()
         os.close(self._to)
@@ -95,22 +100,24 @@ class Browser:
         with contextlib.suppress(ProcessLookupError):
             os.killpg(self._process.pid, signal.SIGKILL)
 
-    def open(self) -> int:
-        """One more window, which is asked from here on. Its number."""
-        window = self._ask('Target.createTarget', {}, {'url': 'about:blank'})['targetId']
+    def open(self) -> str:
+        window: str = self._ask('Target.createTarget', {}, {'url': BLANK})['targetId']
         attached = self._ask('Target.attachToTarget', {}, {'targetId': window, 'flatten': True})
-        self._windows.append((window, {'sessionId': attached['sessionId']}))
-        self.turn_to(len(self._windows) - 1)
+        self._windows[window] = {'sessionId': attached['sessionId']}
+        self.turn_to(window)
         for what in ('Page.enable', 'Runtime.enable', 'Log.enable'):
             self.ask(what)
-        return len(self._windows) - 1
+        return window
 
-    def turn_to(self, window: int) -> None:
-        """Asks this window from here on."""
-        self._session = self._windows[window][1]
+    def turn_to(self, tab: str) -> None:
+        self._window, self._session = tab, self._windows[tab]
 
-    def close(self, window: int) -> None:
-        self._ask('Target.closeTarget', {}, {'targetId': self._windows[window][0]})
+    def close_tab(self) -> None:
+        self._ask('Target.closeTarget', {}, {'targetId': self._window})
+
+    @property
+    def tab(self) -> str:
+        return self._window
 
     def show(self, page: str) -> None:
         """Shows the page of a file, and waits until it is all there."""
@@ -119,18 +126,13 @@ class Browser:
 
     def go(self, url: str) -> None:
         self.ask('Page.navigate', url=url)
-
-    def wait_for(self, condition: str) -> None:
-        """Until an expression is true in the page."""
-        end = time.monotonic() + self._seconds
-        while not self.value(condition):
-            assert time.monotonic() < end, f'{condition} in vain'
-            time.sleep(0.01)
+        if url == BLANK:
+            # Chromium may forget the next page, where this one isn't there yet and the one before asks whether it may be left.
+            self.wait_for(f'document.URL === "{BLANK}"')
 
     # --- what a player does ---
 
     def press(self, *keys: str, control: bool = False) -> None:
-        """Keys, one after the other: characters, or names of `KEYS`."""
         for key in keys:
             how: Dict[str, Any] = {'key': key, 'modifiers': CONTROL if control else 0, 'windowsVirtualKeyCode': KEYS.get(key, ord(key[0].upper()))}
             text = '\r' if key == 'Enter' else '' if key in KEYS or control else key
@@ -141,24 +143,16 @@ class Browser:
         """As at once, where the focus is."""
         self.ask('Input.insertText', text=text)
 
-    def middle(self, selector: str) -> Point:
-        """Of an element, which is scrolled to."""
-        found = self.value(
-            f'(node => {{ node.scrollIntoView({{block: "nearest"}}); const box = node.getBoundingClientRect();'
-            f' return [box.left + box.width / 2, box.top + box.height / 2] }})(document.querySelector({json.dumps(selector)}))'
-        )
-        return found[0], found[1]
-
-    def click(self, selector: str, button: str = 'left') -> None:
+    def click(self, selector: str, button: int = LEFT) -> None:
         x, y = self.middle(selector)
-        for kind in ('mouseMoved', 'mousePressed', 'mouseReleased'):
-            self.ask('Input.dispatchMouseEvent', type=kind, x=x, y=y, button='none' if kind == 'mouseMoved' else button, clickCount=int(kind != 'mouseMoved'))
+        for kind, pressed, count in (('mouseMoved', 'none', 0), ('mousePressed', BUTTONS[button], 1), ('mouseReleased', BUTTONS[button], 1)):
+            self.ask('Input.dispatchMouseEvent', type=kind, x=x, y=y, button=pressed, clickCount=count)
 
-    def tap(self, selector: str, to: str = '') -> None:
-        """With a finger, which may go on to another element before it is lifted."""
-        ends = [self.middle(one) for one in (selector, to) if one]
-        for kind, (x, y) in zip(('touchStart', 'touchMove'), ends):
-            self.ask('Input.dispatchTouchEvent', type=kind, touchPoints=[{'x': x, 'y': y}])
+    def tap(self, selector: str, milliseconds: int = 0) -> None:
+        x, y = self.middle(selector)
+        self.ask('Input.dispatchTouchEvent', type='touchStart', touchPoints=[{'x': x, 'y': y}])
+        if milliseconds:
+            self.value(f'new Promise((done) => setTimeout(done, {milliseconds}))')
         self.ask('Input.dispatchTouchEvent', type='touchEnd', touchPoints=[])
 
     # --- how it looks ---
@@ -169,9 +163,10 @@ class Browser:
         self.ask('Emulation.setTouchEmulationEnabled', enabled=False)
         self.media()
 
-    def size(self, width: int, height: int, *, dots: float = 1, is_touch: bool = False) -> None:
-        self.ask('Emulation.setDeviceMetricsOverride', width=width, height=height, deviceScaleFactor=dots, mobile=is_touch)
-        self.ask('Emulation.setTouchEmulationEnabled', enabled=is_touch)
+    def size(self, width: int, height: int) -> None:
+        """A narrow window is a phone's, which is touched."""
+        self.ask('Emulation.setDeviceMetricsOverride', width=width, height=height, deviceScaleFactor=1, mobile=width < PHONES)
+        self.ask('Emulation.setTouchEmulationEnabled', enabled=width < PHONES)
 
     def media(self, kind: str = '', features: Optional[Mapping[str, str]] = None) -> None:
         """What the page is shown on, as `print`, and what the user prefers."""
@@ -185,15 +180,8 @@ class Browser:
         """The page in PDF, on the paper that it names itself."""
         return base64.b64decode(self.ask('Page.printToPDF', preferCSSPageSize=True, printBackground=False)['data'])
 
-    def value(self, script: str) -> Any:
-        """What an expression is worth in the page."""
-        found = self.ask('Runtime.evaluate', expression=script, returnByValue=True)
-        assert 'exceptionDetails' not in found, found
-        return found['result'].get('value')
-
-    def promised(self, script: str) -> Any:
-        """What an expression promises in the page."""
-        found = self.ask('Runtime.evaluate', expression=script, returnByValue=True, awaitPromise=True)
+    def value(self, expression: str) -> Any:
+        found = self.ask('Runtime.evaluate', expression=f'(async () => ({expression}))()', returnByValue=True, awaitPromise=True)
         assert 'exceptionDetails' not in found, found
         return found['result'].get('value')
 

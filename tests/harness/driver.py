@@ -4,7 +4,7 @@ from __future__ import annotations
 
 import json
 import time
-from typing import Any, Dict, List, Sequence, Tuple
+from typing import Any, Dict, List, Sequence, Tuple, TypeVar
 
 Point = Tuple[float, float]
 
@@ -13,6 +13,9 @@ KEYS = {
     'Enter': '\ue007', 'Escape': '\ue00c', 'Backspace': '\ue003', 'Delete': '\ue017', 'Tab': '\ue004',
     'ArrowLeft': '\ue012', 'ArrowRight': '\ue014', 'ArrowUp': '\ue013', 'ArrowDown': '\ue015', 'Control': '\ue009', 'Shift': '\ue008',
 }  # fmt: skip
+
+#: The page before any other.
+BLANK = 'about:blank'
 
 #: What each button of the mouse is called by its number.
 LEFT, RIGHT = 0, 2
@@ -23,6 +26,9 @@ LONG = 1400
 
 class PageLeft(AssertionError):
     """The page was left while it was asked, as by a reload."""
+
+
+Own = TypeVar('Own', bound='Driver')
 
 
 class Driver:
@@ -44,7 +50,8 @@ class Driver:
         raise NotImplementedError
 
     def perform(self, actions: Sequence[Dict[str, Any]]) -> None:
-        raise NotImplementedError
+        """Acts as WebDriver has them. A browser that has each act by itself needs none."""
+        raise AssertionError(f'{actions} are not for this browser')
 
     def size(self, width: int, height: int) -> None:
         """What is seen of the page, as far as the browser can be so small."""
@@ -75,7 +82,7 @@ class Driver:
 
     # --- what a player sees and does ---
 
-    def __enter__(self) -> Driver:
+    def __enter__(self: Own) -> Own:
         return self
 
     def __exit__(self, *_: object) -> None:
@@ -129,7 +136,10 @@ class Driver:
 
     def hold(self, selector: str) -> None:
         """A long press, of a finger where the browser takes one."""
-        self._point('touch' if self.has_touch else 'mouse', selector, LEFT, LONG)
+        if self.has_touch:
+            self.tap(selector, LONG)
+        else:
+            self._point('mouse', selector, LEFT, LONG)
 
     def _point(self, kind: str, selector: str, button: int, milliseconds: int) -> None:
         x, y = self.middle(selector)
@@ -140,14 +150,3 @@ class Driver:
             {'type': 'pointerUp', 'button': button},
         ]
         self.perform([{'type': 'pointer', 'id': kind, 'parameters': {'pointerType': kind}, 'actions': actions}])
-
-
-def until(is_so: Any, seconds: float = 30) -> Any:
-    """What comes of a call, as soon as it is something."""
-    end = time.monotonic() + seconds
-    while True:
-        found = is_so()
-        if found:
-            return found
-        assert time.monotonic() < end, 'in vain'
-        time.sleep(0.02)

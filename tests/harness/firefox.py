@@ -12,9 +12,10 @@ import signal
 import subprocess
 from typing import Any, Dict, List, Mapping, Sequence
 
+import websocket
+
 from tests.harness.driver import Driver
 from tests.harness.room import Room, Skip
-from tests.harness.websocket import WebSocket
 
 #: It asks nobody for anything.
 PREFERENCES = {
@@ -50,12 +51,12 @@ class Firefox(Driver):
         )
         self._number = 0
         try:
-            self._socket = WebSocket(self._port(), '/session', BEGINS)
+            self._socket = websocket.create_connection(f'ws://127.0.0.1:{self._port()}/session', BEGINS, suppress_origin=True)
             self._ask('session.new', capabilities={})
-            self._socket.seconds = seconds
+            self._socket.settimeout(seconds)
             self._tab: str = self._ask('browsingContext.getTree')['contexts'][0]['context']
         except BaseException:
-            self._end()
+            self.end()
             raise
 
     def go(self, url: str) -> None:
@@ -92,17 +93,13 @@ class Firefox(Driver):
         return self._tab
 
     def end(self) -> None:
-        self._socket.close()
-        self._end()
+        self.kill()
+        self._process.communicate()
 
     def kill(self) -> None:
         """It and all that it has started, at once."""
         with contextlib.suppress(ProcessLookupError):
             os.killpg(self._process.pid, signal.SIGKILL)
-
-    def _end(self) -> None:
-        self.kill()
-        self._process.communicate()
 
     def _port(self) -> int:
         """The port that it says it listens on."""
@@ -117,13 +114,21 @@ class Firefox(Driver):
 
     def _ask(self, method: str, **parameters: Any) -> Mapping[str, Any]:
         self._number += 1
-        self._socket.send(json.dumps({'id': self._number, 'method': method, 'params': parameters}))
+        try:
+            self._socket.send(json.dumps({'id': self._number, 'method': method, 'params': parameters}))
+            answer = self._answer()
+        except websocket.WebSocketException as error:
+            raise ConnectionError(f'{method}: Firefox has ended, or says nothing') from error
+        assert answer['type'] == 'success', f'{method}: {answer}'
+        result: Mapping[str, Any] = answer['result']
+        return result
+
+    def _answer(self) -> Mapping[str, Any]:
+        """What comes with the number of what was asked last: between come events."""
         while True:
-            answer = json.loads(self._socket.next())
+            answer: Mapping[str, Any] = json.loads(self._socket.recv())
             if answer.get('id') == self._number:
-                assert answer['type'] == 'success', f'{method}: {answer}'
-                result: Mapping[str, Any] = answer['result']
-                return result
+                return answer
 
 
 def firefox(room: Room) -> Firefox:

@@ -1,7 +1,5 @@
 """First games: the input, the replies, and what becomes of a stream that fails."""
 
-import os
-import pty
 from typing import Any, Dict
 
 import pytest
@@ -56,10 +54,6 @@ CLOSED = Run(
     holds={'old.sav': b'old'},
 )
 GONE = Run('the reader of the output has gone', ['towers', '--id', ID], ONE_MOVE, status=1, error=b'cannot write the output\n')
-#: What is told once, before the first line, where lines are typed.
-TOLD = b'puzzles --help has the lines that can be typed; puzzles-play is the board\n'
-
-AT_A_TERMINAL = Run('a terminal', ['towers', '--id', ID], error=TOLD)
 NO_ERROR = Run('standard error is closed', ['towers', '--id', ''], status=3)
 
 
@@ -83,11 +77,3 @@ def test_stream_fails(player: Player, row: Run, stream: Dict[str, Any]) -> None:
 
 def test_closed_error(player: Player) -> None:
     player.play(NO_ERROR, closed=[2])
-
-
-def test_terminal(player: Player) -> None:
-    front, back = pty.openpty()
-    with os.fdopen(front, 'wb', 0) as keys, os.fdopen(back, 'wb') as terminal:
-        # Ctrl-D at the beginning of a line is the end.
-        keys.write(b'status\n\x04')
-        player.play(AT_A_TERMINAL, stdin=terminal.fileno(), stdout=terminal.fileno())

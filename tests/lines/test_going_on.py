@@ -1,9 +1,5 @@
 """A game that goes on in run after run: each begins with the session that the last one left."""
 
-from typing import Sequence
-
-import pytest
-
 from tests.harness.game import ID, save_text
 from tests.lines.runs import Player, Run
 
@@ -25,17 +21,8 @@ RUNS = [
         holds={'game.sav': save_text(2, 1)},
     ),
     Run('left as it is, where no line comes', LOADED, holds={'game.sav': save_text(2, 1)}),
-]
-
-SEEDED_WORDS = ['towers', '--id', '5!7']
-TOWER = ['towers', '--load', 'tower.sav']
-
-#: What somebody does who has never seen the program: help first, a seeded game, played, saved, loaded, finished.
-FIRST_DAYS = [
-    Run('help', ['--help'], output_has=[b"puzzles towers --id '5!7' --save"]),
-    Run('the first day', [*SEEDED_WORDS, '--save', 'tower.sav'], b'show\nmove M\nquit\n', output=None, made=['tower.sav']),
-    Run('the second', [*TOWER, '--save', 'tower.sav'], b'undo\nredo\nsolve\nstatus\n', output_has=[b'helped 3/3\n']),
-    Run('the last', TOWER, b'status\nundo\nstatus\n', output=b'helped 3/3\nok\nplaying 2/3\n'),
+    Run('solved', [*LOADED[:3], '--save', 'solved.sav'], b'solve\nstatus\n', output=b'S123231312\nhelped 2/2\n', made=['solved.sav']),
+    Run('gone on with once it is solved', ['towers', '--load', 'solved.sav'], b'status\nundo\nstatus\n', output=b'helped 2/2\nok\nplaying 1/2\n'),
 ]
 
 SEEDED = Run('begun with a seed', ['unequal', '--id', '4!7', '--save', 'new.sav'], b'status\nid\n', output=None, made=['new.sav'])
@@ -52,7 +39,6 @@ def test_seeded(player: Player) -> None:
     player.play(SEEDED._replace(output=first))
 
 
-@pytest.mark.parametrize('runs', [RUNS, FIRST_DAYS])
-def test_run_after_run(player: Player, runs: Sequence[Run]) -> None:
-    for row in runs:
+def test_run_after_run(player: Player) -> None:
+    for row in RUNS:
         player.play(row)

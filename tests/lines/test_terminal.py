@@ -7,9 +7,9 @@ import os
 from tests.harness import Room
 from tests.harness.game import ID
 from tests.harness.terminal import Terminal
-from tests.lines.test_games import TOLD as TOLD_LINE
 
-TOLD = TOLD_LINE.decode().strip()
+#: What is told once, before the first line, where lines are typed.
+TOLD = 'puzzles --help has the lines that can be typed; puzzles-play is the board'
 
 ENV = {'PATH': os.defpath, 'TERM': 'xterm', 'LC_ALL': 'C'}
 
@@ -18,7 +18,8 @@ def test_terminal(program: str, objects: str, room: Room) -> None:
     with Terminal([program, 'towers', '--id', ID], ENV, (24, 80), cwd=room.path) as window:
         window.look('', [TOLD])
         window.look('help<enter>?<enter>id<enter>', [ID])
-        window.look('quit<enter>')
+        # Ctrl-D at the beginning of a line is the end.
+        window.send('\x04')
         assert window.status() == 0, 'the status'
         assert (window.shown.count(TOLD), window.shown.count('refused: BadCommand')) == (1, 2), window.shown
     with Terminal([objects, 'towers', '--id', ID], ENV, (24, 80), cwd=room.path) as window:

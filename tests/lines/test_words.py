@@ -68,7 +68,7 @@ REFUSED = [
 HELP = [
     b'Usage: puzzles [OPTIONS] <GAME>', b'--id', b'--load', b'--save', b'5!7', ID.encode(), b'new ID', b'move TEXT', b'undo', b'redo',
     b'restart', b'solve', b'list N', b'show', b'marks', b'done', b'status', b'id', b'save', b'quit', b'Examples:', b'Exit status:',
-    b'puzzles-play', b'puzzles-json',
+    b'puzzles-play', b'puzzles-json', b"puzzles towers --id '5!7' --save",
 ]
 
 ASKED = [

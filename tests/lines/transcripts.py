@@ -1,7 +1,7 @@
 """Games as transcripts, a file for each subject in the folder `played`: each line of a run, with the reply to it.
 
-`$ GAME: NAME` begins a run, `> LINE` is typed, `9 > LINE` nine times, and below stands the reply to each. `␣` is a blank at the
-end of a line. What begins with `# ` is said to the reader.
+`$ GAME: NAME` begins a run. `> LINE  → REPLY` is a line that is typed, with its reply; a reply of several lines stands below. `9 > LINE` is typed
+nine times. `␣` is a blank at the end of a line. What begins with `# ` is said to the reader.
 """
 
 import re
@@ -35,13 +35,14 @@ class Transcript(NamedTuple):
 def transcripts() -> Iterator[Transcript]:
     for path in sorted(FOLDER.glob('*.txt')):
         for text in path.read_text(encoding='utf-8').split('\n$ ')[1:]:
-            head, *lines = (line.replace('␣', ' ') for line in text.splitlines() if line and not line.startswith('# '))
+            head, *lines = (line for line in text.splitlines() if line and not line.startswith('# '))
             game, _, name = head.partition(': ')
             made = Transcript(f'{path.stem}: {name}', game, [])
             for line in lines:
-                match = re.fullmatch(r'(?:(\d+) )?>(?: (.*))?', line)
+                match = re.fullmatch(r'(?:(\d+) )?>(?: (.*?))??(?: +→ (.*))?', line)
                 if match:
-                    made.lines.append(Line(match[2] or '', int(match[1] or 1), ''))
+                    reply = f'{match[3]}\n' if match[3] else ''
+                    made.lines.append(Line((match[2] or '').replace('␣', ' '), int(match[1] or 1), reply))
                 else:
                     made.lines[-1] = made.lines[-1]._replace(reply=f'{made.lines[-1].reply}{line}\n')
             yield made

@@ -1,89 +1,37 @@
-"""How the page is made: its modules are put together, its policy names what is in it, and what would not be right in a page is refused."""
+"""How the page is made: its policy names what is in it, and what would be wrong where no test of the page meets it is refused."""
 
 import base64
 import hashlib
 import re
-import shutil
 from typing import Dict, List, NamedTuple
 
 import pytest
 
-from tests.harness import Room, by_name, need, run
+from tests.harness import Room, by_name
 from web_build.kept import MODULE_FILE, PAGE_FILE, read
-from web_build.page import MOST_BYTES, filled, page_of, packed, packed_in, squeezed, unpacked
+from web_build.page import MOST_BYTES, page_of, packed_in, unpacked
 from web_build.retarget import GIVEN_LAYOUT, LAYOUT, retargeted
 from web_build.scripts import Unfit, script
 from web_build.sections import MAGIC, without_idle
 from web_build.site import files
 
-#: Two modules with the same name for something of their own, comments, and an import over lines.
-PAIR = {
-    'main.js': "// Adds.\n\nimport {\n  first, second,\n} from './numbers.js';\n\nconst own = 3; // three\nconsole.log(first() + second + own);\n",
-    'numbers.js': '/** A type. */\nconst own = 1;\n\n/**\n * One.\n */\nexport function first() {\n  return own;\n}\n\nexport const second = /** @type {number} */ (20);\n',
-}
-
-#: A module that is refused, and why.
+#: A module that is exported from, and one that is refused with why: a page of it would begin, and fail later or hide a part of itself.
+NUMBERS = 'export const first = 1;\nconst own = 1;\n'
 REFUSED = {
-    'a default': ("import a from './numbers.js';\n", 'an import that is not as'),
-    'another name': ("import {first as a} from './numbers.js';\n", 'main.js imports first as a of numbers.js, which is not exported'),
-    'all of it': ("import * as a from './numbers.js';\n", 'an import that is not as'),
-    'nothing of it': ("import './numbers.js';\n", 'an import that is not as'),
-    'later': ("const a = 1;\nimport {first} from './numbers.js';\n", 'an import that is not as'),
     'what is not exported': ("import {own} from './numbers.js';\n", 'main.js imports own of numbers.js, which is not exported'),
-    'itself': ("import {a} from './main.js';\nexport const a = 1;\n", 'main.js imports itself'),
     'while it runs': ("const a = import('./numbers.js');\n", 'an import while it runs'),
-    'a list of exports': ('const a = 1;\nexport {a};\n', 'an export that is no function, class or const'),
-    'a variable': ('export let a = 1;\n', 'an export that is no function, class or const'),
-    'a default export': ('export default 1;\n', 'an export that is no function, class or const'),
-    'waiting': ('await 1;\n', 'an await outside of functions'),
     'the end of a script': ("const a = '</script>';\n", 'the end of a script'),
     'a comment of HTML': ("const a = '<!--';\n", 'the start of a comment of HTML'),
 }
 
 
-def put(room: Room, modules: Dict[str, str]) -> str:
-    for name, text in modules.items():
-        room.put(name, text.encode())
-    return room.path
-
-
-def test_script(room: Room) -> None:
-    """It runs as the modules do, without their comments."""
-    text = script(put(room, PAIR), 'main.js')
-    assert not re.search(r'Adds|A type|One|^import|^export|^ ', text, re.MULTILINE)
-    node = shutil.which('node')
-    if not node:
-        pytest.skip('there is no node')
-    room.put('together.cjs', text.encode())
-    assert run([node, 'together.cjs'], room) == (0, b'24\n', b'')
-
-
 @pytest.mark.parametrize('name', list(REFUSED))
 def test_refused_script(room: Room, name: str) -> None:
     text, why = REFUSED[name]
+    room.put('main.js', text.encode())
+    room.put('numbers.js', NUMBERS.encode())
     with pytest.raises(Unfit, match=re.escape(why)):
-        script(put(room, {**PAIR, 'main.js': text}), 'main.js')
-
-
-def test_template() -> None:
-    whole = '{{policy}}{{style}}{{site}}{{worker}}{{module}}{{script}}'
-    parts = {name: name.upper() for name in ('policy', 'style', 'site', 'worker', 'module', 'script', 'version')}
-    assert filled(whole + '{{version}}', parts) == 'POLICYSTYLESITEWORKERMODULESCRIPTVERSION'
-    for template, why in ((whole[10:], 'the mark policy 0 times'), (whole + '{{style}}', 'the mark style 2 times'), (whole + '{{other}}', 'the unknown mark other')):
-        with pytest.raises(Unfit, match=why):
-            filled(template, parts)
-
-
-#: A line of a style sheet, and what the page has of it: blanks stay that mean something.
-STYLES = {
-    'a { b: c; d: e f; }': 'a{b:c;d:e f;}',
-    '.a :focus, .b .c > d { w: min(1rem, 100% - 2rem); }': '.a :focus,.b .c > d{w:min(1rem,100% - 2rem);}',
-    "@media (a: b) and (c: d) { e::before { content: '. '; } }": "@media (a:b) and (c:d){e::before{content:'. ';}}",
-}
-
-
-def test_squeezed() -> None:
-    assert {style: squeezed(style) for style in STYLES} == STYLES
+        script(room.path, 'main.js')
 
 
 def test_page() -> None:
@@ -187,10 +135,3 @@ def test_sections() -> None:
         without_idle(MAGIC + types + table + elements)
     with pytest.raises(Unfit, match='no module'):
         without_idle(b'\x7fELF')
-
-
-def test_packed() -> None:
-    need('zopfli')
-    assert unpacked(packed(b'\0asm' * 100)) == b'\0asm' * 100
-    with pytest.raises(Unfit, match='not packed'):
-        unpacked('AAAA')

@@ -13,7 +13,6 @@ from tests.harness.builds import TOP
 from tests.harness.game import HEAD, ID
 from tests.objects.agreement import Pair
 from tests.objects.forms import Sentence, sentences, told_by
-from tests.objects.worked_lines import Worked, expect_worked, read_table
 from tests.second_implementation.fair import fair
 
 CLIENTS = TOP / 'docs' / 'clients'
@@ -52,8 +51,22 @@ def unfolded(block: str) -> str:
     return re.sub(r'\n +', '', block)
 
 
+class Worked(NamedTuple):
+    """A run: its words, its lines, and the objects that it has to write."""
+
+    words: List[str]
+    lines: List[str]
+    objects: List[str]
+
+
+def worked(block: str) -> Worked:
+    """The run of an example: `$ ` its words, `> ` a line, and objects."""
+    head, *rest = unfolded(block).splitlines()
+    return Worked(head.split()[2:], [line[2:] for line in rest if line.startswith('>')], [line for line in rest if not line.startswith('>')])
+
+
 BLOCKS = {name: blocks_of(name) for name in ('JSON.md', 'SCRIPTING.md', README)}
-WORKED = [worked for block in BLOCKS['JSON.md'] if block.startswith('$ puzzles-json ') for worked in read_table(unfolded(block))]
+WORKED = [worked(block) for block in BLOCKS['JSON.md'] if block.startswith('$ puzzles-json ')]
 
 
 @pytest.fixture(params=HINTS, ids=[client.file for client in HINTS])
@@ -87,9 +100,12 @@ def test_fair(pair: Pair, room: Room) -> None:
     assert (room.names(), room.read('unequal-5dk-3'), room.read('unequal-5dk-4')) == (['unequal-5dk-3', 'unequal-5dk-4'], made.encode(), b'kept\n')
 
 
-@pytest.mark.parametrize('worked', WORKED, ids=lambda worked: f'{" ".join(worked.words)} > {worked.lines[0]}')
-def test_objects(pair: Pair, room: Room, worked: Worked) -> None:
-    expect_worked(room, pair.objects, worked._replace(words=worked.words[1:]))
+@pytest.mark.parametrize('run_of', WORKED, ids=lambda run_of: f'{" ".join(run_of.words)} > {run_of.lines[0]}')
+def test_objects(pair: Pair, room: Room, run_of: Worked) -> None:
+    """Byte for byte."""
+    ended = run([pair.objects, *run_of.words], room, input=''.join(f'{line}\n' for line in run_of.lines).encode())
+    assert (ended.status, ended.error) == (0, b'')
+    assert ended.output.decode(errors='replace').splitlines() == run_of.objects
 
 
 @pytest.mark.parametrize('block', [block for name in ('SCRIPTING.md', README) for block in BLOCKS[name] if block.startswith('$ ')])

@@ -5,21 +5,34 @@ from __future__ import annotations
 import contextlib
 import functools
 import http.server
+import shutil
 import threading
 from pathlib import Path
-from typing import Iterator, List
+from typing import Callable, Iterator, List
 
 import pytest
 
 from tests.harness import Room
 from tests.harness.browser import Browser
 from tests.harness.builds import TOP
-from tests.harness.driver import Driver
+from tests.harness.driver import BLANK, Driver
+from tests.harness.firefox import firefox
 from tests.harness.room import Skip
-from tests.page.browsers import DRIVERS, PIPE, Piped, chosen
+from tests.harness.webkit import webkit
 from tests.page.playing import Player
 
 PAGE = TOP / 'programs' / 'web' / 'puzzles.html'
+
+#: The word of --browsers for all of them; and by which command it is seen that one is there.
+ALL = 'all'
+BROWSERS = {'chromium': 'chromium', 'firefox': 'firefox-esr', 'webkit': 'WebKitWebDriver'}
+
+
+def chosen(word: str) -> List[str]:
+    """The browsers of a word: all, one by its name, or the first that is there."""
+    if word == ALL:
+        return list(BROWSERS)
+    return [word or next((name for name, command in BROWSERS.items() if shutil.which(command)), 'chromium')]
 
 
 def pytest_addoption(parser: pytest.Parser) -> None:
@@ -55,11 +68,13 @@ def page(request: pytest.FixtureRequest) -> Path:
 
 @pytest.fixture(scope='session')
 def driver(request: pytest.FixtureRequest) -> Iterator[Driver]:
-    """One for all cases of a process."""
-    if request.param == PIPE:
-        yield Piped(request.getfixturevalue('browser'))
+    """One for all cases of a process. Chromium is the one that other cases have open already."""
+    if request.param == 'chromium':
+        chromium: Browser = request.getfixturevalue('browser')
+        chromium.plain()
+        yield chromium
         return
-    with Room() as made, DRIVERS[request.param](made) as driver:
+    with Room() as made, (firefox if request.param == 'firefox' else webkit)(made) as driver:
         yield driver
 
 
@@ -70,19 +85,37 @@ def player(driver: Driver, page: Path) -> Iterator[Player]:
     yield made
     made.forget()
     driver.rest()
-    driver.go('about:blank')
+    driver.go(BLANK)
 
 
 @pytest.fixture
 def piped(browser: Browser, page: Path) -> Iterator[Player]:
-    """The same in Chromium by its pipe, which can do what no driver can. Nothing may be complained of in it."""
-    made = Player(Piped(browser), f'file://{page}')
+    """The same in Chromium alone, which can do what others can't. Nothing may be complained of in it."""
+    browser.plain()
+    made = Player(browser, f'file://{page}')
     browser.complaints.clear()
     yield made
     made.forget()
     browser.plain()
-    browser.go('about:blank')
+    browser.go(BLANK)
     assert browser.complaints == []
+
+
+@pytest.fixture
+def scripted(piped: Player, browser: Browser) -> Iterator[Callable[[str], Player]]:
+    """Has a script run before each page."""
+    known: List[str] = []
+
+    def begin(script: str) -> Player:
+        known.append(browser.ask('Page.addScriptToEvaluateOnNewDocument', source=script)['identifier'])
+        return piped
+
+    yield begin
+    for identifier in known:
+        browser.ask('Page.removeScriptToEvaluateOnNewDocument', identifier=identifier)
+    piped.load()
+    # Chromium doesn't ask where nobody has touched the page, and says so.
+    browser.complaints[:] = [text for text in browser.complaints if 'beforeunload' not in text]
 
 
 @pytest.fixture

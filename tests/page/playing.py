@@ -3,14 +3,21 @@
 from __future__ import annotations
 
 import json
-from typing import Any, Dict, List, Optional, Sequence, Set, Tuple
+from typing import Any, Callable, Dict, List, Optional, Sequence, Set, Tuple
 
 from playing.naming import Place
 from tests.harness.builds import TOP
 from tests.harness.driver import Driver
+from tests.harness.game import ID
 
 #: Sizes of windows.
 LAPTOP, PHONE, SMALL = (1280, 800), (390, 844), (320, 568)
+
+#: A clue above that the number 1 in its first square contradicts, in a game without givens.
+TOWERS = f'towers:{ID}'
+
+#: A game of Unequal whose first square is the least of three.
+UNEQUAL = 'unequal:3:0,0L,0L,0U,0,0,0U,0,0,'
 
 #: What is kept in the browser begins so.
 OURS = 'puzzles:'
@@ -113,7 +120,56 @@ class Seen:
         return [line.split(':', 2)[2] for line in lines if line.startswith('MOVE    :')]
 
 
-class Player(Seen):
+class Hands(Seen):
+    """What is pressed and written there, and the files that come and go."""
+
+    def press(self, *keys: str) -> None:
+        self.driver.press(*keys)
+
+    def click(self, text: str) -> None:
+        """A button that is seen, by its text."""
+        self.driver.click(self.button(text))
+
+    def button(self, text: str) -> str:
+        """The selector of a button with that text, among those that are seen."""
+        found = self.value(
+            f'((nodes) => {{ const node = nodes.find((one) => one.textContent.trim() === {json.dumps(text)} && one.getClientRects().length);'
+            ' if (node) { nodes.forEach((one) => one.removeAttribute("data-test")); node.dataset.test = "it"; } return Boolean(node); })'
+            '([...document.querySelectorAll("button")])'
+        )
+        assert found, f'no button {text}'
+        return '[data-test=it]'
+
+    def write(self, selector: str, text: str) -> None:
+        """Writes into a field, or chooses of a list."""
+        self.value(
+            f'((node) => {{ node.value = {json.dumps(text)}; for (const kind of ["input", "change"]) node.dispatchEvent(new Event(kind, {{bubbles: true}}));'
+            f' return true; }})(document.querySelector({json.dumps(selector)}))'
+        )
+
+    def drop(self, content: Optional[bytes] = None, name: str = 'a.sav', text: str = '', size: int = 0) -> None:
+        """Drops a file onto the page, or a text; or a file of so many bytes."""
+        parts = f'new Uint8Array({size})' if size else f'Uint8Array.from({json.dumps(list(content or b""))})'
+        what = f'data.setData("text/plain", {json.dumps(text)})' if text else f'data.items.add(new File([{parts}], {json.dumps(name)}))'
+        script = f'const data = new DataTransfer(); {what}; document.dispatchEvent(new DragEvent("drop", {{dataTransfer: data, cancelable: true}})); return true;'
+        self.value(f'(() => {{ {script} }})()')
+
+    def catch_files(self) -> None:
+        """What the page gives as a file from here on is caught."""
+        self.value('(() => { window.files = []; URL.createObjectURL = (blob) => { window.files.push(blob); return "#"; }; return true; })()')
+
+    def caught(self) -> str:
+        """The text of the last file."""
+        self.driver.wait_for('window.files.length > 0')
+        return str(self.value('window.files[window.files.length - 1].text()'))
+
+    def caught_bytes(self) -> bytes:
+        """The bytes of the last file."""
+        self.driver.wait_for('window.files.length > 0')
+        return bytes(self.value('window.files[window.files.length - 1].arrayBuffer().then((all) => [...new Uint8Array(all)])'))
+
+
+class Player(Hands):
     """Opens the page, and plays."""
 
     def sit(self, link: str = '', size: Optional[Tuple[int, int]] = None) -> Player:
@@ -143,28 +199,40 @@ class Player(Seen):
         self.value(f'({NOTHING_MORE}, true)')
         self.driver.close_tab()
 
-    def press(self, *keys: str) -> None:
-        self.driver.press(*keys)
-
-    def click(self, text: str) -> None:
-        """A button that is seen, by its text."""
-        self.driver.click(self.button(text))
-
-    def button(self, text: str) -> str:
-        """The selector of a button with that text, among those that are seen."""
-        found = self.value(
-            f'((nodes) => {{ const node = nodes.find((one) => one.textContent.trim() === {json.dumps(text)} && one.getClientRects().length);'
-            ' if (node) { nodes.forEach((one) => one.removeAttribute("data-test")); node.dataset.test = "it"; } return Boolean(node); })'
-            '([...document.querySelectorAll("button")])'
-        )
-        assert found, f'no button {text}'
-        return '[data-test=it]'
-
     def menu(self, text: str) -> None:
         """A button of the menu."""
         self.click('Menu')
         self.is_shown('#menu')
         self.click(text)
+
+    def switch(self, text: str) -> None:
+        """A setting of the menu, which is left then."""
+        self.menu(text)
+        self.leaves('#menu')
+
+    def opens(self, key: str, selector: str) -> None:
+        """A key that opens a dialog."""
+        self.press(key)
+        self.is_shown(selector)
+
+    def leaves(self, selector: str) -> None:
+        """Leaves a dialog."""
+        self.press('Escape')
+        self.closes(selector)
+
+    def begin(self, title: str, **values: str) -> None:
+        """A new game, by what is chosen and written; and waits until it has this title."""
+        self.opens('n', '#fresh')
+        for name, value in values.items():
+            self.write(f'#fresh-{name}', value)
+        self.click('Begin')
+        self.closes('#fresh')
+        self.called(title)
+
+    def put_first(self, number: int) -> None:
+        """Puts a number into the first square, which is chosen."""
+        self.press(str(number))
+        self.is_called(0, 0, f'row 1, column 1, {number}')
 
     def answer(self, text: str) -> None:
         """Answers a question."""
@@ -182,33 +250,9 @@ class Player(Seen):
         self.is_gone(selector)
         self.driver.wait_for('document.activeElement.dataset.place')
 
-    def write(self, selector: str, text: str) -> None:
-        """Writes into a field, or chooses of a list."""
-        self.value(
-            f'((node) => {{ node.value = {json.dumps(text)}; for (const kind of ["input", "change"]) node.dispatchEvent(new Event(kind, {{bubbles: true}}));'
-            f' return true; }})(document.querySelector({json.dumps(selector)}))'
-        )
 
-    def drop(self, content: Optional[bytes] = None, name: str = 'a.sav', text: str = '', size: int = 0) -> None:
-        """Drops a file onto the page, or a text; or a file of so many bytes."""
-        parts = f'new Uint8Array({size})' if size else f'Uint8Array.from({json.dumps(list(content or b""))})'
-        what = f'data.setData("text/plain", {json.dumps(text)})' if text else f'data.items.add(new File([{parts}], {json.dumps(name)}))'
-        script = f'const data = new DataTransfer(); {what}; document.dispatchEvent(new DragEvent("drop", {{dataTransfer: data, cancelable: true}})); return true;'
-        self.value(f'(() => {{ {script} }})()')
-
-    def catch_files(self) -> None:
-        """What the page gives as a file from here on is caught."""
-        self.value('(() => { window.files = []; URL.createObjectURL = (blob) => { window.files.push(blob); return "#"; }; return true; })()')
-
-    def caught(self) -> str:
-        """The text of the last file."""
-        self.driver.wait_for('window.files.length > 0')
-        return str(self.value('window.files[window.files.length - 1].text()'))
-
-    def caught_bytes(self) -> bytes:
-        """The bytes of the last file."""
-        self.driver.wait_for('window.files.length > 0')
-        return bytes(self.value('window.files[window.files.length - 1].arrayBuffer().then((all) => [...new Uint8Array(all)])'))
+#: The page, before which a script runs.
+Scripted = Callable[[str], Player]
 
 
 def at(x: int, y: int) -> str:

@@ -11,7 +11,6 @@ from typing import Callable, Iterator, List
 from tests.harness import Room
 from tests.harness.browser import Browser
 from tests.harness.builds import TOP
-from tests.page.browsers import Piped
 from tests.page.playing import PHONE, Player, at
 
 #: Set before the page begins: when its first board was painted, counted from the navigation; and how long after a finger was lifted the board had
@@ -52,7 +51,7 @@ HINT = """new Promise((done) => {
 
 RUNS = 20
 
-#: Setters' sessions, as bench/time_desk has them, and so many changes of them at most.
+#: Setters' sessions, as bench/time_answers has them, and so many changes of them at most.
 CHANGES, MOST_CHANGES = TOP / 'bench' / 'changes.txt', 1000
 
 
@@ -101,7 +100,7 @@ def taps(player: Player, size: int, words: List[int]) -> Iterator[float]:
 def main(page: str) -> None:
     with Room() as room, Browser(room) as browser:
         browser.ask('Page.addScriptToEvaluateOnNewDocument', source=WATCH)
-        player = Player(Piped(browser), f'file://{page}').sit('', PHONE)
+        player = Player(browser, f'file://{page}').sit('', PHONE)
 
         def load(_: int) -> float:
             player.load('towers-5-easy-7')

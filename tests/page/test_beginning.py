@@ -3,17 +3,16 @@
 from __future__ import annotations
 
 import json
-from typing import Any, Dict, List
+from typing import Dict, List
 
 import pytest
 
 from tests.conftest import Programs
 from tests.harness import Room
+from tests.harness.browser import Browser
 from tests.harness.program import run
-from tests.page.playing import NO_JOURNAL, PHONE, Player
-from tests.page.test_games import TOWERS, choose
+from tests.page.playing import NO_JOURNAL, PHONE, TOWERS, Player, Scripted
 from tests.page.test_keeping import solve_by_hints
-from tests.page.test_unkept import scripted  # pylint: disable=unused-import  # noqa: F401
 
 #: The first numbers by chance are 7, and all others this one: so many more digits make a number of eight.
 SEVENS = '((left) => { Math.random = () => (left-- > 0 ? 7.5e-8 : 0.123456789); return true; })'
@@ -36,7 +35,7 @@ def test_solved_by_chance(player: Player) -> None:
     assert player.kept()[0]['fair']['number'] == '12345678'
     solved(player, 'towers-3-easy-7')
     player.value(f'{SEVENS}(1000)')
-    choose(player, game='towers', size='3', grade='e')
+    player.begin('Towers 3×3', game='towers', size='3', grade='e')
     player.counts('0 of 9')
     assert player.kept()[0]['fair']['number'] == '7'
 
@@ -116,20 +115,20 @@ WORKERLESS = {
 
 @pytest.mark.gate
 @pytest.mark.parametrize('script', WORKERLESS.values(), ids=list(WORKERLESS))
-def test_no_worker(scripted: Any, script: str) -> None:  # noqa: F811  # pylint: disable=redefined-outer-name
+def test_no_worker(scripted: Scripted, browser: Browser, script: str) -> None:
     """A sentence says so, in the place of an empty page."""
     player = scripted(script)
     player.driver.go('about:blank')
     player.driver.go(player.address)
     player.driver.wait_for('document.querySelector("#told")?.textContent.startsWith("This browser can’t run the game")')
     # The worker without a module complains of that.
-    player.driver.browser.complaints.clear()
+    browser.complaints.clear()
 
 
 @pytest.mark.gate
-def test_fault_of_the_page(piped: Player) -> None:
+def test_fault_of_the_page(piped: Player, browser: Browser) -> None:
     """What nobody expected is said."""
     piped.sit(TOWERS)
     piped.value('(Promise.reject(new Error("unexpected")), true)')
     piped.told('Something failed on this page.')
-    piped.driver.browser.complaints.clear()  # type: ignore[attr-defined]
+    browser.complaints.clear()

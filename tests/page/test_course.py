@@ -9,8 +9,8 @@ import pytest
 
 from playing.cards import CARDS
 from tests.harness.cards import SHOWS, Shows
-from tests.page.playing import LAPTOP, PHONE, SMALL, Player, at
-from tests.page.test_games import TOWERS, UNEQUAL, put
+from tests.page.playing import LAPTOP, PHONE, SMALL, TOWERS, UNEQUAL, Player, at
+from tests.page.test_games import put
 
 #: A game of each kind, of which something is done.
 PLAYED = {'towers': TOWERS, 'unequal': UNEQUAL}
@@ -181,9 +181,7 @@ def test_deleted_meanwhile(player: Player) -> None:
 def test_number_first(player: Player) -> None:
     """Where numbers are chosen first a pressed square is judged, too."""
     player.sit(TOWERS, PHONE)
-    player.menu('Number first, then squares')
-    player.press('Escape')
-    player.closes('#menu')
+    player.switch('Number first, then squares')
     player.menu('Learn')
     player.counts('Card 1 of 6')
     player.driver.click('[data-number="3"]')

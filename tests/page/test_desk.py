@@ -12,8 +12,8 @@ from playing.program import Program
 from tests.conftest import Programs
 from tests.harness import by_name
 from tests.harness.game import ID
-from tests.page.playing import LAPTOP, PHONE, SMALL, Player, at
-from tests.page.test_games import TOWERS, UNEQUAL, go_to
+from tests.page.playing import LAPTOP, PHONE, SMALL, TOWERS, UNEQUAL, Player, at
+from tests.page.test_games import go_to
 
 NONE, ONE, SEVERAL = '✗ No solution', '✓ Exactly one solution', '≥2 Several solutions'
 
@@ -134,8 +134,7 @@ def test_verdicts(player: Player) -> None:
     said(player, NONE)
     assert player.name(0, -1) == 'clue 1 above column 1, may be the mistake'
     assert player.name(2, -1) == 'no clue above column 3'
-    player.press('h')
-    player.is_shown('#steps')
+    player.opens('h', '#steps')
     assert 'Clue 1 above column 1' in player.text('#steps')
     player.press('ArrowRight', 'Escape')
     player.is_gone('#steps')

@@ -6,8 +6,7 @@ from typing import Dict, List, Tuple
 
 import pytest
 
-from tests.page.playing import PHONE, SMALL, Player
-from tests.page.test_games import TOWERS
+from tests.page.playing import PHONE, SMALL, TOWERS, Player
 
 #: What is written under New, and how it is refused, at which field.
 REFUSED: List[Tuple[Dict[str, str], str, str]] = [
@@ -26,8 +25,7 @@ REFUSED: List[Tuple[Dict[str, str], str, str]] = [
 def test_rules_begin(player: Player) -> None:
     """A text that is longer than the window is shown from its beginning, where the focus is, and Tab goes on to its button."""
     player.sit(TOWERS, SMALL)
-    player.press('?')
-    player.is_shown('#rules')
+    player.opens('?', '#rules')
     top, length, height = player.value('((node) => [node.scrollTop, node.scrollHeight, node.clientHeight])(document.querySelector("#rules"))')
     assert top == 0 and length > height
     player.press('Tab')
@@ -42,8 +40,7 @@ FIELDS = ['game', 'size', 'grade', 'number', 'id']
 def test_new_stays(player: Player, written: Dict[str, str], field: str, said: str) -> None:
     """What is wrong is said at its field, and all that was chosen stays; once it is right, the game begins."""
     player.sit(TOWERS, PHONE)
-    player.press('n')
-    player.is_shown('#fresh')
+    player.opens('n', '#fresh')
     chosen = {'game': 'unequal', 'size': '4', 'grade': 'k', 'number': '', 'id': '', **written}
     for name in FIELDS:
         player.write(f'#fresh-{name}', chosen[name])
@@ -57,6 +54,5 @@ def test_new_stays(player: Player, written: Dict[str, str], field: str, said: st
     player.click('Begin')
     player.closes('#fresh')
     player.told('Unequal, tricky 4, number 7.')
-    player.press('n')
-    player.is_shown('#fresh')
+    player.opens('n', '#fresh')
     assert player.value('[...document.querySelectorAll("#fresh input")].map((node) => [node.value, node.validity.valid])')[:2] == [['', True], ['', True]]

@@ -9,10 +9,10 @@ from typing import Iterator, List, Tuple
 import pytest
 
 from tests.harness import Room
+from tests.harness.browser import Browser
 from tests.harness.driver import Driver
 from tests.harness.game import save_text
-from tests.page.playing import PHONE, Player
-from tests.page.test_games import TOWERS, UNEQUAL, choose
+from tests.page.playing import PHONE, TOWERS, UNEQUAL, Player
 
 #: Before and after the text of the worker: some lines fail as the engine fails, and one takes forever.
 BEFORE = """
@@ -100,16 +100,13 @@ def test_names_are_text(player: Player) -> None:
     player.sit(TOWERS, PHONE)
     player.drop(save_text(2).replace(b'NSTATES', b'AUXINFO :13:<img onerror>\nNSTATES', 1))
     player.is_called(1, 0, 'row 1, column 2, 2')
-    player.press(':')
-    player.is_shown('#ask')
+    player.opens(':', '#ask')
     player.driver.type('save')
     player.press('Enter')
     player.is_shown('#page')
     assert '<img onerror>' in player.text('#page-text') and player.text('#page-title') == 'save'
-    player.press('Escape')
-    player.closes('#page')
-    player.press(':')
-    player.is_shown('#ask')
+    player.leaves('#page')
+    player.opens(':', '#ask')
     player.driver.type('<img src=x onerror=alert(1)>')
     player.press('Enter')
     player.told('There is no such command.')
@@ -138,19 +135,15 @@ def test_spoiled(player: Player) -> None:
         player.load()
         player.menu('Statistics')
         player.is_shown('#statistics')
-        player.press('Escape')
-        player.closes('#statistics')
-        player.press('o')
-        player.is_shown('#games')
+        player.leaves('#statistics')
+        player.opens('o', '#games')
         assert player.value('document.images.length') == 0
-        player.press('Escape')
-        player.closes('#games')
-    choose(player, id=UNEQUAL)
-    player.called('Unequal 3×3')
+        player.leaves('#games')
+    player.begin('Unequal 3×3', id=UNEQUAL)
     assert player.value('localStorage["puzzles:game:a"]') == 'no object'
 
 
-def test_policy(piped: Player) -> None:
+def test_policy(piped: Player, browser: Browser) -> None:
     """Nothing goes out, no other script runs, and no text becomes markup."""
     piped.sit(TOWERS)
     policy = piped.value('document.querySelector("meta[http-equiv]").content')
@@ -164,4 +157,4 @@ def test_policy(piped: Player) -> None:
         assert piped.value(f'(() => {{ try {{ {script}; return "done"; }} catch (fault) {{ return fault.name; }} }})()') == fault, script
     assert piped.value('fetch("data:,x").then(() => "came", () => "refused")') == 'refused'
     assert piped.value('performance.getEntriesByType("resource").length') == 0
-    piped.driver.browser.complaints.clear()  # type: ignore[attr-defined]
+    browser.complaints.clear()

@@ -11,8 +11,7 @@ from tests.conftest import Programs
 from tests.harness import Room
 from tests.harness.game import save_text
 from tests.harness.program import run
-from tests.page.playing import LAPTOP, PHONE, Player
-from tests.page.test_games import TOWERS
+from tests.page.playing import LAPTOP, PHONE, TOWERS, Player
 
 #: Records of a seed with bytes from 128 on: one letter for each byte, and two.
 SEEDS = [b'SEED    :4:gr\xfcn\n', b'SEED    :7:gr\xc3\xb6\xc3\x9fe\n']
@@ -46,8 +45,7 @@ def test_empty_file(player: Player) -> None:
 
 def export(player: Player) -> Dict[str, Any]:
     """All games, as the page writes them."""
-    player.press('o')
-    player.is_shown('#games')
+    player.opens('o', '#games')
     player.catch_files()
     player.click('Export all to one file')
     player.closes('#games')
@@ -66,11 +64,9 @@ def test_broken_text(player: Player) -> None:
     text = '{"key": "b", "sav'
     player.sit(TOWERS, PHONE)
     player.value(f'(localStorage["puzzles:game:b"] = {json.dumps(text)}, true)')
-    player.press('o')
-    player.is_shown('#games')
+    player.opens('o', '#games')
     assert player.text('#games-unread').startswith('1 game more can’t be read.')
-    player.press('Escape')
-    player.closes('#games')
+    player.leaves('#games')
     file = export(player)
     assert [game for game in file['games'] if isinstance(game, str)] == [text] and len(file['games']) == 2
     bring_in(player, file, '0 games imported. 1 were here already. 1 can’t be read.')
@@ -102,8 +98,7 @@ def test_bounds(player: Player) -> None:
     file = export(player)
     for change, said in BOUNDS:
         bring_in(player, {**file, 'games': [{**file['games'][0], **change, 'key': 'other', 'save': save_text(3, 2).decode()}]}, said)
-    player.press('o')
-    player.is_shown('#games')
+    player.opens('o', '#games')
     player.driver.click('#games-list [data-key=other]')
     player.closes('#games')
     player.is_called(1, 0, 'row 1, column 2, empty')
@@ -120,8 +115,7 @@ def test_bounds(player: Player) -> None:
 def test_import_joins(player: Player) -> None:
     """An older state of a game that is here changes nothing, a later one takes its place, and moves that it doesn't have stay beside it."""
     player.sit(TOWERS, LAPTOP)
-    player.press('1')
-    player.is_called(0, 0, 'row 1, column 1, 1')
+    player.put_first(1)
     older = export(player)
     player.press('ArrowRight', '2')
     player.is_called(1, 0, 'row 1, column 2, 2')

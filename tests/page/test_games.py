@@ -13,14 +13,7 @@ from tests.conftest import Programs
 from tests.harness import by_name
 from tests.harness.driver import RIGHT, Driver
 from tests.harness.game import ID
-from tests.page.playing import LAPTOP, PHONE, SMALL, Player, at, squares
-
-#: A clue above that the number 1 in its first square contradicts, in a game without givens.
-TOWERS = f'towers:{ID}'
-
-#: A game of Unequal whose first square is the least of three.
-UNEQUAL = 'unequal:3:0,0L,0L,0U,0,0,0U,0,0,'
-
+from tests.page.playing import LAPTOP, PHONE, SMALL, TOWERS, UNEQUAL, Player, at, squares
 
 class Whole(NamedTuple):
     """A stored puzzle, and how it is played: by keys, by mouse or with a finger; and whether the page comes from a server."""
@@ -113,17 +106,12 @@ def test_keys(player: Player) -> None:
     player.told('Back at the start')
     player.press('u', 'c')
     player.told('can still be completed')
-    player.press('i')
-    player.is_shown('#page')
+    player.opens('i', '#page')
     assert ID in player.text('#page-text')
-    player.press('Escape')
-    player.closes('#page')
-    player.press('?')
-    player.is_shown('#rules')
-    player.press('Escape')
-    player.closes('#rules')
-    player.press(':')
-    player.is_shown('#ask')
+    player.leaves('#page')
+    player.opens('?', '#rules')
+    player.leaves('#rules')
+    player.opens(':', '#ask')
     player.driver.type('status')
     player.press('Enter')
     player.told('playing ')
@@ -169,8 +157,7 @@ def test_mouse(player: Player) -> None:
     player.driver.click(at(0, 0))
     player.click('Undo')
     player.is_called(-1, 0, 'clue 3 left of row 1')
-    player.press('2')
-    player.is_called(0, 0, 'row 1, column 1, 2')
+    player.put_first(2)
 
 
 @pytest.mark.gate
@@ -185,9 +172,7 @@ def test_wrong(player: Player) -> None:
     player.is_called(-1, 0, 'clue 3 left of row 1, wrong')
     assert player.text('#said').startswith('row 1, column 1: 2, wrong; row 1, column 2: 2, wrong')
     for text in ('Show equal numbers', 'Show row and column'):
-        player.menu(text)
-        player.press('Escape')
-        player.closes('#menu')
+        player.switch(text)
     assert not {'same', 'lane'} & player.kind(0, 0)
     player.press('u')
     player.is_called(0, 0, 'row 1, column 1, 2')
@@ -305,8 +290,7 @@ def test_marks_go(player: Player) -> None:
     player.sit(TOWERS, LAPTOP)
     player.press('m', 'M')
     player.told('From now on, marks go')
-    player.press('1')
-    player.is_called(0, 0, 'row 1, column 1, 1')
+    player.put_first(1)
     player.is_called(2, 0, 'row 1, column 3, empty, marks 2 3')
     player.load()
     player.press('u')
@@ -358,30 +342,15 @@ def test_solve(player: Player) -> None:
 def test_new_games(player: Player) -> None:
     """By size and grade, by a number, by an ID or a link."""
     player.sit(TOWERS, PHONE)
-    choose(player, game='unequal', size='6', grade='k')
-    player.called('Unequal 6×6')
+    player.begin('Unequal 6×6', game='unequal', size='6', grade='k')
     player.counts('tricky')
-    player.press('n')
-    player.is_shown('#fresh')
+    player.opens('n', '#fresh')
     player.click('Today’s game')
     player.told(f'Unequal, tricky 6, number {datetime.date.today():%Y%m%d}.')
     player.closes('#fresh')
-    choose(player, game='towers', size='5', grade='e', number='020261126')
-    player.called('Towers 5×5')
-    player.press('i')
-    player.is_shown('#page')
+    player.begin('Towers 5×5', game='towers', size='5', grade='e', number='020261126')
+    player.opens('i', '#page')
     assert 'number 20261126.' in player.text('#page-text') and '#towers-5-easy-20261126' in player.text('#page-text')
-    player.press('Escape')
-    player.closes('#page')
+    player.leaves('#page')
     for id, title in [(ID, 'Towers 3×3'), ('unequal-4-easy-7', 'Unequal 4×4'), (f'https://a.example/p#{UNEQUAL}', 'Unequal 3×3'), ('4!7', 'Unequal 4×4')]:
-        choose(player, id=id)
-        player.called(title)
-
-
-def choose(player: Player, **values: str) -> None:
-    player.press('n')
-    player.is_shown('#fresh')
-    for name, value in values.items():
-        player.write(f'#fresh-{name}', value)
-    player.click('Begin')
-    player.closes('#fresh')
+        player.begin(title, id=id)

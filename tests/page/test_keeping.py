@@ -12,8 +12,7 @@ from tests.conftest import Programs
 from tests.harness import Room
 from tests.harness.game import save_text
 from tests.harness.program import run
-from tests.page.playing import LAPTOP, PHONE, Player
-from tests.page.test_games import TOWERS, UNEQUAL, choose
+from tests.page.playing import LAPTOP, PHONE, TOWERS, UNEQUAL, Player, Scripted
 
 
 def test_comes_back(player: Player) -> None:
@@ -35,22 +34,17 @@ def test_comes_back(player: Player) -> None:
 def test_each_game_is_kept(player: Player) -> None:
     """Until it is deleted, after a question; the list shows how far each is, and goes on with one."""
     player.sit(TOWERS, PHONE)
-    player.press('1')
-    player.is_called(0, 0, 'row 1, column 1, 1')
-    choose(player, id=UNEQUAL)
-    player.called('Unequal 3×3')
-    choose(player, id='towers-9-hard-20261127')
-    player.called('Towers 9×9')
+    player.put_first(1)
+    player.begin('Unequal 3×3', id=UNEQUAL)
+    player.begin('Towers 9×9', id='towers-9-hard-20261127')
     assert [game['id'].split(':')[0] for game in player.kept()] == ['9dh', '3', '3']
-    player.press('o')
-    player.is_shown('#games')
+    player.opens('o', '#games')
     listed = player.value('[...document.querySelectorAll("#games-list .pictured")].map((node) => node.textContent)')
     assert 'number 20261127' in listed[0] and 'Unequal 3×3 · 0 of 9' in listed[1] and 'Towers 3×3 · 1 of 9' in listed[2]
     player.driver.wait_for('[...document.querySelectorAll(".small-board")].map((node) => node.querySelectorAll("text").length).join().endsWith(",0,1")')
     player.driver.click('#games-list li:nth-child(3) .pictured')
     player.begins(0, 0, 'row 1, column 1, 1')
-    player.press('o')
-    player.is_shown('#games')
+    player.opens('o', '#games')
     player.driver.click('#games-list li:nth-child(2) [data-gone]')
     player.answer_once('No')
     assert len(player.kept()) == 3
@@ -65,8 +59,7 @@ def test_each_game_is_kept(player: Player) -> None:
 def test_link_keeps_the_present_game(player: Player) -> None:
     """A link begins its game, the present one stays in the list, and goes on where its own link is opened."""
     player.sit(TOWERS)
-    player.press('1')
-    player.is_called(0, 0, 'row 1, column 1, 1')
+    player.put_first(1)
     player.load(UNEQUAL)
     player.called('Unequal 3×3')
     assert player.value('location.hash') == ''
@@ -87,8 +80,7 @@ def test_two_tabs(player: Player) -> None:
     first, other = player.driver.tab, player.driver.open()
     try:
         player.load()
-        player.press('1')
-        player.is_called(0, 0, 'row 1, column 1, 1')
+        player.put_first(1)
         player.driver.turn_to(first)
         player.begins(0, 0, 'row 1, column 1, 1')
         player.press('ArrowRight', '2')
@@ -106,8 +98,7 @@ def test_two_tabs(player: Player) -> None:
 def test_behind(player: Player) -> None:
     """A tab that hasn't heard of another one's move does nothing, says so, and shows the move."""
     player.sit(TOWERS)
-    player.press('1')
-    player.is_called(0, 0, 'row 1, column 1, 1')
+    player.put_first(1)
     # Another tab has moved, and the browser hasn't said so yet when a key is pressed.
     text = json.dumps(save_text(3).decode())
     player.value(
@@ -133,16 +124,11 @@ window.Worker = class extends Plain {
 
 
 @pytest.mark.gate
-def test_worker_comes_first(piped: Player) -> None:
+def test_worker_comes_first(scripted: Scripted) -> None:
     """The store is asked for after the worker has answered: to a page that asks at once a busy Chromium may give an empty one."""
-    browser = piped.driver.browser  # type: ignore[attr-defined]
-    known = browser.ask('Page.addScriptToEvaluateOnNewDocument', source=ORDERED)['identifier']
-    try:
-        piped.load(TOWERS)
-        assert piped.value('window.order.slice(0, 2)') == ['worker', 'store']
-    finally:
-        browser.ask('Page.removeScriptToEvaluateOnNewDocument', identifier=known)
-        piped.load()
+    player = scripted(ORDERED)
+    player.load(TOWERS)
+    assert player.value('window.order.slice(0, 2)') == ['worker', 'store']
 
 
 #: The browser refuses to keep anything; or it has no room left.
@@ -152,24 +138,18 @@ FULL = 'Storage.prototype.setItem = () => { throw new DOMException("", "QuotaExc
 
 @pytest.mark.gate
 @pytest.mark.parametrize('script, said', [(REFUSED, 'keeps nothing for this page'), (FULL, 'has no room left')], ids=['refused', 'full'])
-def test_nothing_is_kept(piped: Player, script: str, said: str) -> None:
+def test_nothing_is_kept(scripted: Scripted, script: str, said: str) -> None:
     """It is said, and play goes on."""
-    browser = piped.driver.browser  # type: ignore[attr-defined]
-    known = browser.ask('Page.addScriptToEvaluateOnNewDocument', source=script)['identifier']
-    try:
-        piped.load(TOWERS)
-        piped.told(said)
-        piped.press('1', 'ArrowRight', '2', 'u')
-        piped.is_called(0, 0, 'row 1, column 1, 1')
-        piped.is_called(1, 0, 'row 1, column 2, empty')
-        piped.told(said)
-        choose(piped, id=UNEQUAL)
-        piped.called('Unequal 3×3')
-        piped.press('o')
-        piped.driver.wait_for('document.querySelectorAll("#games-list li").length === 2')
-    finally:
-        browser.ask('Page.removeScriptToEvaluateOnNewDocument', identifier=known)
-        piped.load()
+    player = scripted(script)
+    player.load(TOWERS)
+    player.told(said)
+    player.press('1', 'ArrowRight', '2', 'u')
+    player.is_called(0, 0, 'row 1, column 1, 1')
+    player.is_called(1, 0, 'row 1, column 2, empty')
+    player.told(said)
+    player.begin('Unequal 3×3', id=UNEQUAL)
+    player.press('o')
+    player.driver.wait_for('document.querySelectorAll("#games-list li").length === 2')
 
 
 @pytest.mark.gate
@@ -201,8 +181,7 @@ BAD_FILES: List[Any] = [
 def test_bad_files(player: Player) -> None:
     """The game stays."""
     player.sit(TOWERS)
-    player.press('1')
-    player.is_called(0, 0, 'row 1, column 1, 1')
+    player.put_first(1)
     for content, said in BAD_FILES:
         if isinstance(content, int):
             player.drop(size=content)
@@ -217,12 +196,9 @@ def test_bad_files(player: Player) -> None:
 def test_all_in_one_file(player: Player) -> None:
     """All games go out as one file, and come in again where they are gone; a damaged one is counted, and what stands there already is passed over."""
     player.sit(TOWERS, LAPTOP)
-    player.press('1')
-    player.is_called(0, 0, 'row 1, column 1, 1')
-    choose(player, id=UNEQUAL)
-    player.called('Unequal 3×3')
-    player.press('o')
-    player.is_shown('#games')
+    player.put_first(1)
+    player.begin('Unequal 3×3', id=UNEQUAL)
+    player.opens('o', '#games')
     player.catch_files()
     player.click('Export all to one file')
     told: Mapping[str, Any] = json.loads(player.caught())
@@ -243,33 +219,25 @@ def test_all_in_one_file(player: Player) -> None:
 def test_solved_days(player: Player) -> None:
     """Today's game, once solved, has its day in the calendar; its time is in the statistics, where that isn't switched off."""
     player.sit('unequal-3-trivial-5', PHONE)
-    player.press('t')
-    player.is_shown('#daily')
+    player.opens('t', '#daily')
     player.write('#daily-size', '3')
     player.click('Today’s game')
     player.called('Towers 3×3')
     today = datetime.date.today()
-    player.press('i')
-    player.is_shown('#page')
+    player.opens('i', '#page')
     assert f'number {today:%Y%m%d}.' in player.text('#page-text')
-    player.press('Escape')
-    player.closes('#page')
+    player.leaves('#page')
     solve_by_hints(player)
     player.told('Solved')
-    player.press('t')
-    player.is_shown('#daily')
+    player.opens('t', '#daily')
     assert player.value('document.querySelector("#daily-days .solved").ariaLabel').endswith(', solved')
     assert player.value('document.querySelector("#daily-days .solved").textContent') == str(today.day)
-    player.press('Escape')
-    player.closes('#daily')
+    player.leaves('#daily')
     player.menu('Statistics')
     player.is_shown('#statistics')
     assert player.value('[...document.querySelectorAll("#statistics td")].map((node) => node.textContent)')[:2] == ['1', '0']
-    player.press('Escape')
-    player.closes('#statistics')
-    player.menu('Time and statistics')
-    player.press('Escape')
-    player.closes('#menu')
+    player.leaves('#statistics')
+    player.switch('Time and statistics')
     assert ':' not in player.text('#count')
 
 

@@ -8,8 +8,7 @@ from typing import Any, Dict, List, NamedTuple
 import pytest
 
 from tests.harness import by_name
-from tests.page.playing import LAPTOP, Player
-from tests.page.test_games import TOWERS, UNEQUAL
+from tests.page.playing import LAPTOP, TOWERS, UNEQUAL, Player
 
 EMPTY, ONE, TWO = (f'row 1, column 1, {content}' for content in ('empty', '1', '2'))
 
@@ -85,8 +84,7 @@ def test_focus_of_a_hint(player: Player) -> None:
         player.closes('#walk')
         player.counts(count)
     # By a key of the board the board keeps it.
-    player.press('H')
-    player.is_shown('#walk')
+    player.opens('H', '#walk')
     assert player.value('Boolean(document.activeElement.dataset.place)')
 
 

@@ -11,16 +11,15 @@ import random
 import threading
 import time
 from pathlib import Path
-from typing import Callable, Dict, List, NamedTuple, Tuple
+from typing import Callable, Dict, List, NamedTuple, Union
 
 import pytest
 
 from tests.harness import Room
 from tests.harness.browser import Browser
-from tests.harness.driver import Driver
 from tests.harness.firefox import Firefox, firefox
 from tests.harness.game import HEAD
-from tests.page.browsers import Piped, chosen
+from tests.page.conftest import chosen
 from tests.page.playing import Player, at
 
 #: What was seen so many seconds before the end has to last.
@@ -47,17 +46,8 @@ class Seen(NamedTuple):
     moves: int
 
 
-def chromium(room: Room) -> Tuple[Driver, Callable[[], None]]:
-    browser = Browser(room)
-    return Piped(browser), browser.kill
-
-
-def killable_firefox(room: Room) -> Tuple[Driver, Callable[[], None]]:
-    driver: Firefox = firefox(room)
-    return driver, driver.kill
-
-
-BEGIN = {'chromium': chromium, 'firefox': killable_firefox}
+#: Those that can be killed.
+BEGIN: Dict[str, Callable[[Room], Union[Browser, Firefox]]] = {'chromium': Browser, 'firefox': firefox}
 
 
 def pytest_generate_tests(metafunc: pytest.Metafunc) -> None:
@@ -89,7 +79,7 @@ class Rounds:
         self.late = 0
 
     def play_and_kill(self, chance: random.Random) -> None:
-        driver, kill = BEGIN[self.name](self.room)
+        driver = BEGIN[self.name](self.room)
         player, before = Player(driver, self.address), len(self.killed)
         try:
             player.load()
@@ -97,7 +87,7 @@ class Rounds:
 
             def kill_now() -> None:
                 self.killed.append(time.monotonic())
-                kill()
+                driver.kill()
 
             timer = threading.Timer(chance.uniform(*PLAYS), kill_now)
             timer.start()
@@ -109,7 +99,7 @@ class Rounds:
                 assert len(self.killed) == before + 1
                 timer.join()
         finally:
-            end(driver)
+            driver.end()
 
     def begin(self, player: Player, chance: random.Random) -> None:
         """A new game, or on with the long one."""
@@ -147,7 +137,7 @@ class Rounds:
 
     def look(self) -> None:
         """Begins again, and looks for what was seen."""
-        driver, _ = BEGIN[self.name](self.room)
+        driver = BEGIN[self.name](self.room)
         try:
             player = Player(driver, self.address)
             player.load()
@@ -155,7 +145,7 @@ class Rounds:
             now = games[player.value('JSON.parse(localStorage["puzzles:settings"] ?? "{}").now ?? localStorage["puzzles:now"]')]
             self.compare(dict(games.values()), now[0])
         finally:
-            end(driver)
+            driver.end()
         # The moves that were seen last go on from what is there.
         self.seen = [Seen(0.0, *now)] if self.is_long else []
 
@@ -172,10 +162,3 @@ class Rounds:
 
     def told(self) -> str:
         return f'{self.name}: {len(self.killed)} killed, {len(self.lost)} lost, and {self.late} of the last {LASTS} s'
-
-
-def end(driver: Driver) -> None:
-    if isinstance(driver, Piped):
-        driver.browser.__exit__()
-    else:
-        driver.end()

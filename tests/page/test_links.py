@@ -9,8 +9,7 @@ from typing import Iterator
 import pytest
 
 from tests.harness.driver import Driver
-from tests.page.playing import LAPTOP, PHONE, Player
-from tests.page.test_games import TOWERS, choose
+from tests.page.playing import LAPTOP, PHONE, TOWERS, Player
 from tests.page.test_keeping import solve_by_hints
 
 #: Notes what is copied; or lets no page copy.
@@ -47,10 +46,8 @@ def test_link(online: Player) -> None:
     clipboard(online, REFUSED)
     online.menu('Copy link')
     online.driver.wait_for(f'document.querySelector("#page[open] #page-text")?.textContent === {json.dumps(copied(online))}')
-    online.press('Escape')
-    online.closes('#page')
-    online.press('i')
-    online.is_shown('#page')
+    online.leaves('#page')
+    online.opens('i', '#page')
     assert copied(online) in online.text('#page-text')
 
 
@@ -65,11 +62,9 @@ def test_name(player: Player) -> None:
         text = copied(player)
         assert text.startswith(f'{name}: #')
         player.closes('#menu')
-        choose(player, id='unequal-4-easy-7')
-        player.called('Unequal 4×4')
-        choose(player, id=text)
+        player.begin('Unequal 4×4', id='unequal-4-easy-7')
+        player.begin(name.split(',', maxsplit=1)[0], id=text)
         player.told('You have begun this game before.')
-        player.called(name.split(',', maxsplit=1)[0])
         player.forget()
 
 
@@ -81,8 +76,7 @@ def test_grade(player: Player) -> None:
     player.load(TOWERS)
     player.counts('easy by our steps')
     player.told('By our steps: hints of that grade lead to the solution')
-    player.press('1')
-    player.is_called(0, 0, 'row 1, column 1, 1')
+    player.put_first(1)
     player.load(TOWERS)
     player.counts('easy by our steps')
     player.told('You have begun this game before.')
@@ -109,16 +103,13 @@ def test_result(player: Player) -> None:
     text = copied(player)
     assert text.startswith(f'Towers 3×3, easy, {today.day} {today:%B %Y}: solved ')
     assert text.endswith(f'! 3 days in a row. #towers-3-easy-{days[0]}')
-    player.press('t')
-    player.is_shown('#daily')
+    player.opens('t', '#daily')
     player.write('#daily-size', '3')
     assert player.text('#daily-streak') == '3 days in a row.'
     player.write('#daily-size', '4')
     assert player.text('#daily-streak') == ''
-    player.press('Escape')
-    player.closes('#daily')
-    choose(player, game='towers', size='4', grade='e')
-    player.called('Towers 4×4')
+    player.leaves('#daily')
+    player.begin('Towers 4×4', game='towers', size='4', grade='e')
     player.is_gone('#share')
 
 
@@ -126,9 +117,7 @@ def test_result(player: Player) -> None:
 def test_result_of_a_server(online: Player) -> None:
     """The whole link is in it, and no time where that is switched off."""
     online.sit('towers-3-easy-7', LAPTOP)
-    online.menu('Time and statistics')
-    online.press('Escape')
-    online.closes('#menu')
+    online.switch('Time and statistics')
     solve_by_hints(online)
     online.told('Solved')
     hints = online.kept()[0]['hints']

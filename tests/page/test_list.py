@@ -6,8 +6,7 @@ from typing import List
 
 import pytest
 
-from tests.page.playing import LAPTOP, PHONE, Player
-from tests.page.test_games import TOWERS, UNEQUAL, choose
+from tests.page.playing import LAPTOP, PHONE, TOWERS, UNEQUAL, Player
 
 #: Copies of the game that is kept, each a minute older than the one before, every third of them solved.
 COPIES = """
@@ -35,8 +34,7 @@ def full(player: Player, count: int, link: str = TOWERS) -> None:
     player.load(link)
     player.value(COPIES.replace('COUNT', str(count)))
     player.load()
-    player.press('o')
-    player.is_shown('#games')
+    player.opens('o', '#games')
 
 
 def keys(player: Player) -> List[str]:
@@ -99,10 +97,8 @@ def test_delete_finished(player: Player) -> None:
 def test_delete_present(player: Player) -> None:
     """Another game of its kind begins, and the list shows it."""
     player.sit(UNEQUAL)
-    choose(player, id='towers-4-easy-5')
-    player.called('Towers 4×4')
-    player.press('o')
-    player.is_shown('#games')
+    player.begin('Towers 4×4', id='towers-4-easy-5')
+    player.opens('o', '#games')
     for _ in range(2):
         first = player.value(KEYS)[0]
         player.driver.click('#games-list li:first-child [data-gone]')
@@ -110,8 +106,7 @@ def test_delete_present(player: Player) -> None:
         player.driver.wait_for(f'!document.querySelector("[data-key={first}]") && document.querySelectorAll("#games-list li").length === 2')
         assert first not in [game['key'] for game in player.kept()]
     assert player.value('document.querySelector("#games-none").hidden') and len(player.kept()) == 2
-    player.press('Escape')
-    player.closes('#games')
+    player.leaves('#games')
     player.called('Towers 4×4')
     player.counts('0 of 1')
 

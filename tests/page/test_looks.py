@@ -18,9 +18,8 @@ from playing.cards import CARDS
 from playing.games import SIZES, stored
 from tests.harness import by_name
 from tests.harness.browser import Browser
-from tests.page.browsers import ALL
-from tests.page.playing import LAPTOP, PHONE, SMALL, Player
-from tests.page.test_games import TOWERS, UNEQUAL
+from tests.page.conftest import ALL
+from tests.page.playing import LAPTOP, PHONE, SMALL, TOWERS, UNEQUAL, Player
 
 PICTURES = Path(__file__).resolve().parent / 'pictures'
 
@@ -90,11 +89,9 @@ def test_checks(piped: Player, game: str, window: Tuple[int, int]) -> None:
     assert wrong(piped) == []
     piped.press('Escape')
     for key, dialog in [('n', '#fresh'), ('o', '#games'), ('t', '#daily'), ('?', '#rules'), ('i', '#page'), (':', '#ask'), ('S', '#ask')]:
-        piped.press(key)
-        piped.is_shown(dialog)
+        piped.opens(key, dialog)
         assert wrong(piped) == [], dialog
-        piped.press('Escape')
-        piped.closes(dialog)
+        piped.leaves(dialog)
     piped.click('Menu')
     piped.is_shown('#menu')
     assert wrong(piped) == []
@@ -242,16 +239,6 @@ def play(*pressed: str) -> Callable[[Player], object]:
     return act
 
 
-def open_dialog(key: str, dialog: str) -> Callable[[Player], object]:
-    """Opens a dialog by its key."""
-
-    def act(player: Player) -> None:
-        player.press(key)
-        player.is_shown(dialog)
-
-    return act
-
-
 def solve(player: Player) -> None:
     player.press('S')
     player.answer('Yes')
@@ -287,9 +274,7 @@ def setting(player: Player) -> None:
 
 
 def number_first(player: Player) -> None:
-    player.menu('Number first, then squares')
-    player.press('Escape')
-    player.closes('#menu')
+    player.switch('Number first, then squares')
     player.press('m')
     player.driver.click('[data-number="2"]')
     player.driver.click('[data-place="0,0"]')
@@ -314,9 +299,9 @@ ALL_PICTURES: List[Picture] = [
     Picture('hint-look', 'towers:5!7', PHONE, play('h')),
     Picture('hint-reason', 'towers:5!7', LAPTOP, play('h', 'h')),
     Picture('why-phone', 'unequal:5!7', PHONE, play('H', DOWN)),
-    Picture('new-game', TOWERS, SMALL, open_dialog('n', '#fresh')),
+    Picture('new-game', TOWERS, SMALL, lambda player: player.opens('n', '#fresh')),
     Picture('menu', UNEQUAL, PHONE, lambda player: player.click('Menu')),
-    Picture('rules', TOWERS, PHONE, open_dialog('?', '#rules')),
+    Picture('rules', TOWERS, PHONE, lambda player: player.opens('?', '#rules')),
     Picture('filled-in-zoomed', puzzle('towers', 6), (683, 384), solve),
     Picture('number-first', 'unequal-5-easy-7', PHONE, number_first),
     Picture('course', UNEQUAL, SMALL, learn('1')),
@@ -353,9 +338,7 @@ def test_picture(piped: Player, browser: Browser, picture: Picture) -> None:
     """With PICTURES=new in the environment they are stored anew."""
     piped.sit(picture.link, picture.window)
     # The time stands in the head.
-    piped.menu('Time and statistics')
-    piped.press('Escape')
-    piped.closes('#menu')
+    piped.switch('Time and statistics')
     browser.media(picture.kind, picture.features)
     picture.act(piped)
     piped.settles()
@@ -365,5 +348,5 @@ def test_picture(piped: Player, browser: Browser, picture: Picture) -> None:
         path.write_bytes(shown)
     browser.go('about:blank')
     data = [json.dumps(base64.b64encode(content).decode()) for content in (shown, path.read_bytes())]
-    assert browser.promised(COMPARE.replace('ONE', data[0]).replace('OTHER', data[1])) < MOST_OTHER
+    assert browser.value(COMPARE.replace('ONE', data[0]).replace('OTHER', data[1])) < MOST_OTHER
     piped.load()

@@ -8,8 +8,7 @@ from typing import List, Tuple
 import pytest
 
 from tests.harness.driver import RIGHT
-from tests.page.playing import LAPTOP, PHONE, Player, at
-from tests.page.test_games import TOWERS, choose
+from tests.page.playing import LAPTOP, PHONE, TOWERS, Player, at
 
 #: The marks that are lit, by their squares.
 LIT = '[...document.querySelectorAll(".light + .mark")].map((node) => `${node.closest("[data-place]").dataset.place} ${node.textContent}`)'
@@ -46,16 +45,12 @@ def test_lit_marks(player: Player) -> None:
     player.is_called(2, 1, 'row 2, column 3, empty')
     assert lit(player) == ([], [])
     player.press('u')
-    player.menu('Show equal numbers')
-    player.press('Escape')
-    player.closes('#menu')
+    player.switch('Show equal numbers')
     assert lit(player) == ([], [])
 
 
 def switch(player: Player) -> None:
-    player.menu('Number first, then squares')
-    player.press('Escape')
-    player.closes('#menu')
+    player.switch('Number first, then squares')
 
 
 def test_number_first(player: Player) -> None:
@@ -117,8 +112,7 @@ def test_number_first_otherwise(player: Player) -> None:
     player.is_called(0, 2, 'row 3, column 1, empty, marks 1')
     assert player.value(HELD) == '1'
     # Neither the next game nor one without this setting has it.
-    choose(player, id='towers-4-easy-7')
-    player.called('Towers 4×4')
+    player.begin('Towers 4×4', id='towers-4-easy-7')
     assert player.value(HELD) == ''
     player.driver.click('[data-number="4"]')
     switch(player)

@@ -2,7 +2,6 @@
 
 from tests.harness import Room
 from tests.harness.browser import Browser
-from tests.page.browsers import Piped
 from tests.page.conftest import serving
 from tests.page.playing import Player
 from web_build.site import files
@@ -16,7 +15,7 @@ def test_site(browser: Browser, room: Room) -> None:
         room.put(name, content)
     browser.complaints.clear()
     with serving(room.path) as address:
-        player = Player(Piped(browser), address).sit('towers:3:3//////3/////')
+        player = Player(browser, address).sit('towers:3:3//////3/////')
         assert player.driver.value(KEPT) == len(files()) - 1
         assert browser.ask('Page.getInstallabilityErrors')['installabilityErrors'] == []
     assert browser.complaints == []

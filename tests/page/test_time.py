@@ -2,12 +2,9 @@
 
 from __future__ import annotations
 
-from typing import Iterator
-
 import pytest
 
-from tests.page.playing import PHONE, Player
-from tests.page.test_games import TOWERS
+from tests.page.playing import PHONE, TOWERS, Player, Scripted
 
 #: What the page does once a second is done by us.
 CLOCK = """
@@ -17,13 +14,9 @@ window.setInterval = (act, time) => (time === 1000 ? (window.second = act, 0) : 
 
 
 @pytest.fixture
-def timed(piped: Player) -> Iterator[Player]:
+def timed(scripted: Scripted) -> Player:
     """At a page whose seconds go by when we say so."""
-    browser = piped.driver.browser  # type: ignore[attr-defined]
-    known = browser.ask('Page.addScriptToEvaluateOnNewDocument', source=CLOCK)['identifier']
-    yield piped
-    browser.ask('Page.removeScriptToEvaluateOnNewDocument', identifier=known)
-    piped.load()
+    return scripted(CLOCK)
 
 
 def after(player: Player, seconds: int) -> str:
@@ -37,11 +30,9 @@ def test_stands_still(timed: Player) -> None:
     timed.sit(TOWERS, PHONE)
     assert after(timed, 5) == '0:05'
     for key, dialog in [('n', '#fresh'), ('o', '#games'), ('t', '#daily'), ('?', '#rules'), ('i', '#page'), ('S', '#ask')]:
-        timed.press(key)
-        timed.is_shown(dialog)
+        timed.opens(key, dialog)
         assert after(timed, 5) == '0:05', dialog
-        timed.press('Escape')
-        timed.closes(dialog)
+        timed.leaves(dialog)
     timed.menu('Pause')
     timed.is_shown('#pause')
     assert after(timed, 60) == '0:05'

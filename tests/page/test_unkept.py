@@ -3,13 +3,13 @@
 from __future__ import annotations
 
 import json
-from typing import Any, Iterator
+from typing import List
 
 import pytest
 
+from tests.harness.browser import Browser
 from tests.harness.game import HEAD
-from tests.page.playing import PHONE, Player, at
-from tests.page.test_games import TOWERS, UNEQUAL, choose
+from tests.page.playing import PHONE, TOWERS, UNEQUAL, Player, Scripted, at
 from tests.page.test_keeping import FULL, REFUSED
 
 #: A game that takes much room.
@@ -31,8 +31,7 @@ NO_ROOM = 'has no room left'
 
 def from_list(player: Player, title: str) -> None:
     """Goes on with the first game of the list that has this title."""
-    player.press('o')
-    player.is_shown('#games')
+    player.opens('o', '#games')
     player.driver.click(item(player, title, '.pictured'))
     player.closes('#games')
     player.called(title)
@@ -58,8 +57,7 @@ def test_room_again(player: Player) -> None:
     player.told(NO_ROOM)
     from_list(player, 'Unequal 3×3')
     player.told(NO_ROOM)
-    player.press('o')
-    player.is_shown('#games')
+    player.opens('o', '#games')
     player.driver.click(item(player, 'Towers 3×3', '[data-gone]'))
     player.answer_once('Yes')
     player.driver.wait_for(f'!document.querySelector("#told").textContent.includes({json.dumps(NO_ROOM)})')
@@ -72,44 +70,22 @@ def test_full_at_once(player: Player) -> None:
     """A game that begins without room for it says so, and not with its first move."""
     player.sit(TOWERS, PHONE)
     player.value(f'{FILL}(200)')
-    choose(player, id=UNEQUAL)
-    player.called('Unequal 3×3')
+    player.begin('Unequal 3×3', id=UNEQUAL)
     player.told(NO_ROOM)
-    choose(player, game='towers', size='4', grade='e')
-    player.called('Towers 4×4')
+    player.begin('Towers 4×4', game='towers', size='4', grade='e')
     player.told(NO_ROOM)
-
-
-@pytest.fixture
-def scripted(piped: Player) -> Iterator[Any]:
-    """Has a script run before each page."""
-    browser = piped.driver.browser  # type: ignore[attr-defined]
-    known = []
-
-    def begin(script: str) -> Player:
-        known.append(browser.ask('Page.addScriptToEvaluateOnNewDocument', source=script)['identifier'])
-        return piped
-
-    yield begin
-    for identifier in known:
-        browser.ask('Page.removeScriptToEvaluateOnNewDocument', identifier=identifier)
-    piped.load()
-    # Chromium doesn't ask where nobody has touched the page, and says so.
-    browser.complaints[:] = [text for text in browser.complaints if 'beforeunload' not in text]
 
 
 @pytest.mark.gate
 @pytest.mark.parametrize('script, asked', [('', []), (REFUSED, ['beforeunload']), (FULL, ['beforeunload'])], ids=['kept', 'refused', 'full'])
-def test_asks_before_it_closes(scripted: Any, script: str, asked: Any) -> None:
+def test_asks_before_it_closes(scripted: Scripted, browser: Browser, script: str, asked: List[str]) -> None:
     """While something isn't kept, and never otherwise."""
     player = scripted(script)
     player.load(TOWERS)
-    player.press('1')
-    player.is_called(0, 0, 'row 1, column 1, 1')
-    questions = player.driver.browser.questions
-    questions.clear()
+    player.put_first(1)
+    browser.questions.clear()
     player.load()
-    assert questions == asked
+    assert browser.questions == asked
 
 
 #: The texts of the database.
@@ -128,7 +104,7 @@ def test_lost_by_the_store(player: Player) -> None:
     player.value('(window.before = {...localStorage}, true)')
     player.press('1', 'ArrowRight', '2', 'M')
     player.told('From now on, marks go')
-    choose(player, id=UNEQUAL)
+    player.begin('Unequal 3×3', id=UNEQUAL)
     player.press('1')
     player.begins(0, 0, 'row 1, column 1, 1')
     player.driver.wait_for(f'{JOURNAL}.then((texts) => texts.some((text) => text.includes("Unequal") && text.includes("R0,0,1")))')
@@ -157,7 +133,7 @@ IDBDatabase.prototype.transaction = function (...words) {
 
 
 @pytest.mark.gate
-def test_strictly(scripted: Any) -> None:
+def test_strictly(scripted: Scripted) -> None:
     """Each change is written to the disk at once, and the browser is asked once to clear nothing by itself."""
     player = scripted(NOTING)
     player.load(TOWERS)

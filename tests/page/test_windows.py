@@ -8,8 +8,7 @@ import pytest
 
 from tests.harness import Room
 from tests.harness.browser import Browser
-from tests.page.playing import LAPTOP, PHONE, Player, at
-from tests.page.test_games import TOWERS
+from tests.page.playing import LAPTOP, PHONE, TOWERS, Player, at
 from tests.sheet.printing import need_tools, said
 
 #: How much room is left of a button beside the widest word in it, at each side.

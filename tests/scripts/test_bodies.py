@@ -1,13 +1,11 @@
 """What is said of wrong bodies and twins that a prover refuses here or there, or not at all."""
 
 import os
-from pathlib import Path
 from typing import Dict, NamedTuple, Sequence
 
 import pytest
 
 from bodies.sources import functions
-from gating.proofs import sum_of_sources
 from tests.harness import by_name
 from tests.scripts.place import Place
 
@@ -131,6 +129,10 @@ def edits(row: Bodies) -> str:
     return '\n'.join(found)
 
 
+#: Prints what the libraries of this kit rest on, by the scripts of the copy.
+RESTS_ON = 'import sys; sys.path.insert(0, "tools"); from gating.proofs import sum_of_libraries; print(sum_of_libraries(sys.argv[1]), end="")'
+
+
 def test_libraries(words: Words) -> None:
     """A library is taken as `rt lib` has left it, or `rt ci`, where it is of the sources here."""
     words.write(ROUNDS[0])
@@ -145,7 +147,8 @@ def test_libraries(words: Words) -> None:
     os.utime(made, (1, 1))
     words.expect(lacks, 1, ANEW='1')
     # As the gate's `rt ci` brings it back from an earlier run; and so again, where the sources aren't those any more, nor it the library.
-    note = put('build/libraries', sum_of_sources(KIT, Path(words.place.path)).encode(), 0o644)
+    rests_on = words.place.run(['python3', '-Bc', RESTS_ON, KIT]).output
+    note = put('build/libraries', rests_on, 0o644)
     words.expect(['4 passed, 0 failed'], ANEW='1')
     # A wrong body is none of them.
     others = put('crates/letters/wrong-bodies.edits', b'', 0o644)

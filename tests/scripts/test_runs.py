@@ -1,60 +1,20 @@
-"""Which tests tests/run runs, and how it names the packages that are lacking. tests/elsewhere has them installed."""
+"""Which tests tests/run runs, and what it says of cases that can't be tried."""
 
-import os
 import re
-import shutil
-import signal
-from typing import Iterable, List, Sequence, Set
+from typing import Iterable, NamedTuple, Sequence, Set
 
 import pytest
 
-from tests.harness import Room, run
+from tests.harness import by_name
 from tests.harness.builds import TOP
 from tests.scripts.place import Place
 
-#: The commands that it calls.
-COMMANDS = ['bash', 'chmod', 'dirname', 'id', 'nproc', 'realpath', 'sed', 'sh', 'tail', 'timeout', 'tr']
 
-#: Packages that are there, by a command, a command of two, a file and a file of two; and that aren't. There is a folder `man`, and no such command.
-PACKAGES = """\
-# A list.
-
-command   sed
-commands  man|sed
-file      man/puzzles.6
-files     /none/sed|./man
-folder    man           # for the gate
-no-file   man/sed
-of-gate   man           gate  # for it
-python3-none  import:a_module_that_is_not_there
-"""
-
-
-@pytest.mark.parametrize(('words', 'names'), [([], 'folder no-file python3-none'), (['--gate'], 'folder no-file of-gate python3-none')])
-def test_lacking(place: Place, words: Sequence[str], names: str) -> None:
-    """The line to type is told."""
-    place.put('tests/packages.txt', PACKAGES.encode(), 0o644)
-    ended = place.run(['tests/run', 'one', 'other', *words], env={'PATH': small_path(place)})
-    lines = ended.output.decode().splitlines()
-    assert (ended.status, lines) == (1, [f'The tests need more, to be installed by: apt-get install {names}', '0 passed, 1 failed, 0 skipped'])
-
-
-def test_no_case_is_lost(place: Place) -> None:
-    """Each file of tests is run by `make test` or by the gate, except those that need more than the programs."""
-    place.put('tests/packages.txt', b'', 0o644)
-    everyday, of_the_gate = asked(place), asked(place, '--gate')
-    assert everyday[0] == 'tests'
-    ignored = [word.rpartition('=')[2] for word in everyday[1:]]
-    files = {str(path.relative_to(TOP)) for path in (TOP / 'tests').rglob('test_*.py')}
-    assert below(ignored, files) - below(of_the_gate, files) == below(['tests/exchange', 'tests/faults'], files)
-    assert below(of_the_gate, files) <= below(ignored, files)
-    assert [word for word in [*ignored, *of_the_gate] if not below([word], files)] == []
-
-
-def asked(place: Place, *words: str) -> List[str]:
-    """The folders and files that pytest is asked for, and those that it is to pass over."""
-    said = place.run(['tests/run', 'one', 'other', *words], env={'PATH': small_path(place), 'PYTHON': 'python3'}).expect('asked for ').said
-    return [word for word in said.split() if re.match('tests|--ignore', word)]
+def listed(name: str) -> Set[str]:
+    """A list at the top of the script."""
+    found = re.search(rf'^{name}=\((.*?)\)$', (TOP / 'tests' / 'run').read_text(encoding='utf-8'), re.MULTILINE | re.DOTALL)
+    assert found
+    return set(found[1].split())
 
 
 def below(words: Iterable[str], files: Set[str]) -> Set[str]:
@@ -62,28 +22,61 @@ def below(words: Iterable[str], files: Set[str]) -> Set[str]:
     return {file for file in files if any(f'{file}/'.startswith(f'{word}/') for word in words)}
 
 
-@pytest.mark.parametrize('words', [[], ['one']])
-def test_words(place: Place, words: Sequence[str]) -> None:
-    place.run(['tests/run', *words]).expect('usage:', status=2)
+def test_each_is_there() -> None:
+    """What `make test` leaves to the gate, and what wants more than the programs, are files of tests; all others `make test` runs."""
+    files = {str(path.relative_to(TOP)) for path in (TOP / 'tests').rglob('test_*.py')}
+    assert [word for word in listed('OF_THE_GATE') | listed('ELSEWHERE') if not below([word], files)] == []
+    assert below(listed('ELSEWHERE'), files) == below(['tests/exchange', 'tests/faults'], files)
 
 
-def small_path(place: Place) -> str:
-    """A folder with the commands that the script calls, and a Python."""
-    folder = os.path.join(os.path.dirname(place.path), 'small path')
-    place.stand_in('python3', os.path.join(folder, 'python3'))
-    for command in COMMANDS:
-        path = os.path.join(folder, command)
-        if not os.path.lexists(path):
-            os.symlink(shutil.which(command) or command, path)
-    place.give()
-    return folder
+#: Cases, three of which are skipped: with a reason that says how they could be tried, for want of a command, and without any.
+CASES = """\
+import pytest
+from tests.harness import Skip, need
+
+def test_passes() -> None:
+    pass
+
+def test_why() -> None:
+    raise Skip('it is night', 'wait for the day')
+
+def test_command(monkeypatch: pytest.MonkeyPatch) -> None:
+    monkeypatch.setenv('PATH', '')
+    need('mandoc')
+
+def test_plain() -> None:
+    pytest.skip('no more is known')
+
+"""
+FAILED = 'def test_fails() -> None:\n    assert False\n'
+
+TOLD = """\
+What can't be tried here, and how many cases:
+     1  it is night. To try it: wait for the day
+     1  there is no mandoc. To try it: apt-get install mandoc
+     1  no more is known
+"""
 
 
-@pytest.mark.parametrize('number', [signal.SIGINT, signal.SIGQUIT, signal.SIGHUP])
-def test_ignored(room: Room, number: signal.Signals) -> None:
-    """A signal that is ignored around the tests, as in the background or after nohup, ends the programs that they start."""
-    before = signal.signal(number, signal.SIG_IGN)
-    try:
-        assert run(['sh', '-c', f'kill -{int(number)} $$; echo "It is ignored."'], room).status == -number
-    finally:
-        signal.signal(number, before)
+class Run(NamedTuple):
+    """Cases, what a skip is said to be, the status, and what is said, the last of it at the end."""
+
+    name: str
+    cases: str
+    skips_fail: str
+    status: int
+    says: Sequence[str]
+
+
+RUNS = [
+    Run('some are skipped', CASES, '', 0, [TOLD, '\n1 passed, 0 failed, 3 skipped\n']),
+    Run('some are, which fails', CASES, '1', 1, ['so this has failed; SKIPS_FAIL=0 lets it pass.\n1 passed, 0 failed, 3 skipped\n']),
+    Run('one fails', CASES + FAILED, '', 1, [TOLD, '\n1 passed, 1 failed, 3 skipped\n']),
+]
+
+
+@pytest.mark.parametrize('row', RUNS, ids=by_name)
+def test_skips(place: Place, row: Run) -> None:
+    place.put('tests/tried/test_tried.py', row.cases.encode(), 0o644)
+    ended = place.run(['tests/run', place.program, place.objects, 'tests/tried', '-n0'], env={'SKIPS_FAIL': row.skips_fail})
+    assert ended.expect(*row.says, status=row.status).said.endswith(row.says[-1])

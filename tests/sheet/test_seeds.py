@@ -12,6 +12,7 @@ from playing.board import Board
 from playing.games import GRADES
 from playing.program import Program
 from tests.harness import Room, by_name
+from tests.harness.between import put_between
 from tests.second_implementation.fair import fair
 from tests.second_implementation.grades import LETTERS, follows
 from tests.sheet.making import Maker, content
@@ -150,24 +151,16 @@ def test_refused(maker: Maker, room: Room, row: Refused) -> None:
     assert room.names() == []
 
 
-#: Stands before the program, and refuses the seeds for which a condition holds.
-BEFORE = """\
-#!/usr/bin/env python3
-import json, subprocess, sys
-program = subprocess.Popen(['{program}', *sys.argv[1:]], stdin=subprocess.PIPE, stdout=subprocess.PIPE)
-for line in sys.stdin:
+#: Has no game of the seeds for which a condition holds.
+WITHOUT = """\
     words = line.split()
-    seed = int(words[3]) if words[0] == 'fair' else 0
-    program.stdin.write((line if not ({condition}) else 'board\\n').encode())
-    program.stdin.flush()
-    reply = json.loads(program.stdout.readline())
-    print(json.dumps(dict(reply, refused='NoneFound') if {condition} else reply), flush=True)
+    seed = int(words[3]) if words[0] == b'fair' else 0
+    reply = {{**answer(b'board\\n'), 'refused': 'NoneFound'}} if {condition} else answer(line)
 """
 
 
 def before(room: Room, program: str, condition: str) -> Maker:
-    room.put('before', BEFORE.format(program=program, condition=condition).encode(), 0o755)
-    return Maker(f'{room.path}/before', room)
+    return Maker(put_between(room, program, WITHOUT.format(condition=condition)), room)
 
 
 def test_passed_over(maker: Maker, room: Room, objects: str) -> None:
@@ -179,7 +172,7 @@ def test_passed_over(maker: Maker, room: Room, objects: str) -> None:
     ended = before(room, objects, '8 < seed < 2**64').run(['towers', '--seed', '7', '--output', 'page.html'])
     assert (ended.status, ended.output) == (3, b'')
     assert ended.error.decode() == 'No easy puzzle of Towers of size 5 was found with the 100 seeds from 9 to 108.\n'
-    assert room.names() == ['before']
+    assert room.names() == ['between']
 
 
 class Graded(NamedTuple):

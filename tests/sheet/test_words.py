@@ -108,32 +108,6 @@ def test_full_disk(maker: Maker, room: Room) -> None:
         assert (disk.read('page.html'), disk.names()) == (b'before', ['filler', 'page.html'])
 
 
-def test_standard_output(maker: Maker, room: Room) -> None:
-    """One that is full, one that nobody reads any more, and none at all."""
-    with open('/dev/full', 'wb') as full:
-        ended = maker.run(['--ids', '-'], LIST, stdout=full.fileno())
-    assert (ended.status, ended.error) == (1, b'puzzles-sheet: standard output: No space left on device\n')
-    reading, writing = os.pipe()
-    os.close(reading)
-    ended = maker.run(['--ids', '-'], LIST, stdout=writing)
-    os.close(writing)
-    assert (ended.status, ended.error) == (1, b'puzzles-sheet: standard output: Broken pipe\n')
-    ended = maker.run(['--ids', '-'], LIST, closed=[1])
-    assert (ended.status, ended.error) == (1, b'puzzles-sheet: standard output: Bad file descriptor\n')
-
-
-def test_program(maker: Maker, room: Room) -> None:
-    """One that isn't there, that isn't the program, or that ends."""
-    for program, status, told in (
-        ('/no program', 1, b'puzzles-sheet: the program is not built yet: run make\n'),
-        ('/bin/cat', 1, b'puzzles-sheet: the program has ended: '),
-        ('/bin/false', 1, b'puzzles-sheet: the program has ended: status 1\n'),
-    ):
-        ended = maker.run(['--ids', '-', '--output', 'page.html'], LIST, env={'PUZZLES_JSON': program})
-        assert (ended.status, ended.output) == (status, b'') and ended.error.startswith(told), program
-    assert room.names() == []
-
-
 #: A program that never answers.
 SILENT = b'#!/bin/sh\nexec sleep 600\n'
 

@@ -17,7 +17,7 @@ from tests.second_implementation.grades import LETTERS
 
 STACK = 64 * 1024
 
-#: Which items are spare takes seconds where the search learns, and minutes by qemu.
+#: Which items are spare takes minutes by qemu.
 SECONDS = 900
 
 #: So often what takes most of it is tried: a system lets the stack begin up to 8 KB lower, each time elsewhere. So many bytes the words and the
@@ -51,12 +51,6 @@ BOARDS = [
         'unequal',
         '9:0,0,0D,0,0,0,0,0,0,0,0,0,0,0,0,0,0,0,0U,0RL,0,0,0,0,0,0,0,0,0,0,0,0,0,0,0,0,0D,0,0D,0,0,0,0,0,0,0,0,0,0,0,0,0,0,0,0D,0'
         'RL,0D,0,0,0,0,0,0,0,0,0,0,0,0,0,0,0,0,0,0,0,0,0,0,0,0,',
-    ),
-    Board(
-        'signs by which the search learns',
-        'unequal',
-        '9:0,0L,0D,0,0L,0,0,0,0L,0,0,0,0D,0D,0UR,0U,0DL,0U,0UD,0,0,0,0L,0,0URL,0,0,0,0RDL,0UD,0UD,0,0UDL,0UD,0UD,0D,0,0R,0,0,0,0,0,0D,0,0'
-        'D,0D,0L,0L,0,0U,0UR,0,0UD,0,0L,0,0R,0,0L,0,0L,0,0D,0UDL,0D,0,0UL,0,0U,0U,0U,0,0,0R,0R,0R,0U,0L,0,0,',
     ),
 ]
 

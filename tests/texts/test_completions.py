@@ -86,50 +86,27 @@ printf '%s' "${COMPREPLY[*]}"
 """
 
 
+#: The commands in Python, by where they lie.
+FRONTS = {'puzzles-play': 'board', 'puzzles-page': 'page', 'puzzles-sheet': 'sheet', 'puzzles-check': 'check'}
+
+
 def zsh_options() -> Dict[str, List[str]]:
-    """What the file for zsh offers: its parts are arms of one case."""
+    """What the file for zsh offers: its parts are arms of one case, of which the last is that of the programs."""
     text = read('board/completion.zsh')
-    return {
-        'puzzles': found(r'--([a-z]+)[=}]', part(text, '    *)', ';;')),
-        'puzzles-play': found(r'--([a-z]+)[\[}]', part(text, '    puzzles-play)', ';;$')),
-        'puzzles-page': found(r'--([a-z-]+)[\[}]', part(text, '    puzzles-page)', ';;$')),
-        'puzzles-sheet': found(r'--([a-z-]+)[=\[}]', part(text, '    puzzles-sheet)', ';;$')),
-        'puzzles-check': found(r'--([a-z-]+)[\[}]', part(text, '    puzzles-check)', ';;$')),
-    }
+    told = {name: found(r'--([a-z-]+)[=\[}]', part(text, f'    {name})', ';;$')) for name in FRONTS}
+    return {'puzzles': found(r'--([a-z]+)[=}]', part(text, '    *)', ';;')), **told}
 
 
 def fish_options() -> Dict[str, List[str]]:
     text = read('board/completion.fish')
-    return {
-        'puzzles': found(r'complete -c \$program .* -l ([a-z]+)', text),
-        'puzzles-play': found(r'complete -c puzzles-play .* -l ([a-z]+)', text),
-        'puzzles-page': found(r'complete -c puzzles-page .* -l ([a-z-]+)', text),
-        'puzzles-sheet': found(r'complete -c puzzles-sheet .* -l ([a-z-]+)', text),
-        'puzzles-check': found(r'complete -c puzzles-check .* -l ([a-z-]+)', text),
-    }
+    return {name: found(rf'complete -c {word} .* -l ([a-z-]+)', text) for name, word in [('puzzles', r'\$program'), *((name, name) for name in FRONTS)]}
 
 
-def front_options(room: Room, front: str) -> List[str]:
+def front_options(room: Room, name: str) -> List[str]:
     """Those of the help of a command in Python."""
-    ended = run([str(ROOT / front), '--help'], room)
+    ended = run([str(ROOT / FRONTS[name] / name), '--help'], room)
     assert ended.status == 0
     return found(r'--([a-z-]+)', ended.output.decode())
-
-
-def play_options(room: Room) -> List[str]:
-    return front_options(room, 'board/puzzles-play')
-
-
-def page_options(room: Room) -> List[str]:
-    return front_options(room, 'page/puzzles-page')
-
-
-def sheet_options(room: Room) -> List[str]:
-    return front_options(room, 'sheet/puzzles-sheet')
-
-
-def check_options(room: Room) -> List[str]:
-    return front_options(room, 'check/puzzles-check')
 
 
 @pytest.mark.parametrize('line', LINES, ids=by_name)
@@ -142,8 +119,7 @@ def test_bash(room: Room, line: Line) -> None:
 @pytest.mark.parametrize(('shell', 'offered'), [('zsh', zsh_options), ('fish', fish_options)])
 def test_options(room: Room, shell: str, offered: Callable[[], Dict[str, List[str]]]) -> None:
     """Those of the help, and the names of the programs and games."""
-    wanted = {'puzzles': said('FORMATS', read('docs/FORMATS.md'))[1], 'puzzles-play': play_options(room)}
-    wanted.update({'puzzles-page': page_options(room), 'puzzles-sheet': sheet_options(room), 'puzzles-check': check_options(room)})
+    wanted = {'puzzles': said('FORMATS', read('docs/FORMATS.md'))[1], **{name: front_options(room, name) for name in FRONTS}}
     for program, told in offered().items():
         assert set(told) == set(wanted[program]) != set(), program
     assert [text for text in [*wanted, 'puzzles-json', *GAMES] if text not in read(f'board/completion.{shell}')] == []

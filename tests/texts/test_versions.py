@@ -4,7 +4,7 @@ import re
 
 import pytest
 
-from building.changes import command, kit_of
+from building.kit import command, kit_of
 from building.record import TREE
 from tests.conftest import Programs
 from tests.harness import Room, Skip, run

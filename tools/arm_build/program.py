@@ -7,8 +7,8 @@ import tempfile
 from hashlib import sha256
 from pathlib import Path
 
-from building.changes import command, kit_of, sum_of
-from building.listing import TOP
+from building.kit import command, kit_of
+from building.listing import TOP, sum_of
 from building.record import NAMES, Programs, put
 from web_build.module import over_libraries, run
 from web_build.scripts import Unfit

@@ -11,8 +11,8 @@ from pathlib import Path
 from typing import Any, Collection, Iterator, List, NamedTuple, Sequence, Set
 
 from bodies.edits import Texts
-from building.changes import command, kit_of
-from building.crates import PARTS, ROOT, all_of, copy_folder, listed, own, write_list
+from building.crates import PARTS, all_of, copy_folder, listed, own, write_list
+from building.kit import command, kit_of
 from gating.proofs import when_left
 
 #: What a check takes at most, in bytes.
@@ -99,7 +99,7 @@ class Tree:
     def __init__(self, folder: Path, names: Collection[str], kit: Kit) -> None:
         self.kit = kit
         self.top = folder
-        self._left = when_left(kit.line, ROOT)
+        self._left = when_left(kit.line)
         crates = listed()
         write_list(self.top, names, crates)
         for name in all_of(names, crates):

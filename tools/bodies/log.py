@@ -6,8 +6,9 @@ import subprocess
 import sys
 from typing import TextIO, cast
 
-from bodies.kept import sum_of_crates
+from bodies.edits import MUST_FAIL, WRONG_BODIES
 from building.crates import ROOT, listed
+from building.record import sum_of_sources
 
 LOG = ROOT / 'build' / 'bodies.log'
 
@@ -34,7 +35,8 @@ class Log:
 
 def sum_here() -> str:
     """The sum of all crates, with their wrong bodies."""
-    return sum_of_crates(listed(), with_edits=True)
+    edits = [path for form in (WRONG_BODIES, f'{MUST_FAIL}/*.edit') for path in ROOT.glob(f'crates/*/{form}')]
+    return sum_of_sources(listed(), sorted(str(path.relative_to(ROOT)) for path in edits))
 
 
 def said_of_all() -> str:

@@ -6,9 +6,10 @@ from __future__ import annotations
 import sys
 from typing import Callable, Iterator
 
-from building.changes import command, kit_of, sum_of
+from building.kit import command, kit_of
+from building.listing import sum_of
 from building.record import AMD, ARM, BUILT, LINKS, NAMES, Programs, sum_of_sources
-from building.start import make
+from building.run import make
 from web_build.scripts import Unfit
 
 #: What is to be done where the programs in the tree aren't those of the sources.

@@ -1,12 +1,13 @@
 """The crates of the repository: what each stands on, and the files that it is proved from.
 
 It is read whenever `make` is asked for something, mostly to find that nothing has changed. So it takes little of Python's library, whose modules
-would cost more than the work; nor do `changes`, `record` and `ready`.
+would cost more than the work; nor do `kit`, `record` and `ready`.
 """
 
 from __future__ import annotations
 
 import os
+from hashlib import sha256
 from typing import Dict, Iterable, Iterator, List, Set
 
 #: The crates of the repository, each with the libraries that it stands on, the kit's too.
@@ -70,3 +71,9 @@ def files_of(crate: str) -> Iterator[str]:
                 folders.append(f'{folder}/{entry.name}')
             else:
                 yield f'{folder}/{entry.name}'
+
+
+def sum_of(path: str) -> str:
+    """The sum of a file."""
+    with open(path, 'rb') as file:
+        return sha256(file.read()).hexdigest()

@@ -26,7 +26,7 @@ def where() -> int:
         return 0
     print(f'{fault}: they are proved and built', file=sys.stderr)
     # Mostly the programs are there, and then this need not be read.
-    from building.start import make
+    from building.run import make
 
     status = make()
     if status == 0:

@@ -18,15 +18,15 @@ import sys
 from hashlib import sha256
 from typing import Dict, Iterable, Iterator, Optional
 
-from building.changes import PROGRAMS, sum_of
-from building.listing import TOP, all_of, files_of, listed
+from building.listing import TOP, all_of, files_of, listed, sum_of
 
-#: The names of the programs.
-NAMES = [name for names in PROGRAMS.values() for name in names]
+#: The crate of the program, and the names of the program: all are the same bytes.
+CRATE = 'puzzles'
+NAMES = ['puzzles', 'puzzles-json']
 
-#: Those that are another name of a program, and its first. `rt ci` takes no link in a checkout, so in the tree, where git keeps their bytes once, and in
+#: Those that are another name, and the first. `rt ci` takes no link in a checkout, so in the tree, where git keeps their bytes once, and in
 #: build/ each is a file; where they are packed or installed they are links.
-LINKS = {name: names[0] for names in PROGRAMS.values() for name in names[1:]}
+LINKS = {name: NAMES[0] for name in NAMES[1:]}
 
 #: What the files that a build reads end in.
 READ = ('.rt', '.antt')
@@ -138,8 +138,8 @@ STRANGE = '' if MACHINE in TREES else f'no program here is for {MACHINE}: the pa
 
 
 def sum_of_sources(tops: Optional[Iterable[str]] = None, besides: Iterable[str] = ()) -> str:
-    """The sum over what a build of these crates reads, or of those of the programs, and over other files besides, by their paths from the top."""
-    lines = [*lines_of_sources(tops or PROGRAMS), *(f'{sum_of(f"{TOP}/{path}")}  {path}\n' for path in besides)]
+    """The sum over what a build of these crates reads, or of that of the programs, and over other files besides, by their paths from the top."""
+    lines = [*lines_of_sources(tops or [CRATE]), *(f'{sum_of(f"{TOP}/{path}")}  {path}\n' for path in besides)]
     return sha256(''.join(lines).encode('utf-8', 'surrogateescape')).hexdigest()
 
 

@@ -16,6 +16,9 @@ HEAD = re.compile(r'^((?:(?:pub|abbrev|unfoldable|record|data|opaque) )*)([^\s()
 RULES = re.compile(r'^((?:pub )?ruleset )(\S+) =')
 PARAMETERS = re.compile(r'^ *module _ ')
 
+#: The head of declarations that use each other, which are read as one part without a name.
+MUTUAL = re.compile(r'^(?:abbrev )?mutual$')
+
 #: What is no part of any declaration, and which of it tells of one: no heading of several.
 BETWEEN = re.compile(r'^(?:pub )?(?:use|mod) |^ *--')
 TELLS = re.compile(r'^ *-- (?!---)')
@@ -99,8 +102,9 @@ def heads_of(text: str) -> List[Head]:
             told = told or bool(TELLS.match(line))
             continue
         module = PARAMETERS.match(line)
-        before, name = ('', '') if module else declared_by(line[depth:])
-        if module or (name and not (found and not before and name == found[-1].name)):
+        is_nameless = bool(module or MUTUAL.match(line))
+        before, name = ('', '') if is_nameless else declared_by(line[depth:])
+        if is_nameless or (name and not (found and not before and name == found[-1].name)):
             found.append(Head(number, told, before, name, []))
         if found:
             found[-1].lines.append(line)

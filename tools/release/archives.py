@@ -10,7 +10,7 @@ import tarfile
 import tempfile
 from typing import Iterator, NamedTuple
 
-from building.changes import sum_of
+from building.listing import sum_of
 from building.record import BUILT, TREE, TREES
 from release import installing, places
 from release.note import Ready, Unfit, commit, fit, fit_to_install, git, sums_in

@@ -45,19 +45,24 @@ class Meaning(NamedTuple):
 
 
 def blocks(text: str) -> Iterator[Tuple[int, str]]:
-    """The parts of a text between empty lines, each with the number of its first line."""
+    """The parts of a text, each with the number of its first line: those between empty lines, with what stands further right below."""
     first = 0
     lines: List[str] = []
-    for number, line in enumerate(text.splitlines() + [''], 1):
-        if line.strip():
-            first, lines = first if lines else number, lines + [line]
-        elif lines:
+    is_apart = False
+    for number, line in enumerate(text.splitlines(), 1):
+        if not line.strip():
+            is_apart = True
+            continue
+        if lines and is_apart and not line.startswith(' '):
             yield first, '\n'.join(lines)
             lines = []
+        first, lines, is_apart = first if lines else number, lines + [line], False
+    if lines:
+        yield first, '\n'.join(lines)
 
 
 def definitions(path: Path) -> Dict[str, Part]:
-    """The definitions in a file, by name; one by cases (`data`) also by the names of these."""
+    """The definitions in a file, by name; one by cases (`data`) also by the names of these, and those that name each other (`mutual`) as one."""
     found: Dict[str, Part] = {}
     for line, block in blocks(path.read_text(encoding='utf-8')):
         kept = [text for text in block.splitlines() if not re.match(r'(pub )?(use|mod) ', text)]
@@ -67,6 +72,10 @@ def definitions(path: Path) -> Dict[str, Part]:
             raise ValueError(f'{path}: line {line} begins no definition')
         if match:
             part = Part(path, line + len(block.splitlines()) - len(kept), match[1], '\n'.join(kept))
+            if match[1] == 'mutual':
+                part = part._replace(text='\n'.join(text[2:] if text.startswith('  ') else text for text in kept))
+                found.update((name, part) for name in re.findall(rf'^(?:pub )?({NAME}) :', part.text, re.MULTILINE))
+                continue
             found[match[1]] = part
             if ' data ' in f' {heads[0]} ':
                 found.update((case, part) for text in heads[1:] for case in re.findall(rf'^ +({NAME}) :', text))

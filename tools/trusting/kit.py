@@ -7,7 +7,7 @@ import re
 from pathlib import Path
 from typing import Dict, Iterable, Iterator, List, NamedTuple, Optional, Set
 
-from building.changes import command
+from building.kit import command
 from trusting.contracts import TYPE
 from trusting.definitions import blocks
 from trusting.names import NAME, Source, Unknown, imports, operators, passed_on, words

@@ -11,8 +11,8 @@ from __future__ import annotations
 import sys
 from typing import Dict, List, NamedTuple, TextIO
 
-from building.changes import command, kit_of, sum_of
-from building.listing import TOP
+from building.kit import command, kit_of
+from building.listing import TOP, sum_of
 from building.record import PAGE, TREE, put, sum_of_sources
 from web_build.page import packed, packed_in, page_of, unpacked
 from web_build.scripts import Unfit
@@ -150,7 +150,7 @@ class Made(NamedTuple):
 def made_now() -> Made:
     """Proves what has changed, and builds the module. Raises Unfit."""
     # Mostly the module is there, and then none of this need be read.
-    from building.start import make
+    from building.run import make
 
     if make():
         raise Unfit('the programs are not built, and so neither is the page')

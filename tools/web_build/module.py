@@ -15,7 +15,7 @@ from pathlib import Path
 from typing import Any, Sequence, Tuple
 
 from bodies.kit import NoKit, is_there, library_beside
-from building.changes import command, kit_of
+from building.kit import command, kit_of
 from building.listing import TOP
 from gating.proofs import when_left
 from web_build.retarget import retargeted
@@ -67,7 +67,7 @@ def over_libraries(name: str) -> Tuple[Any, Any]:
     except NoKit as error:
         raise Unfit(str(error)) from None
     crate = library.Crate(f'{TOP}/crates/{name}', TOP, {})
-    left = when_left(kit_of(rt), Path(TOP))
+    left = when_left(kit_of(rt))
     lacking = [below.name for below in crate.below() if not is_there(below, left)]
     if lacking:
         raise Unfit(f'the libraries below {name} are not there as they are now: {", ".join(lacking)}')

@@ -71,7 +71,7 @@ edge_broken v g place = (
   λ h. (clue_demand v place, rw (lt-ltb 0 (clue_of v place) h.0) refl, h.1),
 )
 
--- what is told of the fillings is told of the clue
+-- if a test says whether the clue's line has a filling, its negation says whether the clue is broken
 pub clue_told : (v : TowersValue) (g : GridValue) (place : ℕ) (sets : List ℕ) (b : Bool) → g.size ≡ v.size → g.size ≤ 9
     → AreSetsFrom g place sets → 0 < clue_of v place
     → IsTrue b ↔ ((line : List ℕ) × IsFilling (take g.size sets) (clue_of v place) line)

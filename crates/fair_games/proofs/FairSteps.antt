@@ -1,5 +1,5 @@
 -- Draws, one after the other, until one gives a game of the grade; and that there is just one such game.
-use Rattle.std.proofs.Common.{◌≡◌, ℕ, zero, suc, ◌+◌, ◌<◌, Bool, true, false, if◌then◌else◌, List, [], Option, Some, None, IfSome, MatchOption, Result, Ok, Err, inl, inr, refl, sym, ◌∙◌, ap, subst, arith, ◌-◌, ◌*◌, ◌≤◌, ◌&&◌, not, IsTrue, ◌↔◌}
+use Rattle.std.proofs.Common.{◌≡◌, ℕ, zero, suc, ◌+◌, ◌<◌, Bool, true, false, if◌then◌else◌, List, [], Option, Some, None, IfSome, MatchOption, Result, Ok, Err, inl, inr, refl, sym, ◌∙◌, ap, subst, arith, ◌-◌, ◌*◌, ◌≤◌, not, IsTrue, ◌↔◌}
 use Rattle.std.proofs.lemmas.Bool.{both_ways, cases_eq, cases_order, false≢true}
 use Rattle.latin_board.specs.Squares.{GridValue, latin_test}
 use Rattle.trail_solver.specs.Puzzles.{Puzzle}
@@ -7,7 +7,7 @@ use Rattle.trail_solver.specs.Solutions.{IsOnlySolution}
 use Rattle.trail_solver.specs.declared.rules.Rules.{Ghosts}
 use Rattle.rand_core.specs.Stream.{Stream}
 use Rattle.needed_items.proofs.ItemLaws.{ItemLaws}
-use Rattle.puzzle_gen.proofs.FullCuts.{cuts_of_full}
+use Rattle.needed_items.proofs.InTurn.{in_turn_once}
 use Rattle.named_steps.specs.Following.{Follows}
 use Rattle.line_steps.specs.Grades.{rank}
 use Rattle.named_steps.specs.Graded.{FollowsBy, IsGradeOf}
@@ -25,8 +25,7 @@ use Rattle.fair_games.specs.Pruned.{IsTried, IsPrunedBy}
 use Rattle.fair_games.specs.declared.trial.Trial.{Trial}
 use Rattle.fair_games.specs.declared.fair_fault.FairFault.{FairFault}
 use Rattle.fair_games.specs.declared.fair_fault.FairFault.TheVariants.{NotOffered, NoneFound}
-use Rattle.fair_games.proofs.PrunedOnce.{needed_by, pruned_once}
-use Rattle.fair_games.proofs.PruneSteps.{HasSteps, IsCutOf, cut_of, fewer_fail}
+use Rattle.fair_games.proofs.PruneSteps.{HasSteps, IsCutOf, pruned_cut, pruned_needs}
 use Rattle.line_steps.specs.Reasons.{Striking}
 
 -- ---- draws
@@ -70,45 +69,56 @@ found_fair f Struck grade trial w items k s now p so_far pruned graded before fe
 
 -- ---- there is just one
 
--- a draw that gives a game of the grade isn't passed over
+-- a draw gives one puzzle
+game_once : {P : Type 0} (f : Ghosts P) (Struck : P → Striking) (grade : Grade) (draw : GridValue × List ℕ) (p q : P)
+    → IsPrunedGame f Struck grade draw p → IsPrunedGame f Struck grade draw q → p ≡ q
+game_once f Struck grade draw p q first second =
+    in_turn_once f (FailsBy Struck grade draw.0) draw.1 (f.full_of draw.0) p q first.in_turn second.in_turn
+
+-- so one that gives a game of the grade isn't passed over
 not_passed : {P : Type 0} (f : Ghosts P) (Struck : P → Striking) (grade : Grade) (draw : GridValue × List ℕ) (p : P)
-    → ItemLaws f → IsPrunedGame f Struck grade draw p → IsOfGrade f Struck grade p → IsPassedOver f Struck grade draw → ⊥
-not_passed f Struck grade draw p laws pruned graded passed =
-    let same = pruned_once f (FailsBy Struck grade draw.0) draw.0 draw.1 p passed.puzzle (cuts_of_full f draw.0 laws pruned.is_grid pruned.is_latin)
-    pruned passed.pruned in
+    → IsPrunedGame f Struck grade draw p → IsOfGrade f Struck grade p → IsPassedOver f Struck grade draw → ⊥
+not_passed f Struck grade draw p pruned graded passed =
+    let same = game_once f Struck grade draw p passed.puzzle pruned passed.pruned in
     passed.other (subst (IsOfGrade f Struck grade) same graded)
 
 fair_same : {P : Type 0} (f : Ghosts P) (Struck : P → Striking) (grade : Grade) (draws : ℕ → GridValue × List ℕ) (p q : P)
-    → ItemLaws f → IsFair f Struck grade draws p → IsFair f Struck grade draws q → p ≡ q
-fair_same f Struck grade draws p q laws first second =
+    → IsFair f Struck grade draws p → IsFair f Struck grade draws q → p ≡ q
+fair_same f Struck grade draws p q first second =
     elim (cases_order first.draw second.draw) [
       | inl here ↦
-          let draw = draws first.draw in
-          let other = subst (λ (n : ℕ). IsPrunedGame f Struck grade (draws n) q) (sym here) second.pruned in
-          pruned_once f (FailsBy Struck grade draw.0) draw.0 draw.1 p q (cuts_of_full f draw.0 laws first.pruned.is_grid first.pruned.is_latin) first.pruned other
+          game_once f Struck grade (draws first.draw) p q first.pruned
+          (subst (λ (n : ℕ). IsPrunedGame f Struck grade (draws n) q) (sym here) second.pruned)
       | inr apart ↦ elim apart [
-        | inl before ↦ absurd (not_passed f Struck grade (draws first.draw) p laws first.pruned first.graded (second.earlier first.draw before))
-        | inr after ↦ absurd (not_passed f Struck grade (draws second.draw) q laws second.pruned second.graded (first.earlier second.draw after))
+        | inl before ↦ absurd
+            (not_passed f Struck grade (draws first.draw) p first.pruned first.graded
+            (second.earlier first.draw before))
+        | inr after ↦ absurd
+            (not_passed f Struck grade (draws second.draw) q second.pruned second.graded
+            (first.earlier second.draw after))
       ]
     ]
 
 -- two results of the same draws are the same
 pub fair_once : {P : Type 0} (f : Ghosts P) (Struck : P → Striking) (grade : Grade) (offered : Bool)
-    (draws : ℕ → GridValue × List ℕ) (r s : Result P FairFault) → ItemLaws f → IsFairResult f Struck grade offered draws r
+    (draws : ℕ → GridValue × List ℕ) (r s : Result P FairFault) → IsFairResult f Struck grade offered draws r
     → IsFairResult f Struck grade offered draws s → r ≡ s
-fair_once f Struck grade offered draws (Ok p) (Ok q) laws first second = ap Ok (fair_same f Struck grade draws p q laws first.1 second.1)
-fair_once f Struck grade offered draws (Ok p) (Err NotOffered) laws first second = absurd (both_ways offered second first.0)
-fair_once f Struck grade offered draws (Ok p) (Err NoneFound) laws first second =
+fair_once f Struck grade offered draws (Ok p) (Ok q) first second =
+    ap Ok (fair_same f Struck grade draws p q first.1 second.1)
+fair_once f Struck grade offered draws (Ok p) (Err NotOffered) first second = absurd (both_ways offered second first.0)
+fair_once f Struck grade offered draws (Ok p) (Err NoneFound) first second =
     let fair = first.1 in
-    absurd (not_passed f Struck grade (draws fair.draw) p laws fair.pruned fair.graded (second.1 fair.draw fair.few))
-fair_once f Struck grade offered draws (Err NotOffered) (Ok q) laws first second = absurd (both_ways offered first second.0)
-fair_once f Struck grade offered draws (Err NotOffered) (Err NotOffered) laws first second = refl
-fair_once f Struck grade offered draws (Err NotOffered) (Err NoneFound) laws first second = absurd (both_ways offered first second.0)
-fair_once f Struck grade offered draws (Err NoneFound) (Ok q) laws first second =
+    absurd (not_passed f Struck grade (draws fair.draw) p fair.pruned fair.graded (second.1 fair.draw fair.few))
+fair_once f Struck grade offered draws (Err NotOffered) (Ok q) first second = absurd (both_ways offered first second.0)
+fair_once f Struck grade offered draws (Err NotOffered) (Err NotOffered) first second = refl
+fair_once f Struck grade offered draws (Err NotOffered) (Err NoneFound) first second =
+    absurd (both_ways offered first second.0)
+fair_once f Struck grade offered draws (Err NoneFound) (Ok q) first second =
     let fair = second.1 in
-    absurd (not_passed f Struck grade (draws fair.draw) q laws fair.pruned fair.graded (first.1 fair.draw fair.few))
-fair_once f Struck grade offered draws (Err NoneFound) (Err NotOffered) laws first second = absurd (both_ways offered second first.0)
-fair_once f Struck grade offered draws (Err NoneFound) (Err NoneFound) laws first second = refl
+    absurd (not_passed f Struck grade (draws fair.draw) q fair.pruned fair.graded (first.1 fair.draw fair.few))
+fair_once f Struck grade offered draws (Err NoneFound) (Err NotOffered) first second =
+    absurd (both_ways offered second first.0)
+fair_once f Struck grade offered draws (Err NoneFound) (Err NoneFound) first second = refl
 
 -- ---- the test of a grade
 
@@ -131,7 +141,7 @@ is_graded {B} p Struck one grade same follows test =
 pub fair_puzzle : {P : Type 0} (f : Ghosts P) (Struck : P → Striking) (grade : Grade) (draws : ℕ → GridValue × List ℕ) (p : P)
     → ItemLaws f → (fair : IsFair f Struck grade draws p) → IsCutOf f (draws fair.draw).0 p
 fair_puzzle f Struck grade draws p laws fair =
-    cut_of f (draws fair.draw).0 p (f.has p) laws fair.pruned.is_grid fair.pruned.is_latin fair.pruned.is_cut
+    pruned_cut f (FailsBy Struck grade (draws fair.draw).0) (draws fair.draw).0 (draws fair.draw).1 p laws fair.pruned
 
 -- its only solution follows by the grade
 pub fair_solved : {P : Type 0} (f : Ghosts P) (Struck : P → Striking) → HasSteps f Struck → (grade : Grade)
@@ -182,15 +192,15 @@ pub game_needs : {P : Type 0} (f : Ghosts P) (Struck : P → Striking) → HasSt
     → ((i : ℕ) → i < f.items_of w → IsTriedIn trial (f.items_of w - w * w) i → IsTried i order)
     → NeedsItems f Struck grade trial w p
 game_needs {P} f Struck steps grade trial w g order p size pruned tried = λ keep i below there low lost follows.
-    let cuts = cuts_of_full f g steps.items pruned.is_grid pruned.is_latin in
     let small : i < f.items_of g.size = subst (λ (n : ℕ). i < f.items_of n) (sym size) below in
-    let fails = needed_by f (FailsBy Struck grade g) g order p cuts (fewer_fail f Struck steps grade g) pruned keep i small there (tried i below low) lost in
-    let is_cut : f.cut p keep ≡ f.cut (f.full_of g) (λ j. f.has p j && keep j) =
-    ap (λ (q : P). f.cut q keep) pruned.is_cut ∙ cuts.again (f.has p) keep in
-    let cut = cut_of f g (f.cut p keep) (λ j. f.has p j && keep j) steps.items pruned.is_grid pruned.is_latin is_cut in
+    let fails = pruned_needs f Struck steps grade g order p keep i pruned small there (tried i below low) lost in
+    let whole = pruned_cut f (FailsBy Struck grade g) g order p steps.items pruned in
+    let valid = steps.items.cut_valid p keep whole.valid in
+    let solves = steps.items.cut_solved p keep g whole.valid whole.solves in
     let (h, solution) = follows in
-    let only = follows_only (f.puzzle (f.cut p keep)) (Struck (f.cut p keep)) (steps.sound (f.cut p keep) cut.valid) grade h solution.follows solution.solves in
-    fails (subst (λ (s : GridValue). Follows (Struck (f.cut p keep)) grade s) (sym (only.only g cut.solves)) solution.follows)
+    let q = f.cut p keep in
+    let only = follows_only (f.puzzle q) (Struck q) (steps.sound q valid) grade h solution.follows solution.solves in
+    fails (subst (λ (s : GridValue). Follows (Struck q) grade s) (sym (only.only g solves)) solution.follows)
 
 pub all_items : (count items cells squares i : ℕ) → count ≡ items → cells ≡ squares → squares ≤ items → i < items → i < count - cells + cells
 all_items count items cells squares i same also some below = omega (arith, same, also, some, below)

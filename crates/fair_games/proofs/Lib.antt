@@ -1,10 +1,7 @@
-pub mod PrunedItems
-pub mod PrunedOnce
 pub mod Bases
 pub mod Shuffles
 pub mod Trials
 pub mod RowSteps
 pub mod FullGivens
 pub mod PruneSteps
-pub mod GradeThinned
 pub mod FairSteps

@@ -1,32 +1,37 @@
 -- The steps of the pruning, for puzzles whose steps have names.
-use Rattle.std.proofs.Common.{◌≡◌, ◌≢◌, ℕ, ◌*◌, ◌<◌, ◌≤◌, Bool, true, false, ◌&&◌, List, inl, inr, refl, sym, ◌∙◌, ap, subst, arith}
-use Rattle.std.proofs.lemmas.Bool.{cases_lt}
+use Rattle.std.proofs.Common.{◌≡◌, ◌≢◌, ℕ, ◌+◌, ◌*◌, ◌<◌, Bool, true, false, ◌&&◌, List, [], ◌∷◌, ◌++◌, length, slice_index, drop, take, IsTrue, inl, inr, refl, sym, ◌∙◌, ap, subst, arith, length-append}
+use Rattle.std.proofs.lemmas.Bool.{and_parts, both_ways}
+use Rattle.std.proofs.lemmas.List.{get_or-append-add, take-append-drop, take_more}
+use Rattle.std.proofs.Math.ListN.{get_or-append}
 use Rattle.latin_board.specs.Squares.{GridValue, IsGrid, IsLatin, number_at}
 use Rattle.trail_solver.specs.Candidates.{CandidatesValue, IsOnly, IsWithin}
 use Rattle.trail_solver.specs.Puzzles.{Solves}
 use Rattle.trail_solver.specs.declared.rules.Rules.{Ghosts}
-use Rattle.puzzle_gen.specs.Orders.{place_in}
+use Rattle.needed_items.specs.Needed.{all_but}
+use Rattle.needed_items.specs.InTurn.{IsLeftInTurn}
 use Rattle.needed_items.proofs.ItemLaws.{ItemLaws}
-use Rattle.puzzle_gen.proofs.FullCuts.{AreCuts, cuts_of_full}
-use Rattle.line_steps.specs.Settled.{IsClosure}
-use Rattle.named_steps.specs.Following.{Follows}
+use Rattle.needed_items.proofs.InTurn.{KeepsFailing, cut_in_turn, in_turn_both, needed_in_turn}
+use Rattle.puzzle_gen.specs.Orders.{place_in}
+use Rattle.line_steps.specs.Reasons.{StruckBy, Striking}
 use Rattle.line_steps.specs.Left.{IsEmptied, IsFewer}
 use Rattle.line_steps.specs.Chains.{LeadsTo}
-use Rattle.line_steps.proofs.Emptied.{solved_holds}
-use Rattle.line_steps.proofs.Chains.{IsAntitone}
-use Rattle.line_steps.proofs.KeptSolutions.{IsSoundFor}
-use Rattle.named_steps.proofs.Followed.{follows_more}
-use Rattle.line_steps.specs.declared.reason.Reason.{Reason}
-use Rattle.line_steps.specs.declared.grade.Grade.{Grade}
-use Rattle.fair_games.specs.Fair.{FailsBy}
-use Rattle.fair_games.specs.Inner.PrunedTo.{outside, IsPrunedTo}
-use Rattle.fair_games.specs.Inner.Bases.{IsBase}
-use Rattle.fair_games.proofs.PrunedItems.{cut_again, kept_of_cut, outside_before, outside_within, outside_after, pruned_goes}
-use Rattle.fair_games.proofs.Bases.{base_more, base_settled, base_follows, follows_base}
-use Rattle.line_steps.specs.Reasons.{StruckBy, Striking}
+use Rattle.line_steps.specs.Settled.{IsClosure}
 use Rattle.line_steps.specs.Laws.Cuts.{all_whole}
 use Rattle.line_steps.specs.Laws.Less.{all_less}
 use Rattle.line_steps.specs.Laws.Sound.{all_sound}
+use Rattle.line_steps.proofs.Chains.{IsAntitone}
+use Rattle.line_steps.proofs.Emptied.{solved_holds}
+use Rattle.line_steps.proofs.KeptSolutions.{IsSoundFor}
+use Rattle.line_steps.specs.declared.reason.Reason.{Reason}
+use Rattle.line_steps.specs.declared.grade.Grade.{Grade}
+use Rattle.named_steps.specs.Following.{Follows}
+use Rattle.named_steps.proofs.Followed.{follows_more, follows_only}
+use Rattle.fair_games.specs.Fair.{FailsBy}
+use Rattle.fair_games.specs.FairGames.{IsBeyondGrade, IsByGrade}
+use Rattle.fair_games.specs.Pruned.{IsPrunedBy, IsTried}
+use Rattle.fair_games.specs.Inner.NoneOf.{none_of}
+use Rattle.fair_games.specs.Inner.Bases.{IsBase}
+use Rattle.fair_games.proofs.Bases.{base_more, base_settled, base_follows, follows_base}
 
 -- what a game owes of its items and of its steps
 pub record HasSteps {P : Type 0} (f : Ghosts P) (Struck : P → Striking) : Type 0 where
@@ -58,6 +63,21 @@ pub fewer_fail : {P : Type 0} (f : Ghosts P) (Struck : P → Striking) → HasSt
 fewer_fail f Struck steps grade g r keep fails follows =
     fails (follows_more (Struck (f.cut r keep)) (Struck r) (steps.cut r keep) grade g follows)
 
+-- so does what doesn't follow by a grade, where the puzzle does: what follows with fewer has the puzzle's solution
+pub beyond_kept : {P : Type 0} (f : Ghosts P) (Struck : P → Striking) → HasSteps f Struck → (grade : Grade) (p : P)
+    → f.valid p
+    → IsByGrade f Struck grade p → KeepsFailing f (IsBeyondGrade f Struck grade) p
+beyond_kept f Struck steps grade p valid whole a b beyond twice =
+    let q = f.cut p a in
+    let rest = f.cut q b in
+    let q_valid = steps.items.cut_valid p a valid in
+    let solves : Solves (f.puzzle q) whole.0 = steps.items.cut_solved p a whole.0 valid whole.1.solves in
+    let only = follows_only (f.puzzle rest) (Struck rest) (steps.sound rest (steps.items.cut_valid q b q_valid)) grade twice.0
+    twice.1.follows twice.1.solves in
+    let same : whole.0 ≡ twice.0 = only.only whole.0 (steps.items.cut_solved q b whole.0 q_valid solves) in
+    let follows : Follows (Struck q) grade twice.0 = follows_more (Struck rest) (Struck q) (steps.cut q b) grade twice.0 twice.1.follows in
+    beyond (whole.0, record { solves = solves; follows = subst (Follows (Struck q) grade) (sym same) follows })
+
 -- what is cut from the full puzzle of a Latin square is a puzzle of its size that it solves
 pub record IsCutOf {P : Type 0} (f : Ghosts P) (g : GridValue) (p : P) : Type 0 where
   pub valid : f.valid p
@@ -75,135 +95,223 @@ cut_of {P} f g p keep laws grid latin is_cut =
       solves = laws.cut_solved (f.full_of g) keep g full_valid (laws.full_solved g grid latin);
     })
 
--- the square solves the puzzle without some items
-pub solves_without : {P : Type 0} (f : Ghosts P) (Struck : P → Striking) → ItemLaws f → (grade : Grade) (g : GridValue)
-    (order : List ℕ) (first last : ℕ) (p q : P) → IsGrid g → IsLatin g → IsPrunedTo f (FailsBy Struck grade g) g order first p
-    → q ≡ f.cut p (outside order first last) → Solves (f.puzzle q) g
-solves_without {P} f Struck items grade g order first last p q grid latin so_far gone =
-    (cut_of f g q (λ j. f.has p j && outside order first last j) items grid latin
-    (gone ∙ cut_again f (FailsBy Struck grade g) g order first p (outside order first last) (cuts_of_full f g items grid latin) so_far)).solves
+-- the pruned puzzle of a square and an order
+pub pruned_cut : {P : Type 0} (f : Ghosts P) (Fails : P → Type 0) (g : GridValue) (order : List ℕ) (p : P) → ItemLaws f
+    → IsPrunedBy f Fails g order p → IsCutOf f g p
+pruned_cut f Fails g order p laws pruned =
+    cut_of f g p (f.has p) laws pruned.is_grid pruned.is_latin
+    (cut_in_turn f Fails order (f.full_of g) p laws (laws.full_valid g pruned.is_grid pruned.is_latin)
+    pruned.in_turn).is_cut
 
--- what a grade's steps leave of a base without some items: it is a base, and it tells whether the items go
-pub record IsLeftWithout {P : Type 0} (f : Ghosts P) (Struck : P → Striking) (grade : Grade) (g : GridValue)
-    (order : List ℕ) (first last : ℕ) (p : P) (left : CandidatesValue) : Type 0 where
-  pub base : IsBase (Struck (f.cut p (outside order first last))) grade g left
-  pub follows : ((cell : ℕ) → cell < left.size * left.size → IsOnly left cell (number_at g cell))
-      → Follows (Struck (f.cut p (outside order first last))) grade g
-  pub goes : ((cell : ℕ) → cell < left.size * left.size → IsOnly left cell (number_at g cell))
-      → IsPrunedTo f (FailsBy Struck grade g) g order last (f.cut p (outside order first last))
-  pub fails : (((cell : ℕ) → cell < left.size * left.size → IsOnly left cell (number_at g cell)) → ⊥)
-      → FailsBy Struck grade g (f.cut p (outside order first last))
+-- without any set of its items that has one that was tried, the test fails
+pub pruned_needs : {P : Type 0} (f : Ghosts P) (Struck : P → Striking) → HasSteps f Struck → (grade : Grade)
+    (g : GridValue) (order : List ℕ) (p : P) (keep : ℕ → Bool) (i : ℕ) → IsPrunedBy f (FailsBy Struck grade g) g order p
+    → i < f.items_of g.size → IsTrue (f.has p i) → IsTried i order → keep i ≡ false
+    → FailsBy Struck grade g (f.cut p keep)
+pruned_needs f Struck steps grade g order p keep i pruned small there tried lost =
+    let full = f.full_of g in
+    let size = steps.items.full_size g pruned.is_grid pruned.is_latin in
+    needed_in_turn f (FailsBy Struck grade g) order full p (place_in i order) i keep steps.items
+    (steps.items.full_valid g pruned.is_grid pruned.is_latin)
+    (λ a b. fewer_fail f Struck steps grade g (f.cut full a) b) pruned.in_turn tried
+    (pruned.is_trial.back i tried) (subst (λ (n : ℕ). i < f.items_of n) (sym size) small) there lost
 
--- the candidates of a base, settled
-pub left_without : {P : Type 0} (f : Ghosts P) (Struck : P → Striking) → HasSteps f Struck
-    → (grade : Grade) (g : GridValue) (order : List ℕ) (first last : ℕ) (p q : P)
-    (base left : CandidatesValue) → IsGrid g → IsLatin g → first ≤ last → IsPrunedTo f (FailsBy Struck grade g) g order first p
-    → q ≡ f.cut p (outside order first last) → IsBase (Struck (f.cut p (outside order first last))) grade g base
-    → IsClosure (Struck q) grade base left → IsLeftWithout f Struck grade g order first last p left
-left_without {P} f Struck steps grade g order first last p q base left grid latin ordered so_far gone is closed =
-    let Fails : P → Type 0 = FailsBy Struck grade g in
-    let r = f.cut p (outside order first last) in
-    let cuts = cuts_of_full f g steps.items grid latin in
-    let cut : IsCutOf f g r = cut_of f g r (λ j. f.has p j && outside order first last j) steps.items grid latin
-    (cut_again f Fails g order first p (outside order first last) cuts so_far) in
-    let closure : IsClosure (Struck r) grade base left = subst (λ (s : P). IsClosure (Struck s) grade base left) gone closed in
-    let now = base_settled (f.puzzle r) (Struck r) (steps.sound r cut.valid) (steps.less r) grade g base left cut.solves is closure in
-    record {
-      base = now;
-      follows = base_follows (Struck r) grade g left now;
-      goes = λ only. pruned_goes f Fails g order first last p r cuts (fewer_fail f Struck steps grade g) ordered so_far refl
-          (λ fails. fails (base_follows (Struck r) grade g left now only));
-      fails = λ other follows. other (follows_base (f.puzzle r) (Struck r) (steps.sound r cut.valid) (steps.less r) grade g base left
-          cut.solves is closure follows);
-    }
+-- ---- items that go at once
+
+-- without one item
+none_of_one : (item : ℕ) → none_of (item ∷ []) ≡ all_but item
+none_of_one item = λ i j. and_true (all_but item j) i
+  where
+    and_true : (b : Bool) → (b && true) ≡ b
+    and_true true = refl
+    and_true false = refl
+
+none_of_both : (first second : List ℕ) (j : ℕ) → (none_of first j && none_of second j) ≡ none_of (first ++ second) j
+none_of_both [] second j = refl
+none_of_both (item ∷ first) second j =
+    and_assoc (all_but item j) (none_of first j) (none_of second j)
+    ∙ ap (λ (b : Bool). all_but item j && b) (none_of_both first second j)
+  where
+    and_assoc : (a b c : Bool) → ((a && b) && c) ≡ (a && (b && c))
+    and_assoc true b c = refl
+    and_assoc false b c = refl
+
+-- those of one list and then those of another
+pub without_both : {P : Type 0} (f : Ghosts P) (first second : List ℕ) (p : P) → ItemLaws f → f.valid p
+    → f.cut (f.cut p (none_of first)) (none_of second) ≡ f.cut p (none_of (first ++ second))
+without_both f first second p laws valid =
+    laws.cut_cut p (none_of first) (none_of second) valid
+    ∙ laws.cut_agrees p (λ j. none_of first j && none_of second j) (none_of (first ++ second)) valid
+    (λ j inside there. none_of_both first second j)
+
+-- a place more is one item less
+pub without_next : {P : Type 0} (f : Ghosts P) (items : List ℕ) (k : ℕ) (p q r : P) → ItemLaws f → f.valid p
+    → k < length items → q ≡ f.cut p (none_of (take k items)) → r ≡ f.cut q (all_but (slice_index items k))
+    → r ≡ f.cut p (none_of (take (k + 1) items))
+without_next {P} f items k p q r laws valid inside so_far gone =
+    let item = slice_index items k in
+    gone ∙ ap (f.cut q) (sym (none_of_one item)) ∙ ap (λ (s : P). f.cut s (none_of (item ∷ []))) so_far
+    ∙ without_both f (take k items) (item ∷ []) p laws valid
+    ∙ ap (λ (xs : List ℕ). f.cut p (none_of xs)) (sym (take_more items k 0 inside))
+
+-- where the rest doesn't fail without all of them, each goes in its turn
+pub all_go : {P : Type 0} (f : Ghosts P) (Fails : P → Type 0) (order : List ℕ) (p : P) → ItemLaws f → f.valid p
+    → ((r : P) (keep : ℕ → Bool) → Fails r → Fails (f.cut r keep)) → (Fails (f.cut p (none_of order)) → ⊥)
+    → IsLeftInTurn f Fails order p (f.cut p (none_of order))
+all_go f Fails [] p laws valid fewer good = laws.cut_all p valid
+all_go {P} f Fails (item ∷ order) p laws valid fewer good =
+    let rest = f.cut p (all_but item) in
+    let same : f.cut rest (none_of order) ≡ f.cut p (none_of (item ∷ order)) =
+    laws.cut_cut p (all_but item) (none_of order) valid in
+    inr (
+      λ fails. good (subst Fails same (fewer rest (none_of order) fails)),
+      subst (IsLeftInTurn f Fails order rest) same
+          (all_go f Fails order rest laws (laws.cut_valid p (all_but item) valid) fewer
+          (λ fails. good (subst Fails same fails))),
+    )
+
+-- where it fails and there is one at most, that one stays
+pub one_stays : {P : Type 0} (f : Ghosts P) (Fails : P → Type 0) (order : List ℕ) (p : P) → length order < 2
+    → Fails (f.cut p (none_of order)) → IsLeftInTurn f Fails order p p
+one_stays f Fails [] p few fails = refl
+one_stays f Fails (item ∷ []) p few fails = inl (subst Fails (ap (f.cut p) (none_of_one item)) fails, refl)
+one_stays f Fails (item ∷ (other ∷ order)) p few fails = absurd (omega (arith, few))
+
+-- the square solves the rest, and the candidates are a base of it
+pub record IsRest {P : Type 0} (f : Ghosts P) (Struck : P → Striking) (grade : Grade) (g : GridValue) (q : P)
+    (start : CandidatesValue) : Type 0 where
+  pub valid : f.valid q
+  pub solves : Solves (f.puzzle q) g
+  pub base : IsBase (Struck q) grade g start
+
+-- a puzzle without the items is such a rest
+pub rest_without : {P : Type 0} (f : Ghosts P) (Struck : P → Striking) → HasSteps f Struck → (grade : Grade)
+    (g : GridValue) (order : List ℕ) (p q : P) (base : CandidatesValue) → f.valid p → Solves (f.puzzle p) g
+    → IsBase (Struck (f.cut p (none_of order))) grade g base → q ≡ f.cut p (none_of order)
+    → IsRest f Struck grade g q base
+rest_without f Struck steps grade g order p q base valid solves is gone =
+    subst (λ r. IsRest f Struck grade g r base) (sym gone) (record {
+      valid = steps.items.cut_valid p (none_of order) valid;
+      solves = steps.items.cut_solved p (none_of order) g valid solves;
+      base = is;
+    })
 
 -- no step from a base strikes the square's numbers
-pub without_holds : {P : Type 0} (f : Ghosts P) (Struck : P → Striking) → HasSteps f Struck
-    → (grade : Grade) (g : GridValue) (order : List ℕ) (first last : ℕ) (p q : P)
-    (base left : CandidatesValue) → IsGrid g → IsLatin g → IsPrunedTo f (FailsBy Struck grade g) g order first p
-    → q ≡ f.cut p (outside order first last) → IsBase (Struck (f.cut p (outside order first last))) grade g base
+pub rest_holds : {P : Type 0} (f : Ghosts P) (Struck : P → Striking) → HasSteps f Struck → (grade : Grade)
+    (g : GridValue) (order : List ℕ) (p q : P) (base left : CandidatesValue) → f.valid p → Solves (f.puzzle p) g
+    → IsBase (Struck (f.cut p (none_of order))) grade g base → q ≡ f.cut p (none_of order)
     → LeadsTo (Struck q) grade base left → IsEmptied left → ⊥
-without_holds {P} f Struck steps grade g order first last p q base left grid latin so_far gone is leads emptied =
-    let r = f.cut p (outside order first last) in
-    let cuts = cuts_of_full f g steps.items grid latin in
-    let cut : IsCutOf f g r = cut_of f g r (λ j. f.has p j && outside order first last j) steps.items grid latin
-    (cut_again f (FailsBy Struck grade g) g order first p (outside order first last) cuts so_far) in
-    solved_holds (f.puzzle r) (Struck r) (steps.sound r cut.valid) grade g base left (is.size ∙ cut.solves.same_size) cut.solves is.within
-    (subst (λ (s : P). LeadsTo (Struck s) grade base left) gone leads) emptied
+rest_holds f Struck steps grade g order p q base left valid solves is gone leads =
+    let rest = rest_without f Struck steps grade g order p q base valid solves is gone in
+    solved_holds (f.puzzle q) (Struck q) (steps.sound q rest.valid) grade g base left
+    (rest.base.size ∙ rest.solves.same_size) rest.solves rest.base.within leads
 
--- the puzzle without all those items is a cut of that without the first half
-pub first_half : {P : Type 0} (f : Ghosts P) (Fails : P → Type 0) (g : GridValue) (order : List ℕ) (first middle last : ℕ) (p : P) → AreCuts f g
-    → first ≤ middle → middle ≤ last → IsPrunedTo f Fails g order first p
-    → f.cut (f.cut p (outside order first middle)) (outside order middle last) ≡ f.cut p (outside order first last)
-first_half {P} f Fails g order first middle last p cuts low high so_far =
-    ap (λ (r : P). f.cut r (outside order middle last)) (cut_again f Fails g order first p (outside order first middle) cuts so_far)
-    ∙ cuts.again (λ j. f.has p j && outside order first middle j) (outside order middle last)
-    ∙ cuts.agrees (λ j. (f.has p j && outside order first middle j) && outside order middle last j) (λ j. f.has p j && outside order first last j)
-    (λ j small. elim (cases_lt (place_in j order) first) [
-      | inl before ↦ both (f.has p j) (outside order first middle j) (outside order middle last j) (outside order first last j)
-          (rw (
-            outside_before order first middle j before,
-            outside_before order middle last j (omega (arith, before, low)),
-            outside_before order first last j before,
-          ) refl)
-      | inr from ↦ elim (cases_lt (place_in j order) last) [
-        | inl within ↦ both (f.has p j) (outside order first middle j) (outside order middle last j) (outside order first last j)
-            (elim (cases_lt (place_in j order) middle) [
-              | inl early ↦ rw (outside_within order first middle j from early, outside_within order first last j from within) refl
-              | inr late ↦ rw (outside_after order first middle j late, outside_within order middle last j late within, outside_within order first last j from within) refl
-            ])
-        | inr after ↦ both (f.has p j) (outside order first middle j) (outside order middle last j) (outside order first last j)
-            (rw (outside_after order first middle j (omega (arith, after, high)), outside_after order middle last j after, outside_after order first last j after) refl)
-      ]
-    ])
-    ∙ sym (cut_again f Fails g order first p (outside order first last) cuts so_far)
+-- what a grade's steps leave of the base tells whether all items go
+pub record IsTriedWhole {P : Type 0} (f : Ghosts P) (Struck : P → Striking) (grade : Grade) (g : GridValue)
+    (order : List ℕ) (p q : P) (left : CandidatesValue) : Type 0 where
+  pub base : IsBase (Struck (f.cut p (none_of order))) grade g left
+  pub follows : ((cell : ℕ) → cell < left.size * left.size → IsOnly left cell (number_at g cell))
+      → Follows (Struck q) grade g
+  pub goes : ((cell : ℕ) → cell < left.size * left.size → IsOnly left cell (number_at g cell))
+      → IsLeftInTurn f (FailsBy Struck grade g) order p q
+  pub fails : (((cell : ℕ) → cell < left.size * left.size → IsOnly left cell (number_at g cell)) → ⊥)
+      → FailsBy Struck grade g (f.cut p (none_of order))
+
+-- the base, settled
+pub tried_whole : {P : Type 0} (f : Ghosts P) (Struck : P → Striking) → HasSteps f Struck → (grade : Grade)
+    (g : GridValue) (order : List ℕ) (p q : P) (base left : CandidatesValue) → f.valid p → Solves (f.puzzle p) g
+    → IsBase (Struck (f.cut p (none_of order))) grade g base → q ≡ f.cut p (none_of order)
+    → IsClosure (Struck q) grade base left → IsTriedWhole f Struck grade g order p q left
+tried_whole {P} f Struck steps grade g order p q base left valid solves is gone closed =
+    let Fails : P → Type 0 = FailsBy Struck grade g in
+    let rest = rest_without f Struck steps grade g order p q base valid solves is gone in
+    let sound = steps.sound q rest.valid in
+    let less = steps.less q in
+    let now = base_settled (f.puzzle q) (Struck q) sound less grade g base left rest.solves rest.base closed in
+    record {
+      base = subst (λ (r : P). IsBase (Struck r) grade g left) gone now;
+      follows = base_follows (Struck q) grade g left now;
+      goes = λ only. subst (IsLeftInTurn f Fails order p) (sym gone)
+          (all_go f Fails order p steps.items valid (fewer_fail f Struck steps grade g)
+          (λ fails. subst Fails (sym gone) fails (base_follows (Struck q) grade g left now only)));
+      fails = λ other. subst Fails gone (λ follows.
+          other (follows_base (f.puzzle q) (Struck q) sound less grade g base left rest.solves rest.base closed
+          follows));
+    }
+
+-- ---- both parts of an order
+
+-- an order that was split
+pub parts_of : (order first second : List ℕ) (m : ℕ) → first ≡ take m order → second ≡ drop m order
+    → first ++ second ≡ order
+parts_of order first second m front back =
+    ap (λ (xs : List ℕ). xs ++ second) front ∙ ap (λ (ys : List ℕ). take m order ++ ys) back ∙ take-append-drop m order
+
+-- the items of both parts are those of the whole
+pub items_of_parts : (n : ℕ) (first second order : List ℕ) → first ++ second ≡ order
+    → ((k : ℕ) → k < length order → slice_index order k < n)
+    → ((k : ℕ) → k < length first → slice_index first k < n) × ((k : ℕ) → k < length second → slice_index second k < n)
+items_of_parts n first second order parts all =
+    let whole : (k : ℕ) → k < length (first ++ second) → slice_index (first ++ second) k < n =
+    subst (λ (xs : List ℕ). (k : ℕ) → k < length xs → slice_index xs k < n) (sym parts) all in (
+      λ k inside.
+          let there = whole k (omega (arith, length-append first second, inside)) in
+          omega (arith, get_or-append first second 0 k inside, there),
+      λ k inside.
+          let there = whole (length first + k) (omega (arith, length-append first second, inside)) in
+          omega (arith, get_or-append-add first second k 0, there),
+    )
+
+-- what is left in turn is solved by what solves the puzzle
+pub left_solved : {P : Type 0} (f : Ghosts P) (Fails : P → Type 0) (order : List ℕ) (p q : P) (g : GridValue)
+    → ItemLaws f → f.valid p
+    → IsLeftInTurn f Fails order p q → Solves (f.puzzle p) g → Solves (f.puzzle q) g
+left_solved {P} f Fails order p q g laws valid tried solves =
+    subst (λ (r : P). Solves (f.puzzle r) g) (sym (cut_in_turn f Fails order p q laws valid tried).is_cut)
+    (laws.cut_solved p (f.has q) g valid solves)
+
+-- an item that isn't tried stays as it was
+untried_same : {P : Type 0} (f : Ghosts P) (Fails : P → Type 0) (order : List ℕ) (p q : P) (i : ℕ) → ItemLaws f
+    → f.valid p
+    → IsLeftInTurn f Fails order p q → i < f.items_of (f.puzzle p).size → none_of order i ≡ true → f.has q i ≡ f.has p i
+untried_same {P} f Fails [] p q i laws valid same inside untried = ap (λ (r : P). f.has r i) same
+untried_same f Fails (item ∷ order) p q i laws valid tried inside untried =
+    let parts = and_parts (all_but item i) (none_of order i) untried in
+    elim tried [
+      | inl stays ↦ untried_same f Fails order p q i laws valid stays.1 inside parts.1
+      | inr goes ↦
+          untried_same f Fails order (f.cut p (all_but item)) q i laws (laws.cut_valid p (all_but item) valid) goes.1
+          (subst (λ (n : ℕ). i < f.items_of n) (sym (laws.cut_size p (all_but item))) inside) parts.1
+          ∙ laws.cut_has p (all_but item) i valid inside ∙ stays (f.has p i) (all_but item i) parts.0
+    ]
   where
-    both : (a b c d : Bool) → (b && c) ≡ d → ((a && b) && c) ≡ (a && d)
-    both true b c d e = e
-    both false b c d e = refl
+    stays : (a b : Bool) → b ≡ true → (a && b) ≡ a
+    stays true b e = e
+    stays false b e = refl
 
--- and of what was pruned by the first half, without the second
-second_half : {P : Type 0} (f : Ghosts P) (Fails : P → Type 0) (g : GridValue) (order : List ℕ) (first middle last : ℕ) (p half : P) → AreCuts f g
-    → first ≤ middle → middle ≤ last → IsPrunedTo f Fails g order first p
-    → IsPrunedTo f Fails g order middle half
-    → ((j : ℕ) → j < f.items_of g.size → place_in j order < first → f.has half j ≡ f.has p j)
-    → f.cut (f.cut half (outside order middle last)) (outside order first middle) ≡ f.cut p (outside order first last)
-second_half {P} f Fails g order first middle last p half cuts low high so_far halved same =
-    let q = f.cut p (outside order first last) in
-    let kept = kept_of_cut f Fails g order first last p q cuts so_far refl in
-    ap (λ (r : P). f.cut r (outside order first middle)) (cut_again f Fails g order middle half (outside order middle last) cuts halved)
-    ∙ cuts.again (λ j. f.has half j && outside order middle last j) (outside order first middle)
-    ∙ cuts.agrees (λ j. (f.has half j && outside order middle last j) && outside order first middle j) (f.has q)
-    (λ j small. elim (cases_lt (place_in j order) first) [
-      | inl before ↦
-          rw (outside_before order middle last j (omega (arith, before, low)), outside_before order first middle j before)
-          (trues (f.has half j) ∙ same j small before ∙ sym (kept.before j small before))
-      | inr from ↦ elim (cases_lt (place_in j order) last) [
-        | inl within ↦ elim (cases_lt (place_in j order) middle) [
-          | inl early ↦ rw (outside_within order first middle j from early)
-              (falses (f.has half j && outside order middle last j) ∙ sym (kept.within j small from within))
-          | inr late ↦ rw (outside_within order middle last j late within)
-              (none (f.has half j) (outside order first middle j) ∙ sym (kept.within j small from within))
-        ]
-        | inr after ↦
-            rw (outside_after order middle last j after, outside_after order first middle j (omega (arith, after, high)))
-            (trues (f.has half j) ∙ halved.untried j small (omega (arith, after, high))
-            ∙ sym (kept.after j small after ∙ so_far.untried j small (omega (arith, after, low, high))))
-      ]
-    ])
-    ∙ sym kept.is_cut
+-- what is left of the first half, without the second, has all that the puzzle has without both
+half_has : {P : Type 0} (f : Ghosts P) (Fails : P → Type 0) (first second : List ℕ) (p half : P) → ItemLaws f
+    → f.valid p
+    → IsLeftInTurn f Fails first p half
+    → f.cut (f.cut half (none_of second)) (none_of first) ≡ f.cut p (none_of (first ++ second))
+half_has {P} f Fails first second p half laws valid tried =
+    let cut = cut_in_turn f Fails first p half laws valid tried in
+    laws.cut_cut half (none_of second) (none_of first) cut.valid
+    ∙ ap (λ (r : P). f.cut r (λ j. none_of second j && none_of first j)) cut.is_cut
+    ∙ laws.cut_cut p (f.has half) (λ j. none_of second j && none_of first j) valid
+    ∙ laws.cut_agrees p (λ j. f.has half j && (none_of second j && none_of first j)) (none_of (first ++ second)) valid
+    (λ j inside there.
+    both (f.has half j) (none_of first j) (none_of second j)
+    (λ untried. untried_same f Fails first p half j laws valid tried inside untried ∙ there)
+    ∙ none_of_both first second j)
   where
-    trues : (b : Bool) → ((b && true) && true) ≡ b
-    trues true = refl
-    trues false = refl
-
-    falses : (b : Bool) → (b && false) ≡ false
-    falses true = refl
-    falses false = refl
-
-    none : (a b : Bool) → ((a && false) && b) ≡ false
-    none true b = refl
-    none false b = refl
+    both : (a b c : Bool) → (b ≡ true → a ≡ true) → (a && (c && b)) ≡ (b && c)
+    both true true true h = refl
+    both true true false h = refl
+    both true false true h = refl
+    both true false false h = refl
+    both false true c h = absurd (both_ways false refl (h refl))
+    both false false c h = refl
 
 cut_base : {P : Type 0} (f : Ghosts P) (Struck : P → Striking) → HasSteps f Struck → (grade : Grade)
     (g : GridValue) (r q : P) (keep : ℕ → Bool) (left : CandidatesValue) → f.cut r keep ≡ q → IsBase (Struck q) grade g left
@@ -212,29 +320,28 @@ cut_base {P} f Struck steps grade g r q keep left is base =
     base_more (Struck (f.cut r keep)) (Struck r) (steps.cut r keep) grade g left
     (subst (λ (s : P). IsBase (Struck s) grade g left) (sym is) base)
 
--- what is left without all those items is a base for the first half
+-- what is left without all items is a base for the first half
 pub first_base : {P : Type 0} (f : Ghosts P) (Struck : P → Striking) → HasSteps f Struck → (grade : Grade)
-    (g : GridValue) (order : List ℕ) (first middle last : ℕ) (p : P) (left : CandidatesValue) → IsGrid g → IsLatin g → first ≤ middle → middle ≤ last
-    → IsPrunedTo f (FailsBy Struck grade g) g order first p → IsBase (Struck (f.cut p (outside order first last))) grade g left
-    → IsBase (Struck (f.cut p (outside order first middle))) grade g left
-first_base f Struck steps grade g order first middle last p left grid latin low high so_far base =
-    cut_base f Struck steps grade g (f.cut p (outside order first middle)) (f.cut p (outside order first last)) (outside order middle last) left
-    (first_half f (FailsBy Struck grade g) g order first middle last p (cuts_of_full f g steps.items grid latin) low high so_far) base
+    (g : GridValue) (first second order : List ℕ) (p : P) (left : CandidatesValue) → first ++ second ≡ order → f.valid p
+    → IsBase (Struck (f.cut p (none_of order))) grade g left → IsBase (Struck (f.cut p (none_of first))) grade g left
+first_base {P} f Struck steps grade g first second order p left parts valid base =
+    cut_base f Struck steps grade g (f.cut p (none_of first)) (f.cut p (none_of order)) (none_of second) left
+    (without_both f first second p steps.items valid ∙ ap (λ (xs : List ℕ). f.cut p (none_of xs)) parts) base
 
 -- and for the second
 pub second_base : {P : Type 0} (f : Ghosts P) (Struck : P → Striking) → HasSteps f Struck → (grade : Grade)
-    (g : GridValue) (order : List ℕ) (first middle last : ℕ) (p half : P) (left : CandidatesValue) → IsGrid g → IsLatin g → first ≤ middle → middle ≤ last
-    → IsPrunedTo f (FailsBy Struck grade g) g order first p → IsPrunedTo f (FailsBy Struck grade g) g order middle half
-    → ((j : ℕ) → j < f.items_of g.size → place_in j order < first → f.has half j ≡ f.has p j)
-    → IsBase (Struck (f.cut p (outside order first last))) grade g left → IsBase (Struck (f.cut half (outside order middle last))) grade g left
-second_base f Struck steps grade g order first middle last p half left grid latin low high so_far halved same base =
-    cut_base f Struck steps grade g (f.cut half (outside order middle last)) (f.cut p (outside order first last)) (outside order first middle) left
-    (second_half f (FailsBy Struck grade g) g order first middle last p half (cuts_of_full f g steps.items grid latin) low high so_far halved same) base
+    (g : GridValue) (first second order : List ℕ) (p half : P) (left : CandidatesValue) → first ++ second ≡ order
+    → f.valid p
+    → IsLeftInTurn f (FailsBy Struck grade g) first p half → IsBase (Struck (f.cut p (none_of order))) grade g left
+    → IsBase (Struck (f.cut half (none_of second))) grade g left
+second_base {P} f Struck steps grade g first second order p half left parts valid tried base =
+    cut_base f Struck steps grade g (f.cut half (none_of second)) (f.cut p (none_of order)) (none_of first) left
+    (half_has f (FailsBy Struck grade g) first second p half steps.items valid tried
+    ∙ ap (λ (xs : List ℕ). f.cut p (none_of xs)) parts) base
 
--- where the first half went, the puzzle without the second is that without all those items
-pub first_gone : {P : Type 0} (f : Ghosts P) (Fails : P → Type 0) → ItemLaws f → (g : GridValue) (order : List ℕ) (first middle last : ℕ) (p fewer : P)
-    → IsGrid g → IsLatin g → first ≤ middle → middle ≤ last → IsPrunedTo f Fails g order first p → fewer ≡ f.cut p (outside order first middle)
-    → f.cut p (outside order first last) ≡ f.cut fewer (outside order middle last)
-first_gone {P} f Fails laws g order first middle last p fewer grid latin low high so_far gone =
-    sym (ap (λ (r : P). f.cut r (outside order middle last)) gone
-    ∙ first_half f Fails g order first middle last p (cuts_of_full f g laws grid latin) low high so_far)
+-- both halves, one after the other
+pub halves_in_turn : {P : Type 0} (f : Ghosts P) (Fails : P → Type 0) (first second order : List ℕ) (p half q : P)
+    → first ++ second ≡ order
+    → IsLeftInTurn f Fails first p half → IsLeftInTurn f Fails second half q → IsLeftInTurn f Fails order p q
+halves_in_turn f Fails first second order p half q parts one two =
+    subst (λ (xs : List ℕ). IsLeftInTurn f Fails xs p q) parts (in_turn_both f Fails first second p half q one two)

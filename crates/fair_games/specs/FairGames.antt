@@ -15,6 +15,10 @@ use Rattle.fair_games.specs.declared.trial.Trial.TheVariants.{GivensAlone}
 abbrev pub IsByGrade : {P : Type 0} → Ghosts P → (P → Striking) → Grade → P → Type 0
 IsByGrade f Struck grade p = FollowsBy (f.puzzle p) (Struck p) grade
 
+-- the puzzle doesn't follow by the grade
+abbrev pub IsBeyondGrade : {P : Type 0} → Ghosts P → (P → Striking) → Grade → P → Type 0
+IsBeyondGrade f Struck grade p = IsByGrade f Struck grade p → ⊥
+
 -- the puzzle follows by the grade, and not by the one below
 abbrev pub IsOfGrade : {P : Type 0} → Ghosts P → (P → Striking) → Grade → P → Type 0
 IsOfGrade f Struck grade p = IsGradeOf (f.puzzle p) (Struck p) (Some grade)

@@ -1,3 +1,3 @@
 -- Words that the contracts of private functions alone use.
-pub mod PrunedTo
+pub mod NoneOf
 pub mod Bases

@@ -22,7 +22,7 @@ pub(crate) fn draw_square<R: Rng>(rng: &mut R, size: Size) -> Grid
     if grid.is_latin() {
         grid
     } else {
-        // Each row fits, by Hall's theorem, so this never comes about; no proof says so.
+        // Unreachable, since each row fits by Hall's theorem (not proved).
         square(size, 0)
     }
 }

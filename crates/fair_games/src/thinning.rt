@@ -3,10 +3,11 @@
 ghost use Rattle.std.specs.Prelude.{◌≡◌, ◌<◌, ◌↔◌, IsTrue};
 ghost use Rattle.line_steps.specs.Reasons.{StruckBy};
 ghost use Rattle.needed_items.specs.Needed.{IsSpare, IsThinned};
-ghost use Rattle.needed_items.specs.Inner.Trying.{IsTried};
-ghost use Rattle.fair_games.specs.FairGames.{IsByGrade};
+ghost use Rattle.needed_items.specs.InTurn.{IsLeftInTurn, falling};
+ghost use Rattle.fair_games.specs.FairGames.{IsBeyondGrade, IsByGrade};
 
 use named_steps::{Grade, Steps, follows};
+use needed_items::{Order, Test, left_in_turn};
 use trail_solver::Rules;
 
 /// Whether the puzzle has the item, and without it follows by the steps of the grade.
@@ -22,30 +23,35 @@ pub fn is_spare_by<P: Steps>(puzzle: &P, grade: Grade, item: usize) -> bool
     follows(&fewer, grade)
 }
 
+// Whether the rest follows by a grade.
+#[derive(Clone, Copy)]
+struct ByGrade(Grade);
+
+impl<P: Steps> Test<P> for ByGrade {
+    ghost passes = { λ test. IsByGrade ⟦<P as Rules>⟧ (StruckBy P.puzzle P.own) test.0 };
+
+    ghost fails = { λ test. IsBeyondGrade ⟦<P as Rules>⟧ (StruckBy P.puzzle P.own) test.0 };
+
+    fn fails_without(&self, puzzle: &P, item: usize) -> bool {
+        let mut fewer = *puzzle;
+        fewer.drop_item(item);
+        !follows(&fewer, self.0)
+    }
+
+    ghost apart = { λ _ _ passes fails. fails passes };
+}
+
 /// The puzzle without items that the grade can do without: each is tried once, from the last to the first, and goes where the rest
 /// still follows by the steps of the grade. What is left needs each of its items for that.
 pub fn thinned_by<P: Steps>(puzzle: &P, grade: Grade) -> P
     requires follows { IsByGrade ⟦<P as Rules>⟧ (StruckBy P.puzzle P.own) grade puzzle.now }
-    ensures { IsThinned ⟦<P as Rules>⟧ (IsByGrade ⟦<P as Rules>⟧ (StruckBy P.puzzle P.own) grade) puzzle.now result }
+    ensures thinned { IsThinned ⟦<P as Rules>⟧ (IsByGrade ⟦<P as Rules>⟧ (StruckBy P.puzzle P.own) grade)
+        puzzle.now result }
+
+    // Which of such puzzles it is.
+    ensures in_turn { IsLeftInTurn ⟦<P as Rules>⟧ (IsBeyondGrade ⟦<P as Rules>⟧ (StruckBy P.puzzle P.own) grade)
+        (falling (P.items_of (P.puzzle puzzle.now).size)) puzzle.now result }
 {
     let count = P::item_count(puzzle.size());
-    let mut left = *puzzle;
-    for k in 0..count {
-        left = tried(left, grade, count - 1 - k);
-    }
-    left
-}
-
-// The puzzle without the item, where that follows, or otherwise the puzzle itself.
-fn tried<P: Steps>(puzzle: P, grade: Grade, item: usize) -> P
-    requires inside { item < P.items_of (P.puzzle puzzle).size }
-    ensures { IsTried ⟦<P as Rules>⟧ (IsByGrade ⟦<P as Rules>⟧ (StruckBy P.puzzle P.own) grade) puzzle item result }
-{
-    let _size = puzzle.size();
-    if !is_spare_by(&puzzle, grade, item) {
-        return puzzle;
-    }
-    let mut fewer = puzzle;
-    fewer.drop_item(item);
-    fewer
+    left_in_turn(puzzle, &Order::Falling(count), &ByGrade(grade))
 }

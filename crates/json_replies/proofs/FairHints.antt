@@ -18,7 +18,7 @@ use Rattle.named_steps.proofs.Followed.{boards_lead, boards_refuted}
 use Rattle.step_chains.specs.declared.hints.NextHint.{NextHint}
 use Rattle.step_chains.specs.declared.hints.NextHint.TheVariants.{Follows as Found, Refuted, Nothing}
 use Rattle.line_steps.specs.Grades.{IsLower, rank}
-use Rattle.step_chains.specs.NextHints.{NothingFollows, IsHint, IsHintFrom}
+use Rattle.step_chains.specs.NextHints.{NothingFollows, IsHintFrom}
 use Rattle.puzzle_cli.specs.GameFacts.{GameFacts}
 use Rattle.json_replies.specs.FairLaws.{IsContradiction, IsExplainedBy, IsWrongAt, HintsLeadOn}
 use Rattle.json_replies.specs.FurtherLines.{BoardFacts}

@@ -27,7 +27,7 @@ use Rattle.json_replies.specs.FairLaws.{IsFairStart, FairLinesBegin}
 use Rattle.json_replies.specs.FurtherLines.{BoardFacts, further_at}
 use Rattle.json_replies.specs.JsonReplies.{AnswerGives, TellsLine}
 use Rattle.json_replies.specs.Replies.{Answer, session_left}
-use Rattle.json_replies.proofs.BeginReading.{line_again}
+use Rattle.json_replies.proofs.BeginReading.{fair_again}
 
 -- the letter of a grade is one of the game's
 known_letter : (letters : List ℕ) (own : Option ℕ) (code : ℕ) → own ≡ Some code → Contains letters code → IfSome own (Contains letters)
@@ -83,10 +83,11 @@ module _ {P : Type 0} (f : GameFacts P) (b : BoardFacts P) (steps : HasSteps f.r
   line_begins : (old new : Option (History P)) (line : Line) (words : FairWords (List ℕ)) (answer : Answer P) → IsFairLine words line
       → AnswerGives f b old line answer → new ≡ session_left old answer → Begins old words new
   line_begins old new line words answer is (inl (own, so, gives)) leaves =
-      let both : Some own ≡ Some (Fair words) = sym (line_again line own so) ∙ line_again line (Fair words) is in
+      let both : Some own ≡ Some (Fair words) = sym so ∙ fair_again line words is in
       let same : own ≡ Fair words = cc both in
       answer_begins old new words answer (subst (λ (w : BeginLine (List ℕ)). BeginGives f b old w answer) same gives) leaves
-  line_begins old new line words answer is (inr (other, gives)) leaves = absurd (other (Fair words) is)
+  line_begins old new line words answer is (inr (other, gives)) leaves = absurd (other (Fair words)
+      (fair_again line words is))
 
   pub fair_lines_begin : FairLinesBegin f b
   fair_lines_begin old new line words bytes is reply =

@@ -1,5 +1,5 @@
 -- Hints lead to the end of a puzzle that follows by a grade.
-use Rattle.std.proofs.Common.{◌≡◌, ◌≢◌, ℕ, zero, suc, ◌+◌, ◌*◌, ◌<◌, ◌≤◌, ◌==◌, Bool, true, false, cond, List, [], ◌∷◌, length, get_or, set, count_by, refl, sym, ap, ◌∙◌, subst, arith, inl, inr}
+use Rattle.std.proofs.Common.{◌≡◌, ◌≢◌, ℕ, zero, suc, ◌+◌, ◌*◌, ◌<◌, ◌≤◌, ◌==◌, Bool, cond, List, [], ◌∷◌, length, get_or, set, count_by, sym, ap, ◌∙◌, subst, arith, inl, inr}
 use Rattle.std.specs.List.{AllByRecursion}
 use Rattle.std.proofs.lemmas.Bool.{cases_eq}
 use Rattle.std.proofs.lemmas.List.{get_or-set_same, get_or-set_other, length-set}
@@ -8,16 +8,13 @@ use Rattle.std.proofs.lemmas.List.Elements.{All-set}
 use Rattle.std.proofs.lemmas.Grind.{same_number_lists}
 use borrow.Author.Tests.{apart_eqb, eq-eqb}
 use Rattle.latin_board.specs.Squares.{GridValue, IsGrid, number_at}
-use Rattle.latin_board.proofs.LatinLines.{line_cell_inside, latin_full}
+use Rattle.latin_board.proofs.LatinLines.{line_cell_inside}
 use Rattle.trail_solver.specs.Puzzles.{Puzzle, Solves}
 use Rattle.trail_solver.specs.Completions.{Keeps}
 use Rattle.named_steps.specs.Chains.{IsGoalOf, goal_cell, goal_value}
-use Rattle.named_steps.specs.Following.{Follows}
-use Rattle.named_steps.specs.StepLaws.{GradesAreNested}
 use Rattle.named_steps.specs.declared.goal.Goal.{Goal}
 use Rattle.named_steps.specs.declared.goal.Goal.TheVariants.{OnlyValue, OnlyPlace}
 use Rattle.line_steps.specs.declared.grade.Grade.{Grade}
-use Rattle.line_steps.proofs.Chains.{IsAntitone}
 use Rattle.line_steps.specs.Reasons.{Striking}
 use Rattle.step_chains.specs.declared.hints.NextHint.{NextHint}
 use Rattle.step_chains.specs.declared.hints.NextHint.TheVariants.{Follows as Found, Refuted, Nothing}

@@ -1,40 +1,31 @@
 -- The text of an object: what each member adds, and what the whole reads as.
 use Rattle.std.proofs.Common.{◌≡◌, ℕ, suc, ◌≤◌, Bool, true, false, List, [], ◌∷◌, ◌++◌, map, codes, Option, Some, None, option_map, option_and_then, refl, sym, ap, ap₂, subst, if◌then◌else◌, ◌∙◌, append_assoc, append-nil, arith}
-use Rattle.std.specs.Prelude.{max, Result, Ok, Err, IfOk}
+use Rattle.std.specs.Prelude.{max}
 use Rattle.byte_text.specs.Cuts.{Lacks}
 use Rattle.json.specs.Token.{Token, string as string_token}
 use Rattle.json.specs.Lex.{tokens}
 use Rattle.json.specs.Print.{print, print_from, quoted}
 use Rattle.json.specs.Json as json
 use Rattle.json.specs.Tree as tree
-use Rattle.json.specs.Tree.{json_tokens, HasNumbers, ItemsHaveNumbers}
+use Rattle.json.specs.Tree.{json_tokens, ItemsHaveNumbers, MembersHaveNumbers}
 use Rattle.json.proofs.Printed.Tokens.{tokens-print}
 use Rattle.json.proofs.Printed.Trees.{value-json_tokens, ArePrintable-json_tokens}
 use Rattle.json.proofs.Numbered.{value-HasNumbers, ArePrintableOrBad-tokens}
 use Rattle.serde_json.specs.Data.{Data, null, boolean, number, string, array, object, Items, no_items, item, Members, no_members, member, put, depth, items_depth, members_depth}
 use Rattle.serde_json.specs.Read.{of_json, of_items, of_members, read, max_depth}
 use Rattle.serde_json.specs.View.{items_of}
-use Rattle.serde_json.specs.Written.{outline, items_outline, members_outline, IsInOrder, comma_if, compact_text, items_text, members_text}
+use Rattle.serde_json.specs.Written.{outline, items_outline, members_outline, IsInOrder, has_float, comma_if, compact_text, items_text, members_text}
 use Rattle.serde_json.proofs.Texts.{tokens_from_order, print-outline}
 use Rattle.json_replies.specs.declared.further_line.FurtherLine.{FurtherLine}
 use Rattle.json_replies.specs.declared.further_line.FurtherLine.TheVariants.{Board, Completable, Hint, Grade, Solutions, Spare, SpareBy}
 use Rattle.json_replies.specs.Texts.{text_data, lines_of, lines_data}
-use Rattle.json_replies.specs.FurtherLines.{further_key, is_last_key, further_data}
-use Rattle.json_replies.specs.Replies.{name_data, reply_members, reply_members_then, reply_data}
-use Rattle.json_replies.specs.ObjectLines.{IsShallow, IsSpelled, IsLineOfData}
-use Rattle.json_replies.specs.Inner.ObjectTexts.{key_text, AddsMember, IsPlain, IsPlainText}
-use Rattle.json_replies.specs.Laws.Spellings.{spelled_reply}
+use Rattle.json_replies.specs.FurtherLines.{further_key, further_data, is_last_key}
+use Rattle.json_replies.specs.Replies.{name_data, reply_data}
+use Rattle.json_replies.specs.ObjectLines.{IsShallow, IsLineOfData}
+use Rattle.json_replies.specs.Inner.ObjectTexts.{key_text, as_members, AddsMembers, reply_list, further_list, IsPlain, IsPlainText}
+use Rattle.json_replies.specs.Inner.WrittenData.{AllMembersRead}
+use Rattle.json_replies.specs.Laws.Spellings.{either, told_whole, name_fits, lines_fit}
 use Rattle.json_replies.proofs.ReplyLines.{lines_of-front, lines_of-none}
-
--- two things that hold of a value, and what follows from both
-pub both_ok : {A E : Type 0} (r : Result A E) (P Q R : A → Type 0) → ((a : A) → P a → Q a → R a) → IfOk r P → IfOk r Q → IfOk r R
-both_ok (Ok a) P Q R both p q = both a p q
-both_ok (Err e) P Q R both p q = tt
-
--- one thing that holds of a value, and what follows from it
-pub then_ok : {A E : Type 0} (r : Result A E) (P Q : A → Type 0) → ((a : A) → P a → Q a) → IfOk r P → IfOk r Q
-then_ok (Ok a) P Q after p = after a p
-then_ok (Err e) P Q after p = tt
 
 -- ---- what is written
 
@@ -59,30 +50,69 @@ pub adds_key : (later : Bool) (key text commaed keyed new : List ℕ) → commae
 adds_key later key text commaed keyed new first second third =
     third ∙ ap (λ l. l ++ 58 ∷ []) (second ∙ ap (λ l. l ++ quoted key) first) ∙ grouped text (comma_if later) (quoted key) (58 ∷ [])
 
--- a key, and then what it stands for
-pub adds_member : (later : Bool) (key : List ℕ) (d : Data) (text keyed new : List ℕ) → keyed ≡ text ++ key_text later key
-    → new ≡ keyed ++ compact_text d → AddsMember later key d text new
-adds_member later key d text keyed new first second rest =
-    ap (λ l. l ++ members_text true rest) (second ∙ ap (λ l. l ++ compact_text d) first)
-    ∙ grouped text (key_text later key) (compact_text d) (members_text true rest)
-    ∙ ap (λ l. text ++ l) (grouped_inside (comma_if later) (quoted key) (58 ∷ []) (compact_text d ++ members_text true rest))
-
--- the same of the text of a value
+-- a key, and then the text of its value
 pub adds_value : (later : Bool) (key : List ℕ) (d : Data) (text keyed new value : List ℕ) → keyed ≡ text ++ key_text later key
-    → IsPlainText d value → new ≡ keyed ++ value → AddsMember later key d text new
-adds_value later key d text keyed new value first plain second = adds_member later key d text keyed new first (second ∙ ap (λ l. keyed ++ l) plain.text)
+    → value ≡ compact_text d → new ≡ keyed ++ value → AddsMembers later ((key, d) ∷ []) text new
+adds_value later key d text keyed new value first is second = record {
+  text = λ rest. ap (λ l. l ++ members_text true (as_members rest)) (second ∙ ap₂ (λ k v. k ++ v) first is)
+      ∙ grouped text (key_text later key) (compact_text d) (members_text true (as_members rest))
+      ∙ ap (λ l. text ++ l)
+      (grouped_inside (comma_if later) (quoted key) (58 ∷ []) (compact_text d ++ members_text true (as_members rest)));
+}
 
--- what each object has, before these members
+-- and so of data that have this text
+pub adds_plain : (later : Bool) (key : List ℕ) (d : Data) (text keyed new value : List ℕ)
+    → keyed ≡ text ++ key_text later key
+    → IsPlainText d value → new ≡ keyed ++ value → AddsMembers later ((key, d) ∷ []) text new
+adds_plain later key d text keyed new value first plain second = adds_value later key d text keyed new value first
+    plain.text second
+
+-- members, and then more
+pub adds_more : (later : Bool) (xs ys : List (List ℕ × Data)) (a b c : List ℕ) → AddsMembers later xs a b
+    → AddsMembers true ys b c
+    → AddsMembers later (xs ++ ys) a c
+adds_more later xs ys a b c first second = record {
+  text = λ rest. second.text rest ∙ first.text (ys ++ rest) ∙ ap (λ l. a ++ members_text later (as_members l)) (sym
+      (append_assoc xs ys rest));
+}
+
+-- what each object has
 pub members_added : (later : Bool) (refused : Option (List ℕ)) (reply : List ℕ) (name session : Data) (line one two three new : List ℕ)
-    → name ≡ name_data refused → AddsMember later (codes "refused") name line one → two ≡ one ++ key_text true (codes "reply")
-    → three ≡ two ++ compact_text (lines_data reply) → AddsMember true (codes "session") session three new
-    → (rest : Members) → new ++ members_text true rest ≡ line ++ members_text later (reply_members_then refused reply session rest)
-members_added later refused reply name session line one two three new named add_name key lines add_session rest =
-    let last = member (codes "session") session rest in
-    let middle = member (codes "reply") (lines_data reply) last in
-    let add_lines = adds_member true (codes "reply") (lines_data reply) one two three key lines in
-    add_session rest ∙ add_lines last ∙ add_name middle
-    ∙ ap (λ d. line ++ members_text later (member (codes "refused") d middle)) named
+    → name ≡ name_data refused → AddsMembers later ((codes "refused", name) ∷ []) line one
+    → two ≡ one ++ key_text true (codes "reply")
+    → three ≡ two ++ compact_text (lines_data reply) → AddsMembers true ((codes "session", session) ∷ []) three new
+    → AddsMembers later (reply_list refused reply session) line new
+members_added later refused reply name session line one two three new named first key lines last =
+    adds_more later ((codes "refused", name_data refused) ∷ []) ((codes "reply", lines_data reply) ∷
+    (codes "session", session) ∷ []) line one new
+    (subst (λ (d : Data). AddsMembers later ((codes "refused", d) ∷ []) line one) named first)
+    (adds_more true ((codes "reply", lines_data reply) ∷ []) ((codes "session", session) ∷ []) one three new
+    (adds_value true (codes "reply") (lines_data reply) one two three (compact_text
+    (lines_data reply)) key refl lines) last)
+
+-- an answer after what each object has, or before it
+abbrev AddsAnswer : Bool → List ℕ → Data → Data → List ℕ → List ℕ → Type 0
+AddsAnswer last key answer session old new =
+    AddsMembers false (if last then reply_list None [] session ++ (key, answer) ∷ [] else
+    (key, answer) ∷ reply_list None [] session) old new
+
+pub adds_last : (which : FurtherLine) (answer session : Data) (key a b c : List ℕ) → is_last_key which ≡ true
+    → key ≡ further_key which
+    → AddsMembers false (reply_list None [] session) a b → AddsMembers true ((key, answer) ∷ []) b c
+    → AddsMembers false (further_list which answer session) a c
+adds_last which answer session key a b c last is first second =
+    subst (λ t. AddsAnswer t (further_key which) answer session a c) (sym last)
+    (subst (λ k. AddsAnswer true k answer session a c) is (adds_more false (reply_list None [] session)
+    ((key, answer) ∷ []) a b c first second))
+
+pub adds_first : (which : FurtherLine) (answer session : Data) (key a b c : List ℕ) → is_last_key which ≡ false
+    → key ≡ further_key which
+    → AddsMembers false ((key, answer) ∷ []) a b → AddsMembers true (reply_list None [] session) b c
+    → AddsMembers false (further_list which answer session) a c
+adds_first which answer session key a b c other is first second =
+    subst (λ t. AddsAnswer t (further_key which) answer session a c) (sym other)
+    (subst (λ k. AddsAnswer false k answer session a c) is (adds_more false ((key, answer) ∷ [])
+    (reply_list None [] session) a b c first second))
 
 -- ---- the lines of a reply, one by one
 
@@ -128,38 +158,50 @@ mutual
   depth-members no_members = refl
   depth-members (member k d ms) = ap₂ max (depth-outline d) (depth-members ms)
 
-shallow : (d : Data) → depth d ≤ max_depth → tree.depth (outline d) ≤ max_depth
-shallow d flat = omega (arith, depth-outline d, flat)
+shallow : (n : ℕ) (d : Data) → IsShallow n d → n ≤ max_depth → tree.depth (outline d) ≤ max_depth
+shallow n d fits low =
+    let flat = (told_whole n d fits).1 in
+    omega (arith, depth-outline d, flat, low)
 
 -- the tokens of a value are that value
-value-outline : (d : Data) (text : List ℕ) → tokens text ≡ json_tokens (outline d) → depth d ≤ max_depth
+value-outline : (n : ℕ) (d : Data) (text : List ℕ) → IsShallow n d → n ≤ max_depth
+    → tokens text ≡ json_tokens (outline d)
     → json.value max_depth (tokens text) ≡ Some (outline d, [])
-value-outline d text same flat =
-    ap (json.value max_depth) (same ∙ sym (append-nil (json_tokens (outline d)))) ∙ value-json_tokens (outline d) max_depth [] (shallow d flat)
+value-outline n d text fits low same =
+    ap (json.value max_depth) (same ∙ sym (append-nil (json_tokens (outline d))))
+    ∙ value-json_tokens (outline d) max_depth [] (shallow n d fits low)
 
 -- tokens of a value that reads as itself
-pub tokens_are_plain : (d : Data) (text : List ℕ) → tokens text ≡ json_tokens (outline d) → depth d ≤ max_depth → of_json (outline d) ≡ Some d → IsPlain d
-tokens_are_plain d text same flat reads = record {
-  numbers = value-HasNumbers max_depth (tokens text) [] (outline d) (ArePrintableOrBad-tokens text) (value-outline d text same flat);
+pub tokens_are_plain : (d : Data) (text : List ℕ) → IsShallow 7 d → tokens text ≡ json_tokens (outline d)
+    → of_json (outline d) ≡ Some d → IsPlain d
+tokens_are_plain d text fits same reads = record {
+  numbers = value-HasNumbers max_depth (tokens text) [] (outline d) (ArePrintableOrBad-tokens text)
+      (value-outline 7 d text fits (omega arith) same);
   reads = reads;
 }
 
 -- the text of a value that was written reads as that value
-pub written_is_plain : (d : Data) (text : List ℕ) → IsSpelled d → text ≡ compact_text d → IsInOrder text d → read text ≡ Some d → IsPlainText d text
-written_is_plain d text spelled is order reads =
-    let same = tokens_from_order text d order spelled.whole in
-    let value = value-outline d text same spelled.flat in
+pub written_is_plain : (d : Data) (text : List ℕ) → IsShallow 7 d → (has_float d ≡ false → text ≡ compact_text d)
+    → IsInOrder text d
+    → (depth d ≤ max_depth → read text ≡ Some d) → IsPlainText d text
+written_is_plain d text fits is order reads =
+    let (whole, flat) = told_whole 7 d fits in
+    let same = tokens_from_order text d order whole in
+    let value = value-outline 7 d text fits (omega arith) same in
     record {
-      text = is;
-      plain = tokens_are_plain d text same spelled.flat
-          (sym (ap (λ v. option_and_then of_json (option_and_then (λ p. json.if_last p.0 p.1) v)) value) ∙ reads);
+      text = is whole;
+      plain = tokens_are_plain d text fits same
+          (sym (ap (λ v. option_and_then of_json (option_and_then (λ p. json.if_last p.0 p.1) v)) value)
+          ∙ reads (omega (arith, flat)));
+      fits = fits;
     }
 
 -- and so does the text that such a value has
-plain_reads : (d : Data) → IsPlain d → depth d ≤ max_depth → read (compact_text d) ≡ Some d
-plain_reads d plain flat =
+plain_reads : (d : Data) → IsPlain d → IsShallow 8 d → read (compact_text d) ≡ Some d
+plain_reads d plain fits =
     let same = ap tokens (sym (print-outline d)) ∙ tokens-print (json_tokens (outline d)) (ArePrintable-json_tokens (outline d) plain.numbers) in
-    ap (λ v. option_and_then of_json (option_and_then (λ p. json.if_last p.0 p.1) v)) (value-outline d (compact_text d) same flat) ∙ plain.reads
+    ap (λ v. option_and_then of_json (option_and_then (λ p. json.if_last p.0 p.1) v))
+    (value-outline 8 d (compact_text d) fits (omega arith) same) ∙ plain.reads
 
 plain_name : (refused : Option (List ℕ)) → IsPlain (name_data refused)
 plain_name None = record { numbers = tt; reads = refl }
@@ -176,135 +218,88 @@ texts_read (line ∷ lines) = ap (option_map (item (text_data line))) (texts_rea
 plain_lines : (reply : List ℕ) → IsPlain (lines_data reply)
 plain_lines reply = record { numbers = texts_have_numbers (lines_of reply); reads = ap (option_map array) (texts_read (lines_of reply)) }
 
--- a member that reads as itself is put among those before it
-read_first : (key : List ℕ) (d : Data) (rest before : Members) → of_json (outline d) ≡ Some d
-    → of_members (members_outline (member key d rest)) before ≡ of_members (members_outline rest) (put key d before)
-read_first key d rest before reads = ap (option_and_then (λ e. of_members (members_outline rest) (put key e before))) reads
+-- ---- objects
 
--- what each object has, between those that were read and the rest
-members_read : (refused : Option (List ℕ)) (reply : List ℕ) (session : Data) (rest before : Members) → IsPlain session
-    → of_members (members_outline (reply_members_then refused reply session rest)) before
-    ≡ of_members (members_outline rest)
-    (put (codes "session") session (put (codes "reply") (lines_data reply) (put (codes "refused") (name_data refused) before)))
-members_read refused reply session rest before plain =
-    let last = member (codes "session") session rest in
-    let middle = member (codes "reply") (lines_data reply) last in
-    let first = put (codes "refused") (name_data refused) before in
-    read_first (codes "refused") (name_data refused) middle before (plain_name refused).reads
-    ∙ read_first (codes "reply") (lines_data reply) last first (plain_lines reply).reads
-    ∙ read_first (codes "session") session rest (put (codes "reply") (lines_data reply) first) plain.reads
+-- the members, put one by one among those before them
+abbrev pub put_all : List (List ℕ × Data) → Members → Members
+put_all [] before = before
+put_all (m ∷ ms) before = put_all ms (put m.0 m.1 before)
 
-plain_reply : (refused : Option (List ℕ)) (reply : List ℕ) (session : Data) → IsPlain session → IsPlain (reply_data refused reply session)
-plain_reply refused reply session plain = record {
-  numbers = ((plain_name refused).numbers, ((plain_lines reply).numbers, (plain.numbers, tt)));
-  reads = ap (option_map object) (members_read refused reply session no_members no_members plain);
-}
+-- members that read as themselves are put one by one
+pub object_reads : (ms : List (List ℕ × Data)) (before : Members) → AllMembersRead ms
+    → of_members (members_outline (as_members ms)) before ≡ Some (put_all ms before)
+object_reads [] before reads = refl
+object_reads (m ∷ ms) before reads =
+    ap (option_and_then (λ e. of_members (members_outline (as_members ms)) (put m.0 e before))) reads.0
+    ∙ object_reads ms (put m.0 m.1 before) reads.1
 
--- the members of an answer, before what each object has
-abbrev answer_first : FurtherLine → Data → Data → Members
-answer_first which answer session = member (further_key which) answer (reply_members None [] session)
+-- each of the members is plain
+abbrev AllPlain : List (List ℕ × Data) → Type 0
+AllPlain [] = Unit {0}
+AllPlain (m ∷ ms) = IsPlain m.1 × AllPlain ms
 
--- and after it
-abbrev answer_last : FurtherLine → Data → Data → Members
-answer_last which answer session = reply_members_then None [] session (member (further_key which) answer no_members)
+all_numbers : (ms : List (List ℕ × Data)) → AllPlain ms → MembersHaveNumbers (members_outline (as_members ms))
+all_numbers [] plain = tt
+all_numbers (m ∷ ms) plain = ((plain.0).numbers, all_numbers ms plain.1)
 
--- each stands in the order of the keys
-put_first : (which : FurtherLine) (answer game : Data) → is_last_key which ≡ false
-    → put (codes "session") game (put (codes "reply") (lines_data []) (put (codes "refused") (name_data None) (member (further_key which) answer no_members)))
-    ≡ answer_first which answer game
-put_first Board answer game is = refl
-put_first Completable answer game is = refl
-put_first Hint answer game is = refl
-put_first Grade answer game is = refl
-put_first Solutions answer game is = let e : true ≡ false = is in cc
-put_first Spare answer game is = let e : true ≡ false = is in cc
-put_first (SpareBy grade) answer game is = let e : true ≡ false = is in cc
+all_read : (ms : List (List ℕ × Data)) → AllPlain ms → AllMembersRead ms
+all_read [] plain = tt
+all_read (m ∷ ms) plain = ((plain.0).reads, all_read ms plain.1)
 
-put_last : (which : FurtherLine) (answer game : Data) → is_last_key which ≡ true
-    → put (further_key which) answer (reply_members None [] game) ≡ answer_last which answer game
-put_last Board answer game is = let e : false ≡ true = is in cc
-put_last Completable answer game is = let e : false ≡ true = is in cc
-put_last Hint answer game is = let e : false ≡ true = is in cc
-put_last Grade answer game is = let e : false ≡ true = is in cc
-put_last Solutions answer game is = refl
-put_last Spare answer game is = refl
-put_last (SpareBy grade) answer game is = refl
+-- the line of an object of such members, in the order of their keys
+object_is_line : (ms : List (List ℕ × Data)) (start opened body new : List ℕ) → AllPlain ms
+    → put_all ms no_members ≡ as_members ms
+    → IsShallow 8 (object (as_members ms)) → start ≡ [] → opened ≡ start ++ 123 ∷ [] → AddsMembers false ms opened body
+    → new ≡ (body ++ 125 ∷ []) ++ 10 ∷ [] → IsLineOfData (object (as_members ms)) new
+object_is_line ms start opened body new plain order fits empty opens adds ends =
+    let whole : IsPlain (object (as_members ms)) = record {
+      numbers = all_numbers ms plain;
+      reads = ap (option_map object) (object_reads ms no_members (all_read ms plain) ∙ ap Some order);
+    } in
+    let text : body ++ 125 ∷ [] ≡ compact_text (object (as_members ms)) =
+    adds.text [] ∙ ap (λ l. opened ++ members_text false (as_members l)) (append-nil ms)
+    ∙ ap (λ l. l ++ members_text false (as_members ms)) (opens ∙ ap (λ (l : List ℕ). l ++ 123 ∷ []) empty) in
+    record { text = ends ∙ ap (λ l. l ++ 10 ∷ []) text; reads = plain_reads (object (as_members ms)) whole fits }
 
-plain_first : (which : FurtherLine) (answer session : Data) → is_last_key which ≡ false → IsPlain answer → IsPlain session
-    → IsPlain (object (answer_first which answer session))
-plain_first which answer session first told plain = record {
-  numbers = (told.numbers, ((plain_name None).numbers, ((plain_lines []).numbers, (plain.numbers, tt))));
-  reads = ap (option_map object) (read_first (further_key which) answer (reply_members None [] session) no_members told.reads
-      ∙ members_read None [] session no_members (member (further_key which) answer no_members) plain ∙ ap Some (put_first which answer session first));
-}
+pub reply_is_line : (refused : Option (List ℕ)) (reply : List ℕ) (session : Data) (start opened body new : List ℕ)
+    → IsShallow 7 session
+    → IsPlain session → start ≡ [] → opened ≡ start ++ 123 ∷ []
+    → AddsMembers false (reply_list refused reply session) opened body
+    → new ≡ (body ++ 125 ∷ []) ++ 10 ∷ [] → IsLineOfData (reply_data refused reply session) new
+reply_is_line refused reply session start opened body new fits plain empty opens adds ends =
+    let all : AllPlain (reply_list refused reply session) = (plain_name refused, (plain_lines reply, (plain, tt))) in
+    object_is_line (reply_list refused reply session) start opened body new all refl
+    (name_fits 7 refused, (lines_fit 6 reply, (fits, tt))) empty opens adds ends
 
-plain_last : (which : FurtherLine) (answer session : Data) → is_last_key which ≡ true → IsPlain answer → IsPlain session
-    → IsPlain (object (answer_last which answer session))
-plain_last which answer session last told plain = record {
-  numbers = ((plain_name None).numbers, ((plain_lines []).numbers, (plain.numbers, (told.numbers, tt))));
-  reads = ap (option_map object) (members_read None [] session (member (further_key which) answer no_members) no_members plain
-      ∙ read_first (further_key which) answer no_members (reply_members None [] session) told.reads ∙ ap Some (put_last which answer session last));
-}
+-- an answer stands in the order of the keys
+further_in_order : (which : FurtherLine) (answer session : Data)
+    → (put_all (further_list which answer session) no_members ≡ as_members (further_list which answer session))
+    × (object (as_members (further_list which answer session)) ≡ further_data which answer session)
+further_in_order Board answer session = (refl, refl)
+further_in_order Completable answer session = (refl, refl)
+further_in_order Hint answer session = (refl, refl)
+further_in_order Grade answer session = (refl, refl)
+further_in_order Solutions answer session = (refl, refl)
+further_in_order Spare answer session = (refl, refl)
+further_in_order (SpareBy grade) answer session = (refl, refl)
 
--- ---- whole lines
-
--- a text with its end is a line
-line_is : (d : Data) (line new : List ℕ) → IsPlain d → depth d ≤ max_depth → line ≡ compact_text d → new ≡ line ++ 10 ∷ [] → IsLineOfData d new
-line_is d line new plain flat text feed = record { text = feed ∙ ap (λ l. l ++ 10 ∷ []) text; reads = plain_reads d plain flat }
-
-pub reply_is_line : (refused : Option (List ℕ)) (reply : List ℕ) (session : Data) (start line new : List ℕ) → IsShallow 1 session → start ≡ []
-    → line ≡ start ++ 123 ∷ [] → new ≡ (line ++ members_text false (reply_members refused reply session)) ++ 10 ∷ [] → IsPlain session
-    → IsLineOfData (reply_data refused reply session) new
-reply_is_line refused reply session start line new fits empty opened whole plain =
-    line_is (reply_data refused reply session) (line ++ members_text false (reply_members refused reply session)) new (plain_reply refused reply session plain)
-    (spelled_reply refused reply session fits).flat
-    (ap (λ l. l ++ members_text false (reply_members refused reply session)) (opened ∙ ap (λ (l : List ℕ). l ++ 123 ∷ []) empty)) whole
-
-first_flat : (which : FurtherLine) (answer session : Data) → IsShallow 7 answer → IsShallow 1 session
-    → depth (object (answer_first which answer session)) ≤ max_depth
-first_flat which answer session told fits =
-    let a = told.flat in
-    let b = fits.flat in
-    omega arith
-
-last_flat : (which : FurtherLine) (answer session : Data) → IsShallow 7 answer → IsShallow 1 session
-    → depth (object (answer_last which answer session)) ≤ max_depth
-last_flat which answer session told fits =
-    let a = told.flat in
-    let b = fits.flat in
-    omega arith
-
--- the text of members behind the brace that opens it
-opened_text : (ms : Members) (start line body : List ℕ) → start ≡ [] → line ≡ start ++ 123 ∷ [] → body ≡ line ++ members_text false ms
-    → body ≡ compact_text (object ms)
-opened_text ms start line body empty opened is =
-    is ∙ ap (λ l. l ++ members_text false ms) (opened ∙ ap (λ (l : List ℕ). l ++ 123 ∷ []) empty)
-
--- the answer, and then what each object has
-pub first_is_line : (which : FurtherLine) (key : List ℕ) (d session : Data) (start line answer one new : List ℕ) → is_last_key which ≡ false
-    → key ≡ further_key which → IsShallow 7 d → IsShallow 1 session → start ≡ [] → line ≡ start ++ 123 ∷ [] → IsPlainText d answer
-    → AddsMember false key d line one → new ≡ (one ++ members_text true (reply_members None [] session)) ++ 10 ∷ [] → IsPlain session
-    → IsLineOfData (further_data which d session) new
-first_is_line which key d session start line answer one new first is told fits empty opened plain_text add whole plain =
-    let rest = reply_members None [] session in
-    let ms = answer_first which d session in
-    let text = opened_text ms start line (one ++ members_text true rest) empty opened
-    (add rest ∙ ap (λ (k : List ℕ). line ++ members_text false (member k d rest)) is) in
-    subst (λ (b : Bool). IsLineOfData (if b then object (answer_last which d session) else object ms) new) (sym first)
-    (line_is (object ms) (one ++ members_text true rest) new (plain_first which d session first plain_text.plain plain)
-    (first_flat which d session told fits) text whole)
-
--- what each object has, and then the answer
-pub last_is_line : (which : FurtherLine) (key : List ℕ) (d session : Data) (start line answer one two new : List ℕ) → is_last_key which ≡ true
-    → key ≡ further_key which → IsShallow 7 d → IsShallow 1 session → start ≡ [] → line ≡ start ++ 123 ∷ [] → IsPlainText d answer
-    → ((rest : Members) → one ++ members_text true rest ≡ line ++ members_text false (reply_members_then None [] session rest))
-    → AddsMember true key d one two → new ≡ (two ++ 125 ∷ []) ++ 10 ∷ [] → IsPlain session
-    → IsLineOfData (further_data which d session) new
-last_is_line which key d session start line answer one two new last is told fits empty opened plain_text members add whole plain =
-    let ms = answer_last which d session in
-    let text = opened_text ms start line (two ++ 125 ∷ []) empty opened
-    (add no_members ∙ members (member key d no_members)
-    ∙ ap (λ (k : List ℕ). line ++ members_text false (reply_members_then None [] session (member k d no_members))) is) in
-    subst (λ (b : Bool). IsLineOfData (if b then object ms else object (answer_first which d session)) new) (sym last)
-    (line_is (object ms) (two ++ 125 ∷ []) new (plain_last which d session last plain_text.plain plain)
-    (last_flat which d session told fits) text whole)
+pub further_is_line : (which : FurtherLine) (answer session : Data) (start opened body new : List ℕ)
+    → IsShallow 7 answer → IsPlain answer
+    → IsShallow 7 session → IsPlain session → start ≡ [] → opened ≡ start ++ 123 ∷ []
+    → AddsMembers false (further_list which answer session) opened body → new ≡ (body ++ 125 ∷ []) ++ 10 ∷ []
+    → IsLineOfData (further_data which answer session) new
+further_is_line which answer session start opened body new told plain fits ready empty opens adds ends =
+    let (order, is) = further_in_order which answer session in
+    let common : List (List ℕ × Data) = reply_list None [] session in
+    let own : List ℕ × Data = (further_key which, answer) in
+    let name = plain_name None in
+    let lines = plain_lines [] in
+    let short = lines_fit 6 [] in
+    let all : AllPlain (further_list which answer session) × IsShallow 8 (object (as_members
+    (further_list which answer session))) =
+    either (λ l. AllPlain l × IsShallow 8 (object (as_members l))) (is_last_key which) (common ++ own ∷ [])
+    (own ∷ common)
+    ((name, (lines, (ready, (plain, tt)))), (tt, (short, (fits, (told, tt)))))
+    ((plain, (name, (lines, (ready, tt)))), (told, (tt, (short, (fits, tt))))) in
+    subst (λ d. IsLineOfData d new) is
+    (object_is_line (further_list which answer session) start opened body new all.0 order all.1 empty opens adds ends)

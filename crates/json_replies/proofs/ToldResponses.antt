@@ -1,12 +1,10 @@
 -- What is said to a line by what comes of it.
-use Rattle.std.proofs.Common.{◌≡◌, ℕ, Bool, false, List, [], Option, Some, None, Result, Ok, Err, IfOk, IfErr, OnErr, refl, sym, ap, subst, ◌∙◌, inl, inr}
+use Rattle.std.proofs.Common.{◌≡◌, ℕ, Bool, false, List, [], Option, Some, None, Result, Ok, Err, IfOk, IfErr, OnErr, refl, sym, subst, ◌∙◌, inl, inr}
 use Rattle.play_midend.specs.Histories.{History}
 use Rattle.game_texts.specs.declared.params.Params.{Params}
 use Rattle.puzzle_cli.specs.declared.line.machine.Response.{Response}
 use Rattle.puzzle_cli.specs.declared.line.machine.Response.TheVariants.{Reply, Silence, Quit}
-use Rattle.puzzle_cli.specs.declared.command.line_fault.LineFault.TheVariants.{LongLine}
 use Rattle.puzzle_cli.specs.declared.reply.refusal.Refusal.{Refusal}
-use Rattle.puzzle_cli.specs.declared.reply.refusal.Refusal.TheVariants.{Line as OfLine}
 use Rattle.puzzle_cli.specs.Lines.{Line, ReplyRule}
 use Rattle.puzzle_cli.specs.Commands.{is_quit}
 use Rattle.puzzle_cli.specs.GameFacts.{GameFacts}
@@ -17,9 +15,8 @@ use Rattle.puzzle_cli.specs.RunLaws.{described_line}
 use Rattle.puzzle_cli.specs.SessionReplies.{Outcome}
 use Rattle.puzzle_cli.specs.Texts.{text_bytes}
 use Rattle.json_replies.specs.declared.begin_line.BeginLine.{BeginLine}
-use Rattle.json_replies.specs.declared.begin_line.BeginLine.TheVariants.{Fair, Blank, Item, Thin, ThinBy}
 use Rattle.json_replies.specs.declared.begin_refusal.BeginRefusal.{BeginRefusal}
-use Rattle.json_replies.specs.BeginLines.{IsBeginLine}
+use Rattle.json_replies.specs.BeginLines.{IsBeginLine, begin_at}
 use Rattle.json_replies.specs.BeginReplies.{AskFor, AskInVain, BeginGives}
 use Rattle.json_replies.specs.FurtherLines.{BoardFacts, further_at}
 use Rattle.json_replies.specs.JsonReplies.{TellsOutcome, TellsLine, JsonReply}
@@ -28,6 +25,7 @@ use Rattle.json_replies.specs.BeginRefusals.{begin_refusal_name}
 use Rattle.json_replies.specs.ObjectLines.{IsLineOfData, OrLost}
 use Rattle.json_replies.specs.Sessions.{session_data}
 use Rattle.json_replies.specs.Inner.ToldResponses.{TellsResponse, TellsBegun}
+use Rattle.json_replies.proofs.ToldReplies.{no_quit, stays}
 
 -- what `execute` owes of a line
 abbrev pub Obeys : {P : Type 0} → GameFacts P → Option (History P) → Line → Option (History P) → Result Response Refusal → Type 0
@@ -99,35 +97,23 @@ module _ {P : Type 0} (f : GameFacts P) (b : BoardFacts P) where
   some_leaves : (old new : Option (History P)) (begun : BeginLine (List ℕ)) (answer : Answer P) → BeginGives f b old begun answer
       → new ≡ session_left old answer → (asked : Line) × Leaves f old asked new
   some_leaves old new begun (Ok outcome) (params, p, asked, gives) leaves = (described_line f params p, (outcome, gives, leaves))
-  some_leaves old new begun (Err refusal) gives leaves = (None, (Err (OfLine LongLine), (Err LongLine, refl, inl refl), leaves))
+  some_leaves old new begun (Err refusal) gives leaves = stays f old new leaves
 
-  -- such a line is none of the lines beside the commands
-  not_further : (line : Line) (begun : BeginLine (List ℕ)) → IsBeginLine begun line → further_at b.fair_letter line ≡ None
-  not_further line (Fair words) is = ap (further_at b.fair_letter) is.spelled
-  not_further line (Blank word) is = ap (further_at b.fair_letter) is.0
-  not_further line (Item numbers) is = ap (further_at b.fair_letter) is.1
-  not_further line Thin is = ap (further_at b.fair_letter) is
-  not_further line (ThinBy word) is = ap (further_at b.fair_letter) is.0
-
-  not_quit : (line : Line) (begun : BeginLine (List ℕ)) → IsBeginLine begun line → is_quit line ≡ false
-  not_quit line (Fair words) is = ap is_quit is.spelled
-  not_quit line (Blank word) is = ap is_quit is.0
-  not_quit line (Item numbers) is = ap is_quit is.1
-  not_quit line Thin is = ap is_quit is
-  not_quit line (ThinBy word) is = ap is_quit is.0
-
-  begin_reply : (old new : Option (History P)) (line : Line) (begun : BeginLine (List ℕ)) (bytes : List ℕ) → IsBeginLine begun line
-      → TellsBegun f b old begun bytes new → JsonReply f b old line bytes new
-  begin_reply old new line begun bytes is (answer, gives, leaves, told) = record {
+  begin_reply : (old new : Option (History P)) (line : Line) (begun : BeginLine (List ℕ)) (bytes : List ℕ)
+      → further_at b.fair_letter line ≡ None
+      → IsBeginLine begun line → TellsBegun f b old begun bytes new → JsonReply f b old line bytes new
+  begin_reply old new line begun bytes none is (answer, gives, leaves, told) = record {
     leaves = some_leaves old new begun answer gives leaves;
-    told = subst (λ w. TellsLine f b old line w bytes new) (sym (not_further line begun is))
-        (answer, inl (begun, is, gives), leaves, told);
+    told = subst (λ w. TellsLine f b old line w bytes new) (sym none) (answer, inl (begun, is, gives), leaves, told);
   }
 
   -- so the response to what it asks for is one to the line
-  pub begin_told : (old new : Option (History P)) (line : Line) (begun : BeginLine (List ℕ)) (result : Response) → IsBeginLine begun line
+  pub begin_told : (old new : Option (History P)) (line : Line) (begun : BeginLine (List ℕ)) (result : Response)
+      → further_at b.fair_letter line ≡ None → IsBeginLine begun line
       → IsResponse (λ before read bytes after. TellsBegun f b before begun bytes after) (λ read. false) old None result new
       → IsResponse (JsonReply f b) is_quit old line result new
-  begin_told old new line begun (Reply text) is said = (not_quit line begun is, begin_reply old new line begun (text_bytes text) is said.1)
-  begin_told old new line begun Silence is said = (not_quit line begun is, begin_reply old new line begun [] is said.1)
-  begin_told old new line begun Quit is said = absurd (cc (said.0))
+  begin_told old new line begun (Reply text) none is said =
+      (no_quit begin_at line begun refl is, begin_reply old new line begun (text_bytes text) none is said.1)
+  begin_told old new line begun Silence none is said =
+      (no_quit begin_at line begun refl is, begin_reply old new line begun [] none is said.1)
+  begin_told old new line begun Quit none is said = absurd (cc (said.0))

@@ -10,7 +10,8 @@ use Rattle.line_steps.specs.declared.grade.Grade.{Grade}
 use Rattle.line_steps.specs.Reasons.{Striking}
 use Rattle.needed_items.specs.declared.items.Items.{Ghosts as OfItems}
 use Rattle.needed_items.specs.Needed.{IsThinned, HasOnly}
-use Rattle.fair_games.specs.FairGames.{IsByGrade}
+use Rattle.needed_items.specs.InTurn.{IsLeftInTurn, HasSeveral, falling}
+use Rattle.fair_games.specs.FairGames.{IsBeyondGrade, IsByGrade}
 use Rattle.json_replies.specs.declared.begin_refusal.BeginRefusal.{BeginRefusal}
 use Rattle.json_replies.specs.declared.begin_refusal.BeginRefusal.TheVariants.{BadSize, BadLetter, OffGrid, OffRange}
 use Rattle.json_replies.specs.declared.desk.Change.{Change}
@@ -61,12 +62,16 @@ IsNoChange items w numbers refusal = ⊥
 
 -- ---- thin
 
+-- the second puzzle is what is left of the first where its items are tried from the last to the first
+abbrev pub IsLeftBackwards : {P : Type 0} → Ghosts P → (P → Type 0) → P → P → Type 0
+IsLeftBackwards f Fails old new = IsLeftInTurn f Fails (falling (f.items_of (f.puzzle old).size)) old new
+
 -- what is left of the first puzzle, by how many solutions it has: where that is one, only what it needs
 abbrev pub IsLeftOf : {P : Type 0} → Ghosts P → Answer → P → P → Type 0
-IsLeftOf f (One g) old new = IsThinned f (HasOnly f g) old new
+IsLeftOf f (One g) old new = IsThinned f (HasOnly f g) old new × IsLeftBackwards f (HasSeveral f) old new
 IsLeftOf f found old new = new ≡ old
 
--- the same
+-- of the first puzzle, thinned by as many solutions as it has
 abbrev pub IsThinOf : {P : Type 0} → Ghosts P → P → P → Type 0
 IsThinOf f old new = (found : Answer) × Fits (Solves (f.puzzle old)) found × IsLeftOf f found old new
 
@@ -74,7 +79,8 @@ IsThinOf f old new = (found : Answer) × Fits (Solves (f.puzzle old)) found × I
 abbrev pub IsThinBy : {P : Type 0} → Ghosts P → (P → Striking) → (Grade → Option ℕ) → List ℕ → P → P → Type 0
 IsThinBy f Struck letter word old new =
     (grade : Grade) × (letter_at letter word ≡ Some grade)
-    × (IsThinned f (IsByGrade f Struck grade) old new ⊎ ((IsByGrade f Struck grade old → ⊥) × (new ≡ old)))
+    × ((IsThinned f (IsByGrade f Struck grade) old new × IsLeftBackwards f (IsBeyondGrade f Struck grade) old new)
+    ⊎ (IsBeyondGrade f Struck grade old × (new ≡ old)))
 
 -- the word is no letter of a grade
 abbrev pub IsNoLetter : (Grade → Option ℕ) → List ℕ → BeginRefusal → Type 0

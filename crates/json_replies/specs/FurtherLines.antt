@@ -1,8 +1,8 @@
 -- The lines beside the commands, and what is told to each.
-use Rattle.std.specs.Prelude.{◌≡◌, ◌↔◌, ℕ, Bool, true, false, if◌then◌else◌, List, [], ◌∷◌, codes, IsTrue, Option, Some, None, Result, Ok, Err, ok_or}
+use Rattle.std.specs.Prelude.{◌≡◌, ◌↔◌, ℕ, Bool, true, false, List, [], ◌∷◌, codes, IsTrue, Option, Some, None, Result, Ok, Err, ok_or}
 use Rattle.std.specs.Prelude.{option_map, option_and_then}
 use Rattle.std.specs.Option.{option_or}
-use Rattle.serde_json.specs.Data.{Data, string, object, member, no_members}
+use Rattle.serde_json.specs.Data.{Data, string, object, put}
 use Rattle.latin_board.specs.Boards.{BoardValue, grid_of}
 use Rattle.latin_board.specs.Squares.{GridValue}
 use Rattle.trail_solver.specs.declared.answer.Answer.{Answer}
@@ -40,7 +40,7 @@ use Rattle.step_chains.specs.declared.hints.NextHint.{NextHint}
 use Rattle.json_replies.specs.HintObjects.{IsHintValue, grade_data}
 use Rattle.step_chains.specs.NextHints.{IsHint}
 use Rattle.json_replies.specs.ObjectLines.{IsLineOfData}
-use Rattle.json_replies.specs.Replies.{reply_members, reply_members_then, IsAnswerLine, IsReplyLine}
+use Rattle.json_replies.specs.Replies.{reply_members, IsAnswerLine, IsReplyLine}
 use Rattle.json_replies.specs.Sessions.{game_data}
 use Rattle.line_steps.specs.Reasons.{Striking}
 
@@ -82,12 +82,9 @@ is_last_key Spare = true
 is_last_key (SpareBy grade) = true
 is_last_key which = false
 
--- the object of an answer, beside what each object has, in the order of the keys
+-- the object of an answer: what each object has and, where its key stands, the answer
 abbrev pub further_data : FurtherLine → Data → Data → Data
-further_data which answer session =
-    if is_last_key which
-    then object (reply_members_then None [] session (member (further_key which) answer no_members))
-    else object (member (further_key which) answer (reply_members None [] session))
+further_data which answer session = object (put (further_key which) answer (reply_members None [] session))
 
 -- what these answers know of a game: what it demands at which spots, its clues and signs as data; what its steps
 -- strike, the letters of its grades, the clue at a place of the edge, and which signs it has; and of its fair games the
@@ -128,30 +125,24 @@ abbrev pub IsHintAnswer : Puzzle → (Grade → List ℕ) → Striking → (ℕ 
 IsHintAnswer p letter Struck clue is_over g answer =
     (hint : NextHint) × IsHint p Struck g hint × IsHintValue p.size letter clue is_over Struck g hint answer
 
--- what is told of a session to one of these lines
-abbrev pub IsAnswer : {P : Type 0} → GameFacts P → BoardFacts P → History P → FurtherLine → Data → Type 0
-IsAnswer f b h Board answer =
-    (e : ErrorsValue) × AreErrors (b.demand h.puzzle) (grid_of (shown_board f h)) e
-    × (answer ≡ board_data (f.rules.puzzle h.puzzle) (shown_board f h) e (b.clues h.puzzle (shown_board f h) e)
-    (b.signs h.puzzle (shown_board f h) e))
-IsAnswer f b h Completable answer =
-    (found : Answer) × Fits (Completes (f.rules.puzzle h.puzzle) (grid_of (shown_board f h))) found
-    × (answer ≡ answer_data found)
-IsAnswer f b h AskHint answer =
-    IsHintAnswer (f.rules.puzzle h.puzzle) b.letter (b.struck_by h.puzzle) (b.edge_clue h.puzzle)
-    (b.says_greater h.puzzle)
-    (grid_of (shown_board f h)) answer
-IsAnswer f b h AskGrade answer =
-    (grade : Option Grade) × IsGradeOf (f.rules.puzzle h.puzzle) (b.struck_by h.puzzle) grade
-    × (answer ≡ grade_data b.letter grade)
-IsAnswer f b h Solutions answer =
-    (found : Answer) × Fits (Completes (f.rules.puzzle h.puzzle) (grid_of (shown_board f h))) found
-    × (answer ≡ solutions_data found)
-IsAnswer f b h Spare answer =
-    (found : Answer) × Fits (Solves (f.rules.puzzle h.puzzle)) found
-    × AreItemsListed f.rules b.struck_by b.items (b.says_greater h.puzzle) h.puzzle (ByAnswer found) answer
-IsAnswer f b h (SpareBy grade) answer =
-    AreItemsListed f.rules b.struck_by b.items (b.says_greater h.puzzle) h.puzzle (ByGrade grade) answer
+-- the answer to one of these lines, of a puzzle and the board that is shown
+abbrev pub IsAnswer : {P : Type 0} → GameFacts P → BoardFacts P → P → BoardValue → FurtherLine → Data → Type 0
+IsAnswer f b p shown Board answer =
+    (e : ErrorsValue) × AreErrors (b.demand p) (grid_of shown) e
+    × (answer ≡ board_data (f.rules.puzzle p) shown e (b.clues p shown e) (b.signs p shown e))
+IsAnswer f b p shown Completable answer =
+    (found : Answer) × Fits (Completes (f.rules.puzzle p) (grid_of shown)) found × (answer ≡ answer_data found)
+IsAnswer f b p shown AskHint answer =
+    IsHintAnswer (f.rules.puzzle p) b.letter (b.struck_by p) (b.edge_clue p) (b.says_greater p) (grid_of shown) answer
+IsAnswer f b p shown AskGrade answer =
+    (grade : Option Grade) × IsGradeOf (f.rules.puzzle p) (b.struck_by p) grade × (answer ≡ grade_data b.letter grade)
+IsAnswer f b p shown Solutions answer =
+    (found : Answer) × Fits (Completes (f.rules.puzzle p) (grid_of shown)) found × (answer ≡ solutions_data found)
+IsAnswer f b p shown Spare answer =
+    (found : Answer) × Fits (Solves (f.rules.puzzle p)) found
+    × AreItemsListed f.rules b.struck_by b.items (b.says_greater p) p (ByAnswer found) answer
+IsAnswer f b p shown (SpareBy grade) answer =
+    AreItemsListed f.rules b.struck_by b.items (b.says_greater p) p (ByGrade grade) answer
 
 -- the line of the object: NoGame where there is no session, then why it isn't answered, otherwise the answer beside what
 -- each object has
@@ -159,5 +150,5 @@ abbrev pub IsFurtherLine : {P : Type 0} → GameFacts P → BoardFacts P → Fur
 IsFurtherLine f b asked None bytes = IsReplyLine f (Err (OfLine NoGame)) None bytes
 IsFurtherLine f b (Err refusal) (Some h) bytes = IsAnswerLine f (Err refusal) (Some h) bytes
 IsFurtherLine f b (Ok which) (Some h) bytes =
-    (answer : Data) × IsAnswer f b h which answer
+    (answer : Data) × IsAnswer f b h.puzzle (shown_board f h) which answer
     × IsLineOfData (further_data which answer (game_data f h)) bytes

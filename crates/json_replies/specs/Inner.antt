@@ -1,5 +1,4 @@
 -- Words that the contracts of private functions alone use.
 pub mod ObjectTexts
 pub mod WrittenData
-pub mod LineReading
 pub mod ToldResponses

@@ -44,8 +44,8 @@ TellsLine {P} f b old line None bytes new =
     (answer : Answer P) × AnswerGives f b old line answer × (new ≡ session_left old answer)
     × TellsAnswer f answer new bytes
 
--- so it is told, and the session is one that an answer to some line leaves: to the line itself, which the plain program
--- refuses where it is one of those beside the commands; or to the line `new` that another stands for
+-- so it is told, and the session is one that an answer to some line leaves: to the line itself, to the line `new`
+-- that it stands for, or, where the session stays, to one that the plain program refuses
 pub record JsonReply {P : Type 0} (f : GameFacts P) (b : BoardFacts P) (old : Option (History P)) (line : Line)
     (bytes : List ℕ)
     (new : Option (History P)) : Type 0 where

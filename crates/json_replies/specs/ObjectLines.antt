@@ -1,19 +1,32 @@
 -- The line of an object.
-use Rattle.std.specs.Prelude.{◌≡◌, ◌⊎◌, ◌≤◌, false, List, [], ◌∷◌, ◌++◌, ℕ, codes, Some}
-use Rattle.serde_json.specs.Data.{Data, depth}
-use Rattle.serde_json.specs.Read.{read, max_depth}
-use Rattle.serde_json.specs.Written.{has_float, compact_text}
+use Rattle.std.specs.Prelude.{◌≡◌, ◌⊎◌, ℕ, zero, suc, false, List, [], ◌∷◌, ◌++◌, codes, Some}
+use Rattle.serde_json.specs.Data.{Data, null, boolean, number, string, array, object, Items, no_items, item, Members, no_members, member}
+use Rattle.serde_json.specs.Find.{is_float}
+use Rattle.serde_json.specs.Read.{read}
+use Rattle.serde_json.specs.Written.{compact_text}
 use Rattle.byte_text.specs.Bytes.{line_feed}
 
--- no float, and at most so deep
-pub record IsShallow (n : ℕ) (d : Data) : Type 0 where
-  pub whole : has_float d ≡ false
-  pub flat : depth d ≤ n
+abbrev mutual
+  -- no float, and at most so deep
+  pub IsShallow : ℕ → Data → Type 0
+  IsShallow n null = Unit {0}
+  IsShallow n (boolean b) = Unit {0}
+  IsShallow n (number x) = is_float x ≡ false
+  IsShallow n (string s) = Unit {0}
+  IsShallow zero (array ds) = ⊥
+  IsShallow (suc n) (array ds) = AreShallow n ds
+  IsShallow zero (object ms) = ⊥
+  IsShallow (suc n) (object ms) = MembersAreShallow n ms
 
--- the data have one text, which reads back: no float, and not too deep
-pub record IsSpelled (d : Data) : Type 0 where
-  pub whole : has_float d ≡ false
-  pub flat : depth d ≤ max_depth
+  -- so is each item
+  pub AreShallow : ℕ → Items → Type 0
+  AreShallow n no_items = Unit {0}
+  AreShallow n (item d ds) = IsShallow n d × AreShallow n ds
+
+  -- so is each member
+  pub MembersAreShallow : ℕ → Members → Type 0
+  MembersAreShallow n no_members = Unit {0}
+  MembersAreShallow n (member k d ms) = IsShallow n d × MembersAreShallow n ms
 
 -- the bytes are the data's compact text and LF, and the text reads as the data
 pub record IsLineOfData (d : Data) (bytes : List ℕ) : Type 0 where

@@ -17,16 +17,12 @@ abbrev pub name_data : Option (List ℕ) → Data
 name_data (Some name) = text_data name
 name_data None = null
 
--- what each object has, the refusal, the lines of the reply, the session that is left, and then these members
-abbrev pub reply_members_then : Option (List ℕ) → List ℕ → Data → Members → Members
-reply_members_then refused reply session rest =
+-- what each object has: the refusal, the lines of the reply, the session that is left
+abbrev pub reply_members : Option (List ℕ) → List ℕ → Data → Members
+reply_members refused reply session =
     member (codes "refused") (name_data refused)
     (member (codes "reply") (lines_data reply)
-    (member (codes "session") session rest))
-
--- what each object has
-abbrev pub reply_members : Option (List ℕ) → List ℕ → Data → Members
-reply_members refused reply session = reply_members_then refused reply session no_members
+    (member (codes "session") session no_members))
 
 -- the object of a reply
 abbrev pub reply_data : Option (List ℕ) → List ℕ → Data → Data

@@ -1,9 +1,8 @@
 //! The lines that begin a game and are no commands.
 
-ghost use Rattle.std.specs.Prelude.{◌≡◌, List, ℕ, IfSome, Some, option_map};
+ghost use Rattle.std.specs.Prelude.{◌≡◌, option_map};
 ghost use Rattle.std.specs.Option.{option_copied};
-ghost use Rattle.json_replies.specs.BeginLines.{IsBeginLine, begin_copied};
-ghost use Rattle.json_replies.specs.Inner.LineReading.{begin_at};
+ghost use Rattle.json_replies.specs.BeginLines.{begin_at, begin_copied};
 
 use crate::fair_words::{FairWords, one_word, three_words};
 use crate::item_words::{ItemNumbers, item_numbers};
@@ -25,15 +24,6 @@ pub(crate) enum BeginLine<T> {
 
 /// Which game a line begins, if it is one of these lines; `None` is a line that is too long.
 pub(crate) fn read_begin(line: Option<&[u8]>) -> Option<BeginLine<&[u8]>>
-    ensures found { IfSome result (λ asked. IsBeginLine (begin_copied asked) (option_copied line.entry)) }
-    ensures only { (asked : BeginLine (List ℕ)) → IsBeginLine asked (option_copied line.entry)
-        → option_map begin_copied result ≡ Some asked }
-{
-    parse_begin(line)
-}
-
-// The same as a function on lists.
-fn parse_begin(line: Option<&[u8]>) -> Option<BeginLine<&[u8]>>
     ensures { option_map begin_copied result ≡ begin_at (option_copied line.entry) }
 {
     let text = line?;

@@ -2,8 +2,8 @@
 
 ghost use Rattle.std.specs.Prelude.{◌≡◌, option_map};
 ghost use Rattle.std.specs.Option.{option_copied};
+ghost use Rattle.json_replies.specs.BeginLines.{three_words_at};
 ghost use Rattle.json_replies.specs.FairLines.{is_word, one_word_at, words_copied};
-ghost use Rattle.json_replies.specs.Inner.LineReading.{three_words_at};
 
 use byte_text::cut;
 

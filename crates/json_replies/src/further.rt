@@ -24,7 +24,7 @@ use crate::object_line::{answer_object, value_text};
 use crate::session::game_value;
 use crate::shown::{ShownFacts, Shows};
 use board_checks::errors;
-use latin_board::{Grid, OutOfMemory};
+use latin_board::{Board, Grid, OutOfMemory};
 use named_steps::{Grade, grade_of};
 use needed_items::Items;
 use play_midend::Session;
@@ -46,59 +46,41 @@ pub(crate) fn answer_line<P: Shows>(
     ensures { IfOk result (λ line. IsFurtherLine ⟦<P as Facts>⟧.facts
         ⟦<P as ShownFacts>⟧.board_facts (Ok which) (Some session.now) line.items) }
 {
-    let answer = answer_text(alloc, session, which)?;
+    let answer = answer_text(alloc, session.puzzle(), session.board(), which)?;
     let game = game_value(alloc, session)?;
     Ok(answer_object(alloc, which, &answer, &game)?)
 }
 
-// The answer itself.
+// The answer itself, of a puzzle and the board that is shown.
 fn answer_text<P: Shows>(
     alloc: Global,
-    session: &Session<P>,
+    puzzle: &P,
+    board: &Board,
     which: FurtherLine,
 ) -> Result<Vec<u8>, OutOfMemory>
+    requires { board.now.size ≡ (P.puzzle puzzle.now).size }
     ensures { IfOk result (λ text. IsTextWhere (IsAnswer ⟦<P as Facts>⟧.facts
-        ⟦<P as ShownFacts>⟧.board_facts session.now which) text.items) }
+        ⟦<P as ShownFacts>⟧.board_facts puzzle.now board.now which) text.items) }
 {
-    let puzzle = session.puzzle();
-    let board = session.board();
-    match which {
-        FurtherLine::Board => {
-            let value = board_answer(alloc, session)?;
-            Ok(value_text(alloc, &value)?)
-        }
-        FurtherLine::Completable => {
-            let value = count_answer(alloc, puzzle, board.grid())?;
-            Ok(value_text(alloc, &value)?)
-        }
-        FurtherLine::Hint => hint_answer(alloc, puzzle, board.grid()),
-        FurtherLine::Grade => {
-            let value = grade_answer(alloc, puzzle)?;
-            Ok(value_text(alloc, &value)?)
-        }
-        FurtherLine::Solutions => {
-            let value = solutions_answer(alloc, puzzle, board.grid())?;
-            Ok(value_text(alloc, &value)?)
-        }
-        FurtherLine::Spare => {
-            let value = spare_answer(alloc, puzzle)?;
-            Ok(value_text(alloc, &value)?)
-        }
-        FurtherLine::SpareBy(grade) => {
-            let value = items_value(alloc, puzzle, &Listing::ByGrade(grade))?;
-            Ok(value_text(alloc, &value)?)
-        }
-    }
+    let value = match which {
+        FurtherLine::Hint => return hint_answer(alloc, puzzle, board.grid()),
+        FurtherLine::Board => board_answer(alloc, puzzle, board)?,
+        FurtherLine::Completable => count_answer(alloc, puzzle, board.grid())?,
+        FurtherLine::Grade => grade_answer(alloc, puzzle)?,
+        FurtherLine::Solutions => solutions_answer(alloc, puzzle, board.grid())?,
+        FurtherLine::Spare => spare_answer(alloc, puzzle)?,
+        FurtherLine::SpareBy(grade) => items_value(alloc, puzzle, &Listing::ByGrade(grade))?,
+    };
+    Ok(value_text(alloc, &value)?)
 }
 
 // The board that is shown, and what is wrong on it. What it takes of the stack isn't on it while a hint is looked for.
 #[inline(never)]
-fn board_answer<P: Shows>(alloc: Global, session: &Session<P>) -> Result<Value, OutOfMemory>
-    ensures { IfOk result (λ value. IsAnswer ⟦<P as Facts>⟧.facts ⟦<P as ShownFacts>⟧.board_facts session.now
+fn board_answer<P: Shows>(alloc: Global, puzzle: &P, board: &Board) -> Result<Value, OutOfMemory>
+    requires { board.now.size ≡ (P.puzzle puzzle.now).size }
+    ensures { IfOk result (λ value. IsAnswer ⟦<P as Facts>⟧.facts ⟦<P as ShownFacts>⟧.board_facts puzzle.now board.now
         FurtherLine.Board (view value)) }
 {
-    let puzzle = session.puzzle();
-    let board = session.board();
     let errors = errors(puzzle, board.grid());
     let clues = puzzle.tell_clues(alloc, board, &errors)?;
     let signs = puzzle.tell_signs(alloc, board, &errors)?;

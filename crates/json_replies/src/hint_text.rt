@@ -1,7 +1,7 @@
 //! The text of the object of a hint.
 
 ghost use Rattle.line_steps.specs.Reasons.{StruckBy};
-ghost use Rattle.std.specs.Prelude.{◌≡◌, ◌*◌, ◌<◌, ◌∷◌, [], OnOk, IfOk};
+ghost use Rattle.std.specs.Prelude.{◌≡◌, ◌*◌, ◌<◌, ◌∷◌, [], codes, OnOk, IfOk};
 ghost use Rattle.std.specs.Option.{option_copied};
 ghost use Rattle.step_texts.specs.Lines.{line_texts};
 ghost use Rattle.named_steps.specs.Chains.{IsView};
@@ -168,11 +168,21 @@ fn write_said(writer: &mut Writer, said: Said, groups: &[usize]) -> Result<(), A
     write_word_at(writer, "by", said.by)?;
     write_number_at(writer, "cell", said.cell)?;
     write_word_at(writer, "grade", said.grade)?;
-    writer.key("groups")?;
-    write_groups(writer, groups)?;
+    write_groups_at(writer, groups)?;
     write_word_at(writer, "kind", Some(said.kind))?;
     write_number_at(writer, "line", said.line)?;
     write_number_at(writer, "number", said.number)?;
+    Ok(())
+}
+
+// Writes how many steps each sentence is of, as a member.
+#[tactic(auto, using(crate::proofs::WrittenData::key_follows))]
+fn write_groups_at(writer: &mut Writer, groups: &[usize]) -> Result<(), AllocError>
+    ensures { OnOk result (MembersFollow ((codes "groups", list_data count_data groups.now) ∷ [])
+        writer.old writer.new) }
+{
+    writer.key("groups")?;
+    write_groups(writer, groups)?;
     Ok(())
 }
 

@@ -3,7 +3,7 @@
 ghost use Rattle.std.specs.Prelude.{◌≡◌};
 ghost use Rattle.byte_text.specs.Decimals.{decimal_value};
 ghost use Rattle.play_midend.specs.MoveTexts.{coordinate_at};
-ghost use Rattle.json_replies.specs.Inner.LineReading.{item_at, place_item_at, sign_item_at};
+ghost use Rattle.json_replies.specs.BeginLines.{item_at, place_item_at, sign_item_at};
 
 use byte_text::{cut, number};
 

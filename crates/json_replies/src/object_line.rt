@@ -1,18 +1,19 @@
 //! The line of an object, member by member: it has the text of each once, and that of a reply grows line by line, since a reply
 //! can have millions.
 
-ghost use Rattle.std.specs.Prelude.{◌≡◌, ◌∷◌, ◌++◌, [], true, IfOk};
+ghost use Rattle.std.specs.Prelude.{◌≡◌, ◌∷◌, ◌++◌, [], true, false, IfOk};
 ghost use Rattle.std.specs.Option.{option_copied};
 ghost use Rattle.byte_text.specs.Bytes.{line_feed};
 ghost use Rattle.json.specs.Print.{quoted};
-ghost use Rattle.serde_json.specs.Data.{Data, Members};
+ghost use Rattle.serde_json.specs.Data.{Data};
 ghost use Rattle.serde_json.specs.View.{view};
-ghost use Rattle.serde_json.specs.Written.{comma_if, compact_text, members_text};
+ghost use Rattle.serde_json.specs.Written.{comma_if, compact_text};
 ghost use Rattle.json_replies.specs.Texts.{text_data, lines_data};
 ghost use Rattle.json_replies.specs.FurtherLines.{further_data};
-ghost use Rattle.json_replies.specs.Replies.{name_data, reply_members, reply_members_then, reply_data};
-ghost use Rattle.json_replies.specs.ObjectLines.{IsShallow, IsSpelled, IsLineOfData};
-ghost use Rattle.json_replies.specs.Inner.ObjectTexts.{key_text, AddsMember, IsPlain, IsPlainText};
+ghost use Rattle.json_replies.specs.Replies.{name_data, reply_data};
+ghost use Rattle.json_replies.specs.ObjectLines.{IsShallow, IsLineOfData};
+ghost use Rattle.json_replies.specs.Inner.ObjectTexts.{key_text, reply_list, further_list, AddsMembers};
+ghost use Rattle.json_replies.specs.Inner.ObjectTexts.{IsPlain, IsPlainText};
 
 use crate::further_line::FurtherLine;
 use crate::text::{latin_text, text_value};
@@ -22,60 +23,57 @@ use serde_json::Value;
 use std::alloc::{AllocError, Global};
 
 /// The line of a reply's object: the refusal, the lines, the session that is left.
-#[tactic(auto, using(crate::proofs::ObjectTexts::reply_is_line))]
 pub(crate) fn reply_object(
     alloc: Global,
     refused: Option<&[u8]>,
     reply: &[u8],
     session: &Value,
 ) -> Result<Vec<u8>, AllocError>
-    requires { IsShallow 1 (view session.now) }
+    requires { IsShallow 7 (view session.now) }
     ensures { IfOk result (λ line. IsLineOfData
         (reply_data (option_copied refused.entry) reply.now (view session.now)) line.items) }
 {
     let mut line = Vec::with_capacity(alloc, reply.len())?;
     line.push(b'{')?;
-    reply_members_after(alloc, line, false, refused, reply, session)
+    ended(members_after(alloc, line, false, refused, reply, session)?)
 }
 
-/// The line of the object that answers one of the lines beside the commands: the answer's text, and what each object has. The members
-/// come in the order of their keys, as they are read back.
+/// The line of the object that answers one of the lines beside the commands: the answer's text and what each object has.
 pub(crate) fn answer_object(
     alloc: Global,
     which: FurtherLine,
     answer: &[u8],
     session: &Value,
 ) -> Result<Vec<u8>, AllocError>
-    requires { IsShallow 1 (view session.now) }
-    ensures { IfOk result (λ line. (d : Data) → IsPlainText d answer.now → IsShallow 7 d → IsLineOfData
-        (further_data which d (view session.now)) line.items) }
+    requires { IsShallow 7 (view session.now) }
+    ensures { IfOk result (λ line. (d : Data) → IsPlainText d answer.now
+        → IsLineOfData (further_data which d (view session.now)) line.items) }
 {
     let mut line = Vec::with_capacity(alloc, answer.len())?;
     line.push(b'{')?;
-    if which.is_last() {
-        let line = members_after(alloc, line, false, None, b"", session)?;
-        return ended(text_member_after(line, true, which.key(), answer)?);
-    }
-    let line = text_member_after(line, false, which.key(), answer)?;
-    reply_members_after(alloc, line, true, None, b"", session)
+    ended(answer_members_after(alloc, line, which, answer, session)?)
 }
 
-// The line with what each object has, with its end and LF.
-fn reply_members_after(
+// The line with an answer and what each object has. The members come in the order of their keys, as they are read back.
+fn answer_members_after(
     alloc: Global,
     line: Vec<u8>,
-    later: bool,
-    refused: Option<&[u8]>,
-    reply: &[u8],
+    which: FurtherLine,
+    answer: &[u8],
     session: &Value,
 ) -> Result<Vec<u8>, AllocError>
-    requires { IsShallow 1 (view session.now) }
-    ensures text { IfOk result (λ new. new.items ≡ (line.items ++ members_text later
-        (reply_members (option_copied refused.entry) reply.now (view session.now)))
-        ++ line_feed ∷ []) }
+    requires { IsShallow 7 (view session.now) }
+    ensures adds { IfOk result (λ new. (d : Data) → IsPlainText d answer.now
+        → AddsMembers false (further_list which d (view session.now)) line.items new.items) }
     ensures plain { IfOk result (λ _. IsPlain (view session.now)) }
 {
-    ended(members_after(alloc, line, later, refused, reply, session)?)
+    if which.is_last() {
+        let line = members_after(alloc, line, false, None, b"", session)?;
+        text_member_after(line, true, which.key(), answer)
+    } else {
+        let line = text_member_after(line, false, which.key(), answer)?;
+        members_after(alloc, line, true, None, b"", session)
+    }
 }
 
 // The line with its end and LF.
@@ -97,10 +95,9 @@ fn members_after(
     reply: &[u8],
     session: &Value,
 ) -> Result<Vec<u8>, AllocError>
-    requires { IsShallow 1 (view session.now) }
-    ensures text { IfOk result (λ new. (rest : Members) → new.items ++ members_text true rest
-        ≡ line.items ++ members_text later
-        (reply_members_then (option_copied refused.entry) reply.now (view session.now) rest)) }
+    requires { IsShallow 7 (view session.now) }
+    ensures adds { IfOk result (λ new. AddsMembers later
+        (reply_list (option_copied refused.entry) reply.now (view session.now)) line.items new.items) }
     ensures plain { IfOk result (λ _. IsPlain (view session.now)) }
 {
     let name = name_value(alloc, refused)?;
@@ -121,7 +118,7 @@ fn name_value(alloc: Global, name: Option<&[u8]>) -> Result<Value, AllocError>
 }
 
 // The text with a member that has this text.
-#[tactic(auto, using(crate::proofs::ObjectTexts::adds_value))]
+#[tactic(auto, using(crate::proofs::ObjectTexts::adds_plain))]
 fn text_member_after(
     text: Vec<u8>,
     later: bool,
@@ -129,7 +126,7 @@ fn text_member_after(
     value: &[u8],
 ) -> Result<Vec<u8>, AllocError>
     ensures { IfOk result (λ new. (d : Data) → IsPlainText d value.now
-        → AddsMember later key.now d text.items new.items) }
+        → AddsMembers later ((key.now, d) ∷ []) text.items new.items) }
 {
     let mut text = key_after(text, later, key)?;
     text.extend_from_slice(value)?;
@@ -144,8 +141,8 @@ fn member_after(
     key: &str,
     value: &Value,
 ) -> Result<Vec<u8>, AllocError>
-    requires { IsSpelled (view value.now) }
-    ensures adds { IfOk result (λ new. AddsMember later key.now (view value.now) text.items new.items) }
+    requires { IsShallow 7 (view value.now) }
+    ensures adds { IfOk result (λ new. AddsMembers later ((key.now, view value.now) ∷ []) text.items new.items) }
     ensures plain { IfOk result (λ _. IsPlain (view value.now)) }
 {
     let value = value_text(alloc, value)?;
@@ -155,7 +152,7 @@ fn member_after(
 /// The text of a value.
 #[tactic(auto, using(crate::proofs::ObjectTexts::written_is_plain))]
 pub(crate) fn value_text(alloc: Global, value: &Value) -> Result<Vec<u8>, AllocError>
-    requires { IsSpelled (view value.now) }
+    requires { IsShallow 7 (view value.now) }
     ensures { IfOk result (λ text. IsPlainText (view value.now) text.items) }
 {
     let text = value.to_vec(alloc)?;

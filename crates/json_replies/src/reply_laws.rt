@@ -2,6 +2,7 @@
 //! would have to carry: they are the contract of a function that does nothing.
 
 ghost use Rattle.json_replies.specs.ReplyLaws.{LinesAreTheReply, ObjectsTellOneReply, ObjectsAreNotLost, AnswersLeave};
+ghost use Rattle.json_replies.specs.BeginLines.{ItemLinesAsk};
 ghost use Rattle.json_replies.specs.FairLaws.{FairLinesBegin, HintsLeadOn, HintsLeadToTheEnd};
 
 use crate::shown::{ShownFacts, Shows};
@@ -9,18 +10,20 @@ use puzzle_cli::Facts;
 
 /// The laws of the objects that answer lines, in any game.
 ///
-/// The lines that are told of a reply of whole lines, each with LF, are the reply. Where a game's pictures are
-/// whole lines every plain reply is, so two that are told by the same bytes are the same, and what is told of the session that they
-/// leave is the same. No object's line is
-/// `{"lost":"OutOfMemory"}`. The lines `board`, `completable`, `hint` and `grade` leave the session, and are answered from it. `fair` and
-/// three words leave it, or begin that of the very puzzle that they ask for, which has one solution and is of the grade. In such a puzzle
-/// hints lead on while a square is empty: by that grade at most, or to a contradiction where a number is wrong. Where none is, the hinted
-/// numbers lead one after another to the solution.
+/// The lines that are told of a reply of whole lines, each with LF, are the reply. Where a game's pictures are whole
+/// lines every plain reply is, so two that are told by the same bytes are the same, and what is told of the session
+/// that they leave is the same. No object's line is `{"lost":"OutOfMemory"}`. The lines `board`, `completable`, `hint`
+/// and `grade` leave the session, and are answered from it. `item` and numbers with commas between ask for the item of
+/// just these numbers. `fair` and three words leave it, or begin that of the very puzzle that they ask for, which has
+/// one solution and is of the grade. In such a puzzle hints lead on while a square is empty: by that grade at most, or
+/// to a contradiction where a number is wrong. Where none is, the hinted numbers lead one after another to the
+/// solution.
 pub fn laws<P: Shows>()
     ensures lines { LinesAreTheReply }
     ensures one_reply { ObjectsTellOneReply ⟦<P as Facts>⟧.facts ⟦<P as ShownFacts>⟧.board_facts }
     ensures not_lost { ObjectsAreNotLost ⟦<P as Facts>⟧.facts ⟦<P as ShownFacts>⟧.board_facts }
     ensures answers { AnswersLeave ⟦<P as Facts>⟧.facts ⟦<P as ShownFacts>⟧.board_facts }
+    ensures items { ItemLinesAsk }
     ensures fair { FairLinesBegin ⟦<P as Facts>⟧.facts ⟦<P as ShownFacts>⟧.board_facts }
     ensures hints { HintsLeadOn ⟦<P as Facts>⟧.facts ⟦<P as ShownFacts>⟧.board_facts }
     ensures hints_end { HintsLeadToTheEnd ⟦<P as Facts>⟧.facts ⟦<P as ShownFacts>⟧.board_facts }

@@ -1,5 +1,5 @@
 -- The laws of `Rules` on items, as a record that lemmas take, and what they say of puzzles without one.
-use Rattle.std.proofs.Common.{◌≡◌, ℕ, ◌*◌, ◌<◌, Bool, true, false, not, ◌&&◌, refl, sym, ◌∙◌, ap}
+use Rattle.std.proofs.Common.{◌≡◌, ℕ, ◌*◌, ◌<◌, Bool, true, false, not, ◌&&◌, refl, ap}
 use Rattle.std.proofs.lemmas.Bool.{eq-eqb}
 use Rattle.latin_board.specs.Squares.{GridValue, IsGrid, IsLatin, number_at}
 use Rattle.trail_solver.specs.Puzzles.{Solves}
@@ -49,15 +49,3 @@ laws_of met = record {
 -- the item itself is left out
 pub all_but_itself : (i : ℕ) → all_but i i ≡ false
 all_but_itself i = ap not (eq-eqb i i refl)
-
--- items can be taken away in either order
-pub cuts_swap : {P : Type 0} (f : Ghosts P) (p : P) (a b : ℕ → Bool) → ItemLaws f → f.valid p → f.cut (f.cut p a) b ≡ f.cut (f.cut p b) a
-cuts_swap f p a b laws valid =
-    laws.cut_cut p a b valid
-    ∙ (laws.cut_agrees p (λ i. a i && b i) (λ i. b i && a i) valid (λ i inside here. swap (a i) (b i)) ∙ sym (laws.cut_cut p b a valid))
-  where
-    swap : (a b : Bool) → (a && b) ≡ (b && a)
-    swap true true = refl
-    swap true false = refl
-    swap false true = refl
-    swap false false = refl

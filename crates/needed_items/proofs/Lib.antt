@@ -1,3 +1,3 @@
 pub mod ItemLaws
 pub mod SecondSolutions
-pub mod ThinnedSteps
+pub mod InTurn

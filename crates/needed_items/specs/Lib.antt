@@ -1,4 +1,3 @@
--- Which items of a puzzle are needed.
+-- Which items of a puzzle are needed, and which are left when they are tried in turn.
 pub mod Needed
--- words that the contracts of private functions alone use
-pub mod Inner
+pub mod InTurn

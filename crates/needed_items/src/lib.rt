@@ -11,11 +11,15 @@
 #![tactic(auto)]
 
 mod blame;
+mod in_turn;
 mod items;
 mod needed;
+mod order;
 mod thinning;
 
 pub use blame::is_blamed;
+pub use in_turn::{Test, left_in_turn};
 pub use items::Items;
 pub use needed::{is_needed, is_spare};
+pub use order::Order;
 pub use thinning::thinned;

@@ -8,13 +8,13 @@ ghost use Rattle.needed_items.specs.Needed.{HasOnly, IsSpare, all_but};
 use latin_board::Grid;
 use trail_solver::{Candidates, Rules, has_other};
 
-/// Whether two different grids solve the puzzle without the item; the grid is the only solution with it. A second one doesn't
-/// meet the item, so it is sought where the item is denied.
+/// Whether two different grids solve the puzzle without the item. The grid is the only solution with it, and stays it
+/// otherwise. A second one doesn't meet the item, so it is sought where the item is denied.
 pub fn is_needed<P: Rules>(puzzle: &P, grid: &Grid, item: usize) -> bool
     requires inside { item < P.items_of (P.puzzle puzzle.now).size }
     requires only { IsOnlySolution (P.puzzle puzzle.now) grid.now }
     ensures several { OnTrue result (HasSeveralSolutions (P.puzzle (P.cut puzzle.now (all_but item)))) }
-    ensures one { OnFalse result (HasSeveralSolutions (P.puzzle (P.cut puzzle.now (all_but item))) → ⊥) }
+    ensures only { OnFalse result (HasOnly ⟦<P as Rules>⟧ grid.now (P.cut puzzle.now (all_but item))) }
 {
     let mut candidates = Candidates::all(puzzle.size());
     let denied = puzzle.deny_item(item, &mut candidates);
@@ -22,6 +22,7 @@ pub fn is_needed<P: Rules>(puzzle: &P, grid: &Grid, item: usize) -> bool
 }
 
 /// Whether the puzzle has the item and could do without it: the grid, its only solution, stays the only one.
+#[tactic(auto, using(crate::proofs::SecondSolutions::not_two_of_only))]
 pub fn is_spare<P: Rules>(puzzle: &P, grid: &Grid, item: usize) -> bool
     requires inside { item < P.items_of (P.puzzle puzzle.now).size }
     requires only { IsOnlySolution (P.puzzle puzzle.now) grid.now }
@@ -30,15 +31,5 @@ pub fn is_spare<P: Rules>(puzzle: &P, grid: &Grid, item: usize) -> bool
     if !puzzle.has_item(item) {
         return false;
     }
-    stays_only(puzzle, grid, item)
-}
-
-// Whether the grid is the only solution without the item, too.
-fn stays_only<P: Rules>(puzzle: &P, grid: &Grid, item: usize) -> bool
-    requires inside { item < P.items_of (P.puzzle puzzle.now).size }
-    requires only { IsOnlySolution (P.puzzle puzzle.now) grid.now }
-    ensures { IsTrue result ↔ HasOnly ⟦<P as Rules>⟧ grid.now (P.cut puzzle.now (all_but item)) }
-{
-    let _size = puzzle.size();
     !is_needed(puzzle, grid, item)
 }

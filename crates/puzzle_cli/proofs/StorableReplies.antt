@@ -58,7 +58,8 @@ module _ {P : Type 0} (f : GameFacts P) (laws : ItemLaws f.rules) where
       generated_storable params seed k made letters gives e
   id_storable text k (Err fault) is e = cc
 
-  begins_storable : (text : List ℕ) (k : History P) → TextBegins f text (Ok k) → IsNoneOrStorable f (Some k)
+  -- what a game ID begins can be stored
+  pub begins_storable : (text : List ℕ) (k : History P) → TextBegins f text (Ok k) → IsNoneOrStorable f (Some k)
   begins_storable text k (read, is, begins) = id_storable text k read is begins
 
 -- what a step leaves of a storable session is storable

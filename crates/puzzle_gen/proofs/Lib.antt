@@ -1,6 +1,5 @@
 pub mod OrderPlaces
 pub mod CombinedSquares
-pub mod FullCuts
-pub mod PruningSteps
+pub mod OnePruned
 pub mod GeneratedOnce
 pub mod ForcedNumbers

@@ -1,16 +1,38 @@
 //! The removal of items: each is tried once, and goes where the rest still has just one solution.
 
-ghost use Rattle.std.specs.Prelude.{◌≡◌, ◌<◌, ◌⊎◌, length, slice_index};
 ghost use Rattle.latin_board.specs.Squares.{IsLatin};
 ghost use Rattle.puzzle_gen.specs.Orders.{IsOrder};
-ghost use Rattle.trail_solver.specs.Solutions.{HasSeveralSolutions, IsOnlySolution};
-ghost use Rattle.needed_items.specs.Needed.{all_but};
+ghost use Rattle.needed_items.specs.Needed.{HasOnly};
+ghost use Rattle.needed_items.specs.InTurn.{HasSeveral};
 ghost use Rattle.puzzle_gen.specs.Inner.OnePruned.{IsOnePruned};
 
 use crate::forced_squares::is_forced;
 use latin_board::Grid;
-use needed_items::is_needed;
+use needed_items::{Order, Test, is_needed, left_in_turn};
 use trail_solver::Rules;
+
+// Whether a grid stays the only solution, where rows and columns often show it at once.
+#[derive(Clone, Copy)]
+struct OnlySquare<'a>(&'a Grid);
+
+impl<'a, P: Rules> Test<P> for OnlySquare<'a> {
+    ghost passes = { λ test. HasOnly ⟦<P as Rules>⟧ test.0.now };
+
+    ghost fails = { λ test. HasSeveral ⟦<P as Rules>⟧ };
+
+    #[tactic(auto, using(needed_items::proofs::SecondSolutions::only_of_not_two))]
+    fn fails_without(&self, puzzle: &P, item: usize) -> bool {
+        let _size = puzzle.size();
+        let mut fewer = *puzzle;
+        fewer.drop_item(item);
+        !is_forced(&fewer, self.0) && is_needed(puzzle, self.0, item)
+    }
+
+    ghost use Rattle.std.proofs.Common.{◌∙◌, sym};
+
+    ghost apart = { λ _ _ only two.
+        two.differ (only.only two.one two.one_solves ∙ sym (only.only two.other two.other_solves)) };
+}
 
 /// The pruned puzzle of a Latin square, where the items are tried in this order.
 pub(crate) fn pruned<P: Rules>(grid: &Grid, order: &[u8]) -> P
@@ -19,38 +41,5 @@ pub(crate) fn pruned<P: Rules>(grid: &Grid, order: &[u8]) -> P
     ensures { IsOnePruned ⟦<P as Rules>⟧ grid.now order.now result }
 {
     let _size = grid.size();
-    let mut puzzle = P::full(grid);
-    for k in 0..order.len() {
-        puzzle = tried(puzzle, grid, item_at(order, k));
-    }
-    puzzle
-}
-
-// The item that is tried at place k.
-fn item_at(order: &[u8], k: usize) -> usize
-    requires { k < length order.now }
-    ensures { result ≡ slice_index order.now k }
-{
-    order[k] as usize
-}
-
-// The puzzle without the item, where that has just one solution, or otherwise the puzzle itself, of which the grid is the only one.
-fn tried<P: Rules>(puzzle: P, grid: &Grid, item: usize) -> P
-    requires inside { item < P.items_of (P.puzzle puzzle).size }
-    requires only { IsOnlySolution (P.puzzle puzzle) grid.now }
-    ensures { ((result ≡ puzzle) × HasSeveralSolutions (P.puzzle (P.cut puzzle (all_but item))))
-        ⊎ ((result ≡ P.cut puzzle (all_but item))
-        × (HasSeveralSolutions (P.puzzle (P.cut puzzle (all_but item))) → ⊥)) }
-{
-    let _size = puzzle.size();
-    let mut fewer = puzzle;
-    fewer.drop_item(item);
-    if is_forced(&fewer, grid) {
-        return fewer;
-    }
-    if is_needed(&puzzle, grid, item) {
-        puzzle
-    } else {
-        fewer
-    }
+    left_in_turn(&P::full(grid), &Order::Listed(order), &OnlySquare(grid))
 }

@@ -1,5 +1,5 @@
 -- A hint whose parts have views of their own is one from a single view.
-use Rattle.std.proofs.Common.{◌≡◌, ℕ, List, [], ◌∷◌, ◌++◌, Result, Ok, Err, IfOk, sym, ◌∙◌}
+use Rattle.std.proofs.Common.{ℕ, List, ◌∷◌, ◌++◌, Result, Ok, Err, IfOk, sym, ◌∙◌}
 use Rattle.latin_board.specs.Squares.{GridValue}
 use Rattle.latin_board.specs.declared.out_of_memory.OutOfMemory.{OutOfMemory}
 use Rattle.trail_solver.specs.Candidates.{CandidatesValue}
@@ -12,7 +12,7 @@ use Rattle.line_steps.specs.declared.grade.Grade.{Grade}
 use Rattle.line_steps.proofs.Chains.{IsAntitone}
 use Rattle.step_chains.specs.declared.hints.NextHint.{NextHint}
 use Rattle.step_chains.specs.declared.hints.NextHint.TheVariants.{Follows, Refuted, Nothing}
-use Rattle.step_chains.specs.ChainValues.{AreAllNeeded, AreLive, AreNeededForNothing, EndAtOnce, LeavesNothing, steps_of}
+use Rattle.step_chains.specs.ChainValues.{AreAllNeeded, AreLive, AreNeededForNothing, EndAtOnce, steps_of}
 use Rattle.step_chains.specs.NextHints.{IsHint, IsRightHint}
 use Rattle.step_chains.specs.Inner.FromEachView.{AreNeededFrom, IsTimelyFrom, IsNextHint, IsTimelyHint, IsNeededHint, SaysAllForced}
 use Rattle.step_chains.proofs.Explanations.{leaves_where, shows_in, views_fewer}

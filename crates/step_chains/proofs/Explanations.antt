@@ -16,7 +16,6 @@ use Rattle.line_steps.specs.declared.grade.Grade.{Grade}
 use Rattle.named_steps.specs.declared.goal.Goal.{Goal}
 use Rattle.named_steps.specs.declared.goal.Goal.TheVariants.{OnlyValue}
 use Rattle.step_chains.specs.declared.aims.Aim.{Aim}
-use Rattle.step_chains.specs.declared.aims.Aim.TheVariants.{Nothing}
 use Rattle.step_chains.specs.ChainValues.{HasSome, LeavesNothing}
 use Rattle.step_chains.specs.Inner.FromEachView.{NothingIsShown, IsRefutedGrid}
 use Rattle.step_chains.specs.Inner.Replays.{Leads}

@@ -1,11 +1,11 @@
 -- Chains whose steps strike only what is left, while something is left of each square.
-use Rattle.std.proofs.Common.{◌↔◌, ◌*◌, ◌^◌, Bool, false, take, drop, refl, append_assoc, ◌≡◌, ℕ, ◌+◌, ◌<◌, ◌≤◌, true, List, [], ◌∷◌, ◌++◌, length, sym, subst, ap, ◌∙◌, arith}
+use Rattle.std.proofs.Common.{◌*◌, ◌^◌, Bool, false, take, refl, ◌≡◌, ℕ, ◌+◌, ◌<◌, ◌≤◌, true, List, [], ◌∷◌, ◌++◌, length, sym, subst, ap, ◌∙◌, arith}
 use Rattle.std.specs.List.{remove}
-use Rattle.std.proofs.lemmas.List.{map-append, length-map, take-append-drop}
-use Rattle.std.proofs.lemmas.Bool.{and_parts, and_from, eqb-true, eq-eqb, both_ways, false≢true}
-use Rattle.number_sets.specs.Sets.{has_number, IsSubset, IsEmpty}
-use Rattle.trail_solver.specs.Pairs.{has_pair, pairs_of, IsPrefix}
-use Rattle.trail_solver.specs.Candidates.{CandidatesValue, IsSetOf, IsEarlier}
+use Rattle.std.proofs.lemmas.List.{map-append, length-map}
+use Rattle.std.proofs.lemmas.Bool.{and_parts, eqb-true}
+use Rattle.number_sets.specs.Sets.{has_number, IsSubset}
+use Rattle.trail_solver.specs.Pairs.{IsPrefix, has_pair}
+use Rattle.trail_solver.specs.Candidates.{CandidatesValue, AreCandidates, IsSetOf, IsEarlier}
 use Rattle.line_steps.specs.Left.{IsLeft, IsFewer, AreAlike, without}
 use Rattle.line_steps.specs.Chains.{StepValue, left_by}
 use Rattle.line_steps.proofs.Takes.{without_fewer}
@@ -18,7 +18,7 @@ use Rattle.step_chains.specs.Inner.Quiet.{IsNew}
 use Rattle.step_chains.specs.Inner.Replays.{AreTimely, IsTimelyStep, Leads}
 use Rattle.step_chains.specs.declared.chain.Step.{Step}
 use Rattle.step_chains.specs.ChainValues.{step_value, steps_of, AreLive, EndAtOnce, HasSome, IsLiveStep}
-use Rattle.std.specs.Bool.{IsTrue, MatchBool}
+use Rattle.std.specs.Bool.{OnTrue, MatchBool}
 use Rattle.trail_solver.proofs.Earlier.{prefix-append}
 use Rattle.line_steps.specs.Takes.{Takes}
 use Rattle.step_chains.proofs.Followed.{taken_alike}
@@ -80,6 +80,19 @@ removed_timely c steps more place low is h =
     subst (AreTimely c) (sym (ap steps_of is ∙ steps_removed steps place))
     (timely_removed c (steps_of steps) place (omega (arith, low, length-map steps step_value)) h)
 
+-- a step strikes only what is left, where all its values are left of its square
+live_where : (c : CandidatesValue) (s : Step) → s.values < 2 ^ 16 → AreCandidates c s.cell s.values → IsLiveStep c (step_value s)
+live_where c s low left = λ cell v has.
+    let both = and_parts (cell == s.cell) (has_number s.values v) (sym (has_pair-pairs_of s.cell s.values cell v low) ∙ has) in
+    let there = left v both.1 in
+    subst (λ (k : ℕ). IsLeft c k v) (sym (eqb-true cell s.cell both.0)) (record { pair = there.0; may = there.1 })
+
+-- so where a set of what is left has them
+pub live_by_set : (c : CandidatesValue) (s : Step) (set : ℕ) (b : Bool) → s.values < 2 ^ 16 → IsSetOf c s.cell set
+    → MatchBool b (IsSubset s.values set) (IsSubset s.values set → ⊥) → OnTrue b (IsLiveStep c (step_value s))
+live_by_set c s set false low is sub = tt
+live_by_set c s set true low is sub = live_where c s low (λ v has. (is v).0 (sub v has))
+
 -- what is new is left, and so the steps and it are timely while something is left of each square
 pub new_timely : (Struck : Striking) (grade : Grade) (c d : CandidatesValue) (steps more : List Step) (s : Step)
     → d.size ≤ 9 → Leads Struck grade c (steps_of steps) d → HasSome d × IsNew Struck grade d s
@@ -87,64 +100,9 @@ pub new_timely : (Struck : Striking) (grade : Grade) (c d : CandidatesValue) (st
 new_timely Struck grade c d steps more s small before (some, new) is timely =
     let low = set_below d.size s.cell s.values small (λ v has. (new.left v has).0) in
     let listed : steps_of more ≡ steps_of steps ++ step_value s ∷ [] = ap steps_of is ∙ map-append step_value steps (s ∷ []) in
-    let live : IsLiveStep d (step_value s) = λ cell v has.
-    let both = and_parts (cell == s.cell) (has_number s.values v) (sym (has_pair-pairs_of s.cell s.values cell v low) ∙ has) in
-    let there = new.left v both.1 in
-    subst (λ (k : ℕ). IsLeft d k v) (sym (eqb-true cell s.cell both.0)) (record { pair = there.0; may = there.1 }) in
     let here = step_more (left_by c (steps_of steps)) d (step_value s) (left_size c (steps_of steps) ∙ sym before.size)
-    before.alike.0 (some, live) in
+    before.alike.0 (some, live_where d s low new.left) in
     subst (AreTimely c) (sym listed) (timely_joined c (steps_of steps) (step_value s) timely here)
-
--- ---- the test of a chain
-
-pub live_by_set : (c : CandidatesValue) (s : Step) (set : ℕ) → s.values < 2 ^ 16 → IsSetOf c s.cell set → IsSubset s.values set ↔ IsLiveStep c (step_value s)
-live_by_set c s set low is = (
-  λ sub cell v has.
-      let both = and_parts (cell == s.cell) (has_number s.values v) (sym (has_pair-pairs_of s.cell s.values cell v low) ∙ has) in
-      let there = (is v).0 (sub v both.1) in
-      subst (λ (k : ℕ). IsLeft c k v) (sym (eqb-true cell s.cell both.0)) (record { pair = there.0; may = there.1 }),
-  λ live v has.
-      let listed : has_pair (pairs_of s.cell s.values) s.cell v ≡ true =
-      has_pair-pairs_of s.cell s.values s.cell v low ∙ and_from (s.cell == s.cell) (has_number s.values v) (eq-eqb s.cell s.cell refl) has in
-      let left = live s.cell v listed in
-      (is v).1 (left.pair, left.may),
-)
-
-pub live_tested : (c : CandidatesValue) (s : Step) (set : ℕ) (b : Bool) → s.values < 2 ^ 16 → IsSetOf c s.cell set
-    → MatchBool b (IsSubset s.values set) (IsSubset s.values set → ⊥) → IsTrue b ↔ IsLiveStep c (step_value s)
-live_tested c s set true low is sub = (λ e. (live_by_set c s set low is).0 sub, λ h. refl)
-live_tested c s set false low is sub = (λ e. absurd (false≢true e), λ h. absurd (sub ((live_by_set c s set low is).1 h)))
-
--- a step outside strikes what is left only where it strikes nothing
-pub live_outside : (c : CandidatesValue) (s : Step) (b : Bool) → s.values < 2 ^ 16 → (s.cell < c.size * c.size → ⊥)
-    → MatchBool b (IsEmpty s.values) ((n : ℕ) × (has_number s.values n ≡ true)) → IsTrue b ↔ IsLiveStep c (step_value s)
-live_outside c s true low outside empty = (
-  λ e cell v has.
-      let both = and_parts (cell == s.cell) (has_number s.values v) (sym (has_pair-pairs_of s.cell s.values cell v low) ∙ has) in
-      absurd (both_ways (has_number s.values v) (empty v) both.1),
-  λ h. refl,
-)
-live_outside c s false low outside some = (
-  λ e. absurd (false≢true e),
-  λ live.
-      let listed : has_pair (pairs_of s.cell s.values) s.cell some.0 ≡ true =
-      has_pair-pairs_of s.cell s.values s.cell some.0 low ∙ and_from (s.cell == s.cell) (has_number s.values some.0) (eq-eqb s.cell s.cell refl) some.1 in
-      absurd (outside (live s.cell some.0 listed).pair.inside),
-)
-
--- the later steps are timely by what the earlier ones leave
-pub timely_split : (c : CandidatesValue) (front back : List StepValue) → AreTimely c (front ++ back)
-    → AreTimely (left_by c front) back
-timely_split c [] back h = h
-timely_split c (step ∷ front) back h = timely_split (without c step.strikes) front back h.1
-
--- the steps before one, it, and those after it
-pub parted_at : (steps : List Step) (i : ℕ) (s : Step) → take (i + 1) steps ≡ take i steps ++ s ∷ []
-    → steps_of steps ≡ steps_of (take i steps) ++ step_value s ∷ steps_of (drop (i + 1) steps)
-parted_at steps i s more =
-    let parts : steps ≡ take i steps ++ s ∷ drop (i + 1) steps =
-    sym (take-append-drop (i + 1) steps) ∙ ap (λ xs. xs ++ drop (i + 1) steps) more ∙ append_assoc (take i steps) (s ∷ []) (drop (i + 1) steps) in
-    ap steps_of parts ∙ map-append step_value (take i steps) (s ∷ drop (i + 1) steps)
 
 -- what one step more leaves
 pub left_more : (c : CandidatesValue) (steps : List Step) (i : ℕ) (s : Step) → take (i + 1) steps ≡ take i steps ++ s ∷ []
@@ -152,16 +110,6 @@ pub left_more : (c : CandidatesValue) (steps : List Step) (i : ℕ) (s : Step) �
 left_more c steps i s more =
     ap (λ xs. left_by c xs) (ap steps_of more ∙ map-append step_value (take i steps) (s ∷ []))
     ∙ left_append c (steps_of (take i steps)) (step_value s ∷ [])
-
--- in a timely chain each step is so by what is left before it
-pub timely_here : (c d : CandidatesValue) (steps : List Step) (i : ℕ) (s : Step)
-    → take (i + 1) steps ≡ take i steps ++ s ∷ [] → d.size ≡ c.size
-    → AreAlike (left_by c (steps_of (take i steps))) d → AreTimely c (steps_of steps) → IsTimelyStep d (step_value s)
-timely_here c d steps i s more size alike timely =
-    let front = steps_of (take i steps) in
-    let rest = steps_of (drop (i + 1) steps) in
-    step_more d (left_by c front) (step_value s) (size ∙ sym (left_size c front)) alike.1
-    (timely_split c front (step_value s ∷ rest) (subst (AreTimely c) (parted_at steps i s more) timely)).0
 
 -- one step more of it
 pub timely_on : (c d e : CandidatesValue) (steps : List Step) (i : ℕ) (s : Step)

@@ -17,7 +17,7 @@ use Rattle.std.specs.Option.{MatchOption}
 use Rattle.named_steps.proofs.Antitone.{closure_fewer}
 use Rattle.line_steps.proofs.Chains.{IsAntitone, higher_has}
 use Rattle.line_steps.specs.declared.reason.Reason.{Reason}
-use Rattle.line_steps.specs.declared.reason.Reason.TheVariants.{Given, Peer, Place, Bound, Stand, Clue, Sign, Set}
+use Rattle.line_steps.specs.declared.reason.Reason.TheVariants.{Given}
 use Rattle.line_steps.specs.declared.grade.Grade.{Grade}
 use Rattle.line_steps.specs.declared.grade.Grade.TheVariants.{Latin, Easy, Hard}
 use Rattle.named_steps.specs.declared.goal.Goal.{Goal}
@@ -115,13 +115,7 @@ shown_least Struck less grade g d goal (view, is, leads) found below holds = (
 
 hard_all : (reason : Reason) → has_reason Hard reason ≡ true
 hard_all (Given cell) = refl
-hard_all (Peer cell) = refl
-hard_all (Place line index value) = refl
-hard_all (Bound place) = refl
-hard_all (Stand place) = refl
-hard_all (Clue place) = refl
-hard_all (Sign from to) = refl
-hard_all (Set line squares values) = refl
+hard_all reason = refl
 
 all_hard : (steps : List StepValue) → AreOfGrade Hard steps
 all_hard [] = tt

@@ -116,9 +116,6 @@ sign_idle Struck grade c at from to idle low there =
 -- a clue or a sign that looks along a line strikes nothing more
 along_idle : (Struck : Striking) (grade : Grade) (c : CandidatesValue) → AreAllIdle Struck grade c
     → (line : ℕ) (reason : Reason) (cell : ℕ) → line < 2 * c.size → LooksAlong c.size line reason cell → IsIdle Struck grade c reason
-along_idle Struck grade c idle line (Given at) cell low along = absurd along
-along_idle Struck grade c idle line (Peer by) cell low along = absurd along
-along_idle Struck grade c idle line (Place at index other) cell low along = absurd along
 along_idle Struck grade c idle line (Bound place) cell low along = found_idle Struck grade c Clues (3 * place) (Bound place) idle
     (omega (arith, along.0)) (λ found is. is.0 place refl)
 along_idle Struck grade c idle line (Stand place) cell low along = found_idle Struck grade c Clues (3 * place + 1) (Stand place) idle
@@ -139,7 +136,7 @@ along_idle Struck grade c idle line (Sign from to) cell low (here, inr (k, insid
       | inr below ↦ sign_idle Struck grade c (4 * to + 3) from to idle (omega (arith, to_is))
           (inr (inr (inr (refl, sym (ap (λ n. n + c.size) (sym first) ∙ below ∙ second)))))
     ]
-along_idle Struck grade c idle line (Set at squares values) cell low along = absurd along
+along_idle Struck grade c idle line reason cell low along = absurd along
 
 clues_settled : (p : Puzzle) (Own : Striking) → StandOnLines p Own → (grade : Grade) (c : CandidatesValue) → p.size ≡ c.size
     → AreAllIdle (AllStrikes p Own) grade c → AreCluesSettled (AllStrikes p Own) grade c

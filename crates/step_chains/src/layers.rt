@@ -6,12 +6,11 @@ use crate::aims::first_empty;
 use crate::chain::Step;
 use crate::goals::shown_goal;
 use crate::kinds::{KINDS, Kind, Sought, is_dear, is_done, is_of_use};
-use crate::needs::{Values, left, line_from, single, squares_from, squares_of};
+use crate::needs::{Values, left, single, squares_from, squares_of};
 use crate::reasons::{Part, group};
 use crate::replays::{struck, take};
 use crate::seen::{
-    LINES, Looks, Losses, PLACES, Seen, last_place, row_of, shared_numbers, sharing, standing,
-    struck_along, union_of,
+    Looks, PLACES, last_place, row_of, shared_numbers, sharing, struck_along, union_of,
 };
 use arrayvec::ArrayVec;
 use latin_board::{CELLS, Grid, OutOfMemory};
@@ -39,7 +38,7 @@ pub(crate) struct Rounds<'a, P: Steps> {
     pub(crate) steps: Vec<Step>,
     sought: Sought,
     // Whether the first round has all kinds, and not the cheapest alone.
-    at_once: bool,
+    is_at_once: bool,
     // With how many steps it wasn't found yet.
     open: Option<usize>,
     // The squares of which one value is left and that were looked at: what they strike is listed.
@@ -50,23 +49,19 @@ pub(crate) struct Rounds<'a, P: Steps> {
     has_clue: [bool; PLACES],
     // The place at which clues are looked at first.
     first_place: usize,
-    // Which rows and columns lost something since they were looked at: only their rows can be others.
-    losses: Losses,
-    places: Looks<LINES>,
-    stands: Looks<PLACES>,
-    // The numbers that stand in a clue's line may be the same ones though it lost something.
-    standing: Seen,
-    clues: Looks<PLACES>,
-    groups: Looks<LINES>,
+    stands: Looks,
+    clues: Looks,
+    groups: Looks,
     pub(crate) cache: &'a mut P::Cache,
 }
 
 impl<'a, P: Steps> Rounds<'a, P> {
-    /// No round yet, from what is in view.
+    /// No round yet, from what is in view. The first one has all kinds at once, or the cheapest alone.
     pub(crate) fn of(
         alloc: Global,
         view: Candidates,
         sought: Sought,
+        is_at_once: bool,
         cache: &'a mut P::Cache,
     ) -> Rounds<'a, P> {
         Rounds {
@@ -75,37 +70,17 @@ impl<'a, P: Steps> Rounds<'a, P> {
             gone: Values::none(),
             steps: Vec::new(alloc),
             sought,
-            at_once: false,
+            is_at_once,
             open: None,
             peers: Values::none(),
             has_signs: true,
             has_clue: [false; PLACES],
             first_place: 0,
-            losses: Losses::new(),
-            places: Looks::none(),
             stands: Looks::none(),
-            standing: Seen::nothing(),
             clues: Looks::none(),
             groups: Looks::none(),
             cache,
         }
-    }
-
-    /// No round again, once all is given back; the first one then has all kinds.
-    pub(crate) fn begin_at_once(&mut self, alloc: Global) {
-        self.gone = Values::none();
-        self.steps = Vec::new(alloc);
-        self.at_once = true;
-        self.open = None;
-        self.peers = Values::none();
-        self.has_signs = true;
-        self.first_place = 0;
-        self.losses = Losses::new();
-        self.places = Looks::none();
-        self.stands = Looks::none();
-        self.standing = Seen::nothing();
-        self.clues = Looks::none();
-        self.groups = Looks::none();
     }
 
     /// Gives back what the steps struck, so that all in view is left again. The steps stay listed.
@@ -124,7 +99,7 @@ impl<'a, P: Steps> Rounds<'a, P> {
         grid: &Grid,
         grade: Grade,
     ) -> Result<(), OutOfMemory> {
-        if self.at_once {
+        if self.is_at_once {
             return self.go_on(p, grid, grade, KINDS.len() - 1);
         }
         for last in 0..KINDS.len() {
@@ -178,7 +153,7 @@ impl<'a, P: Steps> Rounds<'a, P> {
     ) -> Result<(), OutOfMemory> {
         let before = self.steps.len();
         for kind in 0..KINDS.len() {
-            let is_new = is_first && (kind == last || self.at_once);
+            let is_new = is_first && (kind == last || self.is_at_once);
             if kind <= last && self.is_due(KINDS[kind], grade, is_new, before) {
                 self.look(p, grade, KINDS[kind])?;
             }
@@ -206,12 +181,9 @@ impl<'a, P: Steps> Rounds<'a, P> {
 
     // Takes away what the steps from a place on list.
     fn catch_up(&mut self, from: usize) {
-        let size = self.now.size();
-        self.losses.go_on();
         for place in from..self.steps.len() {
             let step = self.steps[place];
             take(&mut self.now, &step);
-            self.losses.note(size, step.cell);
         }
     }
 
@@ -250,8 +222,8 @@ impl<'a, P: Steps> Rounds<'a, P> {
         for turn in 0..count {
             let place = self.first_place.wrapping_add(turn) % count;
             match kind {
-                Kind::Stand => self.look_at_standing(p, grade, place)?,
-                Kind::Clue => self.look_at_marks(p, grade, place)?,
+                Kind::Stand => self.look_at_line(p, grade, &Reason::Stand { place }, place)?,
+                Kind::Clue => self.look_at_line(p, grade, &Reason::Clue { place }, place)?,
                 _ => self.look_at_bound(p, grade, place)?,
             }
             if self.is_enough(kind, before) {
@@ -286,45 +258,34 @@ impl<'a, P: Steps> Rounds<'a, P> {
         place < PLACES && self.has_clue[place]
     }
 
-    // The steps of one clue by the numbers that stand in its line.
-    fn look_at_standing(&mut self, p: &P, grade: Grade, place: usize) -> Result<(), OutOfMemory> {
-        let size = self.now.size();
-        if self.is_clued(place)
-            && self
-                .stands
-                .is_due(place, line_from(size, place), &self.losses)
-        {
-            let row = row_of(&self.now, &squares_from(size, place));
-            if self.standing.is_new(place, &standing(&row)) {
-                let _strikes = self.look_from(p, grade, &Reason::Stand { place }, place)?;
+    // The steps of one clue by what stands or is left in its line, if fewer numbers are left there than at the last look.
+    fn look_at_line(
+        &mut self,
+        p: &P,
+        grade: Grade,
+        reason: &Reason,
+        place: usize,
+    ) -> Result<(), OutOfMemory> {
+        if self.is_clued(place) {
+            let row = row_of(&self.now, &squares_from(self.now.size(), place));
+            let is_new = match reason {
+                Reason::Stand { .. } => self.stands.is_new(place, &row),
+                _ => self.clues.is_new(place, &row),
+            };
+            if is_new {
+                let _strikes = self.look_from(p, grade, reason, place)?;
             }
         }
         Ok(())
     }
 
-    // The steps of one clue by all that is left in its line.
-    fn look_at_marks(&mut self, p: &P, grade: Grade, place: usize) -> Result<(), OutOfMemory> {
-        let size = self.now.size();
-        if self.is_clued(place)
-            && self
-                .clues
-                .is_due(place, line_from(size, place), &self.losses)
-        {
-            let _strikes = self.look_from(p, grade, &Reason::Clue { place }, place)?;
-        }
-        Ok(())
-    }
-
-    // The steps of the values that have one place left in a row or column that isn't what it was; or none,
-    // and then that of the line's first square.
+    // The steps of the values that have one place left in a row or column; or none, and then that of the line's first square.
     fn look_at_places(&mut self, p: &P, grade: Grade) -> Result<(), OutOfMemory> {
         let size = self.now.size();
         for line in 0..2 * size.get() as usize {
-            if self.places.is_due(line, line, &self.losses) {
-                let cells = squares_of(size, line);
-                let row = row_of(&self.now, &cells);
-                self.look_along(p, grade, line, &cells, &row)?;
-            }
+            let cells = squares_of(size, line);
+            let row = row_of(&self.now, &cells);
+            self.look_along(p, grade, line, &cells, &row)?;
         }
         Ok(())
     }
@@ -384,9 +345,9 @@ impl<'a, P: Steps> Rounds<'a, P> {
     fn look_at_groups(&mut self, p: &P, grade: Grade) -> Result<(), OutOfMemory> {
         let size = self.now.size();
         for line in 0..2 * size.get() as usize {
-            if self.groups.is_due(line, line, &self.losses) {
-                let cells = squares_of(size, line);
-                let row = row_of(&self.now, &cells);
+            let cells = squares_of(size, line);
+            let row = row_of(&self.now, &cells);
+            if self.groups.is_new(line, &row) {
                 self.look_at_groups_on(p, grade, line, &cells, &row)?;
             }
         }

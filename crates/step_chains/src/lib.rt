@@ -15,9 +15,7 @@
 #![tactic(auto)]
 
 mod aims;
-mod broken_steps;
 mod chain;
-mod clue_premises;
 mod cutting;
 mod explaining;
 mod first_aims;
@@ -40,5 +38,6 @@ mod view;
 
 pub use chain::{Chain, Refutation, Step};
 pub use hints::{NextHint, next_hint};
+pub use replays::take_all;
 pub use strike_laws::forced_laws;
 pub use view::view_of;

@@ -39,14 +39,6 @@ impl Values {
         }
     }
 
-    /// With these values of some squares, too.
-    pub(crate) fn add_all(&mut self, cells: &ArrayVec<u8, 9>, more: &Values) {
-        for cell in cells.as_slice() {
-            let cell = *cell as usize;
-            self.add(cell, more.of(cell));
-        }
-    }
-
     /// Without these values of a square.
     pub(crate) fn remove(&mut self, cell: usize, values: NumberSet) {
         if cell < CELLS {
@@ -63,32 +55,6 @@ pub(crate) fn needed_in(cells: &ArrayVec<u8, 9>, gone: &Values, needs: &Values) 
         needed.add(at, gone.of(at).intersection(needs.of(at)));
     }
     needed
-}
-
-/// A set of squares.
-#[derive(Clone, Copy, Debug)]
-pub(crate) struct Squares {
-    has: [bool; CELLS],
-}
-
-impl Squares {
-    /// These squares.
-    pub(crate) fn of(cells: &ArrayVec<u8, 9>) -> Squares {
-        let mut has = [false; CELLS];
-        for cell in cells.as_slice() {
-            let cell = *cell as usize;
-            if cell < CELLS {
-                has[cell] = true;
-            }
-        }
-        Squares { has }
-    }
-
-    /// Whether the square is one of them.
-    pub(crate) fn has(&self, cell: u8) -> bool {
-        let cell = cell as usize;
-        cell < CELLS && self.has[cell]
-    }
 }
 
 /// What has to be struck from candidates so that they come to the aim.
@@ -189,16 +155,6 @@ fn squares_among(size: Size, line: usize, squares: NumberSet) -> ArrayVec<u8, 9>
         }
     }
     cells
-}
-
-/// The row or column along which one looks from a place at the edge.
-pub(crate) fn line_from(size: Size, place: usize) -> usize {
-    let width = size.get() as usize;
-    if place < 2 * width {
-        width + place % width
-    } else {
-        place % width
-    }
 }
 
 /// The squares from a place at the edge.

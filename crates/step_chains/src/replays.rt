@@ -5,7 +5,7 @@ ghost use Rattle.std.specs.Bool.{OnTrue, OnFalse};
 ghost use Rattle.number_sets.specs.Sets.{has_number};
 ghost use Rattle.trail_solver.specs.Pairs.{IsPair, has_pair, pairs_of};
 ghost use Rattle.trail_solver.specs.Candidates.{IsEarlier};
-ghost use Rattle.line_steps.specs.Left.{AreAlike, IsFewer};
+ghost use Rattle.line_steps.specs.Left.{AreAlike};
 ghost use Rattle.named_steps.specs.Chains.{Shows};
 ghost use Rattle.line_steps.specs.Chains.{left_by};
 ghost use Rattle.line_steps.specs.Takes.{Takes};
@@ -15,7 +15,7 @@ ghost use Rattle.step_chains.specs.Inner.Replays.{AreTimely, IsGradeStep, IsGrad
 
 use crate::aims::{Aim, first_empty};
 use crate::chain::Step;
-use crate::needs::{Values, left};
+use crate::needs::Values;
 use arrayvec::ArrayVec;
 use named_steps::{Grade, Reason, Steps, strike};
 use number_sets::NumberSet;
@@ -44,7 +44,7 @@ pub(crate) fn come_to<P: Steps>(
 }
 
 /// Takes away what the steps list.
-pub(crate) fn take_all(candidates: &mut Candidates, steps: &[Step])
+pub fn take_all(candidates: &mut Candidates, steps: &[Step])
     ensures size { candidates.new.size ≡ candidates.old.size }
     ensures earlier { IsEarlier candidates.old candidates.new }
     ensures alike { AreAlike (left_by candidates.old (steps_of steps.now)) candidates.new }
@@ -177,16 +177,6 @@ pub(crate) fn take_from(candidates: &mut Candidates, cell: u8, values: NumberSet
     strike(candidates, cell, values);
 }
 
-/// Takes all but these values from a square.
-pub(crate) fn keep_in(candidates: &mut Candidates, cell: u8, values: NumberSet)
-    ensures size { candidates.new.size ≡ candidates.old.size }
-    ensures fewer { IsFewer candidates.old candidates.new }
-    ensures earlier { IsEarlier candidates.old candidates.new }
-{
-    let others = left(candidates, cell as usize).difference(values);
-    take_from(candidates, cell, others);
-}
-
 /// Takes these values from some squares.
 pub(crate) fn take_values(candidates: &mut Candidates, cells: &ArrayVec<u8, 9>, values: &Values) {
     for cell in cells.as_slice() {
@@ -194,10 +184,11 @@ pub(crate) fn take_values(candidates: &mut Candidates, cells: &ArrayVec<u8, 9>, 
     }
 }
 
-/// Whether the steps before each leave something of each square, and all that it strikes. The candidates are afterwards what they were.
+/// Whether, before each step, something is left of each square, and all that the step strikes is left. A step in no square
+/// passes for none. The candidates are afterwards what they were.
 pub(crate) fn are_timely(candidates: &mut Candidates, steps: &[Step]) -> bool
     ensures same { candidates.new ≡ candidates.old }
-    ensures timely { IsTrue result ↔ AreTimely candidates.old (steps_of steps.now) }
+    ensures timely { OnTrue result (AreTimely candidates.old (steps_of steps.now)) }
 {
     let mark = candidates.mark();
     let timely = go_timely(candidates, steps);
@@ -208,7 +199,7 @@ pub(crate) fn are_timely(candidates: &mut Candidates, steps: &[Step]) -> bool
 // Takes away what the steps strike, as far as it is left, and tells whether all of it is, while something is left of each square.
 fn go_timely(candidates: &mut Candidates, steps: &[Step]) -> bool
     ensures earlier { IsEarlier candidates.old candidates.new }
-    ensures timely { IsTrue result ↔ AreTimely candidates.old (steps_of steps.now) }
+    ensures timely { OnTrue result (AreTimely candidates.old (steps_of steps.now)) }
 {
     for step in steps {
         if !is_timely(candidates, step) {
@@ -221,7 +212,7 @@ fn go_timely(candidates: &mut Candidates, steps: &[Step]) -> bool
 
 // Whether something is left of each square, and all that a step strikes.
 fn is_timely(candidates: &Candidates, step: &Step) -> bool
-    ensures { IsTrue result ↔ IsTimelyStep candidates.now (step_value step.now) }
+    ensures { OnTrue result (IsTimelyStep candidates.now (step_value step.now)) }
 {
     match first_empty(candidates) {
         Some(_) => false,
@@ -229,15 +220,15 @@ fn is_timely(candidates: &Candidates, step: &Step) -> bool
     }
 }
 
-// Whether all that a step strikes is left.
+// Whether a step is in a square of the size, and all that it strikes is left.
 fn is_left(candidates: &Candidates, step: &Step) -> bool
-    ensures { IsTrue result ↔ IsLiveStep candidates.now (step_value step.now) }
+    ensures { OnTrue result (IsLiveStep candidates.now (step_value step.now)) }
 {
     let width = candidates.size().get() as usize;
     let cell = step.cell as usize;
     let _bits = step.values.bits();
     if cell >= width * width {
-        return step.values.is_empty();
+        return false;
     }
     step.values.is_subset(candidates.values(cell))
 }

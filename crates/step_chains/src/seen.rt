@@ -1,10 +1,9 @@
-//! Rows of sets: what is left of squares side by side, and which rows have been looked at.
+//! Rows of sets: what is left of squares side by side.
 //! Nothing here ensures anything: `short_chain` follows what comes of it step by step, and tells it only where it is a chain.
 
 use crate::needs::{left, single};
 use crate::replays::struck;
 use arrayvec::ArrayVec;
-use latin_board::Size;
 use named_steps::{Reason, Steps};
 use number_sets::NumberSet;
 use trail_solver::{Candidates, Rules};
@@ -12,89 +11,30 @@ use trail_solver::{Candidates, Rules};
 /// How many places at the edge the widest grid has.
 pub(crate) const PLACES: usize = 36;
 
-/// How many rows and columns it has.
-pub(crate) const LINES: usize = 18;
-
-/// When each row and column lost something last.
+/// How many numbers were left of each row when it was looked at last.
 #[derive(Clone, Copy, Debug)]
-pub(crate) struct Losses {
-    now: u16,
-    lines: [u16; LINES],
+pub(crate) struct Looks {
+    left: [u32; PLACES],
 }
 
-impl Losses {
-    /// Each line has lost something now, since none has been looked at.
-    pub(crate) fn new() -> Losses {
-        Losses {
-            now: 1,
-            lines: [1; LINES],
-        }
-    }
-
-    /// What is lost from now on is lost later than all that was.
-    pub(crate) fn go_on(&mut self) {
-        self.now = self.now.saturating_add(1);
-    }
-
-    /// The row and the column of a square lose something now.
-    pub(crate) fn note(&mut self, size: Size, cell: u8) {
-        let width = size.get() as usize;
-        let cell = cell as usize;
-        if cell < width * width {
-            self.lines[cell / width] = self.now;
-            self.lines[width + cell % width] = self.now;
-        }
-    }
-
-    // When a row or column lost something last.
-    fn of(&self, line: usize) -> u16 {
-        if line < LINES { self.lines[line] } else { 0 }
-    }
-}
-
-/// When each of some places at the edge, or of the rows and columns, was looked at last.
-#[derive(Clone, Copy, Debug)]
-pub(crate) struct Looks<const COUNT: usize> {
-    // or 0
-    times: [u16; COUNT],
-}
-
-impl<const COUNT: usize> Looks<COUNT> {
+impl Looks {
     /// None was looked at yet.
-    pub(crate) fn none() -> Looks<COUNT> {
-        Looks { times: [0; COUNT] }
-    }
-
-    /// Whether the row from a place is another one than when it was looked at last: its line lost something since. It is looked at now.
-    pub(crate) fn is_due(&mut self, place: usize, line: usize, losses: &Losses) -> bool {
-        if place >= COUNT || self.times[place] >= losses.of(line) {
-            return false;
-        }
-        self.times[place] = losses.now;
-        true
-    }
-}
-
-/// The row that was last seen from each place at the edge.
-#[derive(Clone, Copy, Debug)]
-pub(crate) struct Seen {
-    rows: [[NumberSet; 9]; PLACES],
-}
-
-impl Seen {
-    /// No row yet: 0 is left of no square, so these are like none.
-    pub(crate) fn nothing() -> Seen {
-        Seen {
-            rows: [[NumberSet::one(0); 9]; PLACES],
+    pub(crate) fn none() -> Looks {
+        Looks {
+            left: [u32::MAX; PLACES],
         }
     }
 
-    /// Whether the row is another one than the last from there. It is the last then.
+    /// Whether fewer numbers are left of a row than when it was looked at last. It is looked at now.
     pub(crate) fn is_new(&mut self, place: usize, row: &[NumberSet; 9]) -> bool {
-        if place >= PLACES || self.rows[place] == *row {
+        let mut left = 0u32;
+        for set in row {
+            left = left.saturating_add(set.len());
+        }
+        if place >= PLACES || self.left[place] == left {
             return false;
         }
-        self.rows[place] = *row;
+        self.left[place] = left;
         true
     }
 }
@@ -108,24 +48,6 @@ pub(crate) fn row_of(candidates: &Candidates, cells: &ArrayVec<u8, 9>) -> [Numbe
         }
     }
     row
-}
-
-/// Whether the squares hold no different numbers, as far as is seen at a glance: nothing is left of one, or one number alone of two.
-pub(crate) fn are_stuck(candidates: &Candidates, cells: &ArrayVec<u8, 9>) -> bool {
-    let mut alone = NumberSet::empty();
-    for cell in cells.as_slice() {
-        let set = left(candidates, *cell as usize);
-        if set.is_empty() {
-            return true;
-        }
-        if set.is_single() {
-            if !alone.is_disjoint(set) {
-                return true;
-            }
-            alone = alone.union(set);
-        }
-    }
-    false
 }
 
 /// What a reason strikes in each of the squares from a place at the edge.
@@ -161,17 +83,6 @@ fn struck_in_each<P: Steps>(
         }
     }
     row
-}
-
-/// The row as it is seen by its lone numbers: all other sets are alike.
-pub(crate) fn standing(row: &[NumberSet; 9]) -> [NumberSet; 9] {
-    let mut seen = *row;
-    for place in 0..9 {
-        if seen[place].len() > 1 {
-            seen[place] = NumberSet::up_to(9);
-        }
-    }
-    seen
 }
 
 /// The last place whose set has the number, or the first place where none has.

@@ -134,17 +134,16 @@ fn least_chain<P: Steps>(
     sought: Sought,
     cache: &mut P::Cache,
 ) -> Result<Option<Aimed>, OutOfMemory> {
-    let mut rounds = Rounds::of(alloc, view_of(grid), sought, cache);
     let mut least = Least {
         chain: None,
         cost: usize::MAX,
     };
-    rounds.go_through(p, grid, grade)?;
-    least.try_all(alloc, p, grid, sought, &mut rounds)?;
-    if least.is_worth_another() {
-        rounds.begin_at_once(alloc);
-        rounds.go_through(p, grid, grade)?;
-        least.try_all(alloc, p, grid, sought, &mut rounds)?;
+    for is_at_once in [false, true] {
+        if !is_at_once || least.is_worth_another() {
+            let mut rounds = Rounds::of(alloc, view_of(grid), sought, is_at_once, cache);
+            rounds.go_through(p, grid, grade)?;
+            least.try_all(alloc, p, grid, sought, &mut rounds)?;
+        }
     }
     Ok(least.chain)
 }

@@ -3,10 +3,9 @@
 
 use crate::aims::Aim;
 use crate::chain::Step;
-use crate::needs::{Values, left, looked_at, needs_of, squares_from};
+use crate::needs::{Values, left, looked_at, needs_of};
 use crate::premises::few_premises;
 use crate::replays::{struck, take};
-use crate::seen::struck_along;
 use latin_board::{CELLS, OutOfMemory};
 use named_steps::{Reason, Steps};
 use std::alloc::Global;
@@ -116,40 +115,14 @@ fn struck_now<P: Steps>(
     reason: &Reason,
     cache: &mut P::Cache,
 ) -> Values {
-    let by_clue = struck_by_clue(p, candidates, reason, cache);
     let mut now = Values::none();
     for step in steps {
         if step.reason == *reason {
             let cell = step.cell as usize;
-            let strikes = match &by_clue {
-                Some(all) => all.of(cell),
-                None => struck(p, candidates, reason, cell, cache),
-            };
+            let strikes = struck(p, candidates, reason, cell, cache);
             let values = step.values.intersection(left(candidates, cell));
             now.add(cell, values.intersection(strikes));
         }
     }
     now
-}
-
-// What a clue strikes in all squares of its line, where the reason is one.
-fn struck_by_clue<P: Steps>(
-    p: &P,
-    candidates: &Candidates,
-    reason: &Reason,
-    cache: &mut P::Cache,
-) -> Option<Values> {
-    let place = match *reason {
-        Reason::Bound { place } | Reason::Stand { place } | Reason::Clue { place } => place,
-        _ => return None,
-    };
-    let cells = squares_from(candidates.size(), place);
-    let row = struck_along(p, candidates, reason, place, &cells, cache);
-    let mut all = Values::none();
-    for k in 0..cells.len() {
-        if k < 9 {
-            all.add(cells[k] as usize, row[k]);
-        }
-    }
-    Some(all)
 }

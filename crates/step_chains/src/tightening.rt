@@ -4,11 +4,10 @@ ghost use Rattle.std.specs.Prelude.{◌≡◌, ◌↔◌, ◌+◌, ◌<◌, take
 ghost use Rattle.named_steps.specs.Chains.{Shows, IsTight};
 ghost use Rattle.step_chains.specs.ChainValues.{steps_of, AreAllNeeded};
 ghost use Rattle.step_chains.specs.Inner.Aims.{IsAimOf, aim_goal};
-ghost use Rattle.step_chains.specs.Inner.Replays.{AreTimely};
-ghost use Rattle.step_chains.specs.Inner.Tight.{FromEach, IsDoneFrom, IsNarrowedTo, IsLeftOut};
+ghost use Rattle.step_chains.specs.Inner.Replays.{AreTimely, IsGradeChain};
+ghost use Rattle.step_chains.specs.Inner.Tight.{IsDoneFrom, IsNarrowedTo, IsLeftOut};
 
 use crate::aims::Aim;
-use crate::broken_steps::{Spared, has_broken};
 use crate::chain::Step;
 use crate::replays::{come_to, take_all};
 use named_steps::{Grade, Steps};
@@ -65,32 +64,6 @@ fn narrow<P: Steps>(
     ensures narrowed { IsDoneFrom (StruckBy P.puzzle P.own p.now) grade candidates.old (index + 1) steps.old.items (aim_goal aim)
         → IsNarrowedTo (StruckBy P.puzzle P.own p.now) grade candidates.old index steps.old.items steps.new.items (aim_goal aim) }
 {
-    let mark = candidates.mark();
-    take_all(candidates, &steps[..index]);
-    narrow_here(p, grade, candidates, steps, index, aim, cache);
-    candidates.give_back(mark);
-}
-
-// The same, where what all steps before it list is taken away.
-fn narrow_here<P: Steps>(
-    p: &P,
-    grade: Grade,
-    candidates: &mut Candidates,
-    steps: &mut Vec<Step>,
-    index: usize,
-    aim: Aim,
-    cache: &mut P::Cache,
-)
-    requires size { candidates.old.size ≡ (P.puzzle p.now).size }
-    requires aim { IsAimOf candidates.old.size aim }
-    requires inside { index < length steps.old.items }
-    ensures same { candidates.new ≡ candidates.old }
-    ensures length { length steps.new.items ≡ length steps.old.items }
-    ensures front { take index steps.new.items ≡ take index steps.old.items }
-    ensures narrowed { FromEach (StruckBy P.puzzle P.own p.now) grade index steps.old.items candidates.old
-        (λ c. IsDoneFrom (StruckBy P.puzzle P.own p.now) grade c (index + 1) steps.old.items (aim_goal aim)
-        → IsNarrowedTo (StruckBy P.puzzle P.own p.now) grade c index steps.old.items steps.new.items (aim_goal aim)) }
-{
     let _size = candidates.size();
     for value in 1..10 {
         leave_out(p, grade, candidates, steps, index, value, aim, cache);
@@ -114,11 +87,9 @@ fn leave_out<P: Steps>(
     requires value { value < 16 }
     ensures same { candidates.new ≡ candidates.old }
     ensures length { length steps.new.items ≡ length steps.old.items }
-    ensures front { take index steps.new.items ≡ take index steps.old.items }
-    ensures left { FromEach (StruckBy P.puzzle P.own p.now) grade index steps.old.items candidates.old
-        (λ c. Shows (StruckBy P.puzzle P.own p.now) grade c (steps_of steps.old.items) (aim_goal aim)
-        → Shows (StruckBy P.puzzle P.own p.now) grade c (steps_of steps.new.items) (aim_goal aim)
-        × IsLeftOut (StruckBy P.puzzle P.own p.now) grade c index value steps.old.items steps.new.items (aim_goal aim)) }
+    ensures left { Shows (StruckBy P.puzzle P.own p.now) grade candidates.old (steps_of steps.old.items) (aim_goal aim)
+        → Shows (StruckBy P.puzzle P.own p.now) grade candidates.old (steps_of steps.new.items) (aim_goal aim)
+        × IsLeftOut (StruckBy P.puzzle P.own p.now) grade candidates.old index value steps.old.items steps.new.items (aim_goal aim) }
 {
     let step = steps[index];
     let _bits = step.values.bits();
@@ -128,44 +99,31 @@ fn leave_out<P: Steps>(
     let less = step.without(value);
     let _less_bits = less.values.bits();
     steps[index] = less;
-    if !shows_on(
-        p,
-        grade,
-        candidates,
-        steps.as_slice(),
-        index,
-        value,
-        aim,
-        cache,
-    ) {
+    if !shows_on(p, grade, candidates, steps.as_slice(), index, aim, cache) {
         steps[index] = step;
     }
 }
 
-// Whether the steps come to the aim, where what those before an index list is taken away, of a chain of the grade's, and the one at the index
-// spares a value. Mostly the value breaks a step by a clue, and then the others need not be followed.
+// Whether the steps come to the aim, of which those before an index are a chain of the grade's.
 fn shows_on<P: Steps>(
     p: &P,
     grade: Grade,
     candidates: &mut Candidates,
     steps: &[Step],
     index: usize,
-    value: u8,
     aim: Aim,
     cache: &mut P::Cache,
 ) -> bool
     requires size { candidates.old.size ≡ (P.puzzle p.now).size }
     requires aim { IsAimOf candidates.old.size aim }
     requires inside { index < length steps.now }
-    requires value { value < 16 }
     ensures same { candidates.new ≡ candidates.old }
-    ensures shows { FromEach (StruckBy P.puzzle P.own p.now) grade index steps.now candidates.old
-        (λ c. IsTrue result ↔ Shows (StruckBy P.puzzle P.own p.now) grade c (steps_of steps.now) (aim_goal aim)) }
+    ensures shows { IsGradeChain (StruckBy P.puzzle P.own p.now) grade candidates.old (steps_of (take index steps.now))
+        → IsTrue result ↔ Shows (StruckBy P.puzzle P.own p.now) grade candidates.old (steps_of steps.now) (aim_goal aim) }
 {
-    let cell = steps[index].cell;
-    let rest = &steps[index..];
-    if has_broken(p, grade, candidates, rest, Spared { cell, value }, cache) {
-        return false;
-    }
-    come_to(p, grade, candidates, rest, aim, cache)
+    let mark = candidates.mark();
+    take_all(candidates, &steps[..index]);
+    let shows = come_to(p, grade, candidates, &steps[index..], aim, cache);
+    candidates.give_back(mark);
+    shows
 }

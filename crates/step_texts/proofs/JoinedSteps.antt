@@ -1,15 +1,8 @@
 -- Steps that are told together, one more at a time.
-use Rattle.std.proofs.Common.{◌≡◌, ◌<◌, ◌+◌, ℕ, List, [], ◌∷◌, ◌++◌, take, length, get_or, refl, sym, ap, ◌∙◌, subst, true}
-use Rattle.std.proofs.lemmas.List.{take_more, map-append}
+use Rattle.std.proofs.Common.{◌≡◌, ◌<◌, ◌+◌, ℕ, List, [], ◌∷◌, ◌++◌, take, length, get_or, refl, sym, ap, ◌∙◌, subst}
+use Rattle.std.proofs.lemmas.List.{take_more}
 use Rattle.std.proofs.lemmas.List.Elements.{All-push}
-use Rattle.trail_solver.specs.Pairs.{has_pair}
 use Rattle.trail_solver.specs.Candidates.{CandidatesValue}
-use Rattle.line_steps.specs.Left.{AreAlike, without}
-use Rattle.line_steps.specs.Chains.{left_by}
-use Rattle.line_steps.specs.Takes.{Takes}
-use Rattle.line_steps.proofs.Chains.{left_size, left_append}
-use Rattle.step_chains.specs.ChainValues.{step_value, steps_of}
-use Rattle.step_chains.proofs.Followed.{taken_alike}
 use Rattle.step_chains.specs.declared.chain.Step.{Step}
 use Rattle.step_texts.specs.Looks.{HoldsAt, IsJoinable, AreRising, last_cell, AreJoined}
 use Rattle.line_steps.specs.Reasons.{Striking}
@@ -41,19 +34,3 @@ joined_more Struck w c first steps at step last inside is latest are new =
       hold = All-push (λ (s : Step). HoldsAt Struck w c s) (take at steps) step are.hold new.holds;
       rising = rising_more first.cell (take at steps) step are.rising (subst (λ n. n < step.cell) latest new.later);
     })
-
--- one step more is taken away
-pub taken_more : (c d e : CandidatesValue) (steps : List Step) (at : ℕ) (step : Step) → at < length steps → step ≡ get_or steps at step
-    → (d.size ≡ c.size) × AreAlike (left_by c (steps_of (take at steps))) d → Takes (λ cell v. has_pair (step_value step).strikes cell v ≡ true) d e
-    → (e.size ≡ c.size) × AreAlike (left_by c (steps_of (take (at + 1) steps))) e
-taken_more c d e steps at step inside is before t =
-    let front = steps_of (take at steps) in
-    let end = left_by c front in
-    let listed : steps_of (take (at + 1) steps) ≡ front ++ step_value step ∷ [] =
-    ap steps_of (grown steps at step inside is) ∙ map-append step_value (take at steps) (step ∷ []) in
-    let last : left_by c (steps_of (take (at + 1) steps)) ≡ without end (step_value step).strikes =
-    ap (λ xs. left_by c xs) listed ∙ left_append c front (step_value step ∷ []) in (
-      t.size ∙ before.0,
-      subst (λ (x : CandidatesValue). AreAlike x e) (sym last)
-          (taken_alike end d e (step_value step).strikes (before.0 ∙ sym (left_size c front)) before.1 t),
-    )

@@ -4,7 +4,7 @@ use Rattle.trail_solver.specs.Candidates.{CandidatesValue}
 use Rattle.line_steps.specs.Left.{IsLeft, IsFewer, AreAlike}
 use Rattle.towers_game.specs.Fillings.{Anything, Standing}
 use Rattle.line_steps.specs.declared.reason.Reason.{Reason}
-use Rattle.line_steps.specs.declared.reason.Reason.TheVariants.{Given, Peer, Place, Bound, Stand, Clue, Sign, Set}
+use Rattle.line_steps.specs.declared.reason.Reason.TheVariants.{Bound, Stand, Clue}
 use Rattle.step_chains.specs.declared.chain.Step.{Step}
 use Rattle.shown_counts.specs.Shown.{CanShow, IsShownBy, is_at_clue}
 use Rattle.step_texts.specs.declared.told.Strike.{Strike}
@@ -29,17 +29,13 @@ shown_more w May More place cell v count more s =
 -- so where more is left
 shown_left : (c d : CandidatesValue) → c.size ≡ d.size → IsFewer d c → (reason : Reason) (cell v count : ℕ) → IsShownBy c reason cell v count
     → IsShownBy d reason cell v count
-shown_left c d size fewer (Given at) cell v count s = s
-shown_left c d size fewer (Peer by) cell v count s = s
-shown_left c d size fewer (Place line index other) cell v count s = s
 shown_left c d size fewer (Bound place) cell v count s = subst (λ w. CanShow w Anything place cell v count) size s
 shown_left c d size fewer (Stand place) cell v count s =
     shown_more d.size (Standing c) (Standing d) place cell v count (λ at n stands alone none. stands alone (λ other left. none other (fewer at other left)))
     (subst (λ w. CanShow w (Standing c) place cell v count) size s)
 shown_left c d size fewer (Clue place) cell v count s =
     shown_more d.size (IsLeft c) (IsLeft d) place cell v count fewer (subst (λ w. CanShow w (IsLeft c) place cell v count) size s)
-shown_left c d size fewer (Sign from to) cell v count s = s
-shown_left c d size fewer (Set line squares values) cell v count s = s
+shown_left c d size fewer reason cell v count s = s
 
 counts_alike : (c d : CandidatesValue) → c.size ≡ d.size → AreAlike c d → (reason : Reason) (cell values : ℕ) (shows : Option (List ℕ))
     → AreToldCounts c reason cell values shows → AreToldCounts d reason cell values shows

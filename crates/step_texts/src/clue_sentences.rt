@@ -31,23 +31,12 @@ pub(crate) fn say_clue(
 ) -> fmt::Result {
     let size = at.size;
     write!(text, "Clue {at}")?;
-    match knowing {
-        Knowing::Alone if at.clue == 1 => {
-            write!(
-                text,
-                ": the nearest tower is the tallest, so {}.",
-                Losses { size, strikes }
-            )
-        }
-        Knowing::Alone if at.clue == size.get() => {
-            write!(
-                text,
-                ": all towers are seen and rise, so {}.",
-                Losses { size, strikes }
-            )
-        }
-        _ => say_shown(text, at, knowing, line, strikes),
-    }
+    let why = match knowing {
+        Knowing::Alone if at.clue == 1 => "the nearest tower is the tallest",
+        Knowing::Alone if at.clue == size.get() => "all towers are seen and rise",
+        _ => return say_shown(text, at, knowing, line, strikes),
+    };
+    write!(text, ": {why}, so {}.", Losses { size, strikes })
 }
 
 // What has to be known, and what would be seen with the numbers that are struck: all with which the same would be seen together.
@@ -60,7 +49,7 @@ fn say_shown(
 ) -> fmt::Result {
     let shown = shown_strikes(line, strikes, at.clue);
     let shown = shown.as_slice();
-    say_knowing(text, at, knowing, line, strikes, shown)?;
+    say_knowing(text, at, knowing, line, shown)?;
     write!(text, ": ")?;
     for index in 0..shown.len() {
         for number in 1..10 {
@@ -76,7 +65,6 @@ fn say_knowing(
     at: &EdgeClue,
     knowing: Knowing,
     line: &ClueCounts,
-    strikes: &[Strike],
     shown: &[ShownStrike],
 ) -> fmt::Result {
     let words = match knowing {
@@ -84,7 +72,7 @@ fn say_knowing(
         Knowing::Stands => "with the numbers in",
         Knowing::Marks => "by what is left in",
     };
-    match needed_places(line, strikes, shown, at.clue) {
+    match needed_places(line, shown, at.clue) {
         None => write!(text, ", {words} {}", GridLine::from(at.size, at.place)),
         Some(places) if places.is_empty() => Ok(()),
         Some(places) => {

@@ -3,7 +3,6 @@ ghost use Rattle.std.specs.Prelude.{◌<◌};
 
 use crate::names::{EdgeClue, Joined, List, Square, Squares, between, numbers};
 use crate::showing::ShownStrike;
-use crate::told::Strike;
 use crate::writing::Writing;
 use arrayvec::ArrayVec;
 use line_steps::view_cell;
@@ -19,7 +18,6 @@ const MOST_NUMBERS: u32 = 8;
 /// The places of the line whose numbers are enough, if they are few: with anything in the other squares as much would be seen, number by number.
 pub(crate) fn needed_places(
     line: &ClueCounts,
-    strikes: &[Strike],
     shown: &[ShownStrike],
     clue: u8,
 ) -> Option<NumberSet> {
@@ -28,7 +26,7 @@ pub(crate) fn needed_places(
     }
     let mut places = known_places(line);
     for is_open in [true, false] {
-        places = without_needless(line, strikes, shown, clue, places, is_open);
+        places = without_needless(line, shown, clue, places, is_open);
     }
     if are_few(line, places) {
         Some(places)
@@ -52,7 +50,6 @@ fn known_places(line: &ClueCounts) -> NumberSet {
 // These places but for the open ones, or those with one number, that nothing depends on, from the far end on.
 fn without_needless(
     line: &ClueCounts,
-    strikes: &[Strike],
     shown: &[ShownStrike],
     clue: u8,
     places: NumberSet,
@@ -66,7 +63,8 @@ fn without_needless(
         // Once too many are kept, the others don't matter.
         if needed.has(index) && line.may(index).is_single() != is_open && are_few(line, kept) {
             let less = needed.difference(NumberSet::one(index));
-            if shows_the_same(&line.knowing(less), strikes, shown, clue) {
+            let known = line.knowing(less);
+            if shown.iter().all(|strike| strike.is_shown_by(&known, clue)) {
                 needed = less;
             } else {
                 kept = kept.union(NumberSet::one(index));
@@ -74,13 +72,6 @@ fn without_needless(
         }
     }
     needed
-}
-
-// Whether a line shows as much with each number that is struck.
-fn shows_the_same(line: &ClueCounts, strikes: &[Strike], shown: &[ShownStrike], clue: u8) -> bool {
-    strikes.iter().zip(shown).all(|(strike, before)| before.is_as(&ShownStrike::of(
-        line, strike, clue,
-    )))
 }
 
 fn are_few(line: &ClueCounts, places: NumberSet) -> bool {

@@ -2,15 +2,11 @@
 ghost use Rattle.line_steps.specs.Reasons.{StruckBy};
 ghost use Rattle.std.specs.Prelude.{◌≡◌, ◌↔◌, ◌<◌, ◌≤◌, ℕ, ◌*◌, ◌+◌, ◌^◌, true, drop, length, take, IsTrue};
 ghost use Rattle.number_sets.specs.Sets.{has_number};
-ghost use Rattle.trail_solver.specs.Pairs.{IsPair, has_pair};
+ghost use Rattle.trail_solver.specs.Pairs.{IsPair};
 ghost use Rattle.trail_solver.specs.Candidates.{may_be};
-ghost use Rattle.line_steps.specs.Left.{AreAlike};
-ghost use Rattle.line_steps.specs.Chains.{left_by};
-ghost use Rattle.line_steps.specs.Takes.{Takes};
-ghost use Rattle.step_chains.specs.ChainValues.{step_value, steps_of};
 ghost use Rattle.step_texts.specs.Looks.{HoldsAt, IsJoinable, AreJoined, HasNoMore};
 
-use named_steps::{Reason, Steps, strike as take};
+use named_steps::{Reason, Steps};
 use number_sets::NumberSet;
 use step_chains::Step;
 use trail_solver::{Candidates, Rules};
@@ -88,26 +84,4 @@ fn struck_left<P: Steps>(
     }
     p.strikes(candidates, *reason, cell, cache)
         .intersection(candidates.values(cell))
-}
-
-/// Takes away what steps strike.
-pub(crate) fn strike_all(candidates: &mut Candidates, steps: &[Step])
-    ensures size { candidates.new.size ≡ candidates.old.size }
-    ensures leaves { AreAlike (left_by candidates.old (steps_of steps.now)) candidates.new }
-{
-    for step in steps {
-        strike(candidates, step);
-    }
-}
-
-fn strike(candidates: &mut Candidates, step: &Step)
-    ensures { Takes (λ cell v. has_pair (step_value step.now).strikes cell v ≡ true) candidates.old candidates.new }
-{
-    let width = candidates.size().get() as usize;
-    let cell = step.cell as usize;
-    let _bits = step.values.bits();
-    if cell >= width * width {
-        return;
-    }
-    take(candidates, cell, step.values);
 }

@@ -22,12 +22,12 @@ pub(crate) enum Showing {
 }
 
 impl Showing {
-    /// What the line shows with a number at an index.
-    pub(crate) fn of(line: &ClueCounts, index: u8, number: u8, clue: u8) -> Showing
+    /// What the line shows with a number at an index, with which these counts are shown.
+    fn of(line: &ClueCounts, index: u8, number: u8, counts: NumberSet, clue: u8) -> Showing
         requires index { index < line.now.size }
         requires number { number < 16 }
     {
-        let beside = Showing::beside(line.counts(index, number), clue);
+        let beside = Showing::beside(counts, clue);
         match beside {
             Showing::Both(_) => split(line, index, number, clue).unwrap_or(beside),
             _ => beside,
@@ -88,18 +88,13 @@ fn tallest_open(line: &ClueCounts, number: u8) -> Option<u8>
     open.greatest()
 }
 
-/// What is struck in a square of a clue's line, and what would be seen with each number of it, told by sets of these numbers.
+/// What is struck in a square of a clue's line, and what would be seen with each number of it.
 #[derive(Clone, Copy, Debug)]
 pub(crate) struct ShownStrike {
     pub(crate) cell: u8,
     pub(crate) values: NumberSet,
-    more: NumberSet,
-    fewer: NumberSet,
-    // where it depends on a number's place: that number, and the places with which it is fewer, by the struck number
-    tallest: [u8; 10],
-    places: [NumberSet; 10],
-    // where nothing of this is so: all counts, by the struck number
-    counts: [NumberSet; 10],
+    // by the struck number
+    showings: [Showing; 10],
 }
 
 impl Default for ShownStrike {
@@ -107,67 +102,16 @@ impl Default for ShownStrike {
         ShownStrike {
             cell: 0,
             values: NumberSet::empty(),
-            more: NumberSet::empty(),
-            fewer: NumberSet::empty(),
-            tallest: [0; 10],
-            places: [NumberSet::empty(); 10],
-            counts: [NumberSet::empty(); 10],
+            showings: [Showing::Never; 10],
         }
     }
 }
 
 impl ShownStrike {
-    /// What is seen with the numbers of a strike.
-    pub(crate) fn of(line: &ClueCounts, strike: &Strike, clue: u8) -> ShownStrike {
-        let mut shown = ShownStrike::default();
-        shown.cell = strike.cell;
-        shown.values = strike.values;
-        if let Some(index) = line.index_of(strike.cell) {
-            for number in 1..10 {
-                if strike.values.has(number) {
-                    shown.note(number, Showing::of(line, index, number, clue));
-                }
-            }
-        }
-        shown
-    }
-
-    // Notes what would be seen with a number.
-    fn note(&mut self, number: u8, showing: Showing)
-        requires { number < 10 }
-    {
-        match showing {
-            Showing::Never => {}
-            Showing::More => self.more = self.more.union(NumberSet::one(number)),
-            Showing::Fewer => self.fewer = self.fewer.union(NumberSet::one(number)),
-            Showing::Split {
-                number: tallest,
-                places,
-            } => {
-                self.tallest[number as usize] = tallest;
-                self.places[number as usize] = places;
-            }
-            Showing::Both(counts) => self.counts[number as usize] = counts,
-        }
-    }
-
     /// What would be seen with a number in the square.
     pub(crate) fn with(&self, number: u8) -> Showing {
-        if number >= 10 {
-            return Showing::Never;
-        }
-        let at = number as usize;
-        if self.more.has(number) {
-            Showing::More
-        } else if self.fewer.has(number) {
-            Showing::Fewer
-        } else if !self.places[at].is_empty() {
-            Showing::Split {
-                number: self.tallest[at],
-                places: self.places[at],
-            }
-        } else if !self.counts[at].is_empty() {
-            Showing::Both(self.counts[at])
+        if number < 10 {
+            self.showings[number as usize]
         } else {
             Showing::Never
         }
@@ -187,22 +131,25 @@ impl ShownStrike {
     /// Whether with each struck number it is known whether fewer or more are seen.
     pub(crate) fn is_clear(&self) -> bool {
         for number in 1..10 {
-            let is_told = match self.with(number) {
-                Showing::Never | Showing::Both(_) => false,
-                _ => true,
-            };
-            if self.values.has(number) && !is_told {
+            let is_open = matches!(self.with(number), Showing::Never | Showing::Both(_));
+            if self.values.has(number) && is_open {
                 return false;
             }
         }
         true
     }
 
-    /// Whether the same would be seen with each of the struck numbers.
-    pub(crate) fn is_as(&self, other: &ShownStrike) -> bool {
+    /// Whether a line shows the same with each of the struck numbers.
+    pub(crate) fn is_shown_by(&self, line: &ClueCounts, clue: u8) -> bool {
+        let Some(index) = line.index_of(self.cell) else {
+            return true;
+        };
         for number in 1..10 {
-            if self.values.has(number) && self.with(number) != other.with(number) {
-                return false;
+            if self.values.has(number) {
+                let counts = line.counts(index, number);
+                if self.with(number) != Showing::of(line, index, number, counts, clue) {
+                    return false;
+                }
             }
         }
         true
@@ -217,7 +164,26 @@ pub(crate) fn shown_strikes(
 ) -> ArrayVec<ShownStrike, 9> {
     let mut shown = ArrayVec::new();
     for strike in strikes {
-        let _fits = shown.try_push(ShownStrike::of(line, strike, clue));
+        let showings = showings_with(line, strike, clue);
+        let _fits = shown.try_push(ShownStrike {
+            cell: strike.cell,
+            values: strike.values,
+            showings,
+        });
     }
     shown
+}
+
+// What would be seen with each number of a strike.
+fn showings_with(line: &ClueCounts, strike: &Strike, clue: u8) -> [Showing; 10] {
+    let mut showings = [Showing::Never; 10];
+    if let (Some(index), Some(shows)) = (line.index_of(strike.cell), strike.shows) {
+        for number in 1..10 {
+            if strike.values.has(number) {
+                let counts = shows[number as usize];
+                showings[number as usize] = Showing::of(line, index, number, counts, clue);
+            }
+        }
+    }
+    showings
 }

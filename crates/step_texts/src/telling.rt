@@ -6,7 +6,7 @@ ghost use Rattle.line_steps.specs.declared.reason.Reason.{Reason};
 ghost use Rattle.shown_counts.specs.Shown.{IsLineOf};
 ghost use Rattle.step_texts.specs.Told.{AreToldCounts, AreToldStrikes, IsToldOf, AreTold};
 
-use crate::looks::{joined_steps, strike_all};
+use crate::looks::joined_steps;
 use crate::sentences::say_step;
 use crate::step_names::StepNames;
 use crate::told::{Strike, ToldStep};
@@ -14,7 +14,7 @@ use crate::writing::{Writing, said};
 use number_sets::NumberSet;
 use shown_counts::ClueCounts;
 use std::alloc::{AllocError, Global};
-use step_chains::Step;
+use step_chains::{Step, take_all};
 use trail_solver::{Candidates, Rules};
 
 /// The steps of a chain from candidates on, as they are told: those side by side that have one reason, hold at once and are in reading order
@@ -38,7 +38,7 @@ pub fn told_steps<P: StepNames>(
         let joined = joined_steps(p, &candidates, first, &rest[1..], &mut cache);
         let (look, more) = rest.split_at(joined + 1);
         told.push(told_step(alloc, p, &candidates, first, look)?)?;
-        strike_all(&mut candidates, look);
+        take_all(&mut candidates, look);
         rest = more;
     }
     Ok(told)

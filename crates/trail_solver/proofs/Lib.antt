@@ -16,7 +16,6 @@ pub mod DeniedItems
 pub mod JoinedAnswers
 pub mod SearchSteps
 pub mod ShavingSteps
-pub mod NogoodSteps
 pub mod Pigeonholes
 pub mod PairedSquares
 pub mod CrowdSteps

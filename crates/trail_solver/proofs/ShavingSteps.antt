@@ -1,10 +1,11 @@
 -- The steps of shaving: what each does to the solutions among the candidates.
 use Rattle.std.proofs.Common.{ℕ, Bool, true, false, refl}
+use Rattle.std.specs.Bool.{OnFalse}
 use Rattle.latin_board.specs.Squares.{GridValue}
 use Rattle.trail_solver.specs.Candidates.{CandidatesValue}
 use Rattle.trail_solver.specs.Puzzles.{Puzzle}
-use Rattle.trail_solver.specs.Inner.Among.{IsAmongAt}
-use Rattle.trail_solver.specs.Inner.Searches.{SearchValue, NarrowsSearch}
+use Rattle.trail_solver.specs.Inner.Among.{IsAmong, IsAmongAt}
+use Rattle.trail_solver.specs.Inner.Searches.{SearchValue, IsFurther, AreSame, NarrowsSearch}
 use Rattle.trail_solver.proofs.AmongCandidates.{among_earlier}
 use Rattle.trail_solver.proofs.Earlier.{earlier_refl}
 use Rattle.trail_solver.proofs.OneKept.{Removes, removed_earlier}
@@ -17,6 +18,12 @@ shaves_nothing puzzle s = record {
   same = λ h. (λ m. m, λ m. m);
   refutes = tt;
 }
+
+-- what narrowing says, in one word
+pub narrows_from : {P : Type 0} (puzzle : P → Puzzle) (a b : SearchValue P) (result : Bool) → IsFurther a b
+    → AreSame (IsAmong (puzzle a.rules) a.candidates) (IsAmong (puzzle b.rules) b.candidates)
+    → OnFalse result ((g : GridValue) → IsAmong (puzzle a.rules) a.candidates g → ⊥) → NarrowsSearch puzzle a b result
+narrows_from puzzle a b result further same refutes = record { further = further; same = same; refutes = refutes }
 
 -- pairs went, and then more
 pub shaves_then : {P : Type 0} (puzzle : P → Puzzle) (a b c : SearchValue P) (result : Bool) → NarrowsSearch puzzle a b true

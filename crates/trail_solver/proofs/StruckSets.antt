@@ -56,6 +56,11 @@ pub missing_are : (c : CandidatesValue) (cell values kept missing : ℕ) → IsS
 missing_are c cell values kept missing is left v has =
     (is v).0 (and_parts (has_number values v) (not (has_number kept v)) (sym (left v) ∙ has)).0
 
+-- the values that a square has and another set shares are candidates of the square
+pub shared_are : (c : CandidatesValue) (cell values set struck : ℕ) → IsSetOf c cell values
+    → ((v : ℕ) → has_number struck v ≡ (has_number values v && has_number set v)) → AreCandidates c cell struck
+shared_are c cell values set struck is left v has = (is v).0 (and_parts (has_number values v) (has_number set v) (sym (left v) ∙ has)).0
+
 -- they are below 16
 pub missing_strikes : (old new : CandidatesValue) (cell set : ℕ) → IsCandidates old → AreCandidates old cell set → new.size ≡ old.size
     → new.trail ≡ old.trail ++ pairs_of cell set → RemovesAll old new cell set

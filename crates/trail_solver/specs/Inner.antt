@@ -7,4 +7,3 @@ pub mod Added
 pub mod Runs
 pub mod Searches
 pub mod Listed
-pub mod Nogoods

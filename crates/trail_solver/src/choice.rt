@@ -5,7 +5,6 @@ ghost use Rattle.std.specs.Bool.{OnTrue};
 ghost use Rattle.trail_solver.specs.Inner.Squares.{AreSettled, HasNoCandidate, IsBranch, IsChoice, IsFirstOpen, IsOpenSquare};
 
 use crate::candidates::Candidates;
-use crate::guessing::activity::Activity;
 use crate::guessing::failures::Failures;
 use crate::guessing::proposal::best_proposal;
 
@@ -34,20 +33,6 @@ pub(crate) fn choose(candidates: &Candidates, failures: &Failures) -> Choice
             value: best.value,
         },
         _ => lowest_at(candidates, open),
-    }
-}
-
-/// The same, rather where failures were about most.
-pub(crate) fn choose_active(
-    candidates: &Candidates,
-    failures: &Failures,
-    activity: &Activity,
-) -> Choice
-    ensures { IsChoice candidates.now result }
-{
-    match activity.most_active(candidates) {
-        Some((cell, value)) if is_branch(candidates, cell, value) => Choice::Branch { cell, value },
-        _ => choose(candidates, failures),
     }
 }
 

@@ -123,7 +123,7 @@ fn are_just_enough(rights: NumberSet, crowd: NumberSet) -> bool
 }
 
 /// The rights that the lefts of a crowd may have together.
-pub(crate) fn rights_of(sides: &Sides, crowd: NumberSet, width: u8) -> NumberSet
+fn rights_of(sides: &Sides, crowd: NumberSet, width: u8) -> NumberSet
     requires { width < 16 }
     ensures { (left right : ℕ) → left < width → has_number crowd left ≡ true
         → has_number (slice_index sides.now left) right ≡ true → has_number result right ≡ true }

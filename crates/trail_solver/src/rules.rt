@@ -7,15 +7,7 @@ ghost use Rattle.trail_solver.specs.Puzzles.{Puzzle, Solves, HoldsGivens, solves
 ghost use Rattle.trail_solver.specs.Solutions.{Denies, HasNoSolutionWithin, KeepsSolutions};
 
 use crate::candidates::Candidates;
-use latin_board::{CELLS, Grid, Size};
-use number_sets::NumberSet;
-
-/// Values that a square lacks, as the reason why another one lacks a value.
-#[derive(Clone, Copy)]
-pub struct LackedValues {
-    pub cell: usize,
-    pub values: NumberSet,
-}
+use latin_board::{Grid, Size};
 
 /// A puzzle on a Latin square, as a solver and a generator see it.
 ///
@@ -77,17 +69,6 @@ pub trait Rules: Copy {
     {
         // All squares are looked at, whichever of them lost a candidate.
         self.narrow(candidates)
-    }
-
-    /// Whether a search that failed often is to learn from its failures. No answer rests on it.
-    fn learns(&self) -> bool {
-        false
-    }
-
-    /// Why the clues or signs let a value not stand in a square, if the candidates of the squares show it: another square, and values
-    /// that it lacks. It is a hint, and no answer rests on it.
-    fn reason(&self, sets: &[NumberSet; CELLS], cell: usize, value: u8) -> Option<LackedValues> {
-        None
     }
 
     /// How many items a puzzle of this size can have.

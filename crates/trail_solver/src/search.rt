@@ -7,7 +7,7 @@ ghost use Rattle.trail_solver.specs.Inner.Squares.{AreSettled, IsBranch};
 ghost use Rattle.trail_solver.specs.Inner.Among.{IsAmong, IsAmongAt};
 ghost use Rattle.trail_solver.specs.Inner.Runs.{RunAdds};
 ghost use Rattle.trail_solver.specs.declared.answer.Answer.{Answer};
-ghost use Rattle.trail_solver.specs.Inner.Searches.{AreSame, IsFurther, SearchValue};
+ghost use Rattle.trail_solver.specs.Inner.Searches.{AreSame, IsFurther, NarrowsSearch, SearchValue};
 ghost use Rattle.trail_solver.specs.Inner.Added.{Adds};
 ghost use Rattle.trail_solver.specs.Answers.{Fits};
 
@@ -20,11 +20,14 @@ use crate::rules::{Rules, solves};
 use crate::squares::{filled, keep_only, take_away};
 use std::marker::Model;
 
-/// How many failures each run may have that is left for another one. The last run has no limit.
+/// How many failures each run may have that is left before the candidates are shaved.
 const RUN_LIMITS: [u32; 3] = [100, 150, 225];
 
-/// How many more the run may have that is left for learning.
-const BEFORE_LEARNING: u32 = 5000;
+/// How many failures the fourth run may have, after shaving. The fifth and last has no limit.
+const LONG_RUN: u32 = 5000;
+
+/// A guess with so many failures is dear.
+const DEAR_GUESS: u32 = 300;
 
 /// A place to which a search can go back.
 #[derive(Clone, Copy)]
@@ -38,7 +41,8 @@ pub(crate) struct Place {
 ///
 /// It narrows the candidates, tries a value in a square, gives that back, goes on without the value, and stops at the
 /// second solution. A run that fails too often is left, and the search begins anew with the failures that it has counted, so
-/// that it branches elsewhere; before the last run, which has no limit, the candidates are shaved. It takes no memory.
+/// that it branches elsewhere; the last run has no limit. The candidates are shaved before the last two runs, and where a
+/// guess was dear. It takes no memory.
 #[derive(Drop)]
 pub(crate) struct Search<P: Rules> {
     pub rules: P,
@@ -83,8 +87,8 @@ impl<P: Rules> Search<P> {
         self.rules.narrow(&mut self.candidates)
     }
 
-    /// Whether a run has a limit, and the failures reach it.
-    pub fn has_reached(&self, limit: Option<u32>) -> bool
+    // Whether a run has a limit, and the failures reach it.
+    fn has_reached(&self, limit: Option<u32>) -> bool
         ensures { OnTrue result (limit ≢ None) }
     {
         match limit {
@@ -114,6 +118,7 @@ impl<P: Rules> Search<P> {
                 }
                 Choice::Dead => return true,
                 Choice::Branch { cell, value } => {
+                    let dear = self.failures.after(DEAR_GUESS);
                     if !self.guess(cell, value, found, limit) {
                         return false;
                     }
@@ -121,7 +126,7 @@ impl<P: Rules> Search<P> {
                         return true;
                     }
                     take_away(&mut self.candidates, cell, value);
-                    if !self.propagate(cell, Side::Rest) {
+                    if !self.go_on_after(cell, dear) {
                         return true;
                     }
                 }
@@ -147,6 +152,22 @@ impl<P: Rules> Search<P> {
         all
     }
 
+    // Narrows after the cell lost the value of a guess, and shaves if the failures have reached `dear`, by which that guess was
+    // dear; false if that finds that no solution is left.
+    #[tactic(auto, using(crate::proofs::ShavingSteps::shaves_then, crate::proofs::ShavingSteps::narrows_from))]
+    fn go_on_after(&mut self, cell: usize, dear: u32) -> bool
+        requires { cell < self.old.candidates.size * self.old.candidates.size }
+        ensures { NarrowsSearch P.puzzle self.old self.new result }
+    {
+        if !self.propagate(cell, Side::Rest) {
+            return false;
+        }
+        if !self.failures.are_at_least(dear) {
+            return true;
+        }
+        self.shave()
+    }
+
     // What is known, with the solutions among the candidates, which stay as they are, or nothing where the failures reach the
     // limit.
     fn attempt(&mut self, known: &Answer, limit: Option<u32>) -> Option<Answer>
@@ -161,8 +182,8 @@ impl<P: Rules> Search<P> {
         if all { Some(found) } else { None }
     }
 
-    /// What is known, with the solutions among the candidates, which stay as they are. It ends at the second one.
-    pub fn answer_with(&mut self, known: &Answer) -> Answer
+    // What is known, with the solutions among the candidates, which stay as they are. It ends at the second one.
+    fn answer_with(&mut self, known: &Answer) -> Answer
         ensures same { self.new ≡ self.old }
         ensures adds { Adds (IsAmong (P.puzzle self.old.rules) self.old.candidates) known.now result }
     {
@@ -175,7 +196,7 @@ impl<P: Rules> Search<P> {
         self.last_answer(known)
     }
 
-    // The same of a search that had all its limited runs: once the candidates are shaved, one run goes through all.
+    // The same of a search that had all its short runs: the candidates are shaved first.
     fn last_answer(&mut self, known: &Answer) -> Answer
         ensures same { self.new ≡ self.old }
         ensures adds { Adds (IsAmong (P.puzzle self.old.rules) self.old.candidates) known.now result }
@@ -199,18 +220,15 @@ impl<P: Rules> Search<P> {
         }
     }
 
-    // The same of candidates that are shaved: by one run without a limit, or where the rules say so by learning after one more limited run.
+    // The same of candidates that are shaved: by one more run with a limit, or otherwise by one without.
     fn thorough_answer(&mut self, known: &Answer) -> Answer
         ensures same { self.new ≡ self.old }
         ensures adds { Adds (IsAmong (P.puzzle self.old.rules) self.old.candidates) known.now result }
     {
-        if !self.rules.learns() {
-            return self.whole_answer(known);
-        }
-        let limit = self.failures.after(BEFORE_LEARNING);
+        let limit = self.failures.after(LONG_RUN);
         match self.attempt(known, Some(limit)) {
             Some(answer) => answer,
-            None => self.learning_answer(known),
+            None => self.whole_answer(known),
         }
     }
 
@@ -321,7 +339,7 @@ impl<P: Rules> Search<P> {
     // frames of the calls within calls.
     #[inline(never)]
     #[tactic(auto, using(crate::proofs::SearchSteps::leaf_adds, crate::proofs::SearchSteps::leaf_none))]
-    pub fn add_leaf(&self, found: &mut Answer)
+    fn add_leaf(&self, found: &mut Answer)
         requires { AreSettled self.now.candidates }
         ensures { Adds (IsAmong (P.puzzle self.now.rules) self.now.candidates) found.old found.new }
     {

@@ -14,7 +14,9 @@ use crate::search::Search;
 use crate::squares::{keep_only, take_away};
 
 impl<P: Rules> Search<P> {
-    /// Supposes each pair of the candidates once; false where that finds that no solution is among them.
+    /// Supposes each pair of the candidates once; false where that finds that no solution is among them. It isn't inlined, so that
+    /// it takes no room in the frames of the calls within calls.
+    #[inline(never)]
     #[tactic(auto, using(crate::proofs::ShavingSteps::shaves_nothing, crate::proofs::ShavingSteps::shaves_then))]
     pub fn shave(&mut self) -> bool
         ensures { NarrowsSearch P.puzzle self.old self.new result }

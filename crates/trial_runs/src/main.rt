@@ -7,7 +7,7 @@
 //! | `answers` | answers the lines of standard input, requests whose answers were made elsewhere ([`requests`]) |
 //! | `calls` | lists the calls that it can make, each with its game |
 //! | `call GAME NAME` | makes one of them ([`calls`]) |
-//! | `solver`, `listing`, `each`, `each-listing`, `generator`, `saves`, `checks`, `objects` | times what standard input names ([`timing`]) |
+//! | `each`, `each-listing` | times the solver on the puzzles of standard input ([`timing`]) |
 //!
 //! Where memory is refused before the words are known, it writes `fixture` alone.
 #![tactic(auto)]
@@ -18,7 +18,7 @@ mod timing;
 
 use crate::calls::{list_calls, make_call};
 use crate::requests::answer_requests;
-use crate::timing::time_named;
+use crate::timing::{Task, time_lines};
 use std::alloc::Global;
 use std::process::ExitCode;
 use std::rt::{Clock, Env, Files};
@@ -75,15 +75,15 @@ fn do_part<R: Clock + Alloc<A = Global> + Input + Files + Print + Eprint>(
     match word {
         "answers" => answer_requests(rt)?,
         "calls" => list_calls(rt)?,
-        word => return time_named(rt, word),
+        "each" => time_lines(rt, Task::Solve)?,
+        "each-listing" => time_lines(rt, Task::List)?,
+        _ => return Ok(false),
     }
     Ok(true)
 }
 
 // Says which parts there are.
 fn say_parts(rt: &impl Eprint) -> io::Result<ExitCode> {
-    eprintln!(rt;
-        "trial_runs: answers, calls, call GAME NAME, solver, listing, each, each-listing, generator, saves, checks or objects"
-    )?;
+    eprintln!(rt; "trial_runs: answers, calls, call GAME NAME, each or each-listing")?;
     Ok(ExitCode::from(2))
 }

@@ -1,5 +1,5 @@
-//! Answers lines of requests whose answers were made elsewhere: by the usual program, by its manual, and by tools/reference,
-//! which is written from docs/RULES.md and docs/FORMATS.md alone and makes the wanted output.
+//! Answers lines of requests whose answers were made elsewhere: by the usual program, by its manual, and by
+//! tests/second_implementation, which is written from docs/RULES.md and docs/FORMATS.md alone and makes the wanted output.
 //!
 //! | line | answer |
 //! |---|---|
@@ -11,7 +11,7 @@
 //! | `fair GAME SIZE LETTER SEED` | the ID of a seed's fair game, or the refusal's name |
 //!
 //! A line that begins with # comes back as it is. Files lie in data/, in a folder for each game: fresh-, solved- and played- ones were
-//! written by the usual program (bench/README.md), worked- ones by hand.
+//! written by the usual program (docs/SOURCES.md), worked- ones by hand.
 //!
 //! ```text
 //! $ printf 'load towers/worked-undone.sav\nsquare 3 0\n' | trial_runs answers

@@ -14,7 +14,6 @@ mod item;
 mod items;
 mod lines;
 mod pieces;
-mod reasons;
 mod rules;
 mod sign;
 mod sign_bounds;

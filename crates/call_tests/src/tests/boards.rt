@@ -1,7 +1,7 @@
-//! Grids, boards, marks and changes at worked values.
+//! Grids, boards and marks at worked values.
 
 use super::worked::grid_of;
-use latin_board::{Board, Change, Grid, Marks, OutOfMemory, Size, edge_place, edge_xy, line_cell};
+use latin_board::{Board, Grid, Marks, OutOfMemory, Size, edge_place, edge_xy, line_cell};
 use std::alloc::Global;
 
 fn is_said(alloc: Global) -> bool {
@@ -77,11 +77,6 @@ fn lines_and_edges(rt: HostRuntime) {
     assert!(rt; are_in_their_places());
 }
 
-// The board of width 3 that begins with these numbers.
-fn start(digits: &str) -> Option<Board> {
-    Some(Board::start(&grid_of(3, digits)?))
-}
-
 const GIVEN: &str = "120000000";
 
 fn starts_with_the_grid(board: &Board, grid: &Grid) -> bool {
@@ -113,58 +108,4 @@ fn boards(rt: HostRuntime) {
     let board = Board::start(&grid);
     assert!(rt; starts_with_the_grid(&board, &grid));
     assert!(rt; flips_done_marks(board));
-}
-
-// A board with some of everything on it.
-fn busy_board() -> Option<Board> {
-    let mut board = start(GIVEN)?;
-    if board.size().get() != 3 {
-        return None;
-    }
-    let mut marks = Marks::empty();
-    marks.flip(1);
-    marks.flip(3);
-    board.swap(&mut Change::square(4, 0, marks, true, false));
-    board.flip_done(11);
-    Some(board)
-}
-
-fn changes_a_square(before: Board) -> bool {
-    let mut board = before;
-    let size = board.size();
-    if size.get() != 3 {
-        return false;
-    }
-    let mut change = Change::square(4, 2, Marks::full(size), false, true);
-    board.swap(&mut change);
-    let is_changed = board.digit(4) == 2
-        && board.marks(4) == Marks::full(size)
-        && !board.completed()
-        && board.cheated()
-        && board.done(11)
-        && board != before;
-    board.swap(&mut change);
-    is_changed && board == before
-}
-
-fn changes_the_whole(alloc: Global, before: Board, other: Board) -> bool {
-    let mut board = before;
-    if board.size().get() != 3 || other.size().get() != 3 {
-        return false;
-    }
-    let Ok(mut change) = Change::whole(alloc, other) else {
-        return false;
-    };
-    board.swap(&mut change);
-    let is_other = board == other && !board.done(11);
-    board.swap(&mut change);
-    is_other && board == before && board.done(11)
-}
-
-#[test]
-fn changes(rt: HostRuntime) {
-    let before = busy_board().expect(&rt, "a board");
-    let other = start("123231312").expect(&rt, "a board");
-    assert!(rt; changes_a_square(before));
-    assert!(rt; changes_the_whole(rt.alloc(), before, other));
 }

@@ -1,82 +1,10 @@
-//! The records of a save one by one, and a session that is saved and loaded. Whole saves are loaded from outside.
+//! A session that is saved and loaded. Saves of all kinds are loaded from outside.
 
-use super::rows::{Row, check};
 use super::sessions::new_game;
 use clue_rules::Towers;
 use play_midend::{Move, Session};
-use play_save::{LoadFault, next_record, save, saved_and_loaded};
+use play_save::{save, saved_and_loaded};
 use std::alloc::Global;
-
-// A text, the key and the value of its first record, and the rest.
-struct First(&'static [u8], &'static [u8], &'static [u8], &'static [u8]);
-
-impl Row for First {
-    fn holds(&self, _alloc: Global) -> bool {
-        match next_record(self.0) {
-            Ok(Some((record, rest))) => {
-                record.key == self.1 && record.value == self.2 && rest == self.3
-            }
-            _ => false,
-        }
-    }
-}
-
-#[test]
-fn reads_the_first_record(rt: HostRuntime) {
-    const ROWS: &[First] = &[
-        First(b"GAME    :6:Towers", b"GAME", b"Towers", b""),
-        First(b"\r\n\nGAME    :6:Towers\nX", b"GAME", b"Towers", b"\nX"),
-        First(b"SAVEFILE:1:x", b"SAVEFILE", b"x", b""),
-        First(b" A B    :0:", b" A B", b"", b""),
-        First(b"        :1:xyz", b"", b"x", b"yz"),
-        First(b"UI      :00000003:a:\nb", b"UI", b"a:\n", b"b"),
-        First(b"\x00\xff345678:1:\x00", b"\x00\xff345678", b"\x00", b""),
-    ];
-    check(&rt, rt.alloc(), ROWS);
-}
-
-// A text in which no record is left.
-struct Ended(&'static [u8]);
-
-impl Row for Ended {
-    fn holds(&self, _alloc: Global) -> bool {
-        matches!(next_record(self.0), Ok(None))
-    }
-}
-
-#[test]
-fn ends_where_line_breaks_are_left(rt: HostRuntime) {
-    const ROWS: &[Ended] = &[Ended(b""), Ended(b"\n"), Ended(b"\r\n\r\n\n")];
-    check(&rt, rt.alloc(), ROWS);
-}
-
-// A text that begins with no record.
-struct Malformed(&'static [u8]);
-
-impl Row for Malformed {
-    fn holds(&self, _alloc: Global) -> bool {
-        matches!(next_record(self.0), Err(LoadFault::Malformed))
-    }
-}
-
-#[test]
-fn refuses_what_is_no_record(rt: HostRuntime) {
-    const ROWS: &[Malformed] = &[
-        Malformed(b"G"),
-        Malformed(b"GAME    "),
-        Malformed(b"GAME    :"),
-        Malformed(b"GAME    :6"),
-        Malformed(b"GAME    :6:Tower"),
-        Malformed(b"GAME    ::x"),
-        Malformed(b"GAME    :x:x"),
-        Malformed(b"GAME    :000000001:x"),
-        Malformed(b"GAME   :1:x"),
-        Malformed(b"GAME     :1:x"),
-        Malformed(b"GA:E    :1:x"),
-        Malformed(b"\nGAME   :1:x"),
-    ];
-    check(&rt, rt.alloc(), ROWS);
-}
 
 fn is_saved_so(alloc: Global, session: &Session<Towers>, text: &[u8]) -> bool {
     match save(alloc, session) {

@@ -1,8 +1,6 @@
-//! Sessions of Towers, move texts and changes at worked values. Whole games are played from outside.
+//! Sessions of Towers at worked values. Whole games are played from outside.
 
 mod calls;
-mod changes;
-mod history;
 
 use super::worked::puzzle;
 use clue_rules::{Params, Towers};

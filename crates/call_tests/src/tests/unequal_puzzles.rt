@@ -1,8 +1,6 @@
-//! Descriptions, rules and items of Unequal at worked puzzles of width 3.
+//! Rules and items of Unequal at worked puzzles of width 3.
 
-use super::worked::{
-    full_of, grid_of, has, holds, is_description, is_written, only_solution, without,
-};
+use super::worked::{full_of, grid_of, has, holds, is_description, only_solution, without};
 use clue_rules::{Game, IdFault, Unequal};
 use latin_board::Size;
 use std::alloc::Global;
@@ -12,25 +10,6 @@ use trail_solver::Rules;
 // The puzzle of width 3 that a text describes.
 fn puzzle(text: &str) -> Result<Unequal, IdFault> {
     super::worked::puzzle(3, text)
-}
-
-#[test]
-fn reads_and_writes(rt: HostRuntime) {
-    const SPELLED: &str = "0DRD,0,0,0,3ULU,0,0,0,0,";
-    assert!(rt; is_written::<Unequal>(rt.alloc(), 3, SPELLED, "0RD,0,0,0,3UL,0,0,0,0,"));
-}
-
-fn is_refused(text: &str, fault: IdFault) -> bool {
-    match puzzle(text) {
-        Ok(_) => false,
-        Err(found) => found == fault,
-    }
-}
-
-#[test]
-fn refuses_descriptions(rt: HostRuntime) {
-    assert!(rt; is_refused("0,0,0,0,0,0,0,0,", IdFault::TooFew));
-    assert!(rt; is_refused("0R,0L,0,0,0,0,0,0,0,", IdFault::Contradiction));
 }
 
 // Four signs, whose only solution is 123 231 312.

@@ -5,13 +5,6 @@ use latin_board::{Grid, Size};
 use std::alloc::Global;
 use trail_solver::{Answer, Rules, solve};
 
-/// The description of a puzzle of width 3, in one game or the other.
-#[derive(Clone, Copy)]
-pub(crate) enum Described {
-    Towers(&'static str),
-    Unequal(&'static str),
-}
-
 /// The grid of a width with these numbers in reading order, as digits; the squares after the last are blank.
 pub(crate) fn grid_of(width: u8, digits: &str) -> Option<Grid> {
     let mut grid = Grid::blank(Size::new(width)?);
@@ -38,19 +31,6 @@ pub(crate) fn is_square(grid: &Grid, digits: &str) -> bool {
 pub(crate) fn puzzle<P: Game>(width: u8, text: &str) -> Result<P, IdFault> {
     let size = Size::new(width).ok_or(IdFault::BadSize)?;
     P::read_desc(size, text.as_bytes())
-}
-
-/// The text that is written for the puzzle that a text describes.
-pub(crate) fn rewritten<P: Game>(alloc: Global, width: u8, text: &str) -> Result<Vec<u8>, IdFault> {
-    puzzle::<P>(width, text)?.write_desc(alloc)
-}
-
-/// Whether the puzzle that a text describes is written so.
-pub(crate) fn is_written<P: Game>(alloc: Global, width: u8, text: &str, wanted: &str) -> bool {
-    match rewritten::<P>(alloc, width, text) {
-        Ok(written) => written.as_slice() == wanted.as_bytes(),
-        Err(_) => false,
-    }
 }
 
 /// Whether a puzzle is written so.

@@ -5,7 +5,7 @@ use Rattle.std.specs.Option.{option_copied}
 use Rattle.json.specs.Token.{Token, key}
 use Rattle.json.specs.Tree.{json_tokens}
 use Rattle.json.specs.Written.{Written}
-use Rattle.serde_json.specs.Data.{Data, null, number, string, Members, no_members, member}
+use Rattle.serde_json.specs.Data.{Data, null, number, string}
 use Rattle.serde_json.specs.Find.{of_integer}
 use Rattle.serde_json.specs.Read.{of_json}
 use Rattle.serde_json.specs.Written.{outline}
@@ -57,11 +57,6 @@ pub record MembersFollow (ms : List (List ℕ × Data)) (old new : Written) : Ty
   pub stays : new.before ≡ old.before
   pub adds : new.tokens ≡ old.tokens ++ member_tokens ms
   pub reads : AllMembersRead ms
-
--- some members as those of an object
-abbrev pub as_members : List (List ℕ × Data) → Members
-as_members [] = no_members
-as_members (m ∷ ms) = member m.0 m.1 (as_members ms)
 
 -- what a hint says, of a value of the code
 abbrev pub said_data : Said → SaidData

@@ -1,120 +1,117 @@
 -- Which data have one text: those without floats that are not too deep.
-use Rattle.std.proofs.Common.{◌≡◌, ℕ, suc, ◌≤◌, Bool, true, false, ◌||◌, ℤ, pos, negsuc, List, [], ◌∷◌, ◌++◌, map}
+use Rattle.std.proofs.Common.{◌≡◌, ℕ, zero, suc, ◌*◌, ◌≤◌, Bool, true, false, ◌||◌, if◌then◌else◌, nat_lt, ℤ, pos, negsuc, List, [], ◌∷◌, ◌++◌}
 use Rattle.std.proofs.Common.{Option, Some, None, refl, arith}
-use Rattle.std.specs.List.{flat_map}
-use Rattle.serde_json.specs.Data.{Data, items_depth}
+use Rattle.std.specs.List.{flat_map, range_with_len}
+use Rattle.serde_json.specs.Data.{Data, null, boolean, number, string, array, object, Items, no_items, item, Members, no_members, member, depth, items_depth, members_depth}
 use Rattle.serde_json.specs.Find.{is_float, of_integer}
-use Rattle.serde_json.specs.Written.{has_float, items_have_float}
+use Rattle.serde_json.specs.Written.{has_float, items_have_float, members_have_float}
 use Rattle.serde_json.specs.View.{items_of}
-use Rattle.json_replies.specs.Texts.{text_data, lines_of, lines_data, list_data}
-use Rattle.json_replies.specs.ObjectLines.{IsShallow, IsSpelled}
-use Rattle.json_replies.specs.Replies.{name_data, reply_data}
-use Rattle.json_replies.specs.Boards.{listed_data, when}
 use Rattle.latin_board.specs.Boards.{BoardValue}
-use Rattle.towers_game.specs.Towers.{TowersValue}
-use Rattle.unequal_game.specs.Unequal.{UnequalValue}
-use Rattle.board_checks.specs.Errors.{ErrorsValue}
-use Rattle.json_replies.specs.ClueLists.{clue_data, clues_data, sign_data, later_sign, signs_at, signs_data}
-use Rattle.std.specs.Prelude.{nat_lt, ◌*◌, if◌then◌else◌}
-use Rattle.std.specs.List.{range_with_len}
-use Rattle.towers_game.specs.Towers.{clue_of}
-use Rattle.unequal_game.specs.Unequal.{is_greater}
 use Rattle.latin_board.specs.Edges.{edge_xy}
-use Rattle.serde_json.specs.Data.{array, no_items}
+use Rattle.towers_game.specs.Towers.{TowersValue, clue_of}
+use Rattle.unequal_game.specs.Unequal.{UnequalValue, is_greater}
+use Rattle.board_checks.specs.Errors.{ErrorsValue}
+use Rattle.json_replies.specs.Boards.{listed_data, when}
+use Rattle.json_replies.specs.ClueLists.{clue_data, clues_data, sign_data, later_sign, signs_at, signs_data}
+use Rattle.json_replies.specs.ObjectLines.{IsShallow, AreShallow, MembersAreShallow}
+use Rattle.json_replies.specs.Replies.{name_data}
+use Rattle.json_replies.specs.Texts.{text_data, lines_of, lines_data, list_data}
 
 -- where neither of two has a fraction, both together have none
-pub no_float_or : (a b : Bool) → a ≡ false → b ≡ false → (a || b) ≡ false
+no_float_or : (a b : Bool) → a ≡ false → b ≡ false → (a || b) ≡ false
 no_float_or true b e h = e
 no_float_or false b e h = h
 
-pub items_whole : {A : Type 0} (n : ℕ) (f : A → Data) → ((a : A) → IsShallow n (f a)) → (xs : List A)
-    → items_have_float (items_of (map f xs)) ≡ false
-items_whole n f each [] = refl
-items_whole n f each (x ∷ xs) = no_float_or (has_float (f x)) _ (each x).whole (items_whole n f each xs)
+-- data that are not too deep, as the kit says it
+mutual
+  pub told_whole : (n : ℕ) (d : Data) → IsShallow n d → (has_float d ≡ false) × (depth d ≤ n)
+  told_whole n null fit = (refl, omega arith)
+  told_whole n (boolean b) fit = (refl, omega arith)
+  told_whole n (number x) fit = (fit, omega arith)
+  told_whole n (string s) fit = (refl, omega arith)
+  told_whole zero (array ds) fit = absurd fit
+  told_whole (suc n) (array ds) fit = let (whole, flat) = items_whole n ds fit in (whole, omega (arith, flat))
+  told_whole zero (object ms) fit = absurd fit
+  told_whole (suc n) (object ms) fit = let (whole, flat) = members_whole n ms fit in (whole, omega (arith, flat))
 
-pub items_flat : {A : Type 0} (n : ℕ) (f : A → Data) → ((a : A) → IsShallow n (f a)) → (xs : List A)
-    → items_depth (items_of (map f xs)) ≤ n
-items_flat n f each [] = omega arith
-items_flat n f each (x ∷ xs) =
-    let here = (each x).flat in
-    let later = items_flat n f each xs in
-    omega arith
+  items_whole : (n : ℕ) (ds : Items) → AreShallow n ds → (items_have_float ds ≡ false) × (items_depth ds ≤ n)
+  items_whole n no_items fit = (refl, omega arith)
+  items_whole n (item d ds) fit =
+      let (whole, flat) = told_whole n d fit.0 in
+      let (others, low) = items_whole n ds fit.1 in
+      (no_float_or (has_float d) _ whole others, omega (arith, flat, low))
+
+  members_whole : (n : ℕ) (ms : Members) → MembersAreShallow n ms
+      → (members_have_float ms ≡ false) × (members_depth ms ≤ n)
+  members_whole n no_members fit = (refl, omega arith)
+  members_whole n (member k d ms) fit =
+      let (whole, flat) = told_whole n d fit.0 in
+      let (others, low) = members_whole n ms fit.1 in
+      (no_float_or (has_float d) _ whole others, omega (arith, flat, low))
+
+-- what fits fits where there is room for one level more
+mutual
+  pub deeper : (n : ℕ) (d : Data) → IsShallow n d → IsShallow (suc n) d
+  deeper n null fit = fit
+  deeper n (boolean b) fit = fit
+  deeper n (number x) fit = fit
+  deeper n (string s) fit = fit
+  deeper zero (array ds) fit = absurd fit
+  deeper (suc n) (array ds) fit = items_deeper n ds fit
+  deeper zero (object ms) fit = absurd fit
+  deeper (suc n) (object ms) fit = members_deeper n ms fit
+
+  items_deeper : (n : ℕ) (ds : Items) → AreShallow n ds → AreShallow (suc n) ds
+  items_deeper n no_items fit = fit
+  items_deeper n (item d ds) fit = (deeper n d fit.0, items_deeper n ds fit.1)
+
+  members_deeper : (n : ℕ) (ms : Members) → MembersAreShallow n ms → MembersAreShallow (suc n) ms
+  members_deeper n no_members fit = fit
+  members_deeper n (member k d ms) fit = (deeper n d fit.0, members_deeper n ms fit.1)
+
+-- what holds of two holds of the one that a test takes
+pub either : {A : Type 0} (F : A → Type 0) (t : Bool) (x y : A) → F x → F y → F (if t then x else y)
+either F true x y one other = one
+either F false x y one other = other
+
+-- ---- lists
 
 -- a list of such data is one level deeper
 pub list_fits : {A : Type 0} (n : ℕ) (f : A → Data) → ((a : A) → IsShallow n (f a)) → (xs : List A)
     → IsShallow (suc n) (list_data f xs)
-list_fits n f each xs =
-    let flat = items_flat n f each xs in
-    record { whole = items_whole n f each xs; flat = omega arith }
-
--- a text is a single value
-pub text_fits : (bytes : List ℕ) → IsShallow 0 (text_data bytes)
-text_fits bytes = record { whole = refl; flat = omega arith }
-
-pub lines_fit : (reply : List ℕ) → IsShallow 1 (lines_data reply)
-lines_fit reply = list_fits 0 text_data text_fits (lines_of reply)
-
-name_fits : (name : Option (List ℕ)) → IsShallow 0 (name_data name)
-name_fits None = record { whole = refl; flat = omega arith }
-name_fits (Some name) = text_fits name
-
--- the object of a reply, where what is told of the session fits
-pub spelled_reply : (refused : Option (List ℕ)) (reply : List ℕ) (session : Data) → IsShallow 1 session
-    → IsSpelled (reply_data refused reply session)
-spelled_reply refused reply session fits =
-    let name = name_fits refused in
-    let lines = lines_fit reply in
-    let whole =
-    no_float_or (has_float (name_data refused)) _ name.whole
-    (no_float_or (has_float (lines_data reply)) _ lines.whole
-    (no_float_or (has_float session) false fits.whole refl)) in
-    let a = name.flat in
-    let b = lines.flat in
-    let c = fits.flat in
-    record { whole = whole; flat = omega arith }
-
--- ---- lists that are made number by number
+list_fits n f each [] = tt
+list_fits n f each (x ∷ xs) = (each x, list_fits n f each xs)
 
 -- each of the values can be written at this depth
 abbrev pub AllFit : ℕ → List Data → Type 0
-AllFit n [] = Unit {0}
-AllFit n (d ∷ ds) = IsShallow n d × AllFit n ds
+AllFit n ds = AreShallow n (items_of ds)
 
 -- and so can those of both
 pub all_append : (n : ℕ) (xs ys : List Data) → AllFit n xs → AllFit n ys → AllFit n (xs ++ ys)
 all_append n [] ys fit more = more
 all_append n (x ∷ xs) ys fit more = (fit.0, all_append n xs ys fit.1 more)
 
-all_flat : (n : ℕ) (f : ℕ → List Data) → ((k : ℕ) → AllFit n (f k)) → (ks : List ℕ) → AllFit n (flat_map f ks)
-all_flat n f each [] = tt
-all_flat n f each (k ∷ ks) = all_append n (f k) (flat_map f ks) (each k) (all_flat n f each ks)
-
-all_whole : (n : ℕ) (ds : List Data) → AllFit n ds → items_have_float (items_of ds) ≡ false
-all_whole n [] fit = refl
-all_whole n (d ∷ ds) fit = no_float_or (has_float d) _ (fit.0).whole (all_whole n ds fit.1)
-
-all_depth : (n : ℕ) (ds : List Data) → AllFit n ds → items_depth (items_of ds) ≤ n
-all_depth n [] fit = omega arith
-all_depth n (d ∷ ds) fit =
-    let here = (fit.0).flat in
-    let later = all_depth n ds fit.1 in
-    omega arith
-
 -- a list whose parts can be written can be written one level up
 pub listed_fits : (n : ℕ) (f : ℕ → List Data) → ((k : ℕ) → AllFit n (f k)) → (ks : List ℕ)
     → IsShallow (suc n) (listed_data f ks)
-listed_fits n f each ks =
-    let all = all_flat n f each ks in
-    let deep = all_depth n (flat_map f ks) all in
-    record { whole = all_whole n (flat_map f ks) all; flat = omega arith }
+listed_fits n f each [] = tt
+listed_fits n f each (k ∷ ks) = all_append n (f k) (flat_map f ks) (each k) (listed_fits n f each ks)
 
 -- a value that is there only at times can be written where the value can
 pub when_fits : (n : ℕ) (t : Bool) (d : Data) → IsShallow n d → AllFit n (when t d)
-when_fits n true d fit = (fit, tt)
-when_fits n false d fit = tt
+when_fits n t d fit = either (AllFit n) t (d ∷ []) [] (fit, tt) tt
+
+pub lines_fit : (n : ℕ) (reply : List ℕ) → IsShallow (suc n) (lines_data reply)
+lines_fit n reply = list_fits n text_data (λ line. tt) (lines_of reply)
+
+pub name_fits : (n : ℕ) (name : Option (List ℕ)) → IsShallow n (name_data name)
+name_fits n None = tt
+name_fits n (Some name) = tt
+
+-- ---- clues and signs
 
 pub none_fits : IsShallow 2 (array no_items)
-none_fits = record { whole = refl; flat = omega arith }
+none_fits = tt
 
 -- an integer has no fraction
 pub integer_whole : (z : ℤ) → is_float (of_integer z) ≡ false
@@ -122,11 +119,8 @@ integer_whole (pos n) = refl
 integer_whole (negsuc n) = refl
 
 clue_fits : (p : TowersValue) (b : BoardValue) (e : ErrorsValue) (place : ℕ) → IsShallow 1 (clue_data p b e place)
-clue_fits p b e place = record {
-  whole = no_float_or (is_float (of_integer (edge_xy p.size place).0)) _ (integer_whole (edge_xy p.size place).0)
-      (no_float_or (is_float (of_integer (edge_xy p.size place).1)) _ (integer_whole (edge_xy p.size place).1) refl);
-  flat = omega arith;
-}
+clue_fits p b e place =
+    (refl, (tt, (tt, (integer_whole (edge_xy p.size place).0, (integer_whole (edge_xy p.size place).1, tt)))))
 
 pub clues_fit : (p : TowersValue) (b : BoardValue) (e : ErrorsValue) → IsShallow 2 (clues_data p b e)
 clues_fit p b e =
@@ -134,18 +128,11 @@ clues_fit p b e =
     (λ place. when_fits 1 (nat_lt 0 (clue_of p place)) (clue_data p b e place) (clue_fits p b e place))
     (range_with_len 0 (4 * p.size))
 
-sign_fits : (error : Bool) (greater less : ℕ) → IsShallow 1 (sign_data error greater less)
-sign_fits error greater less = record { whole = refl; flat = omega arith }
-
-either_fits : (n : ℕ) (t : Bool) (xs ys : List Data) → AllFit n xs → AllFit n ys → AllFit n (if t then xs else ys)
-either_fits n true xs ys fit other = fit
-either_fits n false xs ys fit other = other
-
 sign_at_fits : (v : UnequalValue) (error : Bool) (a b : ℕ) → AllFit 1 (later_sign v error a b)
 sign_at_fits v error a b =
-    either_fits 1 (nat_lt b (v.size * v.size)) _ []
-    (either_fits 1 (is_greater v a b) (sign_data error a b ∷ []) _ (sign_fits error a b, tt)
-    (when_fits 1 (is_greater v b a) (sign_data error b a) (sign_fits error b a))) tt
+    either (AllFit 1) (nat_lt b (v.size * v.size)) _ []
+    (either (AllFit 1) (is_greater v a b) (sign_data error a b ∷ []) _ ((tt, (refl, (refl, tt))), tt)
+    (when_fits 1 (is_greater v b a) (sign_data error b a) (tt, (refl, (refl, tt))))) tt
 
 pub signs_fit : (v : UnequalValue) (e : ErrorsValue) → IsShallow 2 (signs_data v e)
 signs_fit v e =

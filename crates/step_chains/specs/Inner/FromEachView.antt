@@ -1,6 +1,6 @@
 -- The parts of a hint, each with a view of its own or from every view; a view bound once is in `NextHints`.
-use Rattle.std.specs.Prelude.{◌≡◌, ◌≢◌, ℕ, List, []}
-use Rattle.latin_board.specs.Squares.{GridValue, number_at}
+use Rattle.std.specs.Prelude.{◌≢◌, ℕ, List, []}
+use Rattle.latin_board.specs.Squares.{GridValue}
 use Rattle.trail_solver.specs.Candidates.{CandidatesValue}
 use Rattle.named_steps.specs.Chains.{IsExplained, IsView}
 use Rattle.named_steps.specs.Following.{IsRefuted}

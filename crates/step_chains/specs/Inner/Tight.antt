@@ -1,5 +1,5 @@
 -- Chains of which none of the last steps, or of their numbers, can be left out.
-use Rattle.std.specs.Prelude.{◌≡◌, ◌≢◌, ◌↔◌, ℕ, ◌+◌, ◌<◌, ◌≤◌, true, List, ◌∷◌, ◌++◌, take, length}
+use Rattle.std.specs.Prelude.{◌≡◌, ◌≢◌, ◌↔◌, ℕ, ◌+◌, ◌<◌, ◌≤◌, true, List, ◌∷◌, ◌++◌, length}
 use Rattle.number_sets.specs.Sets.{has_number}
 use Rattle.trail_solver.specs.Pairs.{has_pair}
 use Rattle.trail_solver.specs.Candidates.{CandidatesValue}
@@ -9,7 +9,7 @@ use Rattle.line_steps.specs.declared.grade.Grade.{Grade}
 use Rattle.named_steps.specs.declared.goal.Goal.{Goal}
 use Rattle.step_chains.specs.declared.chain.Step.{Step}
 use Rattle.step_chains.specs.ChainValues.{StrikesLess, step_value, steps_of}
-use Rattle.step_chains.specs.Inner.Replays.{AreTimely, Leads}
+use Rattle.step_chains.specs.Inner.Replays.{AreTimely}
 use Rattle.line_steps.specs.Reasons.{Striking}
 
 -- no step from a place on can be left out
@@ -69,11 +69,6 @@ pub record IsNarrowedBelow (Struck : Striking) (grade : Grade)
   pub tight : IsTightFrom (place + 1) Struck grade c (steps_of steps) goal
   pub needed : IsNeededFrom (place + 1) Struck grade c (steps_of steps) goal
   pub here : IsNeededBelow value place Struck grade c (steps_of steps) goal
-
--- so of each of the candidates from which the steps before a place lead to these
-abbrev pub FromEach : Striking → Grade → ℕ → List Step → CandidatesValue → (CandidatesValue → Type 0) → Type 0
-FromEach Struck grade place steps here So =
-    (c : CandidatesValue) → Leads Struck grade c (steps_of (take place steps)) here → So c
 
 -- what is so of the steps once those from a place on are done
 pub record IsDoneFrom (Struck : Striking) (grade : Grade)

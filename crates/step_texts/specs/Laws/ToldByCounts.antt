@@ -9,7 +9,7 @@ use Rattle.towers_game.specs.Fillings.{Anything, Standing, IsUnfilled}
 use Rattle.towers_game.specs.TowersReasons.{IsTowersStruckBy}
 use Rattle.unequal_game.specs.UnequalReasons.{IsUnequalStruckBy}
 use Rattle.line_steps.specs.declared.reason.Reason.{Reason}
-use Rattle.line_steps.specs.declared.reason.Reason.TheVariants.{Given, Peer, Place, Bound, Stand, Clue, Sign, Set}
+use Rattle.line_steps.specs.declared.reason.Reason.TheVariants.{Given, Bound, Stand, Clue}
 use Rattle.shown_counts.specs.Shown.{CanShow, IsShownBy}
 use Rattle.step_texts.specs.Told.{reason_clue, IsSeenFrom, IsInView}
 
@@ -43,9 +43,6 @@ unshown_unfilled w May place clue cell value seen none = record {
 pub towers_unshown : (v : TowersValue) (c : CandidatesValue) (reason : Reason) (cell value : ℕ) → c.size ≡ v.size
     → IsTowersStruckBy v c reason cell value
     → IsShownBy c reason cell value (reason_clue (clue_of v) reason) → ⊥
-towers_unshown v c (Given at) cell value size h s = s
-towers_unshown v c (Peer by) cell value size h s = s
-towers_unshown v c (Place line index other) cell value size h s = s
 towers_unshown v c (Bound place) cell value size h s =
     unfilled_unshown v.size Anything place (clue_of v place) cell value h.unfilled
     (subst (λ w. CanShow w Anything place cell value (clue_of v place)) size s)
@@ -55,16 +52,12 @@ towers_unshown v c (Stand place) cell value size h s =
 towers_unshown v c (Clue place) cell value size h s =
     unfilled_unshown v.size (IsLeft c) place (clue_of v place) cell value h.unfilled
     (subst (λ w. CanShow w (IsLeft c) place cell value (clue_of v place)) size s)
-towers_unshown v c (Sign from to) cell value size h s = s
-towers_unshown v c (Set line squares values) cell value size h s = s
+towers_unshown v c reason cell value size h s = s
 
 pub towers_told : (v : TowersValue) (c : CandidatesValue) (reason : Reason) (cell value : ℕ) → c.size ≡ v.size
     → 0 < reason_clue (clue_of v) reason
     → IsInView v.size reason cell → (IsShownBy c reason cell value (reason_clue (clue_of v) reason) → ⊥)
     → IsTowersStruckBy v c reason cell value
-towers_told v c (Given at) cell value size some seen none = absurd seen
-towers_told v c (Peer by) cell value size some seen none = absurd seen
-towers_told v c (Place line index other) cell value size some seen none = absurd seen
 towers_told v c (Bound place) cell value size some seen none = record {
   place_is = seen.edge;
   clued = some;
@@ -83,31 +76,20 @@ towers_told v c (Clue place) cell value size some seen none = record {
   unfilled = unshown_unfilled v.size (IsLeft c) place (clue_of v place) cell value seen
       (λ s. none (subst (λ w. CanShow w (IsLeft c) place cell value (clue_of v place)) (sym size) s));
 }
-towers_told v c (Sign from to) cell value size some seen none = absurd seen
-towers_told v c (Set line squares values) cell value size some seen none = absurd seen
+towers_told v c reason cell value size some seen none = absurd seen
 
 -- in Unequal no clue strikes
 pub unequal_unshown : (v : UnequalValue) (c : CandidatesValue) (reason : Reason) (cell value : ℕ) → c.size ≡ v.size
     → IsUnequalStruckBy v c reason cell value
     → IsShownBy c reason cell value (reason_clue (λ _. zero) reason) → ⊥
-unequal_unshown v c (Given at) cell value size h s = s
-unequal_unshown v c (Peer by) cell value size h s = s
-unequal_unshown v c (Place line index other) cell value size h s = s
 unequal_unshown v c (Bound place) cell value size h s = h
 unequal_unshown v c (Stand place) cell value size h s = h
 unequal_unshown v c (Clue place) cell value size h s = h
-unequal_unshown v c (Sign from to) cell value size h s = s
-unequal_unshown v c (Set line squares values) cell value size h s = s
+unequal_unshown v c reason cell value size h s = s
 
 no_clue : (reason : Reason) → 0 < reason_clue (λ _. zero) reason → ⊥
 no_clue (Given at) some = omega (arith, some)
-no_clue (Peer by) some = omega (arith, some)
-no_clue (Place line index other) some = omega (arith, some)
-no_clue (Bound place) some = omega (arith, some)
-no_clue (Stand place) some = omega (arith, some)
-no_clue (Clue place) some = omega (arith, some)
-no_clue (Sign from to) some = omega (arith, some)
-no_clue (Set line squares values) some = omega (arith, some)
+no_clue reason some = omega (arith, some)
 
 pub unequal_told : (v : UnequalValue) (c : CandidatesValue) (reason : Reason) (cell value : ℕ) → c.size ≡ v.size
     → 0 < reason_clue (λ _. zero) reason

@@ -5,23 +5,13 @@ use std::io;
 use std::rt::Clock;
 use std::time::Instant;
 
-/// How many batches there are.
+/// A batch has as many calls as fill so many nanoseconds, by the first call's time: some hundred times what a look at the clock costs.
+const BATCH_TIME: u64 = 20_000;
+
+/// How many batches there are at most, and after how many nanoseconds none begins, so that what takes long is done just once.
 const BATCHES: u64 = 15;
 
-/// A batch has as many calls as fill so many nanoseconds, by the first call's time, and at most `MOST_CALLS`.
-const BATCH_TIME: u64 = 200_000;
-
-const MOST_CALLS: u64 = 1000;
-
-/// A short batch has as many calls as fill so many nanoseconds: some hundred times what a look at the clock costs.
-const SHORT_BATCH_TIME: u64 = 20_000;
-
-/// How many short batches there are at most, and after how many nanoseconds none begins.
-#[derive(Clone, Copy)]
-pub(crate) struct Sitting {
-    pub(crate) batches: u64,
-    pub(crate) enough: u64,
-}
+const ENOUGH: u64 = 1_000_000;
 
 /// What is timed.
 pub(crate) trait Call {
@@ -29,32 +19,17 @@ pub(crate) trait Call {
     fn call(&mut self, alloc: Global) -> u64;
 }
 
-/// How long one call took in nanoseconds in the fastest batch, since others may work on the machine.
-pub(crate) fn nanoseconds_of<C: Call>(
-    rt: &(impl Clock + Alloc<A = Global>),
-    timed: &mut C,
-) -> io::Result<u64> {
-    let first = batch(rt, timed, 1)?;
-    let calls = (BATCH_TIME / first.max(1)).clamp(1, MOST_CALLS);
-    let mut fastest = first;
-    for _ in 0..BATCHES {
-        fastest = fastest.min(batch(rt, timed, calls)?);
-    }
-    Ok(fastest)
-}
-
-/// How long one call took in nanoseconds in the fastest short batch, or alone at first.
+/// How long one call took in nanoseconds in the fastest batch, or alone at first, since others may work on the machine.
 pub(crate) fn fastest_of<C: Call>(
     rt: &(impl Clock + Alloc<A = Global>),
     timed: &mut C,
-    sitting: Sitting,
 ) -> io::Result<u64> {
     let first = batch(rt, timed, 1)?;
-    let calls = (SHORT_BATCH_TIME / first.max(1)).saturating_add(1);
+    let calls = (BATCH_TIME / first.max(1)).saturating_add(1);
     let mut fastest = first;
     let mut spent = first;
-    for _ in 0..sitting.batches {
-        if spent > sitting.enough {
+    for _ in 0..BATCHES {
+        if spent > ENOUGH {
             break;
         }
         let mean = batch(rt, timed, calls)?;

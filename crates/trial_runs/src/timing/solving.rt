@@ -2,7 +2,7 @@
 //!
 //! A line is a game, a class if there is one, and a game ID, with a space between.
 
-use crate::timing::batches::{Call, Sitting, fastest_of};
+use crate::timing::batches::{Call, fastest_of};
 use clue_rules::{Game, GameId, Towers, Unequal, read_id};
 use std::alloc::Global;
 use std::io;
@@ -56,15 +56,14 @@ pub(crate) fn timing_of_line(
     rt: &(impl Clock + Alloc<A = Global>),
     task: Task,
     line: &str,
-    sitting: Sitting,
 ) -> io::Result<Option<Timing>> {
     let Some((name, id)) = line.rsplit_once(' ') else {
         return Ok(None);
     };
     if name.starts_with("towers") {
-        timing_of::<Towers>(rt, task, id.as_bytes(), sitting)
+        timing_of::<Towers>(rt, task, id.as_bytes())
     } else {
-        timing_of::<Unequal>(rt, task, id.as_bytes(), sitting)
+        timing_of::<Unequal>(rt, task, id.as_bytes())
     }
 }
 
@@ -72,7 +71,6 @@ fn timing_of<P: Game + Drop>(
     rt: &(impl Clock + Alloc<A = Global>),
     task: Task,
     id: &[u8],
-    sitting: Sitting,
 ) -> io::Result<Option<Timing>> {
     let Ok(GameId::Described(_, puzzle)) = read_id::<P>(id) else {
         return Ok(None);
@@ -82,7 +80,7 @@ fn timing_of<P: Game + Drop>(
         puzzle,
         solutions: 0,
     };
-    let nanoseconds = fastest_of(rt, &mut solving, sitting)?;
+    let nanoseconds = fastest_of(rt, &mut solving)?;
     Ok(Some(Timing {
         nanoseconds,
         solutions: solving.solutions,

@@ -21,8 +21,7 @@ use crate::unequal::sign::Sign;
 use crate::unequal::{Unequal, square_count};
 use latin_board::{CELLS, Grid, Size};
 use line_steps::{deny_given, narrow_lines, narrow_lines_from};
-use number_sets::NumberSet;
-use trail_solver::{Candidates, LackedValues, Rules};
+use trail_solver::{Candidates, Rules};
 
 impl Unequal {
     // A function of its own, so that `holds` need only prove that the test decides the rule.
@@ -189,14 +188,6 @@ impl Rules for Unequal {
     fn narrow_from(&self, candidates: &mut Candidates, cell: usize) -> bool {
         let _valid = self.size();
         narrow_lines_from(self, candidates, cell, &mut ())
-    }
-
-    fn learns(&self) -> bool {
-        true
-    }
-
-    fn reason(&self, sets: &[NumberSet; CELLS], cell: usize, value: u8) -> Option<LackedValues> {
-        self.reason_against(sets, cell, value)
     }
 
     fn item_count(size: Size) -> usize {

@@ -1,42 +1,11 @@
-//! Move texts, and the readers of a session.
+//! The readers of a session, and each call that changes it.
 
 use super::PUZZLE;
-use crate::tests::rows::{Row, check};
 use crate::tests::worked::puzzle;
 use clue_rules::{Params, Towers};
-use play_midend::{Extras, Move, PlayFault, Session, laws, move_list_laws, read_move, write_move};
+use play_midend::{Extras, Move, PlayFault, Session, laws, move_list_laws, read_move};
 use std::alloc::{AllocError, Global};
 use trail_solver::Rules;
-
-// The text of a move.
-struct Text(&'static str);
-
-impl Row for Text {
-    fn holds(&self, alloc: Global) -> bool {
-        let Ok(m) = read_move(self.0.as_bytes()) else {
-            return false;
-        };
-        match write_move(alloc, &m) {
-            Ok(written) => written.as_slice() == self.0.as_bytes(),
-            Err(_) => false,
-        }
-    }
-}
-
-#[test]
-fn texts_are_read_as_they_are_written(rt: HostRuntime) {
-    const ROWS: &[Text] = &[
-        Text("R0,0,1"),
-        Text("R255,10,0"),
-        Text("P2,1,9"),
-        Text("M"),
-        Text("S123231312"),
-        Text("D-1,0"),
-        Text("D0,-1"),
-        Text("D127,127"),
-    ];
-    check(&rt, rt.alloc(), ROWS);
-}
 
 fn extras_of(alloc: Global) -> Result<Extras, AllocError> {
     Ok(Extras {
@@ -93,7 +62,7 @@ fn tells_what_it_was_given(rt: HostRuntime) {
     assert!(rt; has_params(&session) && has_extras(session.extras()));
 }
 
-// Whether all of the session's own calls are answered, and the solution is the last move but one.
+// Whether play, solve, undo, redo and restart are accepted in turn; what stays is the number, the solution and the restart.
 fn answers_each_call(session: &mut Session<Towers>) -> bool {
     let Ok(solution) = read_move(b"S123231312") else {
         return false;

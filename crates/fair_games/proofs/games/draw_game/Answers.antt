@@ -2,7 +2,7 @@ use Rattle.line_steps.specs.Reasons.{StruckBy}
 use Rattle.std.proofs.Common.{◌≡◌, ℕ, ◌*◌, ◌≤◌, sym, ◌∙◌, ap, subst, arith}
 use Rattle.needed_items.proofs.ItemLaws.{laws_of}
 use Rattle.fair_games.specs.Pruned.{IsTried}
-use Rattle.fair_games.proofs.PruneSteps.{HasSteps, steps_of, cut_of}
+use Rattle.fair_games.proofs.PruneSteps.{HasSteps, steps_of, pruned_cut}
 use Rattle.fair_games.proofs.FairSteps.{game_needs, all_items, first_given}
 use Rattle.fair_games.proofs.games.draw_game.Goals as goal
 use Rattle.fair_games.proofs.games.draw_game.Given.{Over}
@@ -33,7 +33,7 @@ returns-clause-follows g c =
     let p = c.pruned.result in (
       square,
       record {
-        solves = (cut_of g.P.Rules square p (g.P.Rules.has p) (laws_of g.met.P.Rules) pruned.is_grid pruned.is_latin pruned.is_cut).solves;
+        solves = (pruned_cut g.P.Rules _ square _ p (laws_of g.met.P.Rules) pruned).solves;
         follows = c.pruned.ensures.follows;
       },
     )

@@ -1,5 +1,5 @@
 use Rattle.line_steps.specs.Reasons.{StruckBy}
-use Rattle.std.proofs.Common.{ℕ, List, length, refl, ap, ◌∙◌, subst, arith}
+use Rattle.std.proofs.Common.{ℕ, List, length, refl, ap, ◌∙◌, subst}
 use Rattle.serde_json.specs.Data.{Data}
 use Rattle.step_chains.specs.declared.chain.Step.{Step}
 use Rattle.step_texts.specs.declared.told.ToldStep.{ToldStep}
@@ -51,9 +51,9 @@ returns g c =
     let written = c.in_ok-write_view.ensures in
     let seen = member_is (same_view grid written.0 view written.1 c.view_of.ensures) (key_follows c.in_ok-key-3.ensures written.2) in
     let follow = object_follows _ refl c.in_ok-begin_object.ensures (more_members said (more_members steps (more_members lines seen))) c.in_ok-end_object.ensures in
-    let shallow = (hint_value_fits w letter clue over Struck grid hint d value).flat in (
+    let fits = hint_value_fits w letter clue over Struck grid hint d value in (
       d,
       value,
       written_alone d _ c.new-writer.result _ (c.new-writer.ensures.before ∙ c.new.ensures.items) c.new-writer.ensures.tokens follow
-          c.into_inner.ensures.items c.into_inner.ensures.reads_back (omega (arith, shallow)),
+          c.into_inner.ensures.items c.into_inner.ensures.reads_back fits,
     )

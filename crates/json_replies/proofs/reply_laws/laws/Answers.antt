@@ -9,6 +9,7 @@ use Rattle.json_replies.specs.FurtherLines.{BoardFacts}
 use Rattle.json_replies.proofs.WholeReplies.{lines_are_the_reply}
 use Rattle.json_replies.proofs.ToldOnce.{objects_tell_one_reply, objects_are_not_lost}
 use Rattle.json_replies.proofs.AnswersLeave.{answers_leave}
+use Rattle.json_replies.proofs.BeginReading.{item_lines_ask}
 use Rattle.json_replies.proofs.FairStarts.{fair_lines_begin}
 use Rattle.json_replies.proofs.FairHints.{hints_lead_on}
 use Rattle.json_replies.proofs.HintsToEnd.{hints_lead_to_the_end}
@@ -46,6 +47,9 @@ returns-clause-not_lost g c = objects_are_not_lost (facts g) (boards g)
 
 pub returns-clause-answers : goal.returns-clause-answers
 returns-clause-answers g c = answers_leave (facts g) (boards g)
+
+pub returns-clause-items : goal.returns-clause-items
+returns-clause-items g c = item_lines_ask
 
 pub returns-clause-fair : goal.returns-clause-fair
 returns-clause-fair g c = fair_lines_begin (facts g) (boards g) (steps g) (ids g) g.met.P.Game.desc_canonical g.met.P.Shows.fair_letters

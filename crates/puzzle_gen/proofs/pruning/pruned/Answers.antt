@@ -1,40 +1,23 @@
-use Rattle.std.proofs.Common.{sym, subst, arith}
-use Rattle.puzzle_gen.specs.Pruning.{IsPruned}
+use Rattle.std.proofs.Common.{ℕ, ◌<◌, sym, subst}
+use Rattle.std.specs.List.{slice_index}
+use Rattle.needed_items.specs.Needed.{HasOnly}
+use Rattle.needed_items.specs.InTurn.{HasSeveral, IsLeftInTurn}
 use Rattle.needed_items.proofs.ItemLaws.{laws_of}
-use Rattle.puzzle_gen.proofs.FullCuts.{cuts_of_full}
-use Rattle.puzzle_gen.proofs.PruningSteps.{IsPrunedTo, pruned_none, pruned_next, pruned_all, pruned_one, pruned_needed, pruned_valid}
+use Rattle.puzzle_gen.proofs.OnePruned.{full_only, one_pruned}
 use Rattle.puzzle_gen.proofs.pruning.pruned.Goals as goal
 
-pub loop-k-init : goal.loop-k-init
-loop-k-init g c =
-    let square = c.args.grid.now in
-    let cuts = cuts_of_full g.P.Rules square (laws_of g.met.P.Rules) c.size-size.ensures.valid c.requires.latin in
-    let To : g.row.P.Denot → Type 0 = λ p. IsPrunedTo g.P.Rules square c.args.order.now 0 p in
-    subst To (sym c.full-puzzle.ensures) (pruned_none g.P.Rules square c.args.order.now cuts)
-
-pub loop-k-preserved : goal.loop-k-preserved
-loop-k-preserved g c =
-    let square = c.args.grid.now in
-    let cuts = cuts_of_full g.P.Rules square (laws_of g.met.P.Rules) c.size-size.ensures.valid c.requires.latin in
-    pruned_next g.P.Rules square c.args.order.now c.loop-k.k c.item_at.result c.loop-k.puzzle c.tried-puzzle.result cuts c.requires.order
-    (omega arith) c.item_at.ensures c.loop-k.invariant c.tried-puzzle.ensures
+pub left_in_turn-requires-clause-passes : goal.left_in_turn-requires-clause-passes
+left_in_turn-requires-clause-passes g c =
+    subst (HasOnly g.P.Rules c.args.grid.now) (sym c.full.ensures)
+    (full_only g.P.Rules c.args.grid.now (laws_of g.met.P.Rules) c.size-size.ensures.valid c.requires.latin)
 
 pub returns : goal.returns
 returns g c =
-    let square = c.args.grid.now in
-    let order = c.args.order.now in
-    let laws = laws_of g.met.P.Rules in
-    let grid = c.size-size.ensures.valid in
-    let cuts = cuts_of_full g.P.Rules square laws grid c.requires.latin in
-    let so_far = c.loop-k.invariant in
-    let whole : IsPruned g.P.Rules square order c.loop-k.puzzle =
-    pruned_all g.P.Rules square order c.loop-k.k c.loop-k.puzzle grid c.requires.latin c.requires.order
-    (omega (arith, c.requires.order.count)) so_far in
-    record {
-      pruned = whole;
-      just_one = λ other pruned. pruned_one g.P.Rules square order other c.loop-k.puzzle cuts pruned whole;
-      valid = pruned_valid g.P.Rules square order c.loop-k.k c.loop-k.puzzle laws grid c.requires.latin so_far;
-      size = sym so_far.only.solves.same_size;
-      only_solution = so_far.only;
-      all_needed = pruned_needed g.P.Rules square order c.loop-k.puzzle cuts whole;
-    }
+    let f = g.P.Rules in
+    one_pruned f c.args.grid.now c.args.order.now c.left_in_turn.result (laws_of g.met.P.Rules) (record {
+      is_grid = c.size-size.ensures.valid;
+      is_latin = c.requires.latin;
+      is_order = c.requires.order;
+      in_turn = subst (λ p. IsLeftInTurn f (HasSeveral f) c.args.order.now p c.left_in_turn.result) c.full.ensures
+          c.left_in_turn.ensures.in_turn;
+    })

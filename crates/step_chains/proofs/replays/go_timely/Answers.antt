@@ -1,23 +1,9 @@
 use Rattle.std.proofs.Common.{◌≡◌, ◌+◌, [], ◌∷◌, ◌++◌, take, sym, ap, ◌∙◌}
-use Rattle.std.proofs.lemmas.Bool.{both_ways, false≢true}
 use Rattle.std.proofs.lemmas.List.{take_more}
 use Rattle.trail_solver.proofs.Earlier.{earlier_trans}
 use Rattle.step_chains.specs.declared.chain.Step.{Step}
-use Rattle.step_chains.proofs.Live.{timely_here, timely_on, taken_earlier}
+use Rattle.step_chains.proofs.Live.{timely_on, taken_earlier}
 use Rattle.step_chains.proofs.replays.go_timely.Goals as goal
-
-pub returns-then-not-is_timely-clause-timely : goal.returns-then-not-is_timely-clause-timely
-returns-then-not-is_timely-clause-timely c =
-    let steps = c.args.steps.now in
-    let i = c.loop-step.step-index in
-    let s = c.step-item.result in
-    let more : take (i + 1) steps ≡ take i steps ++ s ∷ [] =
-    take_more steps i s c.loop-step-test.true ∙ ap (λ (x : Step). take i steps ++ x ∷ []) (sym c.step-item.is) in (
-      λ e. absurd (false≢true e),
-      λ timely. absurd (both_ways c.is_timely.result c.if-not-is_timely.true
-          (c.is_timely.ensures.1 (timely_here c.args.candidates.now c.loop-step.candidates steps i s more
-          c.loop-step.invariant.0 c.loop-step.invariant.1 timely))),
-    )
 
 pub loop-step-preserved : goal.loop-step-preserved
 loop-step-preserved c =
@@ -28,7 +14,7 @@ loop-step-preserved c =
     take_more steps i s c.loop-step-test.true ∙ ap (λ (x : Step). take i steps ++ x ∷ []) (sym c.step-item.is) in
     let before = c.loop-step.invariant in
     let now = timely_on c.args.candidates.now c.loop-step.candidates c.take.new.candidates steps i s more before.0 before.1 before.2
-    (c.is_timely.ensures.0 c.if-not-is_timely.false) c.take.ensures in (
+    c.if-not-is_timely.ensures c.take.ensures in (
       c.take.ensures.size ∙ before.0,
       now.0,
       now.1,

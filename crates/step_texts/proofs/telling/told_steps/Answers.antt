@@ -33,10 +33,10 @@ loop-first-preserved g c =
     let n = c.joined_steps-joined.result in
     let j = c.joined_steps-joined.ensures in
     let tail : take (length rest - 1) (drop 1 rest) ≡ drop 1 rest = take_rest rest 1 in
-    one_look Struck (all_less (g.P.Rules.puzzle c.args.p.now) (g.P.Steps.own c.args.p.now) (g.met.P.Steps.own_less c.args.p.now)) w c.args.candidates d c.strike_all.new.candidates c.args.steps.now rest c.split_at.result.0.now
+    one_look Struck (all_less (g.P.Rules.puzzle c.args.p.now) (g.P.Steps.own c.args.p.now) (g.met.P.Steps.own_less c.args.p.now)) w c.args.candidates d c.take_all.new.candidates c.args.steps.now rest c.split_at.result.0.now
     c.split_at.result.1.now first n c.loop-first.told.items c.push.new.self.items c.in_ok-told_step.field-0
     (headed rest first (cc (c.in-Some.is, c.in-Some.ensures.value, c.first.ensures.value)))
     (subst (λ xs. AreJoined Struck w d first (take n xs)) tail j.joined)
     (subst (λ xs. HasNoMore Struck w d first (take n xs) (drop n xs)) tail j.ends)
     c.in_ok-told_step.ensures
-    c.split_at.ensures.front c.split_at.ensures.back (c.strike_all.ensures.size, c.strike_all.ensures.leaves) c.in_ok-push.ensures.items c.loop-first.invariant
+    c.split_at.ensures.front c.split_at.ensures.back (c.take_all.ensures.size, c.take_all.ensures.alike) c.in_ok-push.ensures.items c.loop-first.invariant

@@ -4,7 +4,7 @@ use Rattle.std.specs.Option.{option_copied}
 use Rattle.puzzle_cli.specs.Commands.{is_quit}
 use Rattle.puzzle_cli.specs.GameFacts.{GameFacts, facts_of}
 use Rattle.puzzle_cli.specs.Texts.{text_bytes}
-use Rattle.json_replies.specs.FurtherLines.{BoardFacts}
+use Rattle.json_replies.specs.FurtherLines.{BoardFacts, further_at}
 use Rattle.json_replies.specs.BeginLines.{begin_copied}
 use Rattle.json_replies.proofs.ToldReplies.{no_quit, further_told}
 use Rattle.json_replies.specs.JsonReplies.{JsonReply}
@@ -24,14 +24,14 @@ pub returns-in-Some : goal.returns-in-Some
 returns-in-Some g c =
     let line = option_copied c.args.line in
     let is = sym c.in-Some.ensures in (
-      no_quit g.P.FairGame.letter_of line c.in-Some.asked is,
+      no_quit (further_at g.P.FairGame.letter_of) line c.in-Some.asked refl is,
       further_told (facts g) (boards g) c.args.session.now line c.in-Some.asked (text_bytes c.further_object.result) is c.further_object.ensures,
     )
 
 pub returns-in-Some-read_begin : goal.returns-in-Some-read_begin
 returns-in-Some-read_begin g c =
     begin_told (facts g) (boards g) c.args.session.now c.begin_response.new.session (option_copied c.args.line) (begin_copied c.in-Some-read_begin.asked)
-    c.begin_response.result c.in-Some-read_begin.ensures.found c.begin_response.ensures
+    c.begin_response.result (sym c.in-None.ensures) (sym c.in-Some-read_begin.ensures) c.begin_response.ensures
 
 pub returns-in-None-read_begin : goal.returns-in-None-read_begin
 returns-in-None-read_begin g c =
@@ -43,5 +43,5 @@ returns-in-None-read_begin g c =
     let execute = c.execute-answer in
     responds f old new line line (JsonReply f b) is_quit execute.result c.told.result refl
     (λ outcome bytes gives leaves told. plain_told f b old new line outcome bytes (sym c.in-None.ensures)
-    (λ asked is. absurd (cc (c.in-None-read_begin.ensures.only asked is))) gives leaves told)
+    (λ asked is. absurd (cc (c.in-None-read_begin.ensures, is))) gives leaves told)
     (obeyed f old new line execute.result execute.ensures.ok execute.ensures.err execute.ensures.goes_on execute.ensures.why) c.told.ensures

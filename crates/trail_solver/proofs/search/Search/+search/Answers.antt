@@ -13,8 +13,8 @@ run-returns-in-Dead-clause-adds g t c =
     rest_none (IsAmong (puzzle start.rules) start.candidates) c.args.found.now (IsAmong (puzzle now.rules) now.candidates) c.loop-limit.found c.loop-limit.invariant.rest
     (rw (← c.self.view_is) (dead_none (puzzle c.self.inside.rules) c.self.inside.candidates c.in-Dead.ensures.0 c.self.invariant c.in-Dead.ensures.1))
 
-pub run-returns-then-not-propagate : goal.run-returns-then-not-propagate
-run-returns-then-not-propagate g t c =
+pub run-returns-then-not-go_on_after : goal.run-returns-then-not-go_on_after
+run-returns-then-not-go_on_after g t c =
     let puzzle = g.P.Rules.puzzle in
     let start = c.args.self.now in
     let inside = c.self-in-Branch.inside in
@@ -24,11 +24,11 @@ run-returns-then-not-propagate g t c =
     let adds = through_all At c.args.limit c.guess.result c.loop-limit.found more c.if-not-guess.false c.guess.ensures.adds in
     let left = under_way_branched puzzle start c.loop-limit.self (record { rules = inside.rules; candidates = inside.candidates }) next c.args.found.now c.loop-limit.found more c.in-Branch.cell c.in-Branch.value c.loop-limit.invariant adds (c.self-in-Branch.view_is ∙ c.guess.ensures.same)
     (record { size = c.take_away.ensures.size; trail = c.take_away.ensures.trail }) in
-    let narrowed = under_way_narrowed puzzle start (record { rules = inside.rules; candidates = next }) c.propagate.new.self c.args.found.now more left c.propagate.ensures.further c.propagate.ensures.same in
+    let narrowed = under_way_narrowed puzzle start (record { rules = inside.rules; candidates = next }) c.go_on_after.new.self c.args.found.now more left c.go_on_after.ensures.further c.go_on_after.ensures.same in
     record {
       further = narrowed.further;
       adds = rest_none (IsAmong (puzzle start.rules) start.candidates) c.args.found.now (IsAmong (puzzle inside.rules) next) more left.rest
-          (OnFalse_at c.if-not-propagate.true c.propagate.ensures.refutes);
+          (OnFalse_at c.if-not-go_on_after.true c.go_on_after.ensures.refutes);
     }
 
 pub run-loop-limit-preserved : goal.run-loop-limit-preserved
@@ -42,4 +42,4 @@ run-loop-limit-preserved g t c =
     let adds = through_all At c.args.limit c.guess.result c.loop-limit.found more c.if-not-guess.false c.guess.ensures.adds in
     let left = under_way_branched puzzle start c.loop-limit.self (record { rules = inside.rules; candidates = inside.candidates }) next c.args.found.now c.loop-limit.found more c.in-Branch.cell c.in-Branch.value c.loop-limit.invariant adds (c.self-in-Branch.view_is ∙ c.guess.ensures.same)
     (record { size = c.take_away.ensures.size; trail = c.take_away.ensures.trail }) in
-    under_way_narrowed puzzle start (record { rules = inside.rules; candidates = next }) c.propagate.new.self c.args.found.now more left c.propagate.ensures.further c.propagate.ensures.same
+    under_way_narrowed puzzle start (record { rules = inside.rules; candidates = next }) c.go_on_after.new.self c.args.found.now more left c.go_on_after.ensures.further c.go_on_after.ensures.same

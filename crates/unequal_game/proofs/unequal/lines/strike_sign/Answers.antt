@@ -2,7 +2,7 @@ use Rattle.std.proofs.Common.{◌≡◌, ◌↔◌, ℕ, ◌≤◌, true, sym, a
 use Rattle.number_sets.specs.Sets.{has_number}
 use Rattle.latin_board.specs.Lines.{line_cell}
 use Rattle.trail_solver.specs.Candidates.{IsSetOf}
-use Rattle.trail_solver.proofs.NogoodSteps.{shared_are}
+use Rattle.trail_solver.proofs.StruckSets.{shared_are}
 use Rattle.line_steps.specs.Left.{IsLeft}
 use Rattle.line_steps.specs.Takes.{Strikes}
 use Rattle.unequal_game.proofs.SignPasses.{end_stays, lesser_still, sign_leads, sign_calm}
