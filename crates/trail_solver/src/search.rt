@@ -226,17 +226,9 @@ impl<P: Rules> Search<P> {
         ensures adds { Adds (IsAmong (P.puzzle self.old.rules) self.old.candidates) known.now result }
     {
         let limit = self.failures.after(LONG_RUN);
-        match self.attempt(known, Some(limit)) {
-            Some(answer) => answer,
-            None => self.whole_answer(known),
+        if let Some(answer) = self.attempt(known, Some(limit)) {
+            return answer;
         }
-    }
-
-    // The same by one run without a limit.
-    fn whole_answer(&mut self, known: &Answer) -> Answer
-        ensures same { self.new ≡ self.old }
-        ensures adds { Adds (IsAmong (P.puzzle self.old.rules) self.old.candidates) known.now result }
-    {
         match self.attempt(known, None) {
             Some(answer) => answer,
             None => unreachable!(),
