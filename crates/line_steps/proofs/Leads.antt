@@ -2,14 +2,14 @@
 use Rattle.std.proofs.Common.{◌≡◌, ℕ, ◌≤◌, true, false, ◌&&◌, ◌||◌, ◌==◌, List, [], ◌∷◌, ◌++◌, length, inl, inr, refl, sym, ap, ◌∙◌, subst, arith, append_assoc, append-nil, length-append}
 use Rattle.std.proofs.lemmas.Bool.{both_ways, and_parts, and_from, or_left, or_right, eq-eqb, eqb-true, cases_Bool}
 use Rattle.trail_solver.specs.Pairs.{IsPair, IsPrefix, has_pair}
-use Rattle.trail_solver.specs.Candidates.{CandidatesValue, IsEarlier, may_be}
+use Rattle.trail_solver.specs.Candidates.{CandidatesValue, IsEarlier}
 use Rattle.trail_solver.proofs.Earlier.{prefix-append}
 use Rattle.line_steps.specs.Left.{IsFewer, without}
 use Rattle.line_steps.specs.Grades.{has_reason}
 use Rattle.line_steps.specs.Chains.{StepValue, IsChain, AreOfGrade, left_by, LeadsTo}
 use Rattle.line_steps.specs.Takes.{Takes}
 use Rattle.line_steps.proofs.Chains.{IsAntitone, left_size, left_fewer, chain_joined, left_append}
-use Rattle.line_steps.proofs.Takes.{without_fewer, HasMore, same_more, takes_same}
+use Rattle.line_steps.proofs.Takes.{without_fewer, HasMore, same_more}
 use Rattle.line_steps.specs.declared.reason.Reason.{Reason}
 use Rattle.line_steps.specs.declared.grade.Grade.{Grade}
 use Rattle.line_steps.specs.Reasons.{Striking}
@@ -125,24 +125,6 @@ leads_taken Struck less grade Which a b t why =
     let lead = pairs_lead Struck less grade a a (λ cell v left. left) t.pairs (λ cell v has. let h = t.each cell v has in (h.0, why cell v h.0 h.1)) in
     let is : b ≡ without a t.pairs = λ i. record { size = t.size i; trail = t.trail i } in
     subst (λ d. LeadsTo Struck grade a d) (sym is) lead
-
--- a chain of the grade's steps leads there, and where nothing went it is quiet
-pub record Passes (Struck : Striking) (grade : Grade) (IsQuiet : CandidatesValue → Type 0)
-    (old new : CandidatesValue) : Type 0 where
-  pub leads : LeadsTo Struck grade old new
-  pub quiet : length new.trail ≡ length old.trail → IsQuiet old
-
--- and that is a pass
-pub passes_taken : (Struck : Striking) → IsAntitone Struck → (grade : Grade) (IsQuiet : CandidatesValue → Type 0)
-    (Which : ℕ → ℕ → Type 0) (a b : CandidatesValue) → Takes Which a b
-    → ((cell v : ℕ) → IsPair a.size cell v → Which cell v → HasStruck Struck grade a cell v)
-    → (((cell v : ℕ) → IsPair a.size cell v → Which cell v → may_be a cell v ≡ false) → IsQuiet a) → Passes Struck grade IsQuiet a b
-passes_taken Struck less grade IsQuiet Which a b t why quiet = record {
-  leads = leads_taken Struck less grade Which a b t why;
-  quiet = λ e.
-      let same : b ≡ a = takes_same Which a b t e in
-      quiet (λ cell v pair h. subst (λ (d : CandidatesValue). may_be d cell v ≡ false) same (t.gone cell v pair h));
-}
 
 -- ---- wider relations
 

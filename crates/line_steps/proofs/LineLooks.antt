@@ -1,6 +1,6 @@
 -- Which lines wait after a look along one, and what is settled when none waits.
-use Rattle.std.proofs.Common.{◌≡◌, ◌≢◌, ℕ, ◌*◌, ◌<◌, false, ◌||◌, ◌==◌, ◌/◌, ◌%◌, length, inl, inr, sym, ◌∙◌, subst, arith}
-use Rattle.std.proofs.lemmas.Bool.{both_ways, cases_eq, or_parts, eq-eqb, false_from_ne_true}
+use Rattle.std.proofs.Common.{◌≡◌, ◌≢◌, ℕ, ◌*◌, ◌<◌, Bool, true, false, not, nat_lt, ◌||◌, ◌==◌, ◌/◌, ◌%◌, length, inl, inr, refl, sym, ◌∙◌, subst, arith}
+use Rattle.std.proofs.lemmas.Bool.{both_ways, cases_eq, or_parts, eq-eqb, lt-ltb, false_from_ne_true}
 use Rattle.std.proofs.lemmas.Nat.{div_below, mod_below}
 use Rattle.number_sets.specs.Sets.{has_number, IsEmpty}
 use Rattle.latin_board.specs.Lines.{line_cell}
@@ -8,17 +8,18 @@ use Rattle.latin_board.proofs.LatinLines.{line_cell_of_row, some_width}
 use Rattle.trail_solver.specs.Pairs.{IsPair}
 use Rattle.trail_solver.specs.Candidates.{CandidatesValue, may_be}
 use Rattle.line_steps.specs.Left.{IsLeft, IsFewer, IsLive}
-use Rattle.line_steps.specs.Inner.ChangedLines.{GainsAcross, IsNoted, LosesLine}
+use Rattle.line_steps.specs.Inner.ChangedLines.{HasNoneBelow, IsNoted, IsTaken, LosesLine}
 use Rattle.line_steps.specs.Inner.LineStrikes.{IsLineSettled}
 use Rattle.line_steps.proofs.LineSets.{lost_other}
 use Rattle.line_steps.specs.Along.{LooksAlong, StandsAlong, IsQuietAlong, StaysOn, LosesAt}
 use Rattle.trail_solver.specs.Puzzles.{Puzzle}
 use Rattle.line_steps.specs.Laws.Along.{clue_own}
 use Rattle.line_steps.specs.Settled.{AreCluesSettled}
-use Rattle.line_steps.specs.Takes.{is_crossing, AreChanged}
-use Rattle.line_steps.specs.Inner.LineLooks.{AreQuietBut, AreQuietButOne, AreMore}
+use Rattle.line_steps.specs.Takes.{is_crossing}
+use Rattle.line_steps.specs.Inner.LineLooks.{AreQuietBut, AreMore, AreWaiting, IsLook, IsNoneWaiting, IsQuietOn, waiting_for}
 use Rattle.line_steps.proofs.StayingLines.{live_stays, quiet_stays, stays_apart, stays_all}
 use Rattle.line_steps.specs.declared.grade.Grade.{Grade}
+use Rattle.line_steps.specs.declared.lines.waiting.Waiting.{Waiting}
 use Rattle.line_steps.specs.declared.reason.Reason.{Reason}
 use Rattle.line_steps.specs.Reasons.{AllStrikes, Striking}
 
@@ -52,65 +53,119 @@ along_settled p Own stand grade c size quiet = λ reason cell value is has pair 
 
 -- ---- what is quiet along a line
 
+-- what holds of one of two and of the other holds of both
+for_both : (P : Bool → Type 0) (what : Bool) → P what → P (not what) → (x : Bool) → P x
+for_both P true one other true = one
+for_both P true one other false = other
+for_both P false one other true = other
+for_both P false one other false = one
+
 -- what is quiet along a line stays so while all of its squares stay
 abbrev pub IsStaying : ℕ → (ℕ → CandidatesValue → Type 0) → Type 0
 IsStaying w Quiet =
     (line : ℕ) (c d : CandidatesValue) → c.size ≡ w → line < 2 * c.size → d.size ≡ c.size → IsFewer c d → StaysOn line c d → Quiet line c → Quiet line d
 
--- so it is with what squares strike in one another, and with what is left
-pub rest_stays : (w : ℕ) → IsStaying w IsLineSettled
-rest_stays w line c d is low size fewer stays settled = record {
+-- so it is with what squares strike in one another, and with clues and signs
+pub looks_stay : (w : ℕ) (Struck : Striking) → AreLooksAlong w Struck → (grade : Grade) (what : Bool) → IsStaying w (IsQuietOn Struck grade what)
+looks_stay w Struck law grade true line c d is low size fewer stays settled = record {
   live = live_stays line c d size stays settled.live;
   quiet = quiet_stays line c d size fewer stays settled.quiet;
 }
+looks_stay w Struck law grade false line c d is low size fewer stays quiet = along_stays w Struck law grade line c d is low size fewer stays quiet
 
--- and with clues and signs
-pub clues_stay : (w : ℕ) (Struck : Striking) → AreLooksAlong w Struck → (grade : Grade) → IsStaying w (IsQuietAlong Struck grade)
-clues_stay w Struck law grade line c d is low size fewer stays quiet = along_stays w Struck law grade line c d is low size fewer stays quiet
+-- ---- what is noted of a look
 
--- what is quiet along lines outside a set is so along all but one that is taken from it
-pub quiet_taken : (Quiet : ℕ → CandidatesValue → Type 0) (line first last : ℕ) (c : CandidatesValue) → LosesLine line first last
-    → AreQuietBut Quiet first c → AreQuietButOne Quiet line last c
-quiet_taken Quiet line first last c loses quiet other low apart free = quiet other low (sym (lost_other line other first last loses apart) ∙ free)
+-- all lines wait of which something went
+pub more_noted : (line places first last : ℕ) (a b : CandidatesValue) → line < 2 * a.size → LosesAt line places a b
+    → IsNoted a.size line places first last → AreMore first last a b
+more_noted line places first last a b on loses noted = elim noted [
+  | inl (none, same_set) ↦ λ l low free. (subst (λ (n : ℕ). has_number n l ≡ false) same_set free, stays_all line places l a b none loses)
+  | inr (some, gains) ↦ λ l low free.
+      let both = or_parts (has_number first l) ((l == line) || is_crossing a.size line places l) (sym (gains l) ∙ free) in
+      let parts = or_parts (l == line) (is_crossing a.size line places l) both.1 in
+      let apart : l ≢ line = λ same. both_ways (l == line) parts.0 (eq-eqb l line same) in
+      (both.0, stays_apart line places l a b on low apart parts.1 loses)
+]
 
--- where a line comes into the set, and those that cross it at the places where something went, the others stay quiet
-across_quiet : (w : ℕ) (Quiet : ℕ → CandidatesValue → Type 0) → IsStaying w Quiet → (line places first last : ℕ) (a b : CandidatesValue)
-    → a.size ≡ w → b.size ≡ a.size → IsFewer a b → line < 2 * a.size → LosesAt line places a b → GainsAcross a.size line places first last
-    → AreQuietButOne Quiet line first a → AreQuietBut Quiet last b
-across_quiet w Quiet staying line places first last a b is size fewer on loses gains quiet l low free =
+-- where the line doesn't wait, nothing went
+none_noted : (w line places first last : ℕ) → IsNoted w line places first last → has_number last line ≡ false → IsEmpty places
+none_noted w line places first last noted free = elim noted [
+  | inl (none, same_set) ↦ none
+  | inr (some, gains) ↦
+      let here = (or_parts (has_number first line) ((line == line) || is_crossing w line places line) (sym (gains line) ∙ free)).1 in
+      absurd (both_ways (line == line) (or_parts (line == line) (is_crossing w line places line) here).0 (eq-eqb line line refl))
+]
+
+-- it is noted for both that lines wait for
+pub each_noted : (w line places : ℕ) (old new : Waiting) → IsNoted w line places old.squares new.squares → IsNoted w line places old.clues new.clues
+    → (what : Bool) → IsNoted w line places (waiting_for what old) (waiting_for what new)
+each_noted w line places old new squares clues true = squares
+each_noted w line places old new squares clues false = clues
+
+-- what is quiet along lines outside a set stays so, where all those come into it of which something went
+pub more_quiet : (w : ℕ) (Quiet : ℕ → CandidatesValue → Type 0) → IsStaying w Quiet → (first last : ℕ) (a b : CandidatesValue) → a.size ≡ w
+    → b.size ≡ a.size → IsFewer a b → AreMore first last a b → AreQuietBut Quiet first a → AreQuietBut Quiet last b
+more_quiet w Quiet staying first last a b is size fewer more quiet line low free =
+    let low_a : line < 2 * a.size = omega (arith, low, size) in
+    let before = more line low_a free in
+    staying line a b is low_a size fewer before.1 (quiet line low_a before.0)
+
+-- after a look along a line for this, the lines that don't wait are quiet
+one_noted : (w : ℕ) (Quiet : ℕ → CandidatesValue → Type 0) → IsStaying w Quiet → (line places before first last : ℕ) (a b : CandidatesValue)
+    → a.size ≡ w → b.size ≡ a.size → IsFewer a b → line < 2 * a.size → LosesAt line places a b → LosesLine line before first
+    → IsNoted a.size line places first last → (IsEmpty places → Quiet line b) → AreQuietBut Quiet before a → AreQuietBut Quiet last b
+one_noted w Quiet staying line places before first last a b is size fewer on loses taken noted here quiet l low free =
     let low_a : l < 2 * a.size = omega (arith, low, size) in
-    let both = or_parts (has_number first l) ((l == line) || is_crossing a.size line places l) (sym (gains l) ∙ free) in
-    let parts = or_parts (l == line) (is_crossing a.size line places l) both.1 in
-    let apart : l ≢ line = λ same. both_ways (l == line) parts.0 (eq-eqb l line same) in
-    staying l a b is low_a size fewer (stays_apart line places l a b on low_a apart parts.1 loses) (quiet l low_a apart both.0)
+    elim (cases_eq l line) [
+      | inl same ↦ subst (λ (n : ℕ). Quiet n b) (sym same)
+          (here (none_noted a.size line places first last noted (subst (λ (n : ℕ). has_number last n ≡ false) same free)))
+      | inr other ↦
+          let was = more_noted line places first last a b on loses noted l low_a free in
+          staying l a b is low_a size fewer was.1 (quiet l low_a (sym (lost_other line l before first taken other) ∙ was.0))
+    ]
 
--- after a look along a line that was taken from those that wait, the lines that don't wait are quiet
-pub one_noted : (w : ℕ) (Quiet : ℕ → CandidatesValue → Type 0) → IsStaying w Quiet → (line places first last : ℕ) (a b : CandidatesValue)
-    → a.size ≡ w → b.size ≡ a.size → IsFewer a b → line < 2 * a.size → LosesAt line places a b → IsNoted a.size line places first last
-    → (IsEmpty places → Quiet line b) → AreQuietButOne Quiet line first a → AreQuietBut Quiet last b
-one_noted w Quiet staying line places first last a b is size fewer on loses noted here quiet = elim noted [
-  | inl (none, same_set) ↦ λ l low free.
-      let low_a : l < 2 * a.size = omega (arith, low, size) in
-      elim (cases_eq l line) [
-        | inl same ↦ subst (λ (n : ℕ). Quiet n b) (sym same) (here none)
-        | inr other ↦ staying l a b is low_a size fewer (stays_all line places l a b none loses)
-            (quiet l low_a other (subst (λ (n : ℕ). has_number n l ≡ false) same_set free))
-      ]
-  | inr (some, gains) ↦ across_quiet w Quiet staying line places first last a b is size fewer on loses gains quiet
-]
+-- and those that wait for neither
+pub looked : (w : ℕ) (Quiet : Bool → ℕ → CandidatesValue → Type 0) → ((what : Bool) → IsStaying w (Quiet what)) → (what : Bool)
+    (count line places : ℕ) (was now last : Waiting) (a b : CandidatesValue) → a.size ≡ w → b.size ≡ a.size → IsFewer a b → line < 2 * a.size
+    → LosesAt line places a b → IsLook count was now what line
+    → ((x : Bool) → IsNoted a.size line places (waiting_for x now) (waiting_for x last)) → (IsEmpty places → Quiet what line b)
+    → ((x : Bool) → AreQuietBut (Quiet x) (waiting_for x was) a) → (x : Bool) → AreQuietBut (Quiet x) (waiting_for x last) b
+looked w Quiet staying what count line places was now last a b is size fewer on loses look noted here quiet =
+    let same : AreQuietBut (Quiet what) (waiting_for what last) b =
+    one_noted w (Quiet what) (staying what) line places (waiting_for what was) (waiting_for what now) (waiting_for what last) a b is size fewer on
+    loses look.taken.rest (noted what) here (quiet what) in
+    let x = not what in
+    let other : AreQuietBut (Quiet x) (waiting_for x last) b =
+    more_quiet w (Quiet x) (staying x) (waiting_for x now) (waiting_for x last) a b is size fewer
+    (more_noted line places (waiting_for x now) (waiting_for x last) a b on loses (noted x))
+    (subst (λ (n : ℕ). AreQuietBut (Quiet x) n a) (sym look.other) (quiet x)) in
+    for_both (λ y. AreQuietBut (Quiet y) (waiting_for y last) b) what same other
 
--- so they are after a look along a line for something else
-pub all_noted : (w : ℕ) (Quiet : ℕ → CandidatesValue → Type 0) → IsStaying w Quiet → (line places first last : ℕ) (a b : CandidatesValue)
-    → a.size ≡ w → b.size ≡ a.size → IsFewer a b → line < 2 * a.size → LosesAt line places a b → IsNoted a.size line places first last
-    → AreQuietBut Quiet first a → AreQuietBut Quiet last b
-all_noted w Quiet staying line places first last a b is size fewer on loses noted quiet = elim noted [
-  | inl (none, same_set) ↦ λ l low free.
-      let low_a : l < 2 * a.size = omega (arith, low, size) in
-      staying l a b is low_a size fewer (stays_all line places l a b none loses)
-      (quiet l low_a (subst (λ (n : ℕ). has_number n l ≡ false) same_set free))
-  | inr (some, gains) ↦ across_quiet w Quiet staying line places first last a b is size fewer on loses gains
-      (λ other low apart free. quiet other low free)
-]
+-- ---- takes
+
+-- none waits for either
+pub none_waits : (count : ℕ) (waiting : Waiting) → HasNoneBelow count waiting.squares → HasNoneBelow count waiting.clues → IsNoneWaiting count waiting
+none_waits count waiting squares clues true = squares
+none_waits count waiting squares clues false = clues
+
+-- a line that waited for its squares
+pub squares_look : (count : ℕ) (old new : Waiting) (line : ℕ) → IsTaken count old.squares new.squares line → new.clues ≡ old.clues
+    → IsLook count old new true line
+squares_look count old new line taken other = record { taken = taken; other = other }
+
+-- and one that waited for its clues or signs
+pub clues_look : (count : ℕ) (old new : Waiting) (line : ℕ) → IsTaken count old.clues new.clues line → new.squares ≡ old.squares
+    → IsLook count old new false line
+clues_look count old new line taken other = record { taken = taken; other = other }
+
+-- at first all lines wait
+pub all_wait : (Struck : Striking) (grade : Grade) (waiting : Waiting) (c : CandidatesValue) (count : ℕ)
+    → ((line : ℕ) → line < 2 * c.size → line < count) → ((line : ℕ) → has_number waiting.squares line ≡ nat_lt line count)
+    → ((line : ℕ) → has_number waiting.clues line ≡ nat_lt line count) → AreWaiting Struck grade waiting c
+all_wait Struck grade waiting c count inside squares clues true = λ line low free.
+    absurd (both_ways (has_number waiting.squares line) free (squares line ∙ lt-ltb line count (inside line low)))
+all_wait Struck grade waiting c count inside squares clues false = λ line low free.
+    absurd (both_ways (has_number waiting.clues line) free (clues line ∙ lt-ltb line count (inside line low)))
 
 -- where something is left of each line's squares and numbers, it is so of the whole grid
 pub lines_live : (c : CandidatesValue) → ((line : ℕ) → line < 2 * c.size → IsLineSettled line c) → IsLive c
@@ -123,40 +178,10 @@ lines_live c settled = record {
   lines = λ line value low from to. (settled line low).live.placed value from to;
 }
 
--- ---- a look for groups
-
--- what is noted of a line: all lines wait of which something went
-pub more_noted : (line places first last : ℕ) (a b : CandidatesValue) → line < 2 * a.size → LosesAt line places a b
-    → IsNoted a.size line places first last → AreMore first last a b
-more_noted line places first last a b on loses noted = elim noted [
-  | inl (none, same_set) ↦ λ l low free. (subst (λ (n : ℕ). has_number n l ≡ false) same_set free, stays_all line places l a b none loses)
-  | inr (some, gains) ↦ λ l low free.
-      let both = or_parts (has_number first l) ((l == line) || is_crossing a.size line places l) (sym (gains l) ∙ free) in
-      let parts = or_parts (l == line) (is_crossing a.size line places l) both.1 in
-      let apart : l ≢ line = λ same. both_ways (l == line) parts.0 (eq-eqb l line same) in
-      (both.0, stays_apart line places l a b on low apart parts.1 loses)
-]
-
--- what is quiet along lines outside a set stays so, where all those come into it of which something went
-pub more_quiet : (w : ℕ) (Quiet : ℕ → CandidatesValue → Type 0) → IsStaying w Quiet → (first last : ℕ) (a b : CandidatesValue) → a.size ≡ w
-    → b.size ≡ a.size → IsFewer a b → AreMore first last a b → AreQuietBut Quiet first a → AreQuietBut Quiet last b
-more_quiet w Quiet staying first last a b is size fewer more quiet line low free =
-    let low_a : line < 2 * a.size = omega (arith, low, size) in
-    let before = more line low_a free in
-    staying line a b is low_a size fewer before.1 (quiet line low_a before.0)
-
--- what was changed at some places went there
-pub loses_changed : (line places : ℕ) (a b : CandidatesValue) → AreChanged line places a b → LosesAt line places a b
-loses_changed line places a b h = record { stays = h.stays; went = h.went }
-
 -- where nothing went, it went at no place
 pub none_lost : (line places : ℕ) (a b : CandidatesValue) → LosesAt line places a b → length b.trail ≡ length a.trail → IsEmpty places
 none_lost line places a b h still = λ k.
     false_from_ne_true (has_number places k) (λ has. let longer = h.went k has in omega (arith, still, longer))
-
--- so it is with what was changed
-pub none_changed : (line places : ℕ) (a b : CandidatesValue) → AreChanged line places a b → length b.trail ≡ length a.trail → IsEmpty places
-none_changed line places a b h = none_lost line places a b (loses_changed line places a b h)
 
 -- one look after another
 pub more_joined : (first middle last : ℕ) (a b c : CandidatesValue) → b.size ≡ a.size → AreMore first middle a b → AreMore middle last b c

@@ -1,27 +1,25 @@
 -- The tally of a line's squares: one square more, and what the whole tally says of what the squares strike in one another.
-use Rattle.std.proofs.Common.{◌≡◌, ℕ, ◌+◌, ◌^◌, ◌<◌, ◌≤◌, ◌↔◌, ◌⊎◌, Bool, true, false, not, ◌&&◌, ◌||◌, nat_le, inl, inr, sym, ap, ◌∙◌, subst, arith}
-use Rattle.std.proofs.lemmas.Bool.{cases_Bool, cases_eq, cases_order, both_ways, false_from_ne_true, and_parts, and_from, le-leb, leb-true, or_left, or_right, not-true, or_cases}
+use Rattle.std.proofs.Common.{◌≡◌, ℕ, ◌+◌, ◌^◌, ◌<◌, ◌≤◌, ◌↔◌, ◌⊎◌, Bool, true, false, not, ◌&&◌, ◌||◌, ◌==◌, nat_le, inl, inr, refl, sym, ap, ◌∙◌, subst, arith}
+use Rattle.std.proofs.lemmas.Bool.{cases_Bool, cases_eq, cases_order, eq-eqb, eqb-true, both_ways, false_from_ne_true, and_parts, and_from, le-leb, leb-true, or_left, or_right, not-true, or_cases}
 use Rattle.number_sets.specs.Sets.{has_number, no_numbers, IsEmpty, IsShared, IsSingle}
 use Rattle.number_sets.proofs.Members.{has_number-none}
 use Rattle.latin_board.specs.Lines.{line_cell}
 use Rattle.trail_solver.specs.Candidates.{CandidatesValue, IsSetOf, may_be}
 use Rattle.line_steps.specs.Left.{IsLeft, HasNoOtherPlace}
-use Rattle.line_steps.specs.Inner.LineStrikes.{IsAlone, IsByRest, IsLeftByRest, IsLiveLine, IsRestQuiet, IsVoid, IsClash}
-use Rattle.line_steps.specs.Inner.LineTallies.{AreTallied, IsTallyOf, IsSinglesOf, IsCounted, IsAloneBefore, IsClashing, IsForced, IsFree, IsHidden, IsQuietTally, Goes, IsKeptOf}
+use Rattle.line_steps.specs.Inner.LineStrikes.{IsAlone, IsByRest, IsLeftByRest, IsDead, IsLiveLine, IsRestQuiet}
+use Rattle.line_steps.specs.Inner.LineTallies.{AreTallied, IsTallyOf, IsSinglesOf, IsCounted, IsAloneBefore, IsForced, IsFree, IsHidden, IsQuietTally, Goes, IsKeptOf}
 use Rattle.line_steps.proofs.OtherNumbers.{another, has_rest}
 use Rattle.line_steps.specs.declared.lines.latin.LineTally.{LineTally}
 use Rattle.std.proofs.Common.{◌++◌, ◌*◌}
 use Rattle.trail_solver.specs.Pairs.{pairs_of}
 use Rattle.trail_solver.specs.Candidates.{AreCandidates}
-use Rattle.line_steps.specs.Inner.LineStrikes.{StrikesRest}
 use Rattle.line_steps.specs.Takes.{Strikes, Takes}
-use Rattle.line_steps.proofs.TakenLines.{changed_none}
-use Rattle.line_steps.proofs.Takes.{set_before, strikes_whole, takes_next, takes_still}
+use Rattle.line_steps.proofs.Takes.{set_before, strikes_whole, takes_next}
 
 -- ---- squares and their sets
 
 -- what is left of a square, by its set
-left_is : (c : CandidatesValue) (cell set : ℕ) → IsSetOf c cell set → (v : ℕ) → (has_number set v ≡ true) ↔ IsLeft c cell v
+pub left_is : (c : CandidatesValue) (cell set : ℕ) → IsSetOf c cell set → (v : ℕ) → (has_number set v ≡ true) ↔ IsLeft c cell v
 left_is c cell set is v = (
   λ has. let h = (is v).0 has in record { pair = h.0; may = h.1 },
   λ left. (is v).1 (left.pair, left.may),
@@ -92,25 +90,64 @@ tally_more c line k set t u is h more =
 
 -- ---- lines that can't hold their numbers
 
--- nothing is left of a square with an empty set
-pub empty_square : (c : CandidatesValue) (cell set : ℕ) → IsSetOf c cell set → IsEmpty set → (v : ℕ) → IsLeft c cell v → ⊥
-empty_square c cell set is none v left = both_ways (has_number set v) (none v) ((left_is c cell set is v).1 left)
+-- nothing is left of a square, so it strikes all in the others
+pub empty_dead : (c : CandidatesValue) (line k set places : ℕ) → k < c.size → IsSetOf c (line_cell c.size line k) set → IsEmpty set
+    → ((j : ℕ) → j < c.size → has_number places j ≡ true) → IsDead line places c
+empty_dead c line k set places low is none all =
+    let nothing : (v : ℕ) → IsLeft c (line_cell c.size line k) v → ⊥ = λ v left.
+    both_ways (has_number set v) (none v) ((left_is c (line_cell c.size line k) set is v).1 left) in
+    record {
+      place = k;
+      low = low;
+      has = all k low;
+      struck = λ j v j_is has left. inl (
+        k,
+        low,
+        λ same. nothing v (subst (λ (i : ℕ). IsLeft c (line_cell c.size line i) v) (sym same) left),
+        λ other there. absurd (nothing other there),
+      );
+    }
 
--- its only value is alone in an earlier one
-pub alone_clash : (c : CandidatesValue) (line k set : ℕ) (t : LineTally) → k < c.size → IsSetOf c (line_cell c.size line k) set
-    → AreTallied c line k t → IsAloneBefore t set → IsClash line k c
-alone_clash c line k set t low is h again =
-    let (j, before, alone) = (h.singles again.value).0 again.before in
-    (low, (j, before, (again.value, alone, (alone_is c (line_cell c.size line k) set is again.value).0 again.here)))
+-- a square's only value is alone in an earlier one, which strikes it
+pub clash_dead : (c : CandidatesValue) (line k set places : ℕ) (t : LineTally) → k < c.size → IsSetOf c (line_cell c.size line k) set
+    → AreTallied c line k t → IsAloneBefore t set → ((j : ℕ) → has_number places j ≡ (j == k)) → IsDead line places c
+clash_dead c line k set places t low is h again one =
+    let (j, before, first) = (h.singles again.value).0 again.before in
+    let here = (alone_is c (line_cell c.size line k) set is again.value).0 again.here in
+    record {
+      place = k;
+      low = low;
+      has = one k ∙ eq-eqb k k refl;
+      struck = λ i v i_is has left.
+          let last : i ≡ k = eqb-true i k (sym (one i) ∙ has) in
+          let same : v ≡ again.value = here.alone v (subst (λ (n : ℕ). IsLeft c (line_cell c.size line n) v) last left) in
+          inl (j, omega (arith, before, low), λ e. omega (arith, e, before, last), λ other there. first.alone other there ∙ sym same);
+    }
 
--- a value is left of no square
-pub lost_void : (c : CandidatesValue) (line every lost : ℕ) (t : LineTally) → AreTallied c line c.size t
+-- a value is left of no square, so its last place is in each
+pub lost_dead : (c : CandidatesValue) (line every lost places : ℕ) (t : LineTally) → AreTallied c line c.size t
     → ((v : ℕ) → has_number every v ≡ (nat_le 1 v && nat_le v c.size))
-    → ((v : ℕ) → has_number lost v ≡ (has_number every v && not (has_number t.once v))) → (v : ℕ) × (has_number lost v ≡ true) → IsVoid line c
-lost_void c line every lost t h all lost_is (v, has) =
+    → ((v : ℕ) → has_number lost v ≡ (has_number every v && not (has_number t.once v))) → (v : ℕ) × (has_number lost v ≡ true)
+    → ((j : ℕ) → j < c.size → has_number places j ≡ true) → IsDead line places c
+lost_dead c line every lost places t h all lost_is (v, has) whole =
     let (here, none) = (has_rest every t.once lost v lost_is).0 has in
     let both = and_parts (nat_le 1 v) (nat_le v c.size) (sym (all v) ∙ here) in
-    inr (v, leb-true 1 v both.0, leb-true v c.size both.1, λ k low left. none ((h.once v).1 (k, low, left)))
+    let one = leb-true 1 v both.0 in
+    let most = leb-true v c.size both.1 in
+    let nowhere : (k : ℕ) → k < c.size → IsLeft c (line_cell c.size line k) v → ⊥ = λ k low left. none ((h.once v).1 (k, low, left)) in
+    let some : 0 < c.size = omega (arith, one, most) in
+    record {
+      place = 0;
+      low = some;
+      has = whole 0 some;
+      struck = λ k u low has left. inr (
+        v,
+        one,
+        most,
+        λ same. nowhere k low (subst (λ (n : ℕ). IsLeft c (line_cell c.size line k) n) same left),
+        λ j j_is there. absurd (nowhere j j_is there),
+      );
+    }
 
 -- each value is left of some
 pub whole_tally : (c : CandidatesValue) (line every lost : ℕ) (t : LineTally) → AreTallied c line c.size t
@@ -333,8 +370,8 @@ singles_none set many = record {
   );
 }
 
-pub clash_twice : (t : LineTally) (set single : ℕ) → IsSinglesOf set single → IsShared t.singles single → IsClashing t set
-clash_twice t set single s (value, before, here) = inr (record { value = value; here = (s.is value).0 here; before = before })
+pub clash_twice : (t : LineTally) (set single : ℕ) → IsSinglesOf set single → IsShared t.singles single → IsAloneBefore t set
+clash_twice t set single s (value, before, here) = record { value = value; here = (s.is value).0 here; before = before }
 
 -- what is so of one of two
 either : (a b c : Bool) → c ≡ (a || b) → (c ≡ true) ↔ ((a ≡ true) ⊎ (b ≡ true))
@@ -367,14 +404,6 @@ counted_more t u set single both s some apart in_once in_both in_twice in_single
       some = some;
       fresh = λ v one. false_from_ne_true (has_number t.singles v) (λ e. apart (v, e, (s.is v).1 one));
     }
-
--- where they strike nothing that is left, nothing goes
-pub rest_none : (c : CandidatesValue) (line places : ℕ) → IsEmpty places → IsRestQuiet line c → StrikesRest line places c c
-rest_none c line places none quiet = record {
-  takes = takes_still (λ cell v. (k : ℕ) × (k < c.size) × (cell ≡ line_cell c.size line k) × IsLeftByRest c line k v) c (λ cell v by left.
-      both_ways (may_be c (line_cell c.size line by.0) v) (quiet by.0 v by.1 by.3.1.pair by.3.0) by.3.1.may);
-  changed = changed_none line places c none;
-}
 
 -- square by square
 pub square_struck : (line k set kept struck : ℕ) (t : LineTally) (first now next : CandidatesValue) → line < 2 * first.size → k < first.size → first.size ≤ 9

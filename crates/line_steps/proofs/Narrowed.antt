@@ -87,14 +87,14 @@ pub record NarrowsBy (p : Puzzle) (Struck : Striking) (a b : CandidatesValue) (l
 -- a chain to where no given and no line strikes anything more is one
 pub narrows_by : (p : Puzzle) (Own : Striking) → IsAntitone (AllStrikes p Own) → IsSoundFor p (AllStrikes p Own) → StandOnLines p Own
     → (a b : CandidatesValue) (left : Bool) → a.size ≡ p.size → LeadsTo (AllStrikes p Own) Hard a b → AreGivensSettled p b
-    → OnTrue left ((line : ℕ) → line < 2 * b.size → IsQuietOn (AllStrikes p Own) Hard line b) → OnFalse left (IsEmptied b)
+    → OnTrue left ((line : ℕ) → line < 2 * b.size → (what : Bool) → IsQuietOn (AllStrikes p Own) Hard what line b) → OnFalse left (IsEmptied b)
     → NarrowsBy p (AllStrikes p Own) a b left
 narrows_by p Own less sound stand a b left size h givens quiet emptied =
     let Struck = AllStrikes p Own in
     let same = leads_size Struck Hard a b h in
-    let settles : ((line : ℕ) → line < 2 * b.size → IsQuietOn Struck Hard line b) → NoneLeft (IsNarrowed Struck) b b = λ each.
-    let clues = along_settled p Own stand Hard b (same ∙ size) (λ line low. (each line low).clues) in
-    settled_but p Own b (same ∙ size) givens (λ line low. (each line low).squares.quiet)
+    let settles : ((line : ℕ) → line < 2 * b.size → (what : Bool) → IsQuietOn Struck Hard what line b) → NoneLeft (IsNarrowed Struck) b b = λ each.
+    let clues = along_settled p Own stand Hard b (same ∙ size) (λ line low. each line low false) in
+    settled_but p Own b (same ∙ size) givens (λ line low. (each line low true).quiet)
     (λ reason cell value is pair struck. clues reason cell value is (hard_has reason) pair struck) in
     record {
       less = leads_earlier Struck Hard a b h;
@@ -104,5 +104,5 @@ narrows_by p Own less sound stand a b left size h givens quiet emptied =
           settles each cell value (subst (λ (w : ℕ). IsPair w cell value) (sym same) pair)
           (reason, is, less a b reason cell value (leads_fewer Struck Hard a b h) struck)) quiet;
       settled = on_true left settles quiet;
-      live = on_true left (λ each. lines_live b (λ line low. (each line low).squares)) quiet;
+      live = on_true left (λ each. lines_live b (λ line low. each line low true)) quiet;
     }

@@ -31,17 +31,6 @@ least_grade (Set line squares values) = Hard
 abbrev pub has_reason : Grade → Reason → Bool
 has_reason grade reason = nat_le (rank (least_grade reason)) (rank grade)
 
--- the reason is of rows and columns
-abbrev pub is_of_lines : Reason → Bool
-is_of_lines (Given cell) = false
-is_of_lines (Peer cell) = true
-is_of_lines (Place line index value) = true
-is_of_lines (Bound place) = false
-is_of_lines (Stand place) = false
-is_of_lines (Clue place) = false
-is_of_lines (Sign from to) = false
-is_of_lines (Set line squares values) = true
-
 -- the reason is a clue or a sign
 abbrev pub is_of_clues : Reason → Bool
 is_of_clues (Given cell) = false

@@ -1,12 +1,11 @@
 -- What the squares of a row or column strike in one another, and which lines can't hold their numbers.
-use Rattle.std.specs.Prelude.{◌≡◌, ◌≢◌, ℕ, ◌<◌, ◌≤◌, ◌⊎◌, false}
+use Rattle.std.specs.Prelude.{◌≡◌, ◌≢◌, ℕ, ◌<◌, ◌≤◌, ◌⊎◌, true, false}
+use Rattle.number_sets.specs.Sets.{has_number}
 use Rattle.latin_board.specs.Lines.{line_cell}
 use Rattle.trail_solver.specs.Pairs.{IsPair}
 use Rattle.trail_solver.specs.Candidates.{CandidatesValue, may_be}
 use Rattle.line_steps.specs.Left.{IsLeft, HasNoOther, HasNoOtherPlace}
 use Rattle.line_steps.specs.Takes.{Takes, AreChanged}
-use Rattle.line_steps.specs.declared.lines.latin.DeadLine.{DeadLine}
-use Rattle.line_steps.specs.declared.lines.latin.DeadLine.TheVariants.{Void, Clash}
 
 -- nothing but the value is left of another square of the line, or another value has no other place in it
 abbrev pub IsByRest : CandidatesValue → ℕ → ℕ → ℕ → Type 0
@@ -47,20 +46,9 @@ pub record IsAlone (c : CandidatesValue) (cell value : ℕ) : Type 0 where
   pub left : IsLeft c cell value
   pub alone : HasNoOther c cell value
 
--- nothing is left of a square of the line, or a number of no square
-abbrev pub IsVoid : ℕ → CandidatesValue → Type 0
-IsVoid line c =
-    ((k : ℕ) × (k < c.size) × ((v : ℕ) → IsLeft c (line_cell c.size line k) v → ⊥))
-    ⊎ ((u : ℕ) × (1 ≤ u) × (u ≤ c.size) × ((k : ℕ) → k < c.size → IsLeft c (line_cell c.size line k) u → ⊥))
-
--- one value is alone in the square at the place, and in an earlier one of the line
-abbrev pub IsClash : ℕ → ℕ → CandidatesValue → Type 0
-IsClash line place c =
-    (place < c.size)
-    × ((j : ℕ) × (j < place)
-    × ((v : ℕ) × IsAlone c (line_cell c.size line j) v × IsAlone c (line_cell c.size line place) v))
-
--- why the squares of a line can't hold its numbers
-abbrev pub IsDead : ℕ → CandidatesValue → DeadLine → Type 0
-IsDead line c Void = IsVoid line c
-IsDead line c (Clash place) = IsClash line place c
+-- the other squares of the line strike all that is left of those at these places, of which there is one
+pub record IsDead (line places : ℕ) (c : CandidatesValue) : Type 0 where
+  pub place : ℕ
+  pub low : place < c.size
+  pub has : has_number places place ≡ true
+  pub struck : (k v : ℕ) → k < c.size → has_number places k ≡ true → IsLeft c (line_cell c.size line k) v → IsByRest c line k v

@@ -4,7 +4,7 @@ use Rattle.number_sets.specs.Sets.{has_number, IsSingle}
 use Rattle.latin_board.specs.Lines.{line_cell}
 use Rattle.trail_solver.specs.Candidates.{CandidatesValue}
 use Rattle.line_steps.specs.Left.{IsLeft}
-use Rattle.line_steps.specs.Inner.LineStrikes.{IsAlone, IsClash, IsVoid}
+use Rattle.line_steps.specs.Inner.LineStrikes.{IsAlone}
 use Rattle.line_steps.specs.declared.lines.latin.LineTally.{LineTally}
 
 -- the tally of the first n squares of a line: which values are left of one of them, of two, and alone in one; something
@@ -23,13 +23,6 @@ pub record AreTallied (c : CandidatesValue) (line n : ℕ) (t : LineTally) : Typ
 pub record IsTallyOf (line : ℕ) (c : CandidatesValue) (t : LineTally) : Type 0 where
   pub tally : AreTallied c line c.size t
   pub placed : (v : ℕ) → 1 ≤ v → v ≤ c.size → has_number t.once v ≡ true
-
--- the line can't hold its numbers: the square at the place is empty, or its one value is alone in an earlier one; or
--- the place is the end, and nothing is left of a square or a number of no square
-abbrev pub IsStuckAt : ℕ → CandidatesValue → ℕ → Type 0
-IsStuckAt line c place =
-    ((place < c.size) × ((v : ℕ) → IsLeft c (line_cell c.size line place) v → ⊥))
-    ⊎ (IsClash line place c ⊎ ((place ≡ c.size) × IsVoid line c))
 
 -- the single value of a set, or none
 pub record IsSinglesOf (set single : ℕ) : Type 0 where
@@ -50,10 +43,6 @@ pub record IsAloneBefore (t : LineTally) (set : ℕ) : Type 0 where
   pub value : ℕ
   pub here : IsSingle set value
   pub before : has_number t.singles value ≡ true
-
--- the set is empty, or its only value is alone in an earlier one
-abbrev pub IsClashing : LineTally → ℕ → Type 0
-IsClashing t set = ((v : ℕ) → has_number set v ≡ false) ⊎ IsAloneBefore t set
 
 -- the values that are left of just one square are those that are alone in one
 abbrev pub IsQuietTally : LineTally → Type 0

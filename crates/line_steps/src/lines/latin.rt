@@ -1,43 +1,71 @@
 //! What the squares of a row or column strike in one another.
 
-ghost use Rattle.std.specs.Prelude.{◌≡◌, ◌*◌, ◌<◌, IfErr, IfOk, OnErr};
-ghost use Rattle.line_steps.specs.Inner.LineStrikes.{IsDead, IsLiveLine, StrikesRest};
-ghost use Rattle.line_steps.specs.Inner.LineTallies.{IsStuckAt, IsTallyOf, IsSinglesOf};
+ghost use Rattle.std.specs.Prelude.{◌≡◌, ◌↔◌, ℕ, ◌*◌, ◌<◌, true, slice_index, IfErr, IfNone, IfOk, IfSome};
+ghost use Rattle.number_sets.specs.Sets.{has_number, IsEmpty};
+ghost use Rattle.latin_board.specs.Lines.{line_cell};
+ghost use Rattle.line_steps.specs.Left.{IsEmptied, IsLeft};
+ghost use Rattle.line_steps.specs.Reasons.{IsByLine};
+ghost use Rattle.line_steps.specs.Chains.{LeadsTo};
+ghost use Rattle.line_steps.specs.Along.{LosesAt};
+ghost use Rattle.line_steps.specs.Inner.LineStrikes.{IsDead, IsLineSettled};
+ghost use Rattle.line_steps.specs.Inner.LineTallies.{IsTallyOf, IsSinglesOf};
+ghost use Rattle.line_steps.specs.declared.grade.Grade.TheVariants.{Latin};
 
+use crate::lines::line_passes::{line_sets, strike_row};
 use crate::lines::views::Along;
 use number_sets::NumberSet;
 use trail_solver::Candidates;
 
-/// Why the squares of a row or column can't hold its numbers.
-#[derive(Clone, Copy, PartialEq, Eq, Debug)]
-pub enum DeadLine {
-    /// Nothing is left of a square, or a number is left of no square.
-    Void,
-    /// The one value that is left of the square at the place is alone in an earlier one, too.
-    Clash { place: u8 },
-}
-
-/// Takes away what the squares of a row or column strike in one another, and gives the places of those of which something went:
-/// the value that is alone in a square goes from the rest of the line, and all other values go from a square that is the one
-/// place of a value in it. Where the line can't hold its numbers nothing is taken.
+/// Takes away what the squares of a line strike in one another, and gives the places of those of which something went; none, where they
+/// leave a square nothing. The value that is alone in a square goes from the rest of the line, and all other values go from a square that
+/// is the one place of a value in it.
 // Searches spend most of their time here.
 #[inline(always)]
-pub(crate) fn strike_line(candidates: &mut Candidates, line: u8) -> Result<NumberSet, DeadLine>
+pub(crate) fn strike_line(candidates: &mut Candidates, line: u8) -> Option<NumberSet>
     requires { line < 2 * candidates.old.size }
-    ensures ok { IfOk result (λ places. StrikesRest line places candidates.old candidates.new) }
-    ensures live { IfOk result (λ places. IsLiveLine line candidates.old) }
-    ensures err { IfErr result (IsDead line candidates.old) }
-    ensures same { OnErr result (candidates.new ≡ candidates.old) }
+    ensures leads { LeadsTo (IsByLine candidates.old.size) Latin candidates.old candidates.new }
+    ensures loses { IfSome result (λ places. LosesAt line places candidates.old candidates.new) }
+    ensures quiet { IfSome result (λ places. IsEmpty places → IsLineSettled line candidates.new) }
+    ensures emptied { IfNone result (IsEmptied candidates.new) }
 {
     let squares = Along::line(candidates.size(), line);
     let tally = match tally_of(candidates, &squares) {
         Ok(tally) => tally,
-        Err(place) => return Err(dead_at(candidates, &squares, place)),
+        Err(places) => {
+            strike_dead(candidates, line, places);
+            return None;
+        }
     };
     if tally.is_quiet() {
-        return Ok(NumberSet::empty());
+        return Some(NumberSet::empty());
     }
-    Ok(tally.strike_along(candidates, &squares))
+    Some(tally.strike_along(candidates, &squares))
+}
+
+// Takes away all that is left of the squares at some places of a line that can't hold its numbers: the others strike it.
+fn strike_dead(candidates: &mut Candidates, line: u8, places: NumberSet)
+    requires line { line < 2 * candidates.old.size }
+    requires dead { IsDead line places candidates.old }
+    ensures leads { LeadsTo (IsByLine candidates.old.size) Latin candidates.old candidates.new }
+    ensures emptied { IsEmptied candidates.new }
+{
+    let row = sets_at(candidates, line, places);
+    strike_row(candidates, line, &row);
+}
+
+// What is left of the squares at some places of a line, and nothing for the others.
+fn sets_at(candidates: &Candidates, line: u8, places: NumberSet) -> [NumberSet; 9]
+    requires { line < 2 * candidates.now.size }
+    ensures { (k v : ℕ) → k < candidates.now.size → (has_number (slice_index result k) v ≡ true)
+        ↔ ((has_number places k ≡ true) × IsLeft candidates.now (line_cell candidates.now.size line k) v) }
+{
+    let mut sets = line_sets(candidates, line);
+    for k in 0..candidates.size().get() {
+        if !places.has(k) {
+            sets[k as usize] = NumberSet::empty();
+        }
+    }
+    sets
 }
 
 // What the sets of candidates of a line say together: the values of which one of them has one, of which two have one,
@@ -49,12 +77,12 @@ struct LineTally {
     singles: NumberSet,
 }
 
-// The tally of a line's sets, or the place up to which they can't be the candidates of a row or column.
-fn tally_of(candidates: &Candidates, squares: &Along) -> Result<LineTally, u8>
+// The tally of a line's sets; or, where they can't be the candidates of a row or column, places of which all goes.
+fn tally_of(candidates: &Candidates, squares: &Along) -> Result<LineTally, NumberSet>
     requires size { squares.now.size ≡ candidates.now.size }
     requires line { squares.now.line < 2 * candidates.now.size }
     ensures ok { IfOk result (IsTallyOf squares.now.line candidates.now) }
-    ensures err { IfErr result (IsStuckAt squares.now.line candidates.now) }
+    ensures err { IfErr result (λ places. IsDead squares.now.line places candidates.now) }
 {
     let width = candidates.size().get();
     let mut tally = LineTally {
@@ -64,32 +92,27 @@ fn tally_of(candidates: &Candidates, squares: &Along) -> Result<LineTally, u8>
     };
     for place in 0..width {
         let set = candidates.values(squares.cell(place as usize));
+        if set.is_empty() {
+            return Err(all_places(width));
+        }
         let Some(more) = tally.with(set) else {
-            return Err(place);
+            return Err(NumberSet::one(place));
         };
         tally = more;
     }
     if NumberSet::up_to(width).difference(tally.once).is_empty() {
         Ok(tally)
     } else {
-        Err(width)
+        Err(all_places(width))
     }
 }
 
-// Why they can't, by that place.
-fn dead_at(candidates: &Candidates, squares: &Along, place: u8) -> DeadLine
-    requires size { squares.now.size ≡ candidates.now.size }
-    requires line { squares.now.line < 2 * candidates.now.size }
-    requires stuck { IsStuckAt squares.now.line candidates.now place }
-    ensures { IsDead squares.now.line candidates.now result }
+// All places of a line.
+fn all_places(width: u8) -> NumberSet
+    requires { width < 15 }
+    ensures { (k : ℕ) → k < width → has_number result k ≡ true }
 {
-    if place == candidates.size().get() {
-        return DeadLine::Void;
-    }
-    if candidates.values(squares.cell(place as usize)).is_empty() {
-        return DeadLine::Void;
-    }
-    DeadLine::Clash { place }
+    NumberSet::up_to(width).lowered()
 }
 
 // The set where it has just one value, and none otherwise.
@@ -108,17 +131,15 @@ impl LineTally {
     ghost use Rattle.std.specs.Prelude.{◌≡◌, ◌*◌, ◌<◌, MatchOption};
     ghost use Rattle.std.specs.Bool.{OnTrue};
     ghost use Rattle.line_steps.specs.Inner.LineStrikes.{StrikesRest};
-    ghost use Rattle.line_steps.specs.Inner.LineTallies.{IsCounted, IsClashing, IsForced, IsFree, IsKeptOf};
+    ghost use Rattle.line_steps.specs.Inner.LineTallies.{IsCounted, IsAloneBefore, IsForced, IsFree, IsKeptOf};
     ghost use Rattle.line_steps.specs.Inner.LineTallies.{IsQuietTally, IsTallyOf};
 
-    // The tally with one set more, or none where the set is empty or its only value is alone in another set.
+    // The tally with one set more, which has some value, or none where its only value is alone in another set.
     #[tactic(auto, using(crate::proofs::LineTallying::clash_twice))]
     fn with(self, set: NumberSet) -> Option<LineTally>
-        ensures { MatchOption result (IsClashing self set) (IsCounted self set) }
+        requires { (v : ℕ) × (has_number set v ≡ true) }
+        ensures { MatchOption result (IsAloneBefore self set) (IsCounted self set) }
     {
-        if set.is_empty() {
-            return None;
-        }
         let single = single_of(set);
         if !self.singles.is_disjoint(single) {
             return None;

@@ -1,67 +1,15 @@
-//! What rows and columns strike, square by square: lone values, and the last places of values.
-ghost use Rattle.std.specs.Prelude.{◌≡◌, ℕ, ◌*◌, ◌<◌, true, slice_index, IfNone, IfSome};
-ghost use Rattle.number_sets.specs.Sets.{has_number, IsEmpty};
+//! Values taken away along a row or column, square by square.
+ghost use Rattle.std.specs.Prelude.{◌≡◌, ℕ, ◌*◌, ◌<◌, true, slice_index};
+ghost use Rattle.number_sets.specs.Sets.{has_number};
 ghost use Rattle.latin_board.specs.Lines.{line_cell};
-ghost use Rattle.line_steps.specs.Left.{IsEmptied};
-ghost use Rattle.line_steps.specs.Reasons.{IsByLine};
-ghost use Rattle.line_steps.specs.Chains.{LeadsTo};
 ghost use Rattle.line_steps.specs.Takes.{Strikes, Takes, AreChanged};
-ghost use Rattle.line_steps.specs.Inner.LineStrikes.{IsLineSettled, IsClash, IsVoid};
 ghost use Rattle.line_steps.specs.Inner.LineSets.{AreLineSets};
 ghost use Rattle.trail_solver.specs.Candidates.{AreCandidates};
-ghost use Rattle.line_steps.specs.declared.grade.Grade.TheVariants.{Latin};
 
-use crate::lines::latin::{DeadLine, strike_line as strike_squares};
 use crate::lines::striking::strike;
 use latin_board::line_cell;
 use number_sets::NumberSet;
 use trail_solver::Candidates;
-
-/// Takes away what the squares of a line strike in one another, and gives the places of those of which something went; none, where they
-/// leave a square nothing.
-#[inline(always)]
-pub(crate) fn strike_line(candidates: &mut Candidates, line: u8) -> Option<NumberSet>
-    requires { line < 2 * candidates.old.size }
-    ensures leads { LeadsTo (IsByLine candidates.old.size) Latin candidates.old candidates.new }
-    ensures changed { IfSome result (λ places. AreChanged line places candidates.old candidates.new) }
-    ensures quiet { IfSome result (λ places. IsEmpty places → IsLineSettled line candidates.new) }
-    ensures emptied { IfNone result (IsEmptied candidates.new) }
-{
-    match strike_squares(candidates, line) {
-        Ok(places) => Some(places),
-        Err(DeadLine::Void) => {
-            strike_all(candidates, line);
-            None
-        }
-        Err(DeadLine::Clash { place }) => {
-            strike_clash(candidates, line, place);
-            None
-        }
-    }
-}
-
-// Takes away all that is left along a line with an empty square or a number without a place: the squares strike that in one another.
-fn strike_all(candidates: &mut Candidates, line: u8)
-    requires line { line < 2 * candidates.old.size }
-    requires void { IsVoid line candidates.old }
-    ensures leads { LeadsTo (IsByLine candidates.old.size) Latin candidates.old candidates.new }
-    ensures emptied { IsEmptied candidates.new }
-{
-    let sets = line_sets(candidates, line);
-    strike_row(candidates, line, &sets);
-}
-
-// Takes away the one value that is left of a square: it is alone in an earlier square of the line, which strikes it there.
-fn strike_clash(candidates: &mut Candidates, line: u8, place: u8)
-    requires line { line < 2 * candidates.old.size }
-    requires clash { IsClash line place candidates.old }
-    ensures leads { LeadsTo (IsByLine candidates.old.size) Latin candidates.old candidates.new }
-    ensures emptied { IsEmptied candidates.new }
-{
-    let cell = line_cell(candidates.size(), line, place);
-    let values = candidates.values(cell);
-    take_at(candidates, place, cell, values);
-}
 
 /// Takes away from each square of a line the values of its set, and gives the places of those of which something went.
 pub fn strike_row(candidates: &mut Candidates, line: u8, row: &[NumberSet; 9]) -> NumberSet

@@ -1,8 +1,9 @@
 //! The lines that wait to be looked along.
 
-ghost use Rattle.std.specs.Prelude.{◌≡◌, ℕ, ◌*◌, ◌<◌, ◌≤◌, nat_lt, IfNone, MatchOption};
+ghost use Rattle.std.specs.Prelude.{◌≡◌, ℕ, ◌*◌, ◌<◌, ◌≤◌, nat_lt, IfNone, IfSome};
 ghost use Rattle.number_sets.specs.Sets.{has_number, IsEmpty};
-ghost use Rattle.line_steps.specs.Inner.ChangedLines.{HasNoneBelow, IsNoted, IsTaken};
+ghost use Rattle.line_steps.specs.Inner.ChangedLines.{IsNoted};
+ghost use Rattle.line_steps.specs.Inner.LineLooks.{IsLook, IsNoneWaiting};
 
 use crate::lines::changed::Lines;
 use latin_board::Size;
@@ -55,27 +56,24 @@ impl Waiting {
         self.clues.add(across);
     }
 
-    /// Takes one of the first lines that wait for their squares, if any does: the next from a line on, or otherwise the least.
-    pub(crate) fn take_squares(&mut self, from: u8, count: u8) -> Option<u8>
-        requires from { from < 32 }
+    /// Takes one of the first lines that wait, if any does, and tells whether it waited for its squares. Those go first; of either kind it is
+    /// the next from a line on, or otherwise the least.
+    #[tactic(auto, using(crate::proofs::LineLooks::none_waits, crate::proofs::LineLooks::squares_look, crate::proofs::LineLooks::clues_look))]
+    pub(crate) fn take(&mut self, from: &mut (u8, u8), count: u8) -> Option<(bool, u8)>
+        requires from_squares { from.old.0 < 32 }
+        requires from_clues { from.old.1 < 32 }
         requires count { count < 32 }
-        ensures line { MatchOption result (HasNoneBelow count self.old.squares)
-            (IsTaken count self.old.squares self.new.squares) }
-        ensures same { IfNone result (self.new.squares ≡ self.old.squares) }
-        ensures clues { self.new.clues ≡ self.old.clues }
+        ensures none { IfNone result (IsNoneWaiting count self.old) }
+        ensures look { IfSome result (λ look. IsLook count self.old self.new look.0 look.1) }
+        ensures from_squares { from.new.0 < 32 }
+        ensures from_clues { from.new.1 < 32 }
     {
-        self.squares.take_next(from, count)
-    }
-
-    /// Takes one that waits for its clues or signs, in the same way.
-    pub(crate) fn take_clues(&mut self, from: u8, count: u8) -> Option<u8>
-        requires from { from < 32 }
-        requires count { count < 32 }
-        ensures line { MatchOption result (HasNoneBelow count self.old.clues)
-            (IsTaken count self.old.clues self.new.clues) }
-        ensures same { IfNone result (self.new.clues ≡ self.old.clues) }
-        ensures squares { self.new.squares ≡ self.old.squares }
-    {
-        self.clues.take_next(from, count)
+        if let Some(line) = self.squares.take_next(from.0, count) {
+            from.0 = line + 1;
+            return Some((true, line));
+        }
+        let line = self.clues.take_next(from.1, count)?;
+        *from = (0, line + 1);
+        Some((false, line))
     }
 }

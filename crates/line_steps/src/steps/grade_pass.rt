@@ -1,8 +1,9 @@
 //! The steps of a puzzle's grade, as the loop over lines asks for them.
 
-ghost use Rattle.std.specs.Prelude.{◌↔◌, IsTrue};
+ghost use Rattle.std.specs.Prelude.{◌≡◌, ◌↔◌, IsTrue};
+ghost use Rattle.std.specs.Bool.{OnTrue};
 ghost use Rattle.line_steps.specs.Grades.{IsLower};
-ghost use Rattle.line_steps.specs.declared.grade.Grade.TheVariants.{Latin, Easy};
+ghost use Rattle.line_steps.specs.declared.grade.Grade.TheVariants.{Latin, Easy, Hard};
 
 use crate::grade::Grade;
 use crate::lines::line_pass::LinePass;
@@ -66,7 +67,8 @@ fn has_clues(grade: Grade) -> bool
 
 /// Whether a grade looks at groups of squares.
 pub(crate) fn has_groups(grade: Grade) -> bool
-    ensures { IsTrue result ↔ IsLower Easy grade }
+    ensures past { IsTrue result ↔ IsLower Easy grade }
+    ensures highest { OnTrue result (grade ≡ Hard) }
 {
     matches!(grade, Grade::Hard)
 }

@@ -1,22 +1,47 @@
 //! What groups of a line's squares strike: as many values as squares are all that is left of them.
-ghost use Rattle.std.specs.Prelude.{◌≡◌, ◌↔◌, ℕ, ◌*◌, ◌^◌, ◌⊎◌, ◌<◌, ◌≤◌, true, false, slice_index, count_ones};
+ghost use Rattle.std.specs.Prelude.{◌≡◌, ◌↔◌, ℕ, ◌*◌, ◌^◌, ◌⊎◌, ◌<◌, ◌≤◌, Bool, true, false, length, slice_index, count_ones};
+ghost use Rattle.std.specs.Bool.{OnFalse, OnTrue};
 ghost use Rattle.number_sets.specs.Sets.{has_number, IsEmpty};
 ghost use Rattle.line_steps.specs.Reasons.{IsByLine};
 ghost use Rattle.line_steps.specs.Chains.{LeadsTo};
 ghost use Rattle.line_steps.specs.Inner.Groups.{IsUnionOf, IsStruckBelow, IsGroupQuiet};
-ghost use Rattle.line_steps.specs.Takes.{AreChanged};
+ghost use Rattle.line_steps.specs.Inner.LineLooks.{AreMore, waiting_for};
+ghost use Rattle.line_steps.specs.Along.{LosesAt};
 ghost use Rattle.line_steps.specs.declared.grade.Grade.TheVariants.{Hard};
 
 use crate::lines::line_passes::{line_sets, strike_row};
+use crate::lines::waiting::Waiting;
 use number_sets::NumberSet;
 use trail_solver::Candidates;
 
-/// Takes away what the groups of a line's squares strike, and gives the places of those of which something went. Squares of which one
-/// value is left are in none of the groups: once that value is gone elsewhere in the line, a group strikes no less without such a square.
-pub(crate) fn strike_groups_on(candidates: &mut Candidates, line: u8) -> NumberSet
+/// Takes away what groups strike, line after line, and notes where something went; tells whether anything did.
+pub(crate) fn look_for_groups(candidates: &mut Candidates, waiting: &mut Waiting) -> bool
+    ensures leads { LeadsTo (IsByLine candidates.old.size) Hard candidates.old candidates.new }
+    ensures more { (what : Bool)
+        → AreMore (waiting_for what waiting.old) (waiting_for what waiting.new) candidates.old candidates.new }
+    ensures went { OnTrue result (length candidates.old.trail < length candidates.new.trail) }
+    ensures same { OnFalse result (candidates.new ≡ candidates.old) }
+    ensures quiet { OnFalse result ((line : ℕ) → line < 2 * candidates.new.size → IsGroupQuiet line candidates.new) }
+{
+    let width = candidates.size().get();
+    let count = candidates.trail_len();
+    for line in 0..2 * width {
+        let changed = strike_groups_on(candidates, line);
+        waiting.note(line, changed, width);
+    }
+    if candidates.trail_len() == count {
+        return false;
+    }
+    true
+}
+
+// Takes away what the groups of a line's squares strike, and gives the places of those of which something went. Squares of which one
+// value is left are in none of the groups: once that value is gone elsewhere in the line, a group strikes no less without such a square.
+#[tactic(auto, using(crate::proofs::StayingLines::loses_changed))]
+fn strike_groups_on(candidates: &mut Candidates, line: u8) -> NumberSet
     requires { line < 2 * candidates.old.size }
     ensures leads { LeadsTo (IsByLine candidates.old.size) Hard candidates.old candidates.new }
-    ensures changed { AreChanged line result candidates.old candidates.new }
+    ensures loses { LosesAt line result candidates.old candidates.new }
     ensures quiet { IsEmpty result → IsGroupQuiet line candidates.old }
 {
     let sets = line_sets(candidates, line);

@@ -1,4 +1,4 @@
-use Rattle.std.proofs.Common.{ℕ, ◌*◌, ◌<◌, ◌∙◌, subst}
+use Rattle.std.proofs.Common.{ℕ, ◌*◌, ◌<◌, Bool, ◌∙◌, subst}
 use Rattle.std.specs.Bool.{OnTrue}
 use Rattle.line_steps.specs.Inner.LineLooks.{IsQuietOn}
 use Rattle.line_steps.specs.Chains.{LeadsTo}
@@ -13,8 +13,8 @@ use Rattle.line_steps.proofs.lines.settling.narrow_lines.Given.{Over}
 use Rattle.line_steps.proofs.lines.settling.narrow_lines.Goals as goal
 use Rattle.line_steps.proofs.lines.settling.narrow_lines.Goals.{After-settle_lines}
 
-pub settle_lines-requires : goal.settle_lines-requires
-settle_lines-requires g c =
+pub settle_lines-requires-clause-size : goal.settle_lines-requires-clause-size
+settle_lines-requires-clause-size g c =
     let p = c.args.p.now in
     leads_size (StruckBy g.P.LinePass.puzzle g.P.LinePass.own p) (g.P.LinePass.grade p) c.args.candidates.now c.strike_first.new.candidates c.strike_first.ensures
     ∙ c.requires.size
@@ -39,7 +39,8 @@ narrowed g c =
     let new = c.settle_lines.new.candidates in
     let done = c.settle_lines.ensures in
     let Quiet : Grade → Type 0 =
-    λ grade. OnTrue c.settle_lines.result ((line : ℕ) → line < 2 * new.size → IsQuietOn (StruckBy g.P.LinePass.puzzle g.P.LinePass.own p) grade line new) in
+    λ grade. OnTrue c.settle_lines.result ((line : ℕ) → line < 2 * new.size → (what : Bool)
+    → IsQuietOn (StruckBy g.P.LinePass.puzzle g.P.LinePass.own p) grade what line new) in
     narrows_by puzzle Own (all_less puzzle Own (g.met.P.LinePass.own_less p))
     (all_sound puzzle Own (λ d reason cell value h. g.met.P.LinePass.own_sound p d reason cell value h c.requires.valid))
     (λ d reason cell value. g.met.P.LinePass.stands_along p d reason cell value c.requires.valid)

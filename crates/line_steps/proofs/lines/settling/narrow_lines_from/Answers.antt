@@ -14,10 +14,10 @@ returns g c =
     let sound : IsSoundFor puzzle Struck =
     all_sound puzzle (g.P.LinePass.own p) (λ d reason cell value h. g.met.P.LinePass.own_sound p d reason cell value h c.requires.valid) in
     let old = c.args.candidates.now in
-    let new = c.settle_from.new.candidates in
-    let leads = c.settle_from.ensures.leads in
+    let new = c.look.new.candidates in
+    let leads = c.look.ensures.leads in
     record {
       less = leads_earlier Struck grade old new leads;
       keeps = leads_keep puzzle Struck sound grade old new c.requires.size leads;
-      refutes = leads_refute puzzle Struck sound grade old new c.settle_from.result c.requires.size leads c.settle_from.ensures.emptied;
+      refutes = leads_refute puzzle Struck sound grade old new c.look.result c.requires.size leads c.look.ensures.emptied;
     }

@@ -1,52 +1,92 @@
+use Rattle.line_steps.specs.Laws.Along.{all_look}
 use Rattle.line_steps.specs.Reasons.{StruckBy}
-use Rattle.std.proofs.Common.{◌≡◌, ℕ, ◌*◌, ◌<◌, ◌∙◌, nat_lt, false, arith}
-use Rattle.std.proofs.lemmas.Bool.{both_ways, lt-ltb}
-use Rattle.number_sets.specs.Sets.{has_number}
-use Rattle.line_steps.specs.Inner.LineLooks.{AreWaiting}
-use Rattle.line_steps.proofs.GivenPasses.{givens_stay}
-use Rattle.line_steps.proofs.Leads.{leads_fewer, leads_on, leads_size}
-use Rattle.line_steps.proofs.Narrowed.{on_true}
+use Rattle.std.proofs.Common.{◌≡◌, ℕ, ◌*◌, ◌<◌, ◌≤◌, ◌∙◌, arith}
+use Rattle.line_steps.specs.Inner.LineLooks.{IsQuietOn, waiting_for}
+use Rattle.line_steps.proofs.LineSets.{cube_most}
+use Rattle.line_steps.proofs.LineLooks.{all_wait, looks_stay, more_quiet}
+use Rattle.line_steps.proofs.Rounds.{IsOnTheWay, goes_further, groups_lead}
 use Rattle.line_steps.proofs.SharedReasons.{givens_lead}
+use Rattle.line_steps.proofs.Leads.{leads_fewer, leads_length, leads_size}
 use Rattle.line_steps.specs.declared.grade.Grade.TheVariants.{Latin}
 use Rattle.line_steps.proofs.lines.settling.settle_lines.Goals as goal
 
+pub rounds-init : goal.rounds-init
+rounds-init g c =
+    let p = c.args.p.now in
+    let Struck = StruckBy g.P.LinePass.puzzle g.P.LinePass.own p in
+    let grade = g.P.LinePass.grade p in
+    let first = c.args.candidates.now in
+    let new = c.strike_givens.new.candidates in
+    let size = leads_size Struck Latin first new c.strike_givens.ensures.leads in (
+      record { leads = givens_lead Struck grade first new c.strike_givens.ensures.leads; givens = c.strike_givens.ensures.settled },
+      all_wait Struck grade c.first-waiting.result new (2 * c.get-width.result)
+          (λ line low. omega (arith, low, size, c.get-width.ensures.value, c.size.ensures.value)) c.first-waiting.ensures.squares c.first-waiting.ensures.clues,
+    )
+
 pub look-requires : goal.look-requires
 look-requires g c = record {
-  size = leads_size (StruckBy g.P.LinePass.puzzle g.P.LinePass.own c.args.p.now) Latin c.args.candidates.now c.strike_givens.new.candidates c.strike_givens.ensures.leads ∙ c.requires;
+  size = leads_size (StruckBy g.P.LinePass.puzzle g.P.LinePass.own c.args.p.now) (g.P.LinePass.grade c.args.p.now) c.args.candidates.now
+      c.rounds.candidates c.rounds.invariant.0.leads
+      ∙ c.requires.size;
 }
 
-pub returns-clause-leads : goal.returns-clause-leads
-returns-clause-leads g c =
-    let Struck = StruckBy g.P.LinePass.puzzle g.P.LinePass.own c.args.p.now in
-    let grade = g.P.LinePass.grade c.args.p.now in
-    let middle = c.strike_givens.new.candidates in
-    leads_on Struck grade c.args.candidates.now middle c.look.new.candidates
-    (givens_lead Struck grade c.args.candidates.now middle c.strike_givens.ensures.leads) c.look.ensures.leads
+pub returns-then-not-look-clause-leads : goal.returns-then-not-look-clause-leads
+returns-then-not-look-clause-leads g c = (goes_further c.rounds.invariant.0 c.look.ensures.leads).leads
 
-pub returns-clause-givens : goal.returns-clause-givens
-returns-clause-givens g c =
-    let Struck = StruckBy g.P.LinePass.puzzle g.P.LinePass.own c.args.p.now in
-    let grade = g.P.LinePass.grade c.args.p.now in
-    let middle = c.strike_givens.new.candidates in
-    let new = c.look.new.candidates in
-    let leads = c.look.ensures.leads in
-    givens_stay (g.P.LinePass.puzzle c.args.p.now) middle new (leads_size Struck grade middle new leads) (leads_fewer Struck grade middle new leads)
-    c.strike_givens.ensures.settled
+pub returns-then-not-look-clause-givens : goal.returns-then-not-look-clause-givens
+returns-then-not-look-clause-givens g c = (goes_further c.rounds.invariant.0 c.look.ensures.leads).givens
 
-pub returns-clause-quiet : goal.returns-clause-quiet
-returns-clause-quiet g c =
-    let Struck = StruckBy g.P.LinePass.puzzle g.P.LinePass.own c.args.p.now in
-    let grade = g.P.LinePass.grade c.args.p.now in
-    let middle = c.strike_givens.new.candidates in
-    let new = c.look.new.candidates in
-    let first = leads_size Struck Latin c.args.candidates.now middle c.strike_givens.ensures.leads in
-    let same = leads_size Struck grade middle new c.look.ensures.leads in
-    let inside : (line : ℕ) → line < 2 * middle.size → line < 2 * c.get-width.result = λ line low.
-    omega (arith, low, first, c.get-width.ensures.value, c.size.ensures.value) in
-    let all : (line : ℕ) → line < 2 * middle.size → (set : ℕ) → has_number set line ≡ nat_lt line (2 * c.get-width.result) → has_number set line ≡ false → ⊥ =
-    λ line low set is free. both_ways (has_number set line) free (is ∙ lt-ltb line (2 * c.get-width.result) (inside line low)) in
-    let waiting : AreWaiting Struck grade c.first-waiting.result middle = record {
-      squares = λ line low free. absurd (all line low c.first-waiting.result.squares (c.first-waiting.ensures.squares line) free);
-      clues = λ line low free. absurd (all line low c.first-waiting.result.clues (c.first-waiting.ensures.clues line) free);
-    } in
-    on_true c.look.result (λ quiet line low. quiet waiting line (omega (arith, low, same))) c.look.ensures.quiet
+pub returns-then-not-groups-clause-leads : goal.returns-then-not-groups-clause-leads
+returns-then-not-groups-clause-leads g c = (goes_further c.rounds.invariant.0 c.look.ensures.leads).leads
+
+pub returns-then-not-groups-clause-givens : goal.returns-then-not-groups-clause-givens
+returns-then-not-groups-clause-givens g c = (goes_further c.rounds.invariant.0 c.look.ensures.leads).givens
+
+pub returns-then-not-groups-clause-quiet : goal.returns-then-not-groups-clause-quiet
+returns-then-not-groups-clause-quiet g c = c.if-not-look.ensures.quiet c.rounds.invariant.1
+
+pub returns-then-not-look_for_groups-clause-leads : goal.returns-then-not-look_for_groups-clause-leads
+returns-then-not-look_for_groups-clause-leads g c =
+    rw c.if-not-look_for_groups.ensures.same (goes_further c.rounds.invariant.0 c.look.ensures.leads).leads
+
+pub returns-then-not-look_for_groups-clause-givens : goal.returns-then-not-look_for_groups-clause-givens
+returns-then-not-look_for_groups-clause-givens g c =
+    rw c.if-not-look_for_groups.ensures.same (goes_further c.rounds.invariant.0 c.look.ensures.leads).givens
+
+pub returns-then-not-look_for_groups-clause-quiet : goal.returns-then-not-look_for_groups-clause-quiet
+returns-then-not-look_for_groups-clause-quiet g c = rw c.if-not-look_for_groups.ensures.same (c.if-not-look.ensures.quiet c.rounds.invariant.1)
+
+pub rounds-smaller : goal.rounds-smaller
+rounds-smaller g c =
+    let p = c.args.p.now in
+    let Struck = StruckBy g.P.LinePass.puzzle g.P.LinePass.own p in
+    let grade = g.P.LinePass.grade p in
+    let first = c.args.candidates.now in
+    let now = c.rounds.candidates in
+    let middle = c.look.new.candidates in
+    let longer = leads_length Struck grade now middle c.look.ensures.leads in
+    let size = leads_size Struck grade first middle (goes_further c.rounds.invariant.0 c.look.ensures.leads).leads in
+    let cube = cube_most middle.size (omega (arith, size, c.size.ensures.valid.largest)) in
+    omega (arith, cube, longer, c.if-not-look_for_groups.ensures.went, c.trail_len-length.ensures.value, c.trail_len-length.ensures.bound)
+
+pub rounds-preserved : goal.rounds-preserved
+rounds-preserved g c =
+    let p = c.args.p.now in
+    let Struck = StruckBy g.P.LinePass.puzzle g.P.LinePass.own p in
+    let grade = g.P.LinePass.grade p in
+    let first = c.args.candidates.now in
+    let puzzle = g.P.LinePass.puzzle p in
+    let Own = g.P.LinePass.own p in
+    let middle = c.look.new.candidates in
+    let next = c.look_for_groups.new.candidates in
+    let here : IsOnTheWay puzzle Own grade first middle = goes_further c.rounds.invariant.0 c.look.ensures.leads in
+    let size : middle.size ≡ puzzle.size = leads_size Struck grade first middle here.leads ∙ c.requires.size in
+    let groups = groups_lead puzzle Own grade middle next size (rw c.if-not-groups.false at c.requires.groups) c.look_for_groups.ensures.leads in (
+      goes_further here groups,
+      λ what.
+          more_quiet puzzle.size (IsQuietOn Struck grade what)
+          (looks_stay puzzle.size Struck (all_look puzzle Own (g.met.P.LinePass.looks_along p)) grade what) (waiting_for what c.look.new.waiting)
+          (waiting_for what c.look_for_groups.new.waiting) middle next size (leads_size Struck grade middle next groups)
+          (leads_fewer Struck grade middle next groups) (c.look_for_groups.ensures.more what)
+          (λ line low free. c.if-not-look.ensures.quiet c.rounds.invariant.1 line low what),
+    )

@@ -4,5 +4,5 @@ use Rattle.line_steps.proofs.lines.latin.LineTally.with.Goals as goal
 pub returns : goal.returns
 returns c =
     counted_more c.args.self _ c.args.set c.single_of-single.result c.intersection.result c.single_of-single.ensures
-    c.if-is_empty.ensures.members c.if-not-is_disjoint.ensures c.union.ensures.members c.intersection.ensures.members
+    c.requires c.if-not-is_disjoint.ensures c.union.ensures.members c.intersection.ensures.members
     c.union-2.ensures.members c.union-3.ensures.members
