@@ -1,20 +1,19 @@
 -- What is taken away along a row or column is struck by reasons, and where nothing is taken these are quiet.
-use Rattle.std.proofs.Common.{◌≡◌, ℕ, ◌*◌, ◌<◌, true, false, inl, inr, refl, sym, ◌∙◌, subst, arith}
+use Rattle.std.proofs.Common.{◌≡◌, ℕ, ◌*◌, ◌<◌, true, false, inl, inr, refl, sym, subst, arith}
 use Rattle.std.proofs.lemmas.Bool.{both_ways, false_from_ne_true}
 use Rattle.latin_board.specs.Lines.{line_cell}
 use Rattle.latin_board.proofs.PeerLines.{line_peers}
-use Rattle.number_sets.specs.Sets.{has_number, IsEmpty}
-use Rattle.trail_solver.specs.Candidates.{CandidatesValue, IsSetOf, may_be}
+use Rattle.number_sets.specs.Sets.{IsEmpty}
+use Rattle.trail_solver.specs.Candidates.{CandidatesValue, may_be}
 use Rattle.line_steps.specs.Reasons.{IsByLine}
 use Rattle.line_steps.specs.Chains.{LeadsTo}
 use Rattle.line_steps.specs.Grades.{has_reason}
 use Rattle.line_steps.specs.Inner.LineStrikes.{IsByRest, IsLeftByRest, IsRestQuiet, StrikesRest}
-use Rattle.line_steps.specs.Left.{IsLeft}
 use Rattle.line_steps.proofs.Chains.{higher_has}
 use Rattle.line_steps.proofs.Leads.{HasStruck, leads_taken}
 use Rattle.line_steps.specs.declared.reason.Reason.{Reason}
 use Rattle.line_steps.specs.declared.grade.Grade.{Grade}
-use Rattle.line_steps.specs.declared.reason.Reason.TheVariants.{Given, Peer, Place, Bound, Stand, Clue, Sign, Set}
+use Rattle.line_steps.specs.declared.reason.Reason.TheVariants.{Peer, Place}
 use Rattle.line_steps.specs.declared.grade.Grade.TheVariants.{Latin}
 use Rattle.line_steps.specs.Laws.Less.{line_less}
 

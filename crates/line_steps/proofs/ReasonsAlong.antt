@@ -1,5 +1,5 @@
 -- The reasons that look along a line, one after another.
-use Rattle.std.proofs.Common.{◌≡◌, ℕ, ◌+◌, ◌-◌, ◌*◌, ◌<◌, ◌≤◌, ◌||◌, true, false, List, [], slice_index, inl, inr, refl, sym, ap, ◌∙◌, subst, arith}
+use Rattle.std.proofs.Common.{◌≡◌, ℕ, ◌+◌, ◌*◌, ◌<◌, ◌≤◌, ◌||◌, true, false, List, [], slice_index, inl, inr, refl, sym, ap, ◌∙◌, subst, arith}
 use Rattle.std.proofs.lemmas.Bool.{both_ways, cases_eq, or_parts}
 use Rattle.number_sets.specs.Sets.{has_number, IsEmpty}
 use Rattle.latin_board.specs.Lines.{line_cell}
@@ -9,11 +9,11 @@ use Rattle.line_steps.specs.Takes.{Takes, AreChanged}
 use Rattle.line_steps.specs.Views.{front_place, view_line}
 use Rattle.line_steps.specs.Reasons.{Striking}
 use Rattle.line_steps.specs.declared.reason.Reason.{Reason}
-use Rattle.line_steps.specs.declared.reason.Reason.TheVariants.{Given, Peer, Place, Bound, Stand, Clue, Sign, Set}
+use Rattle.line_steps.specs.declared.reason.Reason.TheVariants.{Bound, Stand, Clue, Sign}
 use Rattle.line_steps.specs.Grades.{has_reason}
 use Rattle.line_steps.specs.Along.{IsOn, LooksAlong, IsQuietAlong, LosesAt}
 use Rattle.line_steps.specs.Chains.{LeadsTo}
-use Rattle.line_steps.specs.Inner.ReasonsAlong.{IsAtEnd, IsNthAlong, AreStruckOn, IsQuietBy}
+use Rattle.line_steps.specs.Inner.ReasonsAlong.{IsNthAlong, AreStruckOn, IsQuietBy}
 use Rattle.line_steps.specs.declared.grade.Grade.{Grade}
 use Rattle.line_steps.proofs.Chains.{IsAntitone}
 use Rattle.line_steps.proofs.Leads.{leads_length, leads_on, leads_size, leads_taken}
@@ -22,80 +22,44 @@ use Rattle.line_steps.proofs.StayingLines.{loses_both, loses_changed}
 
 -- ---- the list
 
-at_end : (w line kind place : ℕ) → kind < 3 → 0 < w → place < 4 * w → view_line w place ≡ line
-    → (n : ℕ) × (n < 2 * w + 4) × IsAtEnd w line n kind place
-at_end w line kind place low some inside on = elim (ends w place line inside on) [
-  | inl first ↦ (kind, omega (arith, low, some), inl (refl, first))
-  | inr second ↦ (kind + 3, omega (arith, low, some), inr (refl, second))
+-- the reason is one of those along the line
+abbrev IsListed : ℕ → ℕ → Reason → Type 0
+IsListed w line reason = (n : ℕ) × (n < 2 * w + 4) × ((found : Reason) → IsNthAlong w line n found → found ≡ reason)
+
+-- the clue at an end of the line
+at_end : (w line n place : ℕ) (Kind : ℕ → Reason) → n < 3 → 0 < w → place < 4 * w → view_line w place ≡ line
+    → ((found : Reason) → IsNthAlong w line n found → found ≡ Kind (front_place w line))
+    → ((found : Reason) → IsNthAlong w line (n + 3) found → found ≡ Kind (front_place w line + w)) → IsListed w line (Kind place)
+at_end w line n place Kind low some inside on front back = elim (ends w place line inside on) [
+  | inl first ↦ (n, omega (arith, low, some), λ found is. front found is ∙ ap Kind (sym first))
+  | inr second ↦ (n + 3, omega (arith, low, some), λ found is. back found is ∙ ap Kind (sym second))
 ]
 
 on_some : (w line cell : ℕ) → IsOn w line cell → 0 < w
 on_some w line cell (k, low, here) = omega (arith, low)
 
 -- each reason that looks along the line is in the list
-pub listed : (w line : ℕ) (reason : Reason) (cell : ℕ) → LooksAlong w line reason cell
-    → (n : ℕ) × (n < 2 * w + 4) × IsNthAlong w line n reason
-listed w line (Given at) cell along = absurd along
-listed w line (Peer by) cell along = absurd along
-listed w line (Place at index other) cell along = absurd along
-listed w line (Bound place) cell (low, on, at) = at_end w line 0 place (omega arith) (on_some w line cell at) low on
-listed w line (Stand place) cell (low, on, at) = at_end w line 1 place (omega arith) (on_some w line cell at) low on
-listed w line (Clue place) cell (low, on, at) = at_end w line 2 place (omega arith) (on_some w line cell at) low on
+listed : (w line : ℕ) (reason : Reason) (cell : ℕ) → LooksAlong w line reason cell → IsListed w line reason
+listed w line (Bound place) cell (low, on, at) =
+    at_end w line 0 place (λ p. Bound p) (omega arith) (on_some w line cell at) low on (λ found is. is.bound refl) (λ found is. is.bound_back refl)
+listed w line (Stand place) cell (low, on, at) =
+    at_end w line 1 place (λ p. Stand p) (omega arith) (on_some w line cell at) low on (λ found is. is.stand refl) (λ found is. is.stand_back refl)
+listed w line (Clue place) cell (low, on, at) =
+    at_end w line 2 place (λ p. Clue p) (omega arith) (on_some w line cell at) low on (λ found is. is.clue refl) (λ found is. is.clue_back refl)
 listed w line (Sign from to) cell (same, inl (k, low, first, second)) =
-    (2 * k + 6, omega (arith, low), inl (k, refl, (low, first, second)))
+    (2 * k + 6, omega (arith, low), λ found is. is.on k refl ∙ (λ i. Sign (first i) (second i)))
 listed w line (Sign from to) cell (same, inr (k, low, first, second)) =
-    (2 * k + 7, omega (arith, low), inr (k, refl, (low, first, second)))
-listed w line (Set at squares values) cell along = absurd along
+    (2 * k + 7, omega (arith, low), λ found is. is.back k refl ∙ (λ i. Sign (second i) (first i)))
+listed w line reason cell along = absurd along
 
 -- and strikes in one of its squares
-pub looked_on : (w line : ℕ) (reason : Reason) (cell : ℕ) → LooksAlong w line reason cell → IsOn w line cell
-looked_on w line (Given at) cell along = absurd along
-looked_on w line (Peer by) cell along = absurd along
-looked_on w line (Place at index other) cell along = absurd along
+looked_on : (w line : ℕ) (reason : Reason) (cell : ℕ) → LooksAlong w line reason cell → IsOn w line cell
 looked_on w line (Bound place) cell (low, on, at) = at
 looked_on w line (Stand place) cell (low, on, at) = at
 looked_on w line (Clue place) cell (low, on, at) = at
 looked_on w line (Sign from to) cell (same, inl (k, low, first, second)) = (k + 1, low, sym same ∙ sym second)
 looked_on w line (Sign from to) cell (same, inr (k, low, first, second)) = (k, omega (arith, low), sym same ∙ sym first)
-looked_on w line (Set at squares values) cell along = absurd along
-
--- the n-th one is a clue at first
-pub clue_found : (w line n : ℕ) (found : Reason) → n < 6 → (n ≡ 0 → found ≡ Bound (front_place w line)) → (n ≡ 1 → found ≡ Stand (front_place w line))
-    → (n ≡ 2 → found ≡ Clue (front_place w line)) → (n ≡ 3 → found ≡ Bound (front_place w line + w))
-    → (n ≡ 4 → found ≡ Stand (front_place w line + w)) → (n ≡ 5 → found ≡ Clue (front_place w line + w))
-    → (reason : Reason) → IsNthAlong w line n reason → found ≡ reason
-clue_found w line n found low b s c bb sb cb (Given at) h = absurd h
-clue_found w line n found low b s c bb sb cb (Peer by) h = absurd h
-clue_found w line n found low b s c bb sb cb (Place at index other) h = absurd h
-clue_found w line n found low b s c bb sb cb (Bound place) (inl (is, at)) = b is ∙ ap (λ p. Bound p) (sym at)
-clue_found w line n found low b s c bb sb cb (Bound place) (inr (is, at)) = bb is ∙ ap (λ p. Bound p) (sym at)
-clue_found w line n found low b s c bb sb cb (Stand place) (inl (is, at)) = s is ∙ ap (λ p. Stand p) (sym at)
-clue_found w line n found low b s c bb sb cb (Stand place) (inr (is, at)) = sb is ∙ ap (λ p. Stand p) (sym at)
-clue_found w line n found low b s c bb sb cb (Clue place) (inl (is, at)) = c is ∙ ap (λ p. Clue p) (sym at)
-clue_found w line n found low b s c bb sb cb (Clue place) (inr (is, at)) = cb is ∙ ap (λ p. Clue p) (sym at)
-clue_found w line n found low b s c bb sb cb (Sign from to) (inl (k, is, kth)) = absurd (omega (arith, low, is))
-clue_found w line n found low b s c bb sb cb (Sign from to) (inr (k, is, kth)) = absurd (omega (arith, low, is))
-clue_found w line n found low b s c bb sb cb (Set at squares values) h = absurd h
-
--- and then a sign
-pub sign_found : (w line n : ℕ) (found : Reason) → 6 ≤ n
-    → ((k : ℕ) → n - 6 ≡ 2 * k → found ≡ Sign (line_cell w line k) (line_cell w line (k + 1)))
-    → ((k : ℕ) → n - 6 ≡ 2 * k + 1 → found ≡ Sign (line_cell w line (k + 1)) (line_cell w line k))
-    → (reason : Reason) → IsNthAlong w line n reason → found ≡ reason
-sign_found w line n found high on back (Given at) h = absurd h
-sign_found w line n found high on back (Peer by) h = absurd h
-sign_found w line n found high on back (Place at index other) h = absurd h
-sign_found w line n found high on back (Bound place) (inl (is, at)) = absurd (omega (arith, high, is))
-sign_found w line n found high on back (Bound place) (inr (is, at)) = absurd (omega (arith, high, is))
-sign_found w line n found high on back (Stand place) (inl (is, at)) = absurd (omega (arith, high, is))
-sign_found w line n found high on back (Stand place) (inr (is, at)) = absurd (omega (arith, high, is))
-sign_found w line n found high on back (Clue place) (inl (is, at)) = absurd (omega (arith, high, is))
-sign_found w line n found high on back (Clue place) (inr (is, at)) = absurd (omega (arith, high, is))
-sign_found w line n found high on back (Sign from to) (inl (k, is, kth)) =
-    on k (omega (arith, is)) ∙ (λ i. Sign (kth.1 i) (kth.2 i))
-sign_found w line n found high on back (Sign from to) (inr (k, is, kth)) =
-    back k (omega (arith, is)) ∙ (λ i. Sign (kth.2 i) (kth.1 i))
-sign_found w line n found high on back (Set at squares values) h = absurd h
+looked_on w line reason cell along = absurd along
 
 -- ---- one reason
 
@@ -123,8 +87,8 @@ pub record GoesOn (Struck : Striking) (grade : Grade) (line n changed : ℕ) (fi
   pub leads : LeadsTo Struck grade first now
   pub loses : LosesAt line changed first now
   pub same : IsEmpty changed → now ≡ first
-  pub quiet : IsEmpty changed → (m : ℕ) → m < n → (reason : Reason) → IsNthAlong first.size line m reason → has_reason grade reason ≡ true
-      → IsQuietBy Struck reason line first
+  pub quiet : IsEmpty changed → (m : ℕ) → m < n → (reason : Reason) × IsNthAlong first.size line m reason
+      × (has_reason grade reason ≡ true → IsQuietBy Struck reason line first)
 
 pub begins : (Struck : Striking) (grade : Grade) (line changed : ℕ) (first : CandidatesValue) → IsEmpty changed
     → GoesOn Struck grade line 0 changed first first
@@ -140,8 +104,7 @@ begins Struck grade line changed first none = record {
 
 pub goes_on : (Struck : Striking) (grade : Grade) (line n changed more both : ℕ) (found : Reason) (first now next : CandidatesValue)
     → ((k : ℕ) → has_number both k ≡ (has_number changed k || has_number more k))
-    → ((reason : Reason) → IsNthAlong first.size line n reason → found ≡ reason)
-    → LeadsTo Struck grade now next → AreChanged line more now next
+    → IsNthAlong first.size line n found → LeadsTo Struck grade now next → AreChanged line more now next
     → (IsEmpty more → has_reason grade found ≡ true → IsQuietBy Struck found line now)
     → GoesOn Struck grade line n changed first now → GoesOn Struck grade line (n + 1) both first next
 goes_on Struck grade line n changed more both found first now next is nth leads lost quiet h =
@@ -152,13 +115,13 @@ goes_on Struck grade line n changed more both found first now next is nth leads 
       loses = loses_both line changed more both first now next (leads_size Struck grade first now h.leads) (leads_length Struck grade first now h.leads)
           (leads_length Struck grade now next leads) is h.loses (loses_changed line more now next lost);
       same = λ none. lost.same (none_here none) ∙ h.same (none_before none);
-      quiet = λ none m below reason at has. elim (cases_eq m n) [
-        | inl last ↦
-            let one : found ≡ reason = nth reason (subst (λ (i : ℕ). IsNthAlong first.size line i reason) last at) in
-            let here : IsQuietBy Struck found line now = quiet (none_here none) (subst (λ (r : Reason). has_reason grade r ≡ true) (sym one) has) in
-            subst (λ (c : CandidatesValue). IsQuietBy Struck reason line c) (h.same (none_before none))
-            (subst (λ (r : Reason). IsQuietBy Struck r line now) one here)
-        | inr other ↦ h.quiet (none_before none) m (omega (arith, below, other)) reason at has
+      quiet = λ none m below. elim (cases_eq m n) [
+        | inl last ↦ (
+          found,
+          subst (λ (i : ℕ). IsNthAlong first.size line i found) (sym last) nth,
+          λ has. subst (λ (c : CandidatesValue). IsQuietBy Struck found line c) (h.same (none_before none)) (quiet (none_here none) has),
+        )
+        | inr other ↦ h.quiet (none_before none) m (omega (arith, below, other))
       ];
     }
 
@@ -168,8 +131,9 @@ pub goes_through : (Struck : Striking) (grade : Grade) (line n changed : ℕ) (f
 goes_through Struck grade line n changed first now all h none =
     subst (λ (c : CandidatesValue). IsQuietAlong Struck grade line c) (sym (h.same none))
     (λ reason cell value has along pair struck.
-    let (m, below, nth) = listed first.size line reason cell along in
+    let (m, below, is) = listed first.size line reason cell along in
     let (k, low, here) = looked_on first.size line reason cell along in
-    let quiet = h.quiet none m (omega (arith, below, all)) reason nth has in
+    let (found, nth, calm) = h.quiet none m (omega (arith, below, all)) in
+    let quiet = subst (λ (r : Reason). has_reason grade r ≡ true → IsQuietBy Struck r line first) (is found nth) calm has in
     subst (λ (at : ℕ). may_be first at value ≡ false) (sym here)
     (quiet k value low (subst (λ (at : ℕ). IsPair first.size at value) here pair) (subst (λ (at : ℕ). Struck first reason at value) here struck)))

@@ -1,6 +1,6 @@
 -- From passes to what a grade leaves.
 use Rattle.std.proofs.lemmas.Bool.{leb-true}
-use Rattle.std.proofs.Common.{◌≡◌, ℕ, ◌*◌, ◌<◌, ◌≤◌, Bool, true, false, refl, sym, ◌∙◌, subst, arith}
+use Rattle.std.proofs.Common.{◌≡◌, ℕ, ◌*◌, ◌<◌, ◌≤◌, Bool, true, false, sym, subst, arith}
 use Rattle.trail_solver.specs.Candidates.{CandidatesValue}
 use Rattle.trail_solver.specs.Puzzles.{Puzzle}
 use Rattle.line_steps.specs.Left.{IsLeft}
@@ -17,7 +17,7 @@ use Rattle.line_steps.proofs.QuietGroups.{set_quiet}
 use Rattle.line_steps.proofs.QuietLines.{settled_by}
 use Rattle.line_steps.proofs.Leads.{leads_fewer, leads_on, leads_size, leads_wider}
 use Rattle.line_steps.specs.declared.grade.Grade.{Grade}
-use Rattle.line_steps.specs.declared.grade.Grade.TheVariants.{Latin, Easy, Hard}
+use Rattle.line_steps.specs.declared.grade.Grade.TheVariants.{Easy, Hard}
 use Rattle.line_steps.proofs.SharedReasons.{lines_lift}
 
 -- what is quiet kind by kind is settled

@@ -1,5 +1,5 @@
 -- Lines that wait to be looked at, and what holds of those that don't.
-use Rattle.std.specs.Prelude.{◌≡◌, ◌≢◌, ℕ, ◌*◌, ◌<◌, Bool, true, false, not}
+use Rattle.std.specs.Prelude.{◌≡◌, ℕ, ◌*◌, ◌<◌, Bool, true, false, not}
 use Rattle.number_sets.specs.Sets.{has_number}
 use Rattle.trail_solver.specs.Candidates.{CandidatesValue}
 use Rattle.line_steps.specs.Along.{IsQuietAlong, StaysOn}

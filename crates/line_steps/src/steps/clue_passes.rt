@@ -5,7 +5,6 @@ ghost use Rattle.number_sets.specs.Sets.{IsEmpty};
 ghost use Rattle.latin_board.specs.Lines.{line_cell};
 ghost use Rattle.line_steps.specs.Takes.{AreChanged};
 ghost use Rattle.line_steps.specs.Views.{front_place};
-ghost use Rattle.line_steps.specs.declared.reason.Reason.{Reason};
 ghost use Rattle.line_steps.specs.declared.reason.Reason.TheVariants.{Bound, Stand, Clue, Sign};
 ghost use Rattle.line_steps.specs.Grades.{has_reason};
 ghost use Rattle.line_steps.specs.Along.{IsQuietAlong, LosesAt};
@@ -93,7 +92,7 @@ fn reason_row<P: Steps>(
 fn reason_along(size: Size, line: u8, n: u8) -> Reason
     requires line { line < 2 * size }
     requires inside { n < 2 * size + 4 }
-    ensures { (reason : Reason) → IsNthAlong size line n reason → result ≡ reason }
+    ensures { IsNthAlong size line n result }
 {
     if n < 6 {
         clue_along(size, line, n)

@@ -1,4 +1,4 @@
-use Rattle.std.proofs.Common.{◌∙◌, arith}
+use Rattle.std.proofs.Common.{arith}
 use Rattle.latin_board.specs.Lines.{line_cell}
 use Rattle.line_steps.proofs.LineTallying.{left_is}
 use Rattle.line_steps.proofs.lines.latin.sets_at.Goals as goal

@@ -1,4 +1,4 @@
-use Rattle.std.proofs.Common.{◌≡◌, ◌↔◌, ℕ, ◌*◌, ◌<◌, ◌≤◌, true, length, slice_index}
+use Rattle.std.proofs.Common.{◌≡◌, ◌↔◌, ℕ, ◌<◌, ◌≤◌, true, length, slice_index}
 use Rattle.number_sets.specs.Sets.{has_number}
 use Rattle.line_steps.proofs.lines.latin.sets_at.Given as goal
 

@@ -1,5 +1,5 @@
-use Rattle.std.proofs.Common.{◌≡◌, ℕ, ◌*◌, ◌<◌, [], refl, sym, ap, ◌∙◌, subst}
-use Rattle.number_sets.specs.Sets.{has_number, IsEmpty}
+use Rattle.std.proofs.Common.{ℕ, [], refl, sym, ap, ◌∙◌, subst}
+use Rattle.number_sets.specs.Sets.{has_number}
 use Rattle.number_sets.proofs.Members.{has_number-none}
 use Rattle.trail_solver.specs.Candidates.{CandidatesValue}
 use Rattle.line_steps.specs.Inner.LineStrikes.{IsLiveLine}

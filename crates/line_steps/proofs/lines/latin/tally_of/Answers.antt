@@ -1,5 +1,4 @@
-use Rattle.std.proofs.Common.{◌≡◌, ℕ, ◌<◌, true, ◌∙◌, arith}
-use Rattle.number_sets.specs.Sets.{has_number}
+use Rattle.std.proofs.Common.{◌≡◌, ◌<◌, ◌∙◌, arith}
 use Rattle.latin_board.specs.Lines.{line_cell}
 use Rattle.line_steps.proofs.LineTallying.{tally_more, empty_dead, clash_dead, lost_dead, whole_tally}
 use Rattle.line_steps.proofs.lines.latin.tally_of.Goals as goal

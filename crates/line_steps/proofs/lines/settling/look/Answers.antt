@@ -1,6 +1,6 @@
 use Rattle.line_steps.specs.Laws.Along.{all_look}
 use Rattle.line_steps.specs.Reasons.{StruckBy}
-use Rattle.std.proofs.Common.{◌≡◌, ℕ, ◌+◌, ◌-◌, ◌*◌, ◌%◌, ◌^◌, ◌<◌, ◌≤◌, Bool, true, false, not, length, sym, ap, ◌∙◌, subst, arith}
+use Rattle.std.proofs.Common.{◌≡◌, ℕ, ◌+◌, ◌-◌, ◌*◌, ◌%◌, ◌^◌, ◌<◌, ◌≤◌, Bool, true, false, length, sym, ap, ◌∙◌, subst, arith}
 use Rattle.std.proofs.lemmas.Nat.{mod_below, pow_pos}
 use Rattle.trail_solver.specs.Candidates.{CandidatesValue}
 use Rattle.line_steps.specs.Inner.ChangedLines.{IsNoted, IsTaken}

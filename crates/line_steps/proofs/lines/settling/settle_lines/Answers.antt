@@ -1,6 +1,6 @@
 use Rattle.line_steps.specs.Laws.Along.{all_look}
 use Rattle.line_steps.specs.Reasons.{StruckBy}
-use Rattle.std.proofs.Common.{◌≡◌, ℕ, ◌*◌, ◌<◌, ◌≤◌, ◌∙◌, arith}
+use Rattle.std.proofs.Common.{◌≡◌, ◌*◌, ◌∙◌, arith}
 use Rattle.line_steps.specs.Inner.LineLooks.{IsQuietOn, waiting_for}
 use Rattle.line_steps.proofs.LineSets.{cube_most}
 use Rattle.line_steps.proofs.LineLooks.{all_wait, looks_stay, more_quiet}

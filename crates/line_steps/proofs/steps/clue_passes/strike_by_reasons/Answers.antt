@@ -2,7 +2,6 @@ use Rattle.line_steps.specs.Reasons.{StruckBy}
 use Rattle.std.proofs.Common.{◌≡◌, ℕ, ap, ◌∙◌, subst, arith}
 use Rattle.number_sets.proofs.Members.{has_number-none}
 use Rattle.number_sets.specs.Sets.{has_number}
-use Rattle.line_steps.specs.declared.reason.Reason.{Reason}
 use Rattle.line_steps.specs.Inner.ReasonsAlong.{IsNthAlong}
 use Rattle.line_steps.proofs.Leads.{leads_size}
 use Rattle.line_steps.proofs.ReasonsAlong.{begins, goes_on, goes_through}
@@ -27,9 +26,8 @@ pub loop-n-preserved : goal.loop-n-preserved
 loop-n-preserved g c =
     let first = c.args.candidates.now in
     let size : c.size-size.result ≡ first.size = c.size-size.ensures.value in
-    let nth : (reason : Reason) → IsNthAlong first.size c.args.line c.loop-n.n reason → c.reason_along-reason.result ≡ reason =
-    subst (λ (w : ℕ). (reason : Reason) → IsNthAlong w c.args.line c.loop-n.n reason → c.reason_along-reason.result ≡ reason) size
-    c.reason_along-reason.ensures in
+    let nth : IsNthAlong first.size c.args.line c.loop-n.n c.reason_along-reason.result =
+    subst (λ (w : ℕ). IsNthAlong w c.args.line c.loop-n.n c.reason_along-reason.result) size c.reason_along-reason.ensures in
     goes_on (StruckBy g.P.Rules.puzzle g.P.Steps.own c.args.p.now) c.args.grade c.args.line c.loop-n.n c.loop-n.changed c.strike_by_reason-more.result
     c.union-changed.result c.reason_along-reason.result first c.loop-n.candidates c.strike_by_reason-more.new.candidates c.union-changed.ensures.members nth
     c.strike_by_reason-more.ensures.leads c.strike_by_reason-more.ensures.changed c.strike_by_reason-more.ensures.quiet c.loop-n.invariant

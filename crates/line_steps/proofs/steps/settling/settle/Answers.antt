@@ -1,4 +1,4 @@
-use Rattle.std.proofs.Common.{◌≡◌, Bool, true, false, ◌∙◌, subst, sym, arith}
+use Rattle.std.proofs.Common.{◌≡◌, Bool, true, false, ◌∙◌, subst, arith}
 use Rattle.std.specs.Bool.{OnTrue}
 use Rattle.line_steps.proofs.LineLooks.{lines_live}
 use Rattle.line_steps.proofs.Leads.{leads_size}
