@@ -3,10 +3,6 @@ use Rattle.std.specs.Prelude.{◌≡◌, ◌⊎◌, ℕ, ◌<◌, ◌==◌, ◌|
 use Rattle.number_sets.specs.Sets.{has_number, IsEmpty}
 use Rattle.line_steps.specs.Takes.{is_crossing}
 
--- new is old with one line more
-abbrev pub GainsLine : ℕ → ℕ → ℕ → Type 0
-GainsLine line old new = (k : ℕ) → has_number new k ≡ (has_number old k || (k == line))
-
 -- new is old with a line more, and with those that cross it at some places
 abbrev pub GainsAcross : ℕ → ℕ → ℕ → ℕ → ℕ → Type 0
 GainsAcross w line places old new =

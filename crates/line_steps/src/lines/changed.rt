@@ -1,10 +1,10 @@
 //! Which rows and columns have to be looked at again.
 
-ghost use Rattle.line_steps.specs.Inner.ChangedLines.{GainsLine, HasNoneBelow, IsOneBelow, IsTaken};
+ghost use Rattle.line_steps.specs.Inner.ChangedLines.{HasNoneBelow, IsOneBelow, IsTaken};
 ghost use Rattle.line_steps.specs.Inner.ChangedLines.{LosesLine};
 ghost use Rattle.line_steps.specs.Takes.{is_crossing};
 ghost use Rattle.std.specs.Prelude.{◌≡◌, ℕ, ◌+◌, ◌*◌, ◌<◌, ◌≤◌, ◌==◌, ◌||◌, nat_lt, true, IfNone, MatchOption};
-ghost use Rattle.number_sets.specs.Sets.{has_number, no_numbers};
+ghost use Rattle.number_sets.specs.Sets.{has_number};
 
 use crate::lines::views::{column_of, row_of};
 use latin_board::Size;
@@ -27,12 +27,6 @@ impl Model for Lines {
 }
 
 impl Lines {
-    fn none() -> Lines
-        ensures { result ≡ no_numbers }
-    {
-        Lines { bits: 0 }
-    }
-
     /// The first lines, as many as are asked for.
     pub fn first(count: u8) -> Lines
         requires { count < 32 }
@@ -47,17 +41,8 @@ impl Lines {
     pub(crate) fn of_cell(size: Size, cell: usize) -> Lines
         requires { cell < size * size }
     {
-        let mut lines = Lines::none();
-        lines.insert(row_of(size, cell));
-        lines.insert(size.get() + column_of(size, cell));
-        lines
-    }
-
-    fn insert(&mut self, line: u8)
-        requires { line < 32 }
-        ensures { GainsLine line self.old self.new }
-    {
-        self.bits |= 1 << line;
+        let column = NumberSet::one(column_of(size, cell));
+        Lines::across(row_of(size, cell), column, size.get())
     }
 
     // Takes out a line that is in the set.
