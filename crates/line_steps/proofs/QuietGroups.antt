@@ -1,9 +1,8 @@
 -- Where a pass over the rows and columns finds nothing, no reason of theirs strikes anything that is left.
-use Rattle.std.proofs.Common.{◌≡◌, ◌≢◌, ◌↔◌, ℕ, zero, suc, ◌+◌, ◌-◌, ◌*◌, ◌^◌, ◌⊎◌, ◌<◌, ◌≤◌, true, false, nat_lt, Bool, ◌&&◌, ◌||◌, count_ones, bit_or, inl, inr, refl, sym, ap, ◌∙◌, subst, arith}
-use Rattle.std.proofs.lemmas.Bool.{both_ways, and_parts, and_from, or_left, or_right, cases_eq, cases_lt, cases_Bool, false_from_ne_true, lt-ltb, ltb-true}
-use Rattle.std.proofs.lemmas.Nat.{zero_from_ones}
+use Rattle.std.proofs.Common.{◌≡◌, ◌≢◌, ◌↔◌, ℕ, zero, suc, ◌+◌, ◌-◌, ◌*◌, ◌^◌, ◌⊎◌, ◌<◌, ◌≤◌, true, false, count_ones, inl, inr, refl, sym, ◌∙◌, subst, arith}
+use Rattle.std.proofs.lemmas.Bool.{both_ways, cases_eq, cases_lt, cases_Bool, false_from_ne_true}
 use Rattle.number_sets.specs.Sets.{has_number, IsSubset}
-use Rattle.number_sets.proofs.Members.{has_number-none, has_number-or, below_from_numbers}
+use Rattle.number_sets.proofs.Members.{has_number-none, below_from_numbers}
 use Rattle.number_sets.proofs.OneMore.{IsAdded, added_with, added_lacks, added_has, added_other, added_ones}
 use Rattle.latin_board.specs.Lines.{line_cell}
 use Rattle.latin_board.proofs.LatinLines.{line_cell_inside}
@@ -20,20 +19,61 @@ use Rattle.line_steps.proofs.QuietLines.{gone_from}
 
 -- ---- unions
 
--- the numbers below a bound that pass a test, as a set
-numbers_that : (f : ℕ → Bool) (n : ℕ) → (set : ℕ) × ((v : ℕ) → (has_number set v ≡ true) ↔ ((v < n) × (f v ≡ true)))
-numbers_that f zero = (0, λ v. (λ has. absurd (both_ways (has_number 0 v) (has_number-none v) has), λ h. absurd (omega (arith, h.0))))
-numbers_that f (suc n) =
-    let rest = numbers_that f n in
+-- either it is so, or it isn't
+abbrev Decided : Type 0 → Type 0
+Decided P = P ⊎ (P → ⊥)
+
+both : {P Q : Type 0} → Decided P → Decided Q → Decided (P × Q)
+both p q = elim p [
+  | inl is ↦ elim q [ inl too ↦ inl (is, too) | inr lacks ↦ inr (λ h. lacks h.1) ]
+  | inr lacks ↦ inr (λ h. lacks h.0)
+]
+
+-- a set has the number or lacks it
+has_or_lacks : (set k : ℕ) → Decided (has_number set k ≡ true)
+has_or_lacks set k = elim (cases_Bool (has_number set k)) [ inl has ↦ inl has | inr lacks ↦ inr (λ has. both_ways (has_number set k) lacks has) ]
+
+-- a value is left of the square or isn't
+left_or_gone : (c : CandidatesValue) (cell v : ℕ) → cell < c.size * c.size → Decided (IsLeft c cell v)
+left_or_gone c cell v inside = elim (cases_lt 0 v) [
+  | inl low ↦ elim (cases_lt c.size v) [
+    | inl past ↦ inr (λ left. omega (arith, left.pair.high, past))
+    | inr high ↦ elim (cases_Bool (may_be c cell v)) [
+      | inl may ↦ inl (record { pair = record { inside = inside; low = omega (arith, low); high = high }; may = may })
+      | inr gone ↦ inr (λ left. both_ways (may_be c cell v) gone left.may)
+    ]
+  ]
+  | inr none ↦ inr (λ left. omega (arith, left.pair.low, none))
+]
+
+-- one of the first numbers is of a kind, or none is
+some_or_none : (P : ℕ → Type 0) (n : ℕ) → ((k : ℕ) → k < n → Decided (P k)) → Decided ((k : ℕ) × (k < n) × P k)
+some_or_none P zero decide = inr (λ h. omega (arith, h.1))
+some_or_none P (suc n) decide = elim (decide n (omega arith)) [
+  | inl here ↦ inl (n, omega arith, here)
+  | inr lacks ↦ elim (some_or_none P n (λ k low. decide k (omega (arith, low)))) [
+    | inl h ↦ inl (h.0, omega (arith, h.1), h.2)
+    | inr none ↦ inr (λ h. elim (cases_eq h.0 n) [
+      | inl same ↦ lacks (subst P same h.2)
+      | inr other ↦ none (h.0, omega (arith, h.1, other), h.2)
+    ])
+  ]
+]
+
+-- those that are, as a set
+numbers_that : (P : ℕ → Type 0) → ((k : ℕ) → Decided (P k)) → (n : ℕ) → (set : ℕ) × ((v : ℕ) → (has_number set v ≡ true) ↔ ((v < n) × P v))
+numbers_that P decide zero = (0, λ v. (λ has. absurd (both_ways (has_number 0 v) (has_number-none v) has), λ h. absurd (omega (arith, h.0))))
+numbers_that P decide (suc n) =
+    let rest = numbers_that P decide n in
     let set = rest.0 in
     let lacks : has_number set n ≡ false = false_from_ne_true (has_number set n) (λ has. let h = (rest.1 n).0 has in omega (arith, h.0)) in
-    elim (cases_Bool (f n)) [
+    elim (decide n) [
       | inl holds ↦
           let a : IsAdded set n (set + 2 ^ n) = added_with set n (set + 2 ^ n) lacks refl in (
             set + 2 ^ n,
             λ v. elim (cases_eq v n) [
               | inl same ↦ (
-                λ has. (omega (arith, same), subst (λ (k : ℕ). f k ≡ true) (sym same) holds),
+                λ has. (omega (arith, same), subst P (sym same) holds),
                 λ h. subst (λ (k : ℕ). has_number (set + 2 ^ n) k ≡ true) (sym same) (added_has a),
               )
               | inr other ↦ (
@@ -47,91 +87,24 @@ numbers_that f (suc n) =
         λ v. (
           λ has. let h = (rest.1 v).0 has in (omega (arith, h.0), h.1),
           λ h. (rest.1 v).1 (elim (cases_eq v n) [
-            | inl same ↦ absurd (both_ways (f v) (subst (λ (k : ℕ). f k ≡ false) (sym same) absent) h.1)
+            | inl same ↦ absurd (absent (subst P same h.1))
             | inr other ↦ (omega (arith, h.0, other), h.1)
           ]),
         ),
       )
     ]
 
--- what is left of a square, as a set
-left_set : (c : CandidatesValue) (cell : ℕ) → c.size ≤ 9 → cell < c.size * c.size
-    → (set : ℕ) × ((v : ℕ) → (has_number set v ≡ true) ↔ IsLeft c cell v)
-left_set c cell small inside =
-    let f : ℕ → Bool = λ v. nat_lt 0 v && may_be c cell v in
-    let s = numbers_that f (c.size + 1) in (
-      s.0,
-      λ v. (
-        λ has.
-            let h = (s.1 v).0 has in
-            let both = and_parts (nat_lt 0 v) (may_be c cell v) h.1 in
-            let low : 0 < v = ltb-true 0 v both.0 in
-            record { pair = record { inside = inside; low = omega (arith, low); high = omega (arith, h.0) }; may = both.1 },
-        λ left. (s.1 v).1 (omega (arith, left.pair.high), and_from (nat_lt 0 v) (may_be c cell v) (lt-ltb 0 v (omega (arith, left.pair.low))) left.may),
-      ),
-    )
-
--- the values that are left of those of a group that are among the first squares of a line
-record IsUnionTo (c : CandidatesValue) (line n squares union : ℕ) : Type 0 where
-  each : (v : ℕ) → (has_number union v ≡ true) ↔ ((k : ℕ) × (k < n) × (has_number squares k ≡ true) × IsLeft c (line_cell c.size line k) v)
-
-union_to : (c : CandidatesValue) (line squares n : ℕ) → c.size ≤ 9 → line < 2 * c.size → n ≤ c.size → (union : ℕ) × IsUnionTo c line n squares union
-union_to c line squares zero small line_is fits = (
-  0,
-  record {
-    each = λ v. (λ has. absurd (both_ways (has_number 0 v) (has_number-none v) has), λ h. absurd (omega (arith, h.1)));
-  },
-)
-union_to c line squares (suc n) small line_is fits =
-    let rest = union_to c line squares n small line_is (omega (arith, fits)) in
-    let low : n < c.size = omega (arith, fits) in
-    let here = left_set c (line_cell c.size line n) small (line_cell_inside c.size line n line_is low) in
-    elim (cases_Bool (has_number squares n)) [
-      | inl in_it ↦
-          let union = bit_or rest.0 here.0 in (
-            union,
-            record {
-              each = λ v. (
-                λ has. elim (cases_Bool (has_number rest.0 v)) [
-                  | inl before ↦ let h = (rest.1.each v).0 before in (h.0, omega (arith, h.1), h.2, h.3)
-                  | inr lacks ↦
-                      let last : has_number here.0 v ≡ true = elim (cases_Bool (has_number here.0 v)) [
-                        | inl is ↦ is
-                        | inr absent ↦ absurd (both_ways (has_number union v) (has_number-or rest.0 here.0 v ∙ ap (λ b. b || has_number here.0 v) lacks ∙ absent) has)
-                      ] in
-                      (n, omega arith, in_it, (here.1 v).0 last)
-                ],
-                λ h. has_number-or rest.0 here.0 v ∙ (elim (cases_eq h.0 n) [
-                  | inl same ↦ or_right (has_number rest.0 v) (has_number here.0 v)
-                      ((here.1 v).1 (subst (λ (k : ℕ). IsLeft c (line_cell c.size line k) v) same h.3))
-                  | inr other ↦ or_left (has_number rest.0 v) (has_number here.0 v) ((rest.1.each v).1 (h.0, omega (arith, h.1, other), h.2, h.3))
-                ]),
-              );
-            },
-          )
-      | inr out ↦ (
-        rest.0,
-        record {
-          each = λ v. (
-            λ has. let h = (rest.1.each v).0 has in (h.0, omega (arith, h.1), h.2, h.3),
-            λ h. (rest.1.each v).1 (elim (cases_eq h.0 n) [
-              | inl same ↦ absurd (both_ways (has_number squares h.0) (subst (λ (k : ℕ). has_number squares k ≡ false) (sym same) out) h.2)
-              | inr other ↦ (h.0, omega (arith, h.1, other), h.2, h.3)
-            ]),
-          );
-        },
-      )
-    ]
-
 -- each group of a line's squares has its union
-union_of_group : (c : CandidatesValue) (line squares : ℕ) → c.size ≤ 9 → line < 2 * c.size → ((k : ℕ) → has_number squares k ≡ true → k < c.size)
+union_of_group : (c : CandidatesValue) (line squares : ℕ) → line < 2 * c.size → ((k : ℕ) → has_number squares k ≡ true → k < c.size)
     → (union : ℕ) × IsUnion c.size c line squares union
-union_of_group c line squares small line_is inside =
-    let u = union_to c line squares c.size small line_is (omega arith) in (
+union_of_group c line squares line_is inside =
+    let Here : ℕ → ℕ → Type 0 = λ v k. (has_number squares k ≡ true) × IsLeft c (line_cell c.size line k) v in
+    let u = numbers_that (λ v. (k : ℕ) × (k < c.size) × Here v k) (λ v. some_or_none (Here v) c.size (λ k low.
+    both (has_or_lacks squares k) (left_or_gone c (line_cell c.size line k) v (line_cell_inside c.size line k line_is low)))) (c.size + 1) in (
       u.0,
       record {
-        all = λ k v has left. (u.1.each v).1 (k, inside k has, has, left);
-        only = λ v has. let h = (u.1.each v).0 has in (h.0, h.2, h.3);
+        all = λ k v has left. (u.1 v).1 (omega (arith, left.pair.high), (k, inside k has, (has, left)));
+        only = λ v has. let h = ((u.1 v).0 has).1 in (h.0, h.2.0, h.2.1);
       },
     )
 
@@ -143,59 +116,48 @@ below_sixteen c line squares union small u v has = let left = (u.only v has).2 i
 abbrev IsLone : CandidatesValue → ℕ → Type 0
 IsLone c cell = (u v : ℕ) → IsLeft c cell u → IsLeft c cell v → u ≡ v
 
--- of a square at most one value is left, or several are
-lone_or_several : (c : CandidatesValue) (cell : ℕ) → c.size ≤ 9 → cell < c.size * c.size → IsLone c cell ⊎ HasSeveral c cell
-lone_or_several c cell small inside =
-    let s = left_set c cell small inside in
-    let low : (v : ℕ) → has_number s.0 v ≡ true → v < 16 = λ v has. omega (arith, ((s.1 v).0 has).pair.high, small) in
-    elim (cases_eq (count_ones s.0) 0) [
-      | inl none ↦
-          let empty : s.0 ≡ 0 = zero_from_ones s.0 none in
-          inl (λ u v first second. absurd (both_ways (has_number s.0 u) (subst (λ (n : ℕ). has_number n u ≡ false) (sym empty) (has_number-none u)) ((s.1 u).1 first)))
-      | inr some ↦
-          let one : count_ones s.0 ≡ suc (count_ones s.0 - 1) = omega (arith, some) in
-          let u = some_counted s.0 (count_ones s.0 - 1) one low in
-          let a = one_less s.0 u.0 u.1 in
-          let fewer = s.0 - 2 ^ u.0 in
-          elim (cases_eq (count_ones fewer) 0) [
-            | inl none ↦
-                let empty : fewer ≡ 0 = zero_from_ones fewer none in
-                let only : (v : ℕ) → IsLeft c cell v → v ≡ u.0 = λ v left. elim (cases_eq v u.0) [
-                  | inl same ↦ same
-                  | inr other ↦ absurd (both_ways (has_number fewer v) (subst (λ (n : ℕ). has_number n v ≡ false) (sym empty) (has_number-none v))
-                      (sym (added_other a v other) ∙ (s.1 v).1 left))
-                ] in
-                inl (λ v w first second. only v first ∙ sym (only w second))
-            | inr more ↦
-                let two : count_ones fewer ≡ suc (count_ones fewer - 1) = omega (arith, more) in
-                let v = some_counted fewer (count_ones fewer - 1) two (λ j has. low j (was_other fewer u.0 s.0 j a has).1) in
-                let was = was_other fewer u.0 s.0 v.0 a v.1 in
-                inr (v.0, u.0, was.0, (s.1 v.0).0 was.1, (s.1 u.0).0 u.1)
-          ]
-    ]
+-- some value is left of the square, or none is
+some_left : (c : CandidatesValue) (cell : ℕ) → cell < c.size * c.size → ((v : ℕ) × IsLeft c cell v) ⊎ ((v : ℕ) → IsLeft c cell v → ⊥)
+some_left c cell inside = elim (some_or_none (IsLeft c cell) (c.size + 1) (λ v low. left_or_gone c cell v inside)) [
+  | inl h ↦ inl (h.0, h.2)
+  | inr none ↦ inr (λ v left. none (v, omega (arith, left.pair.high), left))
+]
 
--- of one of the first of some squares at most one value is left, or several are of each
-lone_among : (c : CandidatesValue) (line squares n : ℕ) → c.size ≤ 9 → line < 2 * c.size → n ≤ c.size
+-- at most one value is left of it, or several are
+lone_or_several : (c : CandidatesValue) (cell : ℕ) → cell < c.size * c.size → IsLone c cell ⊎ HasSeveral c cell
+lone_or_several c cell inside = elim (some_left c cell inside) [
+  | inl (u, first) ↦ elim (some_or_none (λ v. (u ≢ v) × IsLeft c cell v) (c.size + 1) (λ v low. both (apart u v) (left_or_gone c cell v inside))) [
+    | inl h ↦ inr (u, h.0, h.2.0, first, h.2.1)
+    | inr none ↦
+        let only : (v : ℕ) → IsLeft c cell v → u ≡ v = λ v left. elim (cases_eq u v) [
+          | inl same ↦ same
+          | inr other ↦ absurd (none (v, omega (arith, left.pair.high), (other, left)))
+        ] in
+        inl (λ v w one two. sym (only v one) ∙ only w two)
+  ]
+  | inr none ↦ inl (λ u v one two. absurd (none u one))
+]
+  where
+    apart : (u v : ℕ) → Decided (u ≢ v)
+    apart u v = elim (cases_eq u v) [ inl same ↦ inr (λ h. h same) | inr other ↦ inl other ]
+
+-- of one of some squares of a line at most one value is left, or several are of each
+lone_among : (c : CandidatesValue) (line squares : ℕ) → line < 2 * c.size
     → ((k : ℕ) × (k < c.size) × (has_number squares k ≡ true) × IsLone c (line_cell c.size line k))
-    ⊎ ((k : ℕ) → k < n → has_number squares k ≡ true → HasSeveral c (line_cell c.size line k))
-lone_among c line squares zero small line_is fits = inr (λ k less has. absurd (omega (arith, less)))
-lone_among c line squares (suc n) small line_is fits =
-    let low : n < c.size = omega (arith, fits) in
-    elim (lone_among c line squares n small line_is (omega (arith, fits))) [
-      | inl found ↦ inl found
-      | inr several ↦ elim (lone_or_several c (line_cell c.size line n) small (line_cell_inside c.size line n line_is low)) [
-        | inl lone ↦ elim (cases_Bool (has_number squares n)) [
-          | inl in_it ↦ inl (n, low, in_it, lone)
-          | inr out ↦ inr (λ k less has. elim (cases_eq k n) [
-            | inl same ↦ absurd (both_ways (has_number squares k) (subst (λ (i : ℕ). has_number squares i ≡ false) (sym same) out) has)
-            | inr other ↦ several k (omega (arith, less, other)) has
-          ])
-        ]
-        | inr here ↦ inr (λ k less has. elim (cases_eq k n) [
-          | inl same ↦ subst (λ (i : ℕ). HasSeveral c (line_cell c.size line i)) (sym same) here
-          | inr other ↦ several k (omega (arith, less, other)) has
-        ])
-      ]
+    ⊎ ((k : ℕ) → k < c.size → has_number squares k ≡ true → HasSeveral c (line_cell c.size line k))
+lone_among c line squares line_is =
+    let each : (k : ℕ) → k < c.size → IsLone c (line_cell c.size line k) ⊎ HasSeveral c (line_cell c.size line k) = λ k low.
+    lone_or_several c (line_cell c.size line k) (line_cell_inside c.size line k line_is low) in
+    elim (some_or_none (λ k. (has_number squares k ≡ true) × IsLone c (line_cell c.size line k)) c.size (λ k low.
+    both (has_or_lacks squares k) (elim (each k low) [
+      | inl lone ↦ inl lone
+      | inr (u, v, apart, first, second) ↦ inr (λ lone. apart (lone u v first second))
+    ]))) [
+      | inl h ↦ inl (h.0, h.1, h.2.0, h.2.1)
+      | inr none ↦ inr (λ k low has. elim (each k low) [
+        | inl lone ↦ absurd (none (k, low, (has, lone)))
+        | inr several ↦ several
+      ])
     ]
 
 -- of no other square of a quiet line a value is left that is the only one of a square
@@ -222,7 +184,7 @@ rest_of c line squares union k small line_is inside u has =
     let a = one_less squares k has in
     let fewer = squares - 2 ^ k in
     let in_line : (j : ℕ) → has_number fewer j ≡ true → j < c.size = λ j there. inside j (was_other fewer k squares j a there).1 in
-    let w = union_of_group c line fewer small line_is in_line in
+    let w = union_of_group c line fewer line_is in_line in
     record {
       fewer = fewer;
       added = a;
@@ -258,21 +220,14 @@ none_left zero c line squares union small line_is rest groups count inside u mos
   | inr few ↦ omega (arith, count, few)
 ]
 none_left (suc n) c line squares union small line_is rest groups count inside u most index v index_is outside left which =
-    elim (lone_among c line squares c.size small line_is (omega arith)) [
+    elim (lone_among c line squares line_is) [
       | inl k ↦
           let r = rest_of c line squares union k.0 small line_is inside u k.2 in
           let apart : index ≢ k.0 = λ same. both_ways (has_number squares index) outside (subst (λ (i : ℕ). has_number squares i ≡ true) (sym same) k.2) in
-          let some = left_set c (line_cell c.size line k.0) small (line_cell_inside c.size line k.0 line_is k.1) in
-          elim (cases_eq (count_ones some.0) 0) [
-            | inl none ↦
-                let empty : some.0 ≡ 0 = zero_from_ones some.0 none in
-                lone_quiet c line k.0 index v rest k.1 index_is apart
-                (λ other there. absurd (both_ways (has_number some.0 other)
-                (subst (λ (m : ℕ). has_number m other ≡ false) (sym empty) (has_number-none other)) ((some.1 other).1 there))) left
-            | inr counted ↦
-                let one : count_ones some.0 ≡ suc (count_ones some.0 - 1) = omega (arith, counted) in
-                let x = some_counted some.0 (count_ones some.0 - 1) one (λ j has. omega (arith, ((some.1 j).0 has).pair.high, small)) in
-                let here = (some.1 x.0).0 x.1 in
+          elim (some_left c (line_cell c.size line k.0) (line_cell_inside c.size line k.0 line_is k.1)) [
+            | inr none ↦ lone_quiet c line k.0 index v rest k.1 index_is apart (λ other there. absurd (none other there)) left
+            | inl x ↦
+                let here = x.1 in
                 let alone : HasNoOther c (line_cell c.size line k.0) x.0 = λ other there. k.3 other x.0 there here in
                 let lacks : has_number r.part x.0 ≡ false = false_from_ne_true (has_number r.part x.0) (λ has.
                 let j = r.is.only x.0 has in
@@ -328,7 +283,7 @@ pub set_quiet : (c : CandidatesValue) (line squares values cell v : ℕ) → c.s
     → ((line : ℕ) → line < 2 * c.size → IsGroupQuiet line c) → IsPair c.size cell v → IsBySet c.size c line squares values cell v → may_be c cell v ≡ false
 set_quiet c line squares values cell v small rest groups pair h =
     let there : IsPair c.size (line_cell c.size line h.index) v = subst (λ (n : ℕ). IsPair c.size n v) h.here pair in
-    let u = union_of_group c line squares small h.line_is h.inside in
+    let u = union_of_group c line squares h.line_is h.inside in
     let part : IsSubset u.0 values = λ x has. let k = u.1.only x has in h.among k.0 x k.1 k.2 in
     let low = below_sixteen c line squares u.0 small u.1 in
     let count = within_counts u.0 values low part in
