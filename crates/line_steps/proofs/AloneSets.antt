@@ -1,6 +1,6 @@
 -- The values but for which nothing is left of a square, and what rows and columns strike.
-use Rattle.std.proofs.Common.{◌≡◌, ◌↔◌, ℕ, ◌*◌, ◌<◌, ◌≤◌, true, nat_le, ◌&&◌, ◌==◌, not, sym, ap, ◌∙◌, subst}
-use Rattle.std.proofs.lemmas.Bool.{both_ways, and_parts, and_from, not_from_false, ne_eqb, eq-eqb}
+use Rattle.std.proofs.Common.{◌≡◌, ◌↔◌, ℕ, ◌*◌, ◌<◌, ◌≤◌, true, nat_le, ◌&&◌, ◌==◌, not, sym, ◌∙◌, subst}
+use Rattle.std.proofs.lemmas.Bool.{both_ways, eq-eqb, eqb-true}
 use Rattle.number_sets.specs.Sets.{has_number, IsEmpty}
 use Rattle.latin_board.specs.Lines.{ArePeers, line_cell}
 use Rattle.trail_solver.specs.Pairs.{IsPair}
@@ -8,6 +8,7 @@ use Rattle.trail_solver.specs.Candidates.{CandidatesValue, IsSetOf, IsOnly}
 use Rattle.line_steps.specs.Left.{HasNoOther, HasNoOtherPlace}
 use Rattle.line_steps.specs.Reasons.{IsByPeer, IsByPlace}
 use Rattle.line_steps.proofs.GivenSets.{up_to_pair}
+use Rattle.line_steps.proofs.OtherNumbers.{has_rest}
 
 pub alone_none : (c : CandidatesValue) (cell set all v : ℕ) → cell < c.size * c.size → IsSetOf c cell set → IsEmpty set
     → ((k : ℕ) → has_number all k ≡ (nat_le 1 k && nat_le k c.size)) → (has_number all v ≡ true) ↔ (IsPair c.size cell v × HasNoOther c cell v)
@@ -56,19 +57,19 @@ pub place_struck : (c : CandidatesValue) (line index other cell all one result v
     → ((n : ℕ) → has_number result n ≡ (has_number all n && not (has_number one n)))
     → (has_number result v ≡ true) ↔ (IsPair c.size cell v × IsByPlace c.size c line index other cell v)
 place_struck c line index other cell all one result v line_is index_is low high inside here alone members single rest =
-    let pairs = up_to_pair c.size cell all v inside members in (
-      λ has.
-          let both = and_parts (has_number all v) (not (has_number one v)) (sym (rest v) ∙ has) in (
-            pairs.0 both.0,
-            record {
-              line_is = line_is;
-              index_is = index_is;
-              low = low;
-              high = high;
-              here = here;
-              apart = λ same. both_ways (not (has_number one v)) (ap not (single v ∙ eq-eqb v other same)) both.1;
-              alone = alone;
-            },
-          ),
-      λ h. rest v ∙ and_from (has_number all v) (not (has_number one v)) (pairs.1 h.0) (not_from_false (has_number one v) (single v ∙ ne_eqb v other h.1.apart)),
+    let pairs = up_to_pair c.size cell all v inside members in
+    let left = has_rest all one result v rest in (
+      λ has. (
+        pairs.0 (left.0 has).0,
+        record {
+          line_is = line_is;
+          index_is = index_is;
+          low = low;
+          high = high;
+          here = here;
+          apart = λ same. (left.0 has).1 (single v ∙ eq-eqb v other same);
+          alone = alone;
+        },
+      ),
+      λ h. left.1 (pairs.1 h.0, λ has. h.1.apart (eqb-true v other (sym (single v) ∙ has))),
     )

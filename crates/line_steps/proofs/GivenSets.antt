@@ -1,10 +1,11 @@
 -- What a given strikes, as a set.
 use Rattle.std.proofs.Common.{◌≡◌, ◌≢◌, ◌↔◌, ℕ, ◌*◌, ◌<◌, true, nat_le, ◌&&◌, ◌==◌, not, sym, ap, ◌∙◌, arith}
-use Rattle.std.proofs.lemmas.Bool.{both_ways, and_parts, and_from, not_from_false, ne_eqb, eq-eqb, leb-true, le-leb}
+use Rattle.std.proofs.lemmas.Bool.{and_parts, and_from, eq-eqb, eqb-true, leb-true, le-leb}
 use Rattle.number_sets.specs.Sets.{has_number}
 use Rattle.trail_solver.specs.Pairs.{IsPair}
 use Rattle.trail_solver.specs.Puzzles.{Puzzle}
 use Rattle.line_steps.specs.Reasons.{IsByGiven}
+use Rattle.line_steps.proofs.OtherNumbers.{has_rest}
 
 -- the numbers of the size are those of a pair
 pub up_to_pair : (w cell all v : ℕ) → cell < w * w → ((k : ℕ) → has_number all k ≡ (nat_le 1 k && nat_le k w))
@@ -23,16 +24,15 @@ pub given_struck : (p : Puzzle) (w at cell all one result given v : ℕ) → at 
     → (has_number result v ≡ true) ↔ (IsPair w cell v × IsByGiven p at cell v)
 given_struck p w at cell all one result given v here inside is some members single rest =
     let pairs = up_to_pair w cell all v inside members in
+    let other = has_rest all one result v rest in
     let there : given ≡ p.given at = is ∙ ap p.given (sym here) in (
-      λ has.
-          let both = and_parts (has_number all v) (not (has_number one v)) (sym (rest v) ∙ has) in (
-            pairs.0 both.0,
-            record {
-              here = sym here;
-              given = omega (arith, there, some);
-              apart = λ same. both_ways (not (has_number one v)) (ap not (single v ∙ eq-eqb v given (same ∙ sym there))) both.1;
-            },
-          ),
-      λ h. rest v ∙ and_from (has_number all v) (not (has_number one v)) (pairs.1 h.0)
-          (not_from_false (has_number one v) (single v ∙ ne_eqb v given (λ e. h.1.apart (e ∙ there)))),
+      λ has. (
+        pairs.0 (other.0 has).0,
+        record {
+          here = sym here;
+          given = omega (arith, there, some);
+          apart = λ same. (other.0 has).1 (single v ∙ eq-eqb v given (same ∙ sym there));
+        },
+      ),
+      λ h. other.1 (pairs.1 h.0, λ has. h.1.apart (eqb-true v given (sym (single v) ∙ has) ∙ there)),
     )

@@ -1,7 +1,7 @@
 -- Of which squares of a line something went, and which lines those are on.
-use Rattle.std.proofs.Common.{◌≡◌, ◌≢◌, ℕ, ◌+◌, ◌-◌, ◌*◌, ◌/◌, ◌%◌, ◌<◌, ◌≤◌, true, false, ◌||◌, ◌==◌, length, inl, inr, refl, sym, ap, ◌∙◌, subst, arith}
+use Rattle.std.proofs.Common.{◌≡◌, ◌≢◌, ℕ, ◌-◌, ◌*◌, ◌/◌, ◌%◌, ◌<◌, ◌≤◌, true, false, ◌||◌, ◌==◌, length, inl, inr, refl, sym, ap, ◌∙◌, subst, arith}
 use Rattle.std.proofs.lemmas.Bool.{both_ways, cases_lt, or_left, or_right, eq-eqb, lt-ltb, le-ltb}
-use Rattle.std.proofs.lemmas.Nat.{div-mul-add, mod-mul-add}
+use Rattle.line_steps.specs.Laws.LineSquares.{row_at, column_at}
 use Rattle.number_sets.specs.Sets.{has_number, IsEmpty}
 use Rattle.latin_board.specs.Lines.{line_cell}
 use Rattle.trail_solver.specs.Candidates.{CandidatesValue}
@@ -60,39 +60,25 @@ changed_not line places cell values a b c h s still =
 -- two lines that don't cross at one of the places have no square in common there
 pub apart_from : (w line places other : ℕ) → line < 2 * w → other < 2 * w → other ≢ line → is_crossing w line places other ≡ false
     → (j k : ℕ) → j < w → k < w → has_number places k ≡ true → line_cell w other j ≢ line_cell w line k
-apart_from w line places other line_is other_is apart uncrossed j k j_is k_is has = λ same.
-    elim (cases_lt line w) [
-      | inl row ↦ elim (cases_lt other w) [
-        | inl one ↦
-            let here : line_cell w other j ≡ other * w + j = rw (lt-ltb other w one) refl in
-            let there : line_cell w line k ≡ line * w + k = rw (lt-ltb line w row) refl in
-            let equal : other * w + j ≡ line * w + k = sym here ∙ same ∙ there in
-            absurd (apart (sym (div-mul-add other w j j_is) ∙ ap (λ (n : ℕ). n / w) equal ∙ div-mul-add line w k k_is))
+apart_from w line places other line_is other_is apart uncrossed j k j_is k_is has = λ same. elim (cases_lt line w) [
+  | inl row ↦
+      let here = row_at w line k row k_is in
+      elim (cases_lt other w) [
+        | inl one ↦ absurd (apart (sym (row_at w other j one j_is).0 ∙ ap (λ (n : ℕ). n / w) same ∙ here.0))
         | inr one ↦
-            let here : line_cell w other j ≡ j * w + (other - w) = rw (le-ltb other w one) refl in
-            let there : line_cell w line k ≡ line * w + k = rw (lt-ltb line w row) refl in
-            let equal : j * w + (other - w) ≡ line * w + k = sym here ∙ same ∙ there in
-            let low : other - w < w = omega (arith, other_is, one) in
-            let place : other - w ≡ k = sym (mod-mul-add j w (other - w) low) ∙ ap (λ (n : ℕ). n % w) equal ∙ mod-mul-add line w k k_is in
+            let place : other - w ≡ k = sym (column_at w other j other_is one j_is).1 ∙ ap (λ (n : ℕ). n % w) same ∙ here.1 in
             let lacks : has_number places (other - w) ≡ false = rw (lt-ltb line w row, le-ltb other w one) at uncrossed in
             both_ways (has_number places k) (ap (has_number places) (sym place) ∙ lacks) has
       ]
-      | inr column ↦
-          let line_low : line - w < w = omega (arith, line_is, column) in
-          elim (cases_lt other w) [
-            | inl one ↦
-                let here : line_cell w other j ≡ other * w + j = rw (lt-ltb other w one) refl in
-                let there : line_cell w line k ≡ k * w + (line - w) = rw (le-ltb line w column) refl in
-                let equal : other * w + j ≡ k * w + (line - w) = sym here ∙ same ∙ there in
-                let place : other ≡ k = sym (div-mul-add other w j j_is) ∙ ap (λ (n : ℕ). n / w) equal ∙ div-mul-add k w (line - w) line_low in
-                let lacks : has_number places other ≡ false = rw (le-ltb line w column, lt-ltb other w one) at uncrossed in
-                both_ways (has_number places k) (ap (has_number places) (sym place) ∙ lacks) has
-            | inr one ↦
-                let here : line_cell w other j ≡ j * w + (other - w) = rw (le-ltb other w one) refl in
-                let there : line_cell w line k ≡ k * w + (line - w) = rw (le-ltb line w column) refl in
-                let equal : j * w + (other - w) ≡ k * w + (line - w) = sym here ∙ same ∙ there in
-                let low : other - w < w = omega (arith, other_is, one) in
-                let place : other - w ≡ line - w = sym (mod-mul-add j w (other - w) low) ∙ ap (λ (n : ℕ). n % w) equal ∙ mod-mul-add k w (line - w) line_low in
-                absurd (apart (omega (arith, place, one, column)))
-          ]
-    ]
+  | inr column ↦
+      let here = column_at w line k line_is column k_is in
+      elim (cases_lt other w) [
+        | inl one ↦
+            let place : other ≡ k = sym (row_at w other j one j_is).0 ∙ ap (λ (n : ℕ). n / w) same ∙ here.0 in
+            let lacks : has_number places other ≡ false = rw (le-ltb line w column, lt-ltb other w one) at uncrossed in
+            both_ways (has_number places k) (ap (has_number places) (sym place) ∙ lacks) has
+        | inr one ↦
+            let place : other - w ≡ line - w = sym (column_at w other j other_is one j_is).1 ∙ ap (λ (n : ℕ). n % w) same ∙ here.1 in
+            absurd (apart (omega (arith, place, one, column)))
+      ]
+]

@@ -18,11 +18,11 @@ pub(crate) mod group_passes;
 pub(crate) mod latin_strikes;
 pub(crate) mod set_strikes;
 pub(crate) mod settling;
-pub(crate) mod strikes;
 
 use crate::grade::Grade;
 use crate::reason::Reason;
-use crate::steps::strikes::{by_any_peer, by_any_place, by_any_set, given_strikes};
+use crate::steps::latin_strikes::{by_peer, by_place, given_strikes};
+use crate::steps::set_strikes::by_set;
 use number_sets::NumberSet;
 use trail_solver::{Candidates, Rules};
 
@@ -66,15 +66,15 @@ pub trait Steps: Rules {
     {
         match reason {
             Reason::Given { cell: at } => given_strikes(self, candidates, at, cell),
-            Reason::Peer { cell: by } => by_any_peer(candidates, by, cell),
+            Reason::Peer { cell: by } => by_peer(candidates, by, cell),
             Reason::Place { line, index, value } => {
-                by_any_place(candidates, line, index, value, cell)
+                by_place(candidates, line, index, value, cell)
             }
             Reason::Set {
                 line,
                 squares,
                 values,
-            } => by_any_set(candidates, line, squares, values, cell),
+            } => by_set(candidates, line, squares, values, cell),
             _ => self.own_strikes(candidates, reason, cell, cache),
         }
     }

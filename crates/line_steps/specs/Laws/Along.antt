@@ -55,11 +55,8 @@ clue_own p Own c reason cell value is h = h
 
 -- the lowest grade looks at no clue and no sign
 pub latin_along : (Struck : Striking) (line : ℕ) (c : CandidatesValue) → IsQuietAlong Struck Latin line c
-latin_along Struck line c (Given at) cell value has along = absurd along
-latin_along Struck line c (Peer by) cell value has along = absurd along
-latin_along Struck line c (Place at index other) cell value has along = absurd along
 latin_along Struck line c (Bound place) cell value has along = absurd (cc)
 latin_along Struck line c (Stand place) cell value has along = absurd (cc)
 latin_along Struck line c (Clue place) cell value has along = absurd (cc)
 latin_along Struck line c (Sign from to) cell value has along = absurd (cc)
-latin_along Struck line c (Set at squares values) cell value has along = absurd along
+latin_along Struck line c reason cell value has along = absurd along

@@ -1,27 +1,25 @@
 -- The squares of a row or column, as a line of the grid and as they are met from an edge place.
-use Rattle.std.proofs.Common.{◌≡◌, ◌≢◌, ℕ, ◌+◌, ◌-◌, ◌*◌, ◌/◌, ◌%◌, ◌<◌, inl, inr, sym, ap, ◌∙◌, arith}
+use Rattle.std.proofs.Common.{◌≡◌, ◌≢◌, ℕ, ◌-◌, ◌*◌, ◌/◌, ◌%◌, ◌<◌, ◌≤◌, inl, inr, sym, ap, ◌∙◌, arith}
 use Rattle.std.proofs.lemmas.Bool.{cases_eq, cases_lt, lt-ltb, le-ltb}
 use Rattle.std.proofs.lemmas.Nat.{div_below, div-mul-add, mod_below, mod-mul-add}
 use Rattle.latin_board.specs.Lines.{line_cell}
-use Rattle.latin_board.proofs.LatinLines.{line_cell-row, line_cell-column, line_cell_inside, some_width}
+use Rattle.latin_board.proofs.LatinLines.{line_cell_inside, some_width}
 use Rattle.line_steps.specs.Laws.Edges.{view_index_low, view_line_low}
 use Rattle.line_steps.specs.Views.{view_cell, view_line, view_index}
+
+-- where a square of a row is, and one of a column
+pub row_at : (w line k : ℕ) → line < w → k < w → (line_cell w line k / w ≡ line) × (line_cell w line k % w ≡ k)
+row_at w line k row low = rw (lt-ltb line w row) (div-mul-add line w k low, mod-mul-add line w k low)
+
+pub column_at : (w line k : ℕ) → line < 2 * w → w ≤ line → k < w → (line_cell w line k / w ≡ k) × (line_cell w line k % w ≡ line - w)
+column_at w line k below column low = rw (le-ltb line w column)
+    (div-mul-add k w (line - w) (omega (arith, below, column)), mod-mul-add k w (line - w) (omega (arith, below, column)))
 
 -- two squares of a line are two
 pub line_cell_once : (w line i j : ℕ) → line < 2 * w → i < w → j < w → line_cell w line i ≡ line_cell w line j → i ≡ j
 line_cell_once w line i j below first second same = elim (cases_lt line w) [
-  | inl row ↦
-      sym (mod-mul-add line w i first)
-      ∙ ap (λ (n : ℕ). n % w) (sym (line_cell-row w line i row) ∙ same ∙ line_cell-row w line j row)
-      ∙ mod-mul-add line w j second
-  | inr column ↦
-      let at : (k : ℕ) → line_cell w line k ≡ k * w + (line - w) =
-      λ k.
-      let split : line ≡ w + (line - w) = omega arith in
-      ap (λ (l : ℕ). line_cell w l k) split ∙ line_cell-column w (line - w) k in
-      sym (div-mul-add i w (line - w) (omega arith))
-      ∙ ap (λ (n : ℕ). n / w) (sym (at i) ∙ same ∙ at j)
-      ∙ div-mul-add j w (line - w) (omega arith)
+  | inl row ↦ sym (row_at w line i row first).1 ∙ ap (λ (n : ℕ). n % w) same ∙ (row_at w line j row second).1
+  | inr column ↦ sym (column_at w line i below column first).0 ∙ ap (λ (n : ℕ). n / w) same ∙ (column_at w line j below column second).0
 ]
 
 -- the row and the column of a square are below the width

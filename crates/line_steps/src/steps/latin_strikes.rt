@@ -1,23 +1,51 @@
-//! What rows and columns strike in one square.
+//! What givens, rows and columns strike in one square.
 ghost use Rattle.std.specs.Prelude.{◌≡◌, ◌↔◌, ℕ, ◌*◌, ◌<◌, ◌≤◌, true, IsTrue};
 ghost use Rattle.number_sets.specs.Sets.{has_number};
 ghost use Rattle.latin_board.specs.Lines.{ArePeers, line_cell};
 ghost use Rattle.trail_solver.specs.Pairs.{IsPair};
 ghost use Rattle.line_steps.specs.Left.{HasNoOther, HasNoOtherPlace};
-ghost use Rattle.line_steps.specs.Reasons.{IsByPeer, IsByPlace};
+ghost use Rattle.line_steps.specs.Reasons.{IsByGiven, IsByPeer, IsByPlace};
 
 use latin_board::{Size, line_cell};
 use number_sets::NumberSet;
-use trail_solver::Candidates;
+use trail_solver::{Candidates, Rules};
 
-/// The values of the size that a square of which nothing else is left rules out in another.
+/// What a given strikes in a square, in every game: the sizes are equal, and the square is one of the grid's.
+#[tactic(auto, using(crate::proofs::GivenSets::given_struck))]
+pub(crate) fn given_strikes<P: Rules>(
+    p: &P,
+    candidates: &Candidates,
+    at: usize,
+    cell: usize,
+) -> NumberSet
+    requires size { candidates.now.size ≡ (P.puzzle p.now).size }
+    requires inside { cell < candidates.now.size * candidates.now.size }
+    ensures { (v : ℕ) → (has_number result v ≡ true)
+        ↔ (IsPair candidates.now.size cell v × IsByGiven (P.puzzle p.now) at cell v) }
+{
+    let size = candidates.size();
+    if at != cell {
+        return NumberSet::empty();
+    }
+    let given = p.given(cell);
+    if given == 0 {
+        return NumberSet::empty();
+    }
+    NumberSet::up_to(size.get()).difference(NumberSet::one(given))
+}
+
+/// The values of the size that a square of which nothing else is left rules out in another. One that the grid doesn't have strikes
+/// nothing.
 #[tactic(auto, using(crate::proofs::AloneSets::peer_struck))]
 pub(crate) fn by_peer(candidates: &Candidates, by: usize, cell: usize) -> NumberSet
-    requires by { by < candidates.now.size * candidates.now.size }
-    requires inside { cell < candidates.now.size * candidates.now.size }
+    requires { cell < candidates.now.size * candidates.now.size }
     ensures { (v : ℕ) → (has_number result v ≡ true)
         ↔ (IsPair candidates.now.size cell v × IsByPeer candidates.now.size candidates.now by cell v) }
 {
+    let width = candidates.size().get() as usize;
+    if by >= width * width {
+        return NumberSet::empty();
+    }
     if are_peers(candidates.size(), by, cell) {
         alone_values(candidates, by)
     } else {
@@ -55,24 +83,26 @@ pub fn alone_values(candidates: &Candidates, cell: usize) -> NumberSet
     }
 }
 
-/// The values of the size that another one's last place in a line rules out in a square.
+/// The values of the size that another one's last place in a line rules out in a square; a line, a place or a value that the grid
+/// doesn't have strikes nothing.
 #[tactic(auto, using(crate::proofs::AloneSets::place_struck))]
 pub(crate) fn by_place(
     candidates: &Candidates,
-    line: u8,
-    index: u8,
+    line: usize,
+    index: usize,
     other: u8,
     cell: usize,
 ) -> NumberSet
-    requires line { line < 2 * candidates.now.size }
-    requires index { index < candidates.now.size }
-    requires low { 1 ≤ other }
-    requires high { other ≤ candidates.now.size }
-    requires inside { cell < candidates.now.size * candidates.now.size }
+    requires { cell < candidates.now.size * candidates.now.size }
     ensures { (v : ℕ) → (has_number result v ≡ true)
         ↔ (IsPair candidates.now.size cell v × IsByPlace candidates.now.size candidates.now line index other cell v) }
 {
     let size = candidates.size();
+    let width = size.get();
+    if line >= 2 * width as usize || index >= width as usize || other < 1 || other > width {
+        return NumberSet::empty();
+    }
+    let (line, index) = (line as u8, index as u8);
     if cell == line_cell(size, line, index) && has_no_other_place(candidates, line, other, index) {
         NumberSet::up_to(size.get()).difference(NumberSet::one(other))
     } else {

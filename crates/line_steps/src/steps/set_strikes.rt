@@ -9,22 +9,25 @@ use latin_board::{Size, line_cell};
 use number_sets::NumberSet;
 use trail_solver::Candidates;
 
-/// The values of the size that a group of a line's squares, with the values that these take among them, rules out in a square.
+/// The values of the size that a group of a line's squares, with the values that these take among them, rules out in a square;
+/// a line or squares that the grid doesn't have strike nothing.
 #[tactic(auto, using(crate::proofs::GroupSets::set_struck, crate::proofs::GroupSets::set_idle))]
 pub(crate) fn by_set(
     candidates: &Candidates,
-    line: u8,
+    line: usize,
     squares: NumberSet,
     values: NumberSet,
     cell: usize,
 ) -> NumberSet
-    requires line { line < 2 * candidates.now.size }
-    requires squares { (k : ℕ) → has_number squares k ≡ true → k < candidates.now.size }
-    requires inside { cell < candidates.now.size * candidates.now.size }
+    requires { cell < candidates.now.size * candidates.now.size }
     ensures { (v : ℕ) → (has_number result v ≡ true)
         ↔ (IsPair candidates.now.size cell v × IsBySet candidates.now.size candidates.now line squares values cell v) }
 {
     let size = candidates.size();
+    if line >= 2 * size.get() as usize || !are_places(squares, size.get()) {
+        return NumberSet::empty();
+    }
+    let line = line as u8;
     if values.len() == squares.len()
         && is_other(size, line, squares, cell)
         && are_among(candidates, line, squares, values)
@@ -69,4 +72,14 @@ fn is_other(size: Size, line: u8, squares: NumberSet, cell: usize) -> bool
         }
     }
     false
+}
+
+// Whether each number of the set is below the width.
+fn are_places(set: NumberSet, width: u8) -> bool
+    ensures { IsTrue result ↔ ((k : ℕ) → has_number set k ≡ true → k < width) }
+{
+    match set.greatest() {
+        Some(last) => last < width,
+        None => true,
+    }
 }
