@@ -1,7 +1,7 @@
 -- Of which squares of a line something went, and which lines those are on.
 use Rattle.std.proofs.Common.{◌≡◌, ◌≢◌, ℕ, ◌-◌, ◌*◌, ◌/◌, ◌%◌, ◌<◌, ◌≤◌, true, false, ◌||◌, ◌==◌, length, inl, inr, refl, sym, ap, ◌∙◌, subst, arith}
 use Rattle.std.proofs.lemmas.Bool.{both_ways, cases_lt, or_left, or_right, eq-eqb, lt-ltb, le-ltb}
-use Rattle.line_steps.specs.Laws.LineSquares.{row_at, column_at}
+use Rattle.std.proofs.lemmas.Nat.{div-mul-add, mod-mul-add}
 use Rattle.number_sets.specs.Sets.{has_number, IsEmpty}
 use Rattle.latin_board.specs.Lines.{line_cell}
 use Rattle.trail_solver.specs.Candidates.{CandidatesValue}
@@ -56,6 +56,14 @@ changed_not line places cell values a b c h s still =
     subst (λ d. AreChanged line places a d) (sym same) h
 
 -- ---- lines across
+
+-- where a square of a row is, and one of a column
+row_at : (w line k : ℕ) → line < w → k < w → (line_cell w line k / w ≡ line) × (line_cell w line k % w ≡ k)
+row_at w line k row low = rw (lt-ltb line w row) (div-mul-add line w k low, mod-mul-add line w k low)
+
+column_at : (w line k : ℕ) → line < 2 * w → w ≤ line → k < w → (line_cell w line k / w ≡ k) × (line_cell w line k % w ≡ line - w)
+column_at w line k below column low = rw (le-ltb line w column)
+    (div-mul-add k w (line - w) (omega (arith, below, column)), mod-mul-add k w (line - w) (omega (arith, below, column)))
 
 -- two lines that don't cross at one of the places have no square in common there
 pub apart_from : (w line places other : ℕ) → line < 2 * w → other < 2 * w → other ≢ line → is_crossing w line places other ≡ false

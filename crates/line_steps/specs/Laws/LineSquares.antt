@@ -1,26 +1,11 @@
 -- The squares of a row or column, as a line of the grid and as they are met from an edge place.
-use Rattle.std.proofs.Common.{◌≡◌, ◌≢◌, ℕ, ◌-◌, ◌*◌, ◌/◌, ◌%◌, ◌<◌, ◌≤◌, inl, inr, sym, ap, ◌∙◌, arith}
+use Rattle.std.proofs.Common.{◌≡◌, ◌≢◌, ℕ, ◌*◌, ◌/◌, ◌%◌, ◌<◌, inl, inr, arith}
 use Rattle.std.proofs.lemmas.Bool.{cases_eq, cases_lt, lt-ltb, le-ltb}
-use Rattle.std.proofs.lemmas.Nat.{div_below, div-mul-add, mod_below, mod-mul-add}
-use Rattle.latin_board.specs.Lines.{line_cell}
+use Rattle.std.proofs.lemmas.Nat.{div_below, mod_below}
+use Rattle.latin_board.proofs.PeerLines.{places_apart}
 use Rattle.latin_board.proofs.LatinLines.{line_cell_inside, some_width}
 use Rattle.line_steps.specs.Laws.Edges.{view_index_low, view_line_low}
 use Rattle.line_steps.specs.Views.{view_cell, view_line, view_index}
-
--- where a square of a row is, and one of a column
-pub row_at : (w line k : ℕ) → line < w → k < w → (line_cell w line k / w ≡ line) × (line_cell w line k % w ≡ k)
-row_at w line k row low = rw (lt-ltb line w row) (div-mul-add line w k low, mod-mul-add line w k low)
-
-pub column_at : (w line k : ℕ) → line < 2 * w → w ≤ line → k < w → (line_cell w line k / w ≡ k) × (line_cell w line k % w ≡ line - w)
-column_at w line k below column low = rw (le-ltb line w column)
-    (div-mul-add k w (line - w) (omega (arith, below, column)), mod-mul-add k w (line - w) (omega (arith, below, column)))
-
--- two squares of a line are two
-pub line_cell_once : (w line i j : ℕ) → line < 2 * w → i < w → j < w → line_cell w line i ≡ line_cell w line j → i ≡ j
-line_cell_once w line i j below first second same = elim (cases_lt line w) [
-  | inl row ↦ sym (row_at w line i row first).1 ∙ ap (λ (n : ℕ). n % w) same ∙ (row_at w line j row second).1
-  | inr column ↦ sym (column_at w line i below column first).0 ∙ ap (λ (n : ℕ). n / w) same ∙ (column_at w line j below column second).0
-]
 
 -- the row and the column of a square are below the width
 pub row_low : (w cell row : ℕ) → cell < w * w → row ≡ cell / w → row < w
@@ -55,7 +40,6 @@ pub view_cell_once : (w place i j : ℕ) → place < 4 * w → i < w → j < w �
 view_cell_once w place i j inside first second same = elim (cases_eq i j) [
   | inl here ↦ here
   | inr apart ↦
-      absurd (view_index_apart w place i j first second apart
-      (line_cell_once w (view_line w place) (view_index w place i) (view_index w place j) (view_line_low w place inside)
-      (view_index_low w place i first) (view_index_low w place j second) same))
+      absurd (places_apart w (view_line w place) (view_index w place i) (view_index w place j) (view_line_low w place inside)
+      (view_index_apart w place i j first second apart) same)
 ]

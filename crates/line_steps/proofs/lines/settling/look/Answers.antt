@@ -41,34 +41,27 @@ one_less count was now false line small look =
 
 pub strike_along-requires : goal.strike_along-requires
 strike_along-requires g c =
-    let same = leads_size (StruckBy g.P.LinePass.puzzle g.P.LinePass.own c.args.p.now) (g.P.LinePass.grade c.args.p.now) c.args.candidates.now c.looks.candidates
-    c.looks.invariant.leads in
+    let same = leads_size _ _ _ _ c.looks.invariant.leads in
     record {
       size = same ∙ c.requires.size;
       line = omega (arith, same, c.in-Some.ensures.look.taken.one.0, c.get-width.ensures.value, c.size.ensures.value);
     }
 
 pub returns-in_default-strike_along-clause-leads : goal.returns-in_default-strike_along-clause-leads
-returns-in_default-strike_along-clause-leads g c =
-    leads_on (StruckBy g.P.LinePass.puzzle g.P.LinePass.own c.args.p.now) (g.P.LinePass.grade c.args.p.now) c.args.candidates.now c.looks.candidates
-    c.strike_along.new.candidates c.looks.invariant.leads c.strike_along.ensures.leads
+returns-in_default-strike_along-clause-leads g c = leads_on _ _ _ _ _ c.looks.invariant.leads c.strike_along.ensures.leads
 
 pub looks-smaller : goal.looks-smaller
 looks-smaller g c =
-    let Struck = StruckBy g.P.LinePass.puzzle g.P.LinePass.own c.args.p.now in
-    let grade = g.P.LinePass.grade c.args.p.now in
     let now = c.looks.candidates in
-    let next = c.strike_along.new.candidates in
-    let was = c.looks.waiting in
     let taken = c.take.new.self in
     let last = c.note.new.self in
-    let size = leads_size Struck grade c.args.candidates.now now c.looks.invariant.leads in
+    let size = leads_size _ _ _ _ c.looks.invariant.leads in
     let cube = cube_most now.size (omega (arith, size, c.size.ensures.valid.largest)) in
-    let one = one_less (2 * c.get-width.result) was taken c.in-Some.squares c.in-Some.line (omega (arith, c.get-width.ensures.largest)) c.in-Some.ensures.look in
-    near now next was last (leads_length Struck grade now next c.strike_along.ensures.leads)
+    let one = one_less _ _ _ _ _ (omega (arith, c.get-width.ensures.largest)) c.in-Some.ensures.look in
+    near now c.strike_along.new.candidates c.looks.waiting last (leads_length _ _ _ _ c.strike_along.ensures.leads)
     (omega (arith, c.trail_len-length.ensures.value, c.trail_len-length.ensures.bound, cube))
     (λ still.
-    let same : last ≡ taken = c.note.ensures.none (none_lost c.in-Some.line c.in-Some-strike_along.places now next c.in-Some-strike_along.ensures.loses still) in
+    let same : last ≡ taken = c.note.ensures.none (none_lost _ _ _ _ c.in-Some-strike_along.ensures.loses still) in
     let squares : last.squares % 2 ^ 32 ≡ taken.squares % 2 ^ 32 = ap (λ (x : Waiting). x.squares % 2 ^ 32) same in
     let clues : last.clues % 2 ^ 32 ≡ taken.clues % 2 ^ 32 = ap (λ (x : Waiting). x.clues % 2 ^ 32) same in
     omega (arith, squares, clues, one))
@@ -80,31 +73,28 @@ looks-preserved g c =
     let grade = g.P.LinePass.grade p in
     let w = (g.P.LinePass.puzzle p).size in
     let now = c.looks.candidates in
-    let next = c.strike_along.new.candidates in
     let line = c.in-Some.line in
     let places = c.in-Some-strike_along.places in
     let taken = c.take.new.self in
     let last = c.note.new.self in
     let leads = c.strike_along.ensures.leads in
-    let same = leads_size Struck grade c.args.candidates.now now c.looks.invariant.leads in
+    let same = leads_size _ _ _ _ c.looks.invariant.leads in
     let width : c.get-width.result ≡ now.size = c.get-width.ensures.value ∙ c.size.ensures.value ∙ sym same in
     let noted : (x : Bool) → IsNoted now.size line places (waiting_for x taken) (waiting_for x last) =
     subst (λ (n : ℕ). (x : Bool) → IsNoted n line places (waiting_for x taken) (waiting_for x last)) width
     (each_noted c.get-width.result line places taken last c.note.ensures.squares c.note.ensures.clues) in
     record {
-      leads = leads_on Struck grade c.args.candidates.now now next c.looks.invariant.leads leads;
+      leads = leads_on _ _ _ _ _ c.looks.invariant.leads leads;
       waits = λ first. looked w (IsQuietOn Struck grade)
-          (looks_stay w Struck (all_look (g.P.LinePass.puzzle p) (g.P.LinePass.own p) (g.met.P.LinePass.looks_along p)) grade) c.in-Some.squares
-          (2 * c.get-width.result) line places c.looks.waiting taken last now next (same ∙ c.requires.size) (leads_size Struck grade now next leads)
-          (leads_fewer Struck grade now next leads) (omega (arith, width, c.in-Some.ensures.look.taken.one.0)) c.in-Some-strike_along.ensures.loses
-          c.in-Some.ensures.look noted c.in-Some-strike_along.ensures.quiet (c.looks.invariant.waits first);
+          (looks_stay w Struck (all_look (g.P.LinePass.puzzle p) (g.P.LinePass.own p) (g.met.P.LinePass.looks_along p)) grade) _ _ _ _ _ _ _ _ _
+          (same ∙ c.requires.size) (leads_size _ _ _ _ leads) (leads_fewer _ _ _ _ leads) (omega (arith, width, c.in-Some.ensures.look.taken.one.0))
+          c.in-Some-strike_along.ensures.loses c.in-Some.ensures.look noted c.in-Some-strike_along.ensures.quiet (c.looks.invariant.waits first);
       from_squares = c.take.ensures.from_squares;
       from_clues = c.take.ensures.from_clues;
     }
 
 pub returns-in_default-clause-quiet : goal.returns-in_default-clause-quiet
 returns-in_default-clause-quiet g c = λ first line low what.
-    let size = leads_size (StruckBy g.P.LinePass.puzzle g.P.LinePass.own c.args.p.now) (g.P.LinePass.grade c.args.p.now) c.args.candidates.now
-    c.looks.candidates c.looks.invariant.leads in
+    let size = leads_size _ _ _ _ c.looks.invariant.leads in
     c.looks.invariant.waits first what line low
     (c.in_default.ensures.none what line (omega (arith, low, size, c.get-width.ensures.value, c.size.ensures.value)))

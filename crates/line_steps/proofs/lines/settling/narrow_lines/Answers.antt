@@ -6,49 +6,31 @@ use Rattle.line_steps.specs.Laws.Less.{all_less}
 use Rattle.line_steps.specs.Laws.Sound.{all_sound}
 use Rattle.line_steps.specs.Reasons.{StruckBy}
 use Rattle.line_steps.proofs.Leads.{leads_on, leads_size}
-use Rattle.line_steps.proofs.Narrowed.{NarrowsBy, narrows_by}
+use Rattle.line_steps.proofs.Narrowed.{narrows_by}
 use Rattle.line_steps.specs.declared.grade.Grade.{Grade}
 use Rattle.line_steps.specs.declared.grade.Grade.TheVariants.{Hard}
-use Rattle.line_steps.proofs.lines.settling.narrow_lines.Given.{Over}
 use Rattle.line_steps.proofs.lines.settling.narrow_lines.Goals as goal
-use Rattle.line_steps.proofs.lines.settling.narrow_lines.Goals.{After-settle_lines}
 
 pub settle_lines-requires-clause-size : goal.settle_lines-requires-clause-size
-settle_lines-requires-clause-size g c =
-    let p = c.args.p.now in
-    leads_size (StruckBy g.P.LinePass.puzzle g.P.LinePass.own p) (g.P.LinePass.grade p) c.args.candidates.now c.strike_first.new.candidates c.strike_first.ensures
-    ∙ c.requires.size
-
-lead : (g : Over) (c : After-settle_lines g) → LeadsTo (StruckBy g.P.LinePass.puzzle g.P.LinePass.own c.args.p.now) Hard c.args.candidates.now
-    c.settle_lines.new.candidates
-lead g c =
-    let p = c.args.p.now in
-    let Struck = StruckBy g.P.LinePass.puzzle g.P.LinePass.own p in
-    let old = c.args.candidates.now in
-    let new = c.settle_lines.new.candidates in
-    subst (λ (grade : Grade). LeadsTo Struck grade old new) c.requires.highest
-    (leads_on Struck (g.P.LinePass.grade p) old c.strike_first.new.candidates new c.strike_first.ensures c.settle_lines.ensures.leads)
-
-narrowed : (g : Over) (c : After-settle_lines g) → NarrowsBy (g.P.LinePass.puzzle c.args.p.now)
-    (StruckBy g.P.LinePass.puzzle g.P.LinePass.own c.args.p.now) c.args.candidates.now
-    c.settle_lines.new.candidates c.settle_lines.result
-narrowed g c =
-    let p = c.args.p.now in
-    let puzzle = g.P.LinePass.puzzle p in
-    let Own = g.P.LinePass.own p in
-    let new = c.settle_lines.new.candidates in
-    let done = c.settle_lines.ensures in
-    let Quiet : Grade → Type 0 =
-    λ grade. OnTrue c.settle_lines.result ((line : ℕ) → line < 2 * new.size → (what : Bool)
-    → IsQuietOn (StruckBy g.P.LinePass.puzzle g.P.LinePass.own p) grade what line new) in
-    narrows_by puzzle Own (all_less puzzle Own (g.met.P.LinePass.own_less p))
-    (all_sound puzzle Own (λ d reason cell value h. g.met.P.LinePass.own_sound p d reason cell value h c.requires.valid))
-    (λ d reason cell value. g.met.P.LinePass.stands_along p d reason cell value c.requires.valid)
-    c.args.candidates.now new c.settle_lines.result c.requires.size (lead g c) done.givens (subst Quiet c.requires.highest done.quiet) done.emptied
+settle_lines-requires-clause-size g c = leads_size _ _ _ _ c.strike_first.ensures ∙ c.requires.size
 
 pub returns : goal.returns
 returns g c =
-    let n = narrowed g c in
+    let p = c.args.p.now in
+    let puzzle = g.P.LinePass.puzzle p in
+    let Own = g.P.LinePass.own p in
+    let Struck = StruckBy g.P.LinePass.puzzle g.P.LinePass.own p in
+    let old = c.args.candidates.now in
+    let new = c.settle_lines.new.candidates in
+    let done = c.settle_lines.ensures in
+    let Quiet : Grade → Type 0 =
+    λ grade. OnTrue c.settle_lines.result ((line : ℕ) → line < 2 * new.size → (what : Bool) → IsQuietOn Struck grade what line new) in
+    let lead : LeadsTo Struck Hard old new =
+    subst (λ (grade : Grade). LeadsTo Struck grade old new) c.requires.highest (leads_on _ _ _ _ _ c.strike_first.ensures done.leads) in
+    let n = narrows_by puzzle Own (all_less puzzle Own (g.met.P.LinePass.own_less p))
+    (all_sound puzzle Own (λ d reason cell value h. g.met.P.LinePass.own_sound p d reason cell value h c.requires.valid))
+    (λ d reason cell value. g.met.P.LinePass.stands_along p d reason cell value c.requires.valid) old new c.settle_lines.result c.requires.size lead
+    done.givens (subst Quiet c.requires.highest done.quiet) done.emptied in
     record {
       less = n.less;
       keeps = n.keeps;
@@ -56,6 +38,6 @@ returns g c =
       struck = n.struck;
       settled = n.settled;
       live = n.live;
-      leads = lead g c;
-      emptied = c.settle_lines.ensures.emptied;
+      leads = lead;
+      emptied = done.emptied;
     }

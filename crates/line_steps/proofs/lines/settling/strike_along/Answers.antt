@@ -1,4 +1,3 @@
-use Rattle.line_steps.specs.Reasons.{StruckBy}
 use Rattle.std.proofs.Common.{arith}
 use Rattle.line_steps.proofs.Leads.{leads_size}
 use Rattle.line_steps.proofs.SharedReasons.{lines_lead}
@@ -6,12 +5,9 @@ use Rattle.line_steps.proofs.lines.settling.strike_along.Goals as goal
 
 pub returns-then-squares-clause-leads : goal.returns-then-squares-clause-leads
 returns-then-squares-clause-leads g c =
-    let p = c.args.p.now in
-    lines_lead (g.P.LinePass.puzzle p) (g.P.LinePass.own p) (g.P.LinePass.grade p) c.args.candidates.now c.strike_line.new.candidates
-    c.requires.size c.strike_line.ensures.leads
+    lines_lead (g.P.LinePass.puzzle c.args.p.now) (g.P.LinePass.own c.args.p.now) _ _ _ c.requires.size c.strike_line.ensures.leads
 
 pub is_emptied_at-requires : goal.is_emptied_at-requires
 is_emptied_at-requires g c =
-    let then = leads_size (StruckBy g.P.LinePass.puzzle g.P.LinePass.own c.args.p.now) (g.P.LinePass.grade c.args.p.now) c.args.candidates.now
-    c.strike_by_clues-places.new.candidates c.strike_by_clues-places.ensures.leads in
+    let then = leads_size _ _ _ _ c.strike_by_clues-places.ensures.leads in
     omega (arith, then, c.requires.line)

@@ -13,13 +13,11 @@ loop-n-init g c =
     (λ k. ap (λ (n : ℕ). has_number n k) c.empty-changed.ensures ∙ has_number-none k)
 
 pub strike_by_reason-more-requires-clause-size : goal.strike_by_reason-more-requires-clause-size
-strike_by_reason-more-requires-clause-size g c =
-    leads_size (StruckBy g.P.Rules.puzzle g.P.Steps.own c.args.p.now) c.args.grade c.args.candidates.now c.loop-n.candidates c.loop-n.invariant.leads ∙ c.requires.size
+strike_by_reason-more-requires-clause-size g c = leads_size _ _ _ _ c.loop-n.invariant.leads ∙ c.requires.size
 
 pub strike_by_reason-more-requires-clause-line : goal.strike_by_reason-more-requires-clause-line
 strike_by_reason-more-requires-clause-line g c =
-    let same : c.loop-n.candidates.size ≡ c.args.candidates.now.size =
-    leads_size (StruckBy g.P.Rules.puzzle g.P.Steps.own c.args.p.now) c.args.grade c.args.candidates.now c.loop-n.candidates c.loop-n.invariant.leads in
+    let same = leads_size _ _ _ _ c.loop-n.invariant.leads in
     omega (arith, same, c.requires.line)
 
 pub loop-n-preserved : goal.loop-n-preserved
