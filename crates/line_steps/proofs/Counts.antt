@@ -1,16 +1,23 @@
 -- How many numbers sets have.
 use Rattle.std.proofs.Common.{◌≡◌, ◌≢◌, ℕ, suc, ◌-◌, ◌^◌, ◌<◌, ◌≤◌, true, count_ones, sym, ◌∙◌, arith}
-use Rattle.std.proofs.lemmas.Bool.{false_from_ne_true}
+use Rattle.std.proofs.lemmas.Bool.{false_from_ne_true, true_from_ne_false}
 use Rattle.std.proofs.lemmas.Nat.{ones_le_self}
 use Rattle.number_sets.specs.Sets.{has_number, IsSubset}
 use Rattle.number_sets.proofs.Members.{below_from_numbers, some_number}
 use Rattle.number_sets.proofs.OneMore.{added_other, added_ones}
 use Rattle.line_steps.proofs.OtherNumbers.{one_less}
-use Rattle.trail_solver.proofs.Pigeonholes.{pigeonhole}
+use Rattle.trail_solver.proofs.Pigeonholes.{none_else, pigeonhole}
 
 -- a set has no more numbers than one that has them all
 pub within_counts : (few many : ℕ) → ((v : ℕ) → has_number few v ≡ true → v < 16) → IsSubset few many → count_ones few ≤ count_ones many
 within_counts few many low sub = pigeonhole few many (λ i. i) (record { small = low; lands = sub; apart = λ i j first second e. e })
+
+-- and what is as large as a subset has nothing beside it
+pub no_more : (union values v : ℕ) → ((n : ℕ) → has_number union n ≡ true → n < 16) → IsSubset union values → count_ones values ≡ count_ones union
+    → v < 16 → has_number values v ≡ true → has_number union v ≡ true
+no_more union values v small sub same low has =
+    true_from_ne_false (has_number union v) (λ lacks. none_else union v values (λ i. i)
+    (record { small = small; lands = sub; apart = λ i j first second e. e }) same low lacks (λ i there e. e) has)
 
 -- a set that is counted has a number
 pub some_counted : (set n : ℕ) → count_ones set ≡ suc n → ((k : ℕ) → has_number set k ≡ true → k < 16) → (k : ℕ) × (has_number set k ≡ true)

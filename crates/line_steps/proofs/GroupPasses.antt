@@ -1,9 +1,8 @@
 -- What groups of a line's squares strike, by the sets of what is left of these.
 use Rattle.std.proofs.Common.{Bool, ◌≡◌, ◌↔◌, ℕ, ◌+◌, ◌*◌, ◌^◌, ◌⊎◌, ◌<◌, true, false, ◌||◌, List, slice_index, count_ones, inl, inr, refl, sym, ap, ◌∙◌, subst, arith}
-use Rattle.std.proofs.lemmas.Bool.{or_left, or_right, cases_eq, cases_Bool}
+use Rattle.std.proofs.lemmas.Bool.{both_ways, false_from_ne_true, or_left, or_right, cases_eq, cases_Bool}
 use Rattle.number_sets.specs.Sets.{has_number, IsSubset}
 use Rattle.number_sets.proofs.Members.{below_from_number, same_set}
-use Rattle.latin_board.specs.Lines.{line_cell}
 use Rattle.trail_solver.specs.Candidates.{CandidatesValue, may_be}
 use Rattle.line_steps.specs.Reasons.{IsByLine}
 use Rattle.line_steps.specs.Chains.{LeadsTo}
@@ -11,6 +10,7 @@ use Rattle.line_steps.specs.Takes.{Takes}
 use Rattle.line_steps.specs.Inner.Groups.{IsGroupQuiet, IsUnionOf, IsStruckBelow}
 use Rattle.line_steps.specs.Inner.LineSets.{AreLineSets}
 use Rattle.line_steps.proofs.Counts.{several_counted}
+use Rattle.line_steps.proofs.Takes.{IsInRow}
 use Rattle.line_steps.specs.Laws.Less.{line_less}
 use Rattle.line_steps.proofs.Leads.{HasStruck, leads_taken}
 use Rattle.line_steps.specs.declared.reason.Reason.TheVariants.{Set}
@@ -20,13 +20,10 @@ use Rattle.line_steps.specs.declared.grade.Grade.TheVariants.{Hard}
 
 -- sets that are within one another are the same
 same_subsets : (a b : ℕ) → IsSubset a b → IsSubset b a → a ≡ b
-same_subsets a b f g = same_set a b (λ v. same_bool (has_number a v) (has_number b v) (f v) (g v))
-  where
-    same_bool : (x y : Bool) → (x ≡ true → y ≡ true) → (y ≡ true → x ≡ true) → x ≡ y
-    same_bool true true f g = refl
-    same_bool true false f g = sym (f refl)
-    same_bool false true f g = g refl
-    same_bool false false f g = refl
+same_subsets a b f g = same_set a b (λ v. elim (cases_Bool (has_number a v)) [
+  | inl has ↦ has ∙ sym (f v has)
+  | inr lacks ↦ lacks ∙ sym (false_from_ne_true (has_number b v) (λ there. both_ways (has_number a v) lacks (g v there)))
+])
 
 -- two sets of the numbers of the same sets are the same
 same_union : (sets : List ℕ) (squares one other : ℕ) → IsUnionOf sets squares one → IsUnionOf sets squares other → one ≡ other
@@ -89,10 +86,6 @@ struck_on sets several bound values k v before after sub u was is = (
 )
 
 -- ---- groups of what is left
-
--- what a row has in the squares of a line
-abbrev pub IsInRow : ℕ → ℕ → List ℕ → ℕ → ℕ → Type 0
-IsInRow w line row cell v = (k : ℕ) × (k < w) × (cell ≡ line_cell w line k) × (has_number (slice_index row k) v ≡ true)
 
 -- the row has what groups of the squares with several values strike
 pub record IsStruckRow (w : ℕ) (sets : List ℕ) (several : ℕ) (row : List ℕ) : Type 0 where

@@ -23,8 +23,6 @@ pub mod QuietLines
 pub mod ReasonsAlong
 pub mod RestSets
 pub mod Rounds
-pub mod SharedReasons
 pub mod StayingLines
 pub mod TakenLines
 pub mod Takes
-pub mod Unions

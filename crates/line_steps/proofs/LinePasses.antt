@@ -5,15 +5,16 @@ use Rattle.latin_board.specs.Lines.{line_cell}
 use Rattle.latin_board.proofs.PeerLines.{line_peers}
 use Rattle.number_sets.specs.Sets.{IsEmpty}
 use Rattle.trail_solver.specs.Candidates.{CandidatesValue, may_be}
-use Rattle.line_steps.specs.Reasons.{IsByLine}
+use Rattle.trail_solver.specs.Puzzles.{Puzzle}
+use Rattle.line_steps.specs.Reasons.{AllStrikes, IsByLine, IsByPeer, IsByPlace, IsBySet, Striking}
 use Rattle.line_steps.specs.Chains.{LeadsTo}
 use Rattle.line_steps.specs.Grades.{has_reason}
 use Rattle.line_steps.specs.Inner.LineStrikes.{IsByRest, IsLeftByRest, IsRestQuiet, StrikesRest}
 use Rattle.line_steps.proofs.Chains.{higher_has}
-use Rattle.line_steps.proofs.Leads.{HasStruck, leads_taken}
+use Rattle.line_steps.proofs.Leads.{HasStruck, leads_taken, leads_wider}
 use Rattle.line_steps.specs.declared.reason.Reason.{Reason}
 use Rattle.line_steps.specs.declared.grade.Grade.{Grade}
-use Rattle.line_steps.specs.declared.reason.Reason.TheVariants.{Peer, Place}
+use Rattle.line_steps.specs.declared.reason.Reason.TheVariants.{Peer, Place, Set}
 use Rattle.line_steps.specs.declared.grade.Grade.TheVariants.{Latin}
 use Rattle.line_steps.specs.Laws.Less.{line_less}
 
@@ -63,3 +64,24 @@ rest_quiet line places a b h none =
 -- a reason of the lowest grade is one of each grade
 pub latin_has : (grade : Grade) (reason : Reason) → has_reason Latin reason ≡ true → has_reason grade reason ≡ true
 latin_has grade reason has = higher_has Latin grade (omega arith) reason has
+
+-- ---- in a game
+
+-- what rows and columns strike is struck by the game's reasons
+pub lines_lift : (p : Puzzle) (Own : Striking) (w : ℕ) → w ≡ p.size
+    → (c : CandidatesValue) (reason : Reason) (cell v : ℕ) → IsByLine w c reason cell v → AllStrikes p Own c reason cell v
+lines_lift p Own w size c (Peer by) cell v h = subst (λ (n : ℕ). IsByPeer n c by cell v) size h
+lines_lift p Own w size c (Place line index other) cell v h = subst (λ (n : ℕ). IsByPlace n c line index other cell v) size h
+lines_lift p Own w size c (Set line squares values) cell v h = subst (λ (n : ℕ). IsBySet n c line squares values cell v) size h
+lines_lift p Own w size c reason cell v h = absurd h
+
+-- a chain along rows and columns is one of the game's
+pub lines_lead : (p : Puzzle) (Own : Striking) (grade : Grade) (a b : CandidatesValue) → a.size ≡ p.size
+    → LeadsTo (IsByLine a.size) Latin a b → LeadsTo (AllStrikes p Own) grade a b
+lines_lead p Own grade a b size h =
+    leads_wider (IsByLine a.size) (AllStrikes p Own) Latin grade (lines_lift p Own a.size size) (latin_has grade) a b h
+
+-- a chain of the lowest grade is one of each grade
+pub givens_lead : (Struck : Striking) (grade : Grade) (a b : CandidatesValue) → LeadsTo Struck Latin a b
+    → LeadsTo Struck grade a b
+givens_lead Struck grade a b h = leads_wider Struck Struck Latin grade (λ d reason cell v h. h) (latin_has grade) a b h

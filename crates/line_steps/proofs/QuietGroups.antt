@@ -12,9 +12,8 @@ use Rattle.line_steps.specs.Left.{IsLeft, HasNoOther}
 use Rattle.line_steps.specs.Reasons.{IsBySet}
 use Rattle.line_steps.specs.Inner.LineStrikes.{IsRestQuiet}
 use Rattle.line_steps.specs.Inner.Groups.{IsUnion, HasSeveral, IsGroupQuiet}
-use Rattle.line_steps.proofs.Counts.{within_counts, some_counted}
+use Rattle.line_steps.proofs.Counts.{no_more, within_counts, some_counted}
 use Rattle.line_steps.proofs.OtherNumbers.{one_less, was_other}
-use Rattle.line_steps.proofs.Unions.{no_more}
 use Rattle.line_steps.proofs.QuietLines.{gone_from}
 
 -- ---- unions

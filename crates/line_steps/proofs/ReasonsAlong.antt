@@ -1,5 +1,5 @@
 -- The reasons that look along a line, one after another.
-use Rattle.std.proofs.Common.{◌≡◌, ℕ, ◌+◌, ◌*◌, ◌<◌, ◌≤◌, ◌||◌, true, false, List, [], slice_index, inl, inr, refl, sym, ap, ◌∙◌, subst, arith}
+use Rattle.std.proofs.Common.{◌≡◌, ℕ, ◌+◌, ◌*◌, ◌<◌, ◌≤◌, ◌||◌, true, false, List, [], inl, inr, refl, sym, ap, ◌∙◌, subst, arith}
 use Rattle.std.proofs.lemmas.Bool.{both_ways, cases_eq, or_parts}
 use Rattle.number_sets.specs.Sets.{has_number, IsEmpty}
 use Rattle.latin_board.specs.Lines.{line_cell}
@@ -18,6 +18,7 @@ use Rattle.line_steps.specs.declared.grade.Grade.{Grade}
 use Rattle.line_steps.proofs.Chains.{IsAntitone}
 use Rattle.line_steps.proofs.Leads.{leads_length, leads_on, leads_size, leads_taken}
 use Rattle.line_steps.proofs.LineEnds.{ends}
+use Rattle.line_steps.proofs.Takes.{IsInRow}
 use Rattle.line_steps.proofs.StayingLines.{loses_both, loses_changed}
 
 -- ---- the list
@@ -62,10 +63,6 @@ looked_on w line (Sign from to) cell (same, inr (k, low, first, second)) = (k, o
 looked_on w line reason cell along = absurd along
 
 -- ---- one reason
-
--- what it strikes in the squares of a line
-abbrev pub IsInRow : ℕ → ℕ → List ℕ → ℕ → ℕ → Type 0
-IsInRow w line row cell v = (k : ℕ) × (k < w) × (cell ≡ line_cell w line k) × (has_number (slice_index row k) v ≡ true)
 
 pub reason_leads : (Struck : Striking) → IsAntitone Struck → (grade : Grade) (reason : Reason) (line : ℕ) (row : List ℕ) (a b : CandidatesValue)
     → has_reason grade reason ≡ true → AreStruckOn a.size (Struck a reason) line a.size row → Takes (IsInRow a.size line row) a b

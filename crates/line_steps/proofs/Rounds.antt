@@ -18,7 +18,7 @@ use Rattle.line_steps.proofs.QuietLines.{settled_by}
 use Rattle.line_steps.proofs.Leads.{leads_fewer, leads_on, leads_size, leads_wider}
 use Rattle.line_steps.specs.declared.grade.Grade.{Grade}
 use Rattle.line_steps.specs.declared.grade.Grade.TheVariants.{Easy, Hard}
-use Rattle.line_steps.proofs.SharedReasons.{lines_lift}
+use Rattle.line_steps.proofs.LinePasses.{lines_lift}
 
 -- what is quiet kind by kind is settled
 pub settled_all : (p : Puzzle) (Own : Striking) (grade : Grade) (c : CandidatesValue) → c.size ≤ 9

@@ -88,5 +88,3 @@ loses_both line first second both a b c size longer further is h k = record {
         omega (arith, k.went j after, longer)
   ];
 }
-
--- ---- squares before and after

@@ -1,5 +1,5 @@
 -- Values that are taken away, square by square.
-use Rattle.std.proofs.Common.{◌≡◌, ◌≢◌, ◌↔◌, ◌⊎◌, ℕ, ◌+◌, ◌*◌, ◌<◌, ◌≤◌, true, false, not, ◌&&◌, ◌||◌, ◌==◌, Bool, List, [], ◌∷◌, ◌++◌, length, inl, inr, refl, sym, ap, ◌∙◌, subst, arith, append_assoc, append-nil, length-append}
+use Rattle.std.proofs.Common.{◌≡◌, ◌≢◌, ◌↔◌, ◌⊎◌, ℕ, ◌+◌, ◌*◌, ◌<◌, ◌≤◌, true, false, not, ◌&&◌, ◌||◌, ◌==◌, Bool, List, [], ◌∷◌, ◌++◌, length, slice_index, inl, inr, refl, sym, ap, ◌∙◌, subst, arith, append_assoc, append-nil, length-append}
 use Rattle.std.proofs.lemmas.Bool.{both_ways, and_parts, and_from, or_left, or_right, or_parts, or_from, eq-eqb, eqb-true, cases_eq, cases_Bool, not_from_false, false_from_ne_true}
 use Rattle.std.proofs.lemmas.List.Folds.{list_any-append}
 use Rattle.std.proofs.lemmas.Nat.{zero_from_ones}
@@ -61,6 +61,10 @@ gone_append c d ps cell v is gone =
 gone_pair : (c d : CandidatesValue) (ps : List (ℕ × ℕ)) (cell v : ℕ) → d.trail ≡ c.trail ++ ps → has_pair ps cell v ≡ true → may_be d cell v ≡ false
 gone_pair c d ps cell v is has =
     ap not (ap (λ (qs : List (ℕ × ℕ)). has_pair qs cell v) is ∙ has_pair-append c.trail ps cell v ∙ or_right (has_pair c.trail cell v) (has_pair ps cell v) has)
+
+-- what a row of sets has in the squares of a line
+abbrev pub IsInRow : ℕ → ℕ → List ℕ → ℕ → ℕ → Type 0
+IsInRow w line row cell v = (k : ℕ) × (k < w) × (cell ≡ line_cell w line k) × (has_number (slice_index row k) v ≡ true)
 
 -- nothing is taken
 pub takes_none : (Which : ℕ → ℕ → Type 0) (c : CandidatesValue) → ((cell v : ℕ) → Which cell v → ⊥) → Takes Which c c

@@ -6,8 +6,6 @@ ghost use Rattle.line_steps.specs.Takes.{is_crossing};
 ghost use Rattle.std.specs.Prelude.{◌≡◌, ℕ, ◌+◌, ◌*◌, ◌<◌, ◌≤◌, ◌==◌, ◌||◌, nat_lt, true, IfNone, MatchOption};
 ghost use Rattle.number_sets.specs.Sets.{has_number};
 
-use crate::lines::views::{column_of, row_of};
-use latin_board::Size;
 use number_sets::NumberSet;
 use std::marker::Model;
 
@@ -35,14 +33,6 @@ impl Lines {
         Lines {
             bits: (1 << count) - 1,
         }
-    }
-
-    /// The row and the column of a square.
-    pub(crate) fn of_cell(size: Size, cell: usize) -> Lines
-        requires { cell < size * size }
-    {
-        let column = NumberSet::one(column_of(size, cell));
-        Lines::across(row_of(size, cell), column, size.get())
     }
 
     // Takes out a line that is in the set.

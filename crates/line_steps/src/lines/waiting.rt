@@ -6,6 +6,7 @@ ghost use Rattle.line_steps.specs.Inner.ChangedLines.{IsNoted};
 ghost use Rattle.line_steps.specs.Inner.LineLooks.{IsLook, IsNoneWaiting};
 
 use crate::lines::changed::Lines;
+use crate::lines::views::{column_of, row_of};
 use latin_board::Size;
 use number_sets::NumberSet;
 
@@ -33,7 +34,8 @@ impl Waiting {
     pub(crate) fn of_cell(size: Size, cell: usize) -> Waiting
         requires { cell < size * size }
     {
-        let lines = Lines::of_cell(size, cell);
+        let column = NumberSet::one(column_of(size, cell));
+        let lines = Lines::across(row_of(size, cell), column, size.get());
         Waiting {
             squares: lines,
             clues: lines,

@@ -3,7 +3,7 @@
 ghost use Rattle.std.specs.Prelude.{◌≡◌, ◌↔◌, IsTrue};
 ghost use Rattle.std.specs.Bool.{OnTrue};
 ghost use Rattle.line_steps.specs.Grades.{IsLower};
-ghost use Rattle.line_steps.specs.declared.grade.Grade.TheVariants.{Latin, Easy, Hard};
+ghost use Rattle.line_steps.specs.declared.grade.Grade.TheVariants.{Easy, Hard};
 
 use crate::grade::Grade;
 use crate::lines::line_pass::LinePass;
@@ -40,9 +40,6 @@ impl<'a, P: Steps> LinePass for GradePass<'a, P> {
         line: u8,
         cache: &mut P::Cache,
     ) -> NumberSet {
-        if !has_clues(self.grade) {
-            return NumberSet::empty();
-        }
         match self.p.strike_by_clues(self.grade, candidates, line, cache) {
             Some(places) => places,
             None => strike_by_reasons(self.p, self.grade, candidates, line, cache),
@@ -56,13 +53,6 @@ impl<'a, P: Steps> LinePass for GradePass<'a, P> {
     ghost stands_along = { λ s. P.stands_along s.p.now };
 
     ghost own_sound = { λ s. P.own_sound s.p.now };
-}
-
-// Whether a grade looks at clues or signs.
-fn has_clues(grade: Grade) -> bool
-    ensures { IsTrue result ↔ IsLower Latin grade }
-{
-    !matches!(grade, Grade::Latin)
 }
 
 /// Whether a grade looks at groups of squares.

@@ -1,5 +1,4 @@
-use Rattle.std.proofs.Common.{◌≡◌, ℕ, ◌<◌, true, slice_index, refl, sym, subst}
-use Rattle.number_sets.specs.Sets.{has_number}
+use Rattle.std.proofs.Common.{ℕ, refl, sym, subst}
 use Rattle.latin_board.specs.Lines.{line_cell}
 use Rattle.latin_board.proofs.LatinLines.{line_cell_inside}
 use Rattle.line_steps.specs.Reasons.{IsByLine}
@@ -7,6 +6,7 @@ use Rattle.line_steps.specs.Laws.Less.{line_less}
 use Rattle.line_steps.proofs.Emptied.{emptied_by}
 use Rattle.line_steps.proofs.Leads.{HasStruck, leads_taken}
 use Rattle.line_steps.proofs.LinePasses.{rest_reason}
+use Rattle.line_steps.proofs.Takes.{IsInRow}
 use Rattle.line_steps.specs.declared.grade.Grade.TheVariants.{Latin}
 use Rattle.line_steps.proofs.lines.latin.strike_dead.Goals as goal
 
@@ -14,10 +14,8 @@ pub returns-clause-leads : goal.returns-clause-leads
 returns-clause-leads c =
     let old = c.args.candidates.now in
     let line = c.args.line in
-    let row = c.sets_at-row.result in
-    leads_taken (IsByLine old.size) (line_less old.size) Latin
-    (λ cell v. (k : ℕ) × (k < old.size) × (cell ≡ line_cell old.size line k) × (has_number (slice_index row k) v ≡ true)) old
-    c.strike_row.new.candidates c.strike_row.ensures.takes (λ cell v pair h.
+    leads_taken (IsByLine old.size) (line_less old.size) Latin (IsInRow old.size line c.sets_at-row.result) old c.strike_row.new.candidates
+    c.strike_row.ensures.takes (λ cell v pair h.
     let both = (c.sets_at-row.ensures h.0 v h.1).0 h.3 in
     subst (λ (n : ℕ). HasStruck (IsByLine old.size) Latin old n v) (sym h.2)
     (rest_reason old line h.0 v c.requires.line h.1 (c.requires.dead.struck h.0 v h.1 both.0 both.1)))
@@ -26,9 +24,7 @@ pub returns-clause-emptied : goal.returns-clause-emptied
 returns-clause-emptied c =
     let old = c.args.candidates.now in
     let line = c.args.line in
-    let row = c.sets_at-row.result in
     let dead = c.requires.dead in
-    emptied_by (λ cell v. (k : ℕ) × (k < old.size) × (cell ≡ line_cell old.size line k) × (has_number (slice_index row k) v ≡ true)) old
-    c.strike_row.new.candidates (line_cell old.size line dead.place) c.strike_row.ensures.takes
+    emptied_by (IsInRow old.size line c.sets_at-row.result) old c.strike_row.new.candidates (line_cell old.size line dead.place) c.strike_row.ensures.takes
     (line_cell_inside old.size line dead.place c.requires.line dead.low)
     (λ v left. (dead.place, dead.low, refl, (c.sets_at-row.ensures dead.place v dead.low).1 (dead.has, left)))

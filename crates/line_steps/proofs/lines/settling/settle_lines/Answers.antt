@@ -5,7 +5,7 @@ use Rattle.line_steps.specs.Inner.LineLooks.{IsQuietOn, waiting_for}
 use Rattle.line_steps.proofs.LineSets.{cube_most}
 use Rattle.line_steps.proofs.LineLooks.{all_wait, looks_stay, more_quiet}
 use Rattle.line_steps.proofs.Rounds.{IsOnTheWay, goes_further, groups_lead}
-use Rattle.line_steps.proofs.SharedReasons.{givens_lead}
+use Rattle.line_steps.proofs.LinePasses.{givens_lead}
 use Rattle.line_steps.proofs.Leads.{leads_fewer, leads_length, leads_size}
 use Rattle.line_steps.proofs.lines.settling.settle_lines.Goals as goal
 

@@ -1,6 +1,6 @@
 use Rattle.std.proofs.Common.{arith}
 use Rattle.line_steps.proofs.Leads.{leads_size}
-use Rattle.line_steps.proofs.SharedReasons.{lines_lead}
+use Rattle.line_steps.proofs.LinePasses.{lines_lead}
 use Rattle.line_steps.proofs.lines.settling.strike_along.Goals as goal
 
 pub returns-then-squares-clause-leads : goal.returns-then-squares-clause-leads
