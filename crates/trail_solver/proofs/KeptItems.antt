@@ -106,15 +106,21 @@ IsGrid-kept g keep i h = record {
   within = All-kept g.size keep i g.numbers h.within;
 }
 
+-- a number that is kept is the one that was there
+pub kept_number : (keep : ℕ → Bool) (i : ℕ) (xs : List ℕ) (k : ℕ) → 0 < slice_index (kept_items zero keep i xs) k
+    → slice_index (kept_items zero keep i xs) k ≡ slice_index xs k
+kept_number keep i xs k = rw (entry-kept zero keep i xs k (i + k) refl) (either (keep (i + k)))
+  where
+    either : {n : ℕ} (b : Bool) → 0 < (if b then n else zero) → (if b then n else zero) ≡ n
+    either true low = refl
+    either false low = absurd (omega arith)
+
 -- what an item asks for, it asks for still if it is kept
 pub still_asked : (keep : ℕ → Bool) (i : ℕ) (xs : List ℕ) (k number : ℕ)
     → (0 < slice_index xs k → number ≡ slice_index xs k)
     → 0 < slice_index (kept_items zero keep i xs) k → number ≡ slice_index (kept_items zero keep i xs) k
-still_asked keep i xs k number asks = rw (entry-kept zero keep i xs k (i + k) refl) (either (keep (i + k)) asks)
-  where
-    either : {n : ℕ} (b : Bool) → (0 < n → number ≡ n) → 0 < (if b then n else zero) → number ≡ (if b then n else zero)
-    either true h low = h low
-    either false h low = absurd (omega arith)
+still_asked keep i xs k number asks low =
+    let same = kept_number keep i xs k low in asks (omega (arith, low, same)) ∙ sym same
 
 -- where nothing is kept, nothing is asked for
 pub none_asked : (i : ℕ) (xs : List ℕ) (k number : ℕ) → 0 < slice_index (kept_items zero (λ j. false) i xs) k
@@ -190,12 +196,3 @@ small_widths Holds three four five six w low high =
         ]
       ]
     ]
-
--- a number that is kept is the one that was there
-pub kept_number : (keep : ℕ → Bool) (i : ℕ) (xs : List ℕ) (k : ℕ) → 0 < slice_index (kept_items zero keep i xs) k
-    → slice_index (kept_items zero keep i xs) k ≡ slice_index xs k
-kept_number keep i xs k = rw (entry-kept zero keep i xs k (i + k) refl) (either (keep (i + k)))
-  where
-    either : {n : ℕ} (b : Bool) → 0 < (if b then n else zero) → (if b then n else zero) ≡ n
-    either true low = refl
-    either false low = absurd (omega arith)
