@@ -7,14 +7,14 @@ use Rattle.latin_board.specs.Lines.{line_cell}
 use Rattle.trail_solver.specs.Candidates.{CandidatesValue, IsSetOf, may_be}
 use Rattle.line_steps.specs.Left.{IsLeft, HasNoOtherPlace}
 use Rattle.line_steps.specs.Inner.LineStrikes.{IsAlone, IsByRest, IsLeftByRest, IsDead, IsLiveLine, IsRestQuiet}
-use Rattle.line_steps.specs.Inner.LineTallies.{AreTallied, IsTallyOf, IsSinglesOf, IsCounted, IsAloneBefore, IsForced, IsFree, IsHidden, IsQuietTally, Goes, IsKeptOf}
+use Rattle.line_steps.specs.Inner.LineTallies.{AreTallied, IsTallyOf, IsCounted, IsAloneBefore, IsForced, IsFree, IsHidden, IsQuietTally, Goes, IsKeptOf}
 use Rattle.line_steps.proofs.OtherNumbers.{another, has_rest}
 use Rattle.line_steps.specs.declared.lines.latin.LineTally.{LineTally}
 use Rattle.std.proofs.Common.{◌++◌, ◌*◌}
 use Rattle.trail_solver.specs.Pairs.{pairs_of}
 use Rattle.trail_solver.specs.Candidates.{AreCandidates}
 use Rattle.line_steps.specs.Takes.{Strikes, Takes}
-use Rattle.line_steps.proofs.Takes.{set_before, strikes_whole, takes_next}
+use Rattle.line_steps.proofs.Takes.{set_before, takes_next}
 
 -- ---- squares and their sets
 
@@ -354,24 +354,8 @@ kept_nothing t set forced kept small f there two none = record {
 
 -- ---- one set counted
 
-pub singles_alone : (set value : ℕ) → IsSingle set value → IsSinglesOf set set
-singles_alone set value one = record {
-  is = λ v. (
-    λ e. record { has = e; alone = λ u h. one.alone u h ∙ sym (one.alone v e) },
-    λ single. single.has,
-  );
-}
-
-pub singles_none : (set : ℕ) → ((v : ℕ) → IsSingle set v → ⊥) → IsSinglesOf set 0
-singles_none set many = record {
-  is = λ v. (
-    λ e. absurd (both_ways (has_number 0 v) (has_number-none v) e),
-    λ single. absurd (many v single),
-  );
-}
-
-pub clash_twice : (t : LineTally) (set single : ℕ) → IsSinglesOf set single → IsShared t.singles single → IsAloneBefore t set
-clash_twice t set single s (value, before, here) = record { value = value; here = (s.is value).0 here; before = before }
+pub clash_twice : (t : LineTally) (set single : ℕ) → ((v : ℕ) → (has_number single v ≡ true) ↔ IsSingle set v) → IsShared t.singles single → IsAloneBefore t set
+clash_twice t set single s (value, before, here) = record { value = value; here = (s value).0 here; before = before }
 
 -- what is so of one of two
 either : (a b c : Bool) → c ≡ (a || b) → (c ≡ true) ↔ ((a ≡ true) ⊎ (b ≡ true))
@@ -381,7 +365,7 @@ either a b c is = (
 )
 
 -- new's sets are the old ones with one set more
-pub counted_more : (t u : LineTally) (set single both : ℕ) → IsSinglesOf set single → (v : ℕ) × (has_number set v ≡ true)
+pub counted_more : (t u : LineTally) (set single both : ℕ) → ((v : ℕ) → (has_number single v ≡ true) ↔ IsSingle set v) → (v : ℕ) × (has_number set v ≡ true)
     → (IsShared t.singles single → ⊥)
     → ((v : ℕ) → has_number u.once v ≡ (has_number t.once v || has_number set v))
     → ((v : ℕ) → has_number both v ≡ (has_number t.once v && has_number set v))
@@ -398,29 +382,20 @@ counted_more t u set single both s some apart in_once in_both in_twice in_single
         λ e. (more v).1 (elim e [ inl old ↦ inl old | inr new ↦ inr (in_both v ∙ and_from _ _ new.0 new.1) ]),
       );
       singles = λ v. (
-        λ e. elim ((alone v).0 e) [ inl old ↦ inl old | inr new ↦ inr ((s.is v).0 new) ],
-        λ e. (alone v).1 (elim e [ inl old ↦ inl old | inr new ↦ inr ((s.is v).1 new) ]),
+        λ e. elim ((alone v).0 e) [ inl old ↦ inl old | inr new ↦ inr ((s v).0 new) ],
+        λ e. (alone v).1 (elim e [ inl old ↦ inl old | inr new ↦ inr ((s v).1 new) ]),
       );
       some = some;
-      fresh = λ v one. false_from_ne_true (has_number t.singles v) (λ e. apart (v, e, (s.is v).1 one));
+      fresh = λ v one. false_from_ne_true (has_number t.singles v) (λ e. apart (v, e, (s v).1 one));
     }
 
 -- square by square
-pub square_struck : (line k set kept struck : ℕ) (t : LineTally) (first now next : CandidatesValue) → line < 2 * first.size → k < first.size → first.size ≤ 9
-    → IsTallyOf line first t
-    → Takes (λ cell v. (j : ℕ) × (j < k) × (cell ≡ line_cell first.size line j) × IsLeftByRest first line j v) first now
+pub square_struck : (line k set kept struck : ℕ) (t : LineTally) (first now next : CandidatesValue) → line < 2 * first.size → k < first.size
+    → IsTallyOf line first t → Takes (λ cell v. (j : ℕ) × (j < k) × (cell ≡ line_cell first.size line j) × IsLeftByRest first line j v) first now
     → IsSetOf now (line_cell first.size line k) set → IsKeptOf t set kept
-    → ((n : ℕ) → has_number struck n ≡ (has_number set n && not (has_number kept n)))
-    → next.size ≡ now.size → next.trail ≡ now.trail ++ pairs_of (line_cell first.size line k) struck
-    → AreCandidates now (line_cell first.size line k) struck × Strikes now next (line_cell first.size line k) struck
-    × Takes (λ cell v. (j : ℕ) × (j < k + 1) × (cell ≡ line_cell first.size line j) × IsLeftByRest first line j v) first next
-square_struck line k set kept struck t first now next on low small tally taken values keeps struck_is size trail =
-    let cell = line_cell first.size line k in
+    → ((n : ℕ) → has_number struck n ≡ (has_number set n && not (has_number kept n))) → Strikes now next (line_cell first.size line k) struck
+    → Takes (λ cell v. (j : ℕ) × (j < k + 1) × (cell ≡ line_cell first.size line j) × IsLeftByRest first line j v) first next
+square_struck line k set kept struck t first now next on low tally taken values keeps struck_is strikes =
     let before = set_before (λ j v. IsLeftByRest first line j v) line k set first now on taken values in
-    let left : AreCandidates now cell struck = λ v has. (values v).0 ((has_rest set kept struck v struck_is).0 has).0 in
-    let strikes = strikes_whole now next cell struck (omega (arith, taken.size, small)) left size trail in (
-      left,
-      strikes,
-      takes_next (line_cell first.size line) (λ j v. IsLeftByRest first line j v) k struck first now next taken strikes
-          (λ v pair. tally_struck first line k set kept struck t low before tally keeps struck_is v),
-    )
+    takes_next (line_cell first.size line) (λ j v. IsLeftByRest first line j v) k struck first now next taken strikes
+    (λ v pair. tally_struck first line k set kept struck t low before tally keeps struck_is v)

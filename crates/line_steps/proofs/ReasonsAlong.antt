@@ -19,7 +19,8 @@ use Rattle.line_steps.proofs.Chains.{IsAntitone}
 use Rattle.line_steps.proofs.Leads.{leads_length, leads_on, leads_size, leads_taken}
 use Rattle.line_steps.proofs.LineEnds.{ends}
 use Rattle.line_steps.proofs.Takes.{IsInRow}
-use Rattle.line_steps.proofs.StayingLines.{loses_both, loses_changed}
+use Rattle.line_steps.proofs.StayingLines.{changed_both}
+use Rattle.line_steps.proofs.TakenLines.{changed_none}
 
 -- ---- the list
 
@@ -82,8 +83,7 @@ reason_quiet Struck reason line row a b same on taken = λ k v low pair struck.
 -- the first n reasons were gone through: what they struck is gone, and where it was nothing, they strike nothing
 pub record GoesOn (Struck : Striking) (grade : Grade) (line n changed : ℕ) (first now : CandidatesValue) : Type 0 where
   pub leads : LeadsTo Struck grade first now
-  pub loses : LosesAt line changed first now
-  pub same : IsEmpty changed → now ≡ first
+  pub went : AreChanged line changed first now
   pub quiet : IsEmpty changed → (m : ℕ) → m < n → (reason : Reason) × IsNthAlong first.size line m reason
       × (has_reason grade reason ≡ true → IsQuietBy Struck reason line first)
 
@@ -91,11 +91,7 @@ pub begins : (Struck : Striking) (grade : Grade) (line changed : ℕ) (first : C
     → GoesOn Struck grade line 0 changed first first
 begins Struck grade line changed first none = record {
   leads = record { steps = []; chain = tt; allowed = tt; is = refl };
-  loses = record {
-    stays = λ cell v left apart. left;
-    went = λ k has. absurd (both_ways (has_number changed k) (none k) has);
-  };
-  same = λ _. refl;
+  went = changed_none line changed first none;
   quiet = λ _ m below. absurd (omega (arith, below));
 }
 
@@ -109,14 +105,13 @@ goes_on Struck grade line n changed more both found first now next is nth leads 
     let none_here : IsEmpty both → IsEmpty more = λ none k. (or_parts (has_number changed k) (has_number more k) (sym (is k) ∙ none k)).1 in
     record {
       leads = leads_on Struck grade first now next h.leads leads;
-      loses = loses_both line changed more both first now next (leads_size Struck grade first now h.leads) (leads_length Struck grade first now h.leads)
-          (leads_length Struck grade now next leads) is h.loses (loses_changed line more now next lost);
-      same = λ none. lost.same (none_here none) ∙ h.same (none_before none);
+      went = changed_both line changed more both first now next (leads_size _ _ _ _ h.leads) (leads_length _ _ _ _ h.leads) (leads_length _ _ _ _ leads) is
+          h.went lost;
       quiet = λ none m below. elim (cases_eq m n) [
         | inl last ↦ (
           found,
           subst (λ (i : ℕ). IsNthAlong first.size line i found) (sym last) nth,
-          λ has. subst (λ (c : CandidatesValue). IsQuietBy Struck found line c) (h.same (none_before none)) (quiet (none_here none) has),
+          λ has. subst (λ (c : CandidatesValue). IsQuietBy Struck found line c) (h.went.same (none_before none)) (quiet (none_here none) has),
         )
         | inr other ↦ h.quiet (none_before none) m (omega (arith, below, other))
       ];
@@ -126,7 +121,7 @@ goes_on Struck grade line n changed more both found first now next is nth leads 
 pub goes_through : (Struck : Striking) (grade : Grade) (line n changed : ℕ) (first now : CandidatesValue) → 2 * first.size + 4 ≤ n
     → GoesOn Struck grade line n changed first now → IsEmpty changed → IsQuietAlong Struck grade line now
 goes_through Struck grade line n changed first now all h none =
-    subst (λ (c : CandidatesValue). IsQuietAlong Struck grade line c) (sym (h.same none))
+    subst (λ (c : CandidatesValue). IsQuietAlong Struck grade line c) (sym (h.went.same none))
     (λ reason cell value has along pair struck.
     let (m, below, is) = listed first.size line reason cell along in
     let (k, low, here) = looked_on first.size line reason cell along in

@@ -1,6 +1,6 @@
 -- Which lines wait after a look along one, and which are quiet.
 use Rattle.std.proofs.Common.{◌≡◌, ◌≢◌, ℕ, ◌*◌, ◌<◌, ◌≤◌, ◌⊎◌, Bool, true, false, ◌||◌, length, inl, inr, sym, ap, ◌∙◌, subst, arith}
-use Rattle.std.proofs.lemmas.Bool.{both_ways, cases_Bool, or_left, or_right, false_from_ne_true}
+use Rattle.std.proofs.lemmas.Bool.{both_ways, cases_Bool, or_parts, or_left, or_right, false_from_ne_true}
 use Rattle.number_sets.specs.Sets.{has_number, IsEmpty}
 use Rattle.latin_board.specs.Lines.{line_cell}
 use Rattle.trail_solver.specs.Pairs.{IsPair}
@@ -88,3 +88,12 @@ loses_both line first second both a b c size longer further is h k = record {
         omega (arith, k.went j after, longer)
   ];
 }
+
+-- so it is with what was changed
+pub changed_both : (line first second both : ℕ) (a b c : CandidatesValue) → b.size ≡ a.size → length a.trail ≤ length b.trail → length b.trail ≤ length c.trail
+    → ((k : ℕ) → has_number both k ≡ (has_number first k || has_number second k)) → AreChanged line first a b → AreChanged line second b c
+    → AreChanged line both a c
+changed_both line first second both a b c size longer further is h k =
+    let l = loses_both line first second both a b c size longer further is (loses_changed line first a b h) (loses_changed line second b c k) in
+    let none = λ (all : IsEmpty both) (j : ℕ). or_parts (has_number first j) (has_number second j) (sym (is j) ∙ all j) in
+    record { stays = l.stays; went = l.went; same = λ all. k.same (λ j. (none all j).1) ∙ h.same (λ j. (none all j).0) }

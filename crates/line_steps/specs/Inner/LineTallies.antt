@@ -24,10 +24,6 @@ pub record IsTallyOf (line : ℕ) (c : CandidatesValue) (t : LineTally) : Type 0
   pub tally : AreTallied c line c.size t
   pub placed : (v : ℕ) → 1 ≤ v → v ≤ c.size → has_number t.once v ≡ true
 
--- the single value of a set, or none
-pub record IsSinglesOf (set single : ℕ) : Type 0 where
-  pub is : (v : ℕ) → (has_number single v ≡ true) ↔ IsSingle set v
-
 -- new is the tally with one set more
 pub record IsCounted (old : LineTally) (set : ℕ) (new : LineTally) : Type 0 where
   pub once : (v : ℕ) → (has_number new.once v ≡ true) ↔ ((has_number old.once v ≡ true) ⊎ (has_number set v ≡ true))

@@ -8,10 +8,11 @@ ghost use Rattle.line_steps.specs.Reasons.{IsByLine};
 ghost use Rattle.line_steps.specs.Chains.{LeadsTo};
 ghost use Rattle.line_steps.specs.Along.{LosesAt};
 ghost use Rattle.line_steps.specs.Inner.LineStrikes.{IsDead, IsLineSettled};
-ghost use Rattle.line_steps.specs.Inner.LineTallies.{IsTallyOf, IsSinglesOf};
+ghost use Rattle.line_steps.specs.Inner.LineTallies.{IsTallyOf};
 ghost use Rattle.line_steps.specs.declared.grade.Grade.TheVariants.{Latin};
 
-use crate::lines::line_passes::{line_sets, strike_row};
+use crate::lines::line_passes::{line_sets, strike_row, take_at};
+use crate::lines::single_sets::if_single;
 use crate::lines::views::Along;
 use number_sets::NumberSet;
 use trail_solver::Candidates;
@@ -115,18 +116,6 @@ fn all_places(width: u8) -> NumberSet
     NumberSet::up_to(width).lowered()
 }
 
-// The set where it has just one value, and none otherwise.
-#[tactic(auto, using(crate::proofs::LineTallying::singles_alone, crate::proofs::LineTallying::singles_none))]
-fn single_of(set: NumberSet) -> NumberSet
-    ensures { IsSinglesOf set result }
-{
-    if set.is_single() {
-        set
-    } else {
-        NumberSet::empty()
-    }
-}
-
 impl LineTally {
     ghost use Rattle.std.specs.Prelude.{◌≡◌, ◌*◌, ◌<◌, MatchOption};
     ghost use Rattle.std.specs.Bool.{OnTrue};
@@ -140,7 +129,7 @@ impl LineTally {
         requires { (v : ℕ) × (has_number set v ≡ true) }
         ensures { MatchOption result (IsAloneBefore self set) (IsCounted self set) }
     {
-        let single = single_of(set);
+        let single = if_single(set);
         if !self.singles.is_disjoint(single) {
             return None;
         }
@@ -172,10 +161,8 @@ impl LineTally {
             let cell = squares.cell(k as usize);
             let set = candidates.values(cell);
             let struck = set.difference(self.kept(set));
-            if !struck.is_empty() {
-                candidates.remove_all(cell, struck);
-                places = places.union(NumberSet::one(k));
-            }
+            let more = take_at(candidates, k, cell, struck);
+            places = places.union(more);
         }
         places
     }

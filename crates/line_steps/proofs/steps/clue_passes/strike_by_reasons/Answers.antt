@@ -4,6 +4,7 @@ use Rattle.number_sets.proofs.Members.{has_number-none}
 use Rattle.number_sets.specs.Sets.{has_number}
 use Rattle.line_steps.specs.Inner.ReasonsAlong.{IsNthAlong}
 use Rattle.line_steps.proofs.Leads.{leads_size}
+use Rattle.line_steps.proofs.StayingLines.{loses_changed}
 use Rattle.line_steps.proofs.ReasonsAlong.{begins, goes_on, goes_through}
 use Rattle.line_steps.proofs.steps.clue_passes.strike_by_reasons.Goals as goal
 
@@ -33,7 +34,7 @@ loop-n-preserved g c =
 pub returns : goal.returns
 returns g c = record {
   leads = c.loop-n.invariant.leads;
-  loses = c.loop-n.invariant.loses;
+  loses = loses_changed _ _ _ _ c.loop-n.invariant.went;
   quiet = goes_through (StruckBy g.P.Rules.puzzle g.P.Steps.own c.args.p.now) c.args.grade c.args.line c.loop-n.n c.loop-n.changed c.args.candidates.now c.loop-n.candidates
       (omega (arith, c.loop-n-test.false, c.get.ensures.value, c.size-size.ensures.value)) c.loop-n.invariant;
 }
