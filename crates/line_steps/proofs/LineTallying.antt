@@ -10,9 +10,7 @@ use Rattle.line_steps.specs.Inner.LineStrikes.{IsAlone, IsByRest, IsLeftByRest, 
 use Rattle.line_steps.specs.Inner.LineTallies.{AreTallied, IsTallyOf, IsCounted, IsAloneBefore, IsForced, IsFree, IsHidden, IsQuietTally, Goes, IsKeptOf}
 use Rattle.line_steps.proofs.OtherNumbers.{another, has_rest}
 use Rattle.line_steps.specs.declared.lines.latin.LineTally.{LineTally}
-use Rattle.std.proofs.Common.{◌++◌, ◌*◌}
-use Rattle.trail_solver.specs.Pairs.{pairs_of}
-use Rattle.trail_solver.specs.Candidates.{AreCandidates}
+use Rattle.std.proofs.Common.{◌*◌}
 use Rattle.line_steps.specs.Takes.{Strikes, Takes}
 use Rattle.line_steps.proofs.Takes.{set_before, takes_next}
 

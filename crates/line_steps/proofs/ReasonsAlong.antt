@@ -1,6 +1,6 @@
 -- The reasons that look along a line, one after another.
 use Rattle.std.proofs.Common.{◌≡◌, ℕ, ◌+◌, ◌*◌, ◌<◌, ◌≤◌, ◌||◌, true, false, List, [], inl, inr, refl, sym, ap, ◌∙◌, subst, arith}
-use Rattle.std.proofs.lemmas.Bool.{both_ways, cases_eq, or_parts}
+use Rattle.std.proofs.lemmas.Bool.{cases_eq, or_parts}
 use Rattle.number_sets.specs.Sets.{has_number, IsEmpty}
 use Rattle.latin_board.specs.Lines.{line_cell}
 use Rattle.trail_solver.specs.Pairs.{IsPair}
@@ -11,7 +11,7 @@ use Rattle.line_steps.specs.Reasons.{Striking}
 use Rattle.line_steps.specs.declared.reason.Reason.{Reason}
 use Rattle.line_steps.specs.declared.reason.Reason.TheVariants.{Bound, Stand, Clue, Sign}
 use Rattle.line_steps.specs.Grades.{has_reason}
-use Rattle.line_steps.specs.Along.{IsOn, LooksAlong, IsQuietAlong, LosesAt}
+use Rattle.line_steps.specs.Along.{IsOn, LooksAlong, IsQuietAlong}
 use Rattle.line_steps.specs.Chains.{LeadsTo}
 use Rattle.line_steps.specs.Inner.ReasonsAlong.{IsNthAlong, AreStruckOn, IsQuietBy}
 use Rattle.line_steps.specs.declared.grade.Grade.{Grade}
