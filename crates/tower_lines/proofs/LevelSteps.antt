@@ -1,7 +1,7 @@
 -- Of which kind a step is, and the masks that it leads to and from: the greatest value, the least, and those between them.
 use Rattle.std.proofs.lemmas.Bool.Decides.{nat_tests}
 use Rattle.std.proofs.Common.{◌≡◌, ℕ, ◌+◌, ◌-◌, ◌^◌, ◌<◌, ◌≤◌, ◌⊎◌, ◌↔◌, inl, inr, true, false, not, ◌&&◌, ◌||◌, eqb, leb, ltb, List, [], get_or, refl, sym, ap, ◌∙◌, arith, count_ones, Bool}
-use Rattle.std.proofs.lemmas.Bool.{ltb-true, leb-true, lt-ltb, le-leb, and_parts, and_from, not-true, not_from_false, false≢true}
+use Rattle.std.proofs.lemmas.Bool.{ltb-true, leb-true, lt-ltb, le-leb, and_parts, and_from, not-true, not_from_false}
 use Rattle.std.proofs.Math.Bool.{and_comm, and_assoc, or_comm}
 use Rattle.std.proofs.lemmas.Nat.{pow_pos}
 use Rattle.std.proofs.lemmas.Grind.{pow_more}
@@ -48,8 +48,7 @@ linked_two Link levels first second other far near whole is to_first to_second o
 -- from that mask at one level
 linked_one : (Link : ℕ → ℕ → Type 0) (levels : List (List ℕ)) (at other : ℕ) (test whole : Bool) → whole ≡ (test && has_at levels at other)
     → (test ≡ true → Link at other) → ((level mask : ℕ) → Link level mask → IsAt at other test level mask) → (whole ≡ true) ↔ IsLinked Link levels
-linked_one Link levels at other test whole is to only =
-    linked_two Link levels at at other test false whole is to (λ e. absurd (false≢true e)) (λ l x s. inl (only l x s))
+linked_one Link levels at other test whole is to only = grind (arith, nat_tests, linked_two)
 
 -- from none
 pub linked_none : (Link : ℕ → ℕ → Type 0) (levels : List (List ℕ)) (set : List ℕ) (mask : ℕ) → has_mask set mask ≡ false

@@ -1,7 +1,7 @@
 -- One value of a set after another, and what they add to the levels.
 use Rattle.std.proofs.lemmas.Bool.Decides.{nat_tests}
 use Rattle.std.proofs.Common.{◌≡◌, ◌≢◌, ℕ, ◌+◌, ◌-◌, ◌^◌, ◌<◌, ◌≤◌, ◌⊎◌, ◌↔◌, inl, inr, true, false, not, ◌&&◌, ◌||◌, eqb, leb, List, sym, ap, ◌∙◌, arith}
-use Rattle.std.proofs.lemmas.Bool.{cases_eq, and_parts, and_from, not_from_false, eqb-true, false_from_ne_true}
+use Rattle.std.proofs.lemmas.Bool.{cases_eq, and_parts, eqb-true, false_from_ne_true}
 use Rattle.std.proofs.Math.Bool.{and-true}
 use Rattle.std.proofs.lemmas.Nat.{pow_pos}
 use Rattle.number_sets.specs.Sets.{has_number}
@@ -20,8 +20,7 @@ others_lack : (left value others : ℕ) → AreOthers left value others → has_
 others_lack left value others are = grind (arith, nat_tests)
 
 others_have : (left value others n : ℕ) → AreOthers left value others → n ≢ value → has_number left n ≡ true → has_number others n ≡ true
-others_have left value others n are other e =
-    are n ∙ and_from _ _ e (not_from_false (eqb n value) (false_from_ne_true (eqb n value) (λ s. other (eqb-true n value s))))
+others_have left value others n are other e = grind (arith, nat_tests)
 
 others_inside : (left value others n : ℕ) → AreOthers left value others → has_number others n ≡ true → has_number left n ≡ true
 others_inside left value others n are e = (and_parts _ _ (sym (are n) ∙ e)).0
