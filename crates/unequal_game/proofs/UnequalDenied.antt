@@ -1,7 +1,7 @@
 -- An item of Unequal is denied: a given goes from the candidates of its square, and a sign is turned round.
 use Rattle.std.proofs.lemmas.Bool.Decides.{nat_tests}
 use Rattle.std.proofs.Common.{◌≡◌, ◌≢◌, ℕ, ◌+◌, ◌*◌, ◌<◌, ◌≤◌, ◌⊎◌, true, false, List, set, length, refl, sym, ap, subst, ◌∙◌, inl, inr, arith, slice_index}
-use Rattle.std.proofs.lemmas.Bool.{lt-ltb, cases_lt, cases_eq, eq-eqb, ne_eqb}
+use Rattle.std.proofs.lemmas.Bool.{cases_eq, eq-eqb, ne_eqb}
 use Rattle.std.proofs.lemmas.List.{get_or-set_same, get_or-set_other}
 use Rattle.latin_board.specs.Squares.{GridValue, IsGrid, IsLatin, number_at}
 use Rattle.latin_board.proofs.LatinLines.{line_differs}
@@ -11,7 +11,7 @@ use Rattle.trail_solver.specs.Solutions.{Denies}
 use Rattle.unequal_game.specs.declared.unequal.item.Item.{Item}
 use Rattle.unequal_game.specs.declared.unequal.item.Item.TheVariants.{RightSign, LowerSign, Given}
 use Rattle.unequal_game.specs.declared.unequal.sign.Sign.{Sign}
-use Rattle.unequal_game.specs.declared.unequal.sign.Sign.TheVariants.{Absent, FirstGreater, SecondGreater}
+use Rattle.unequal_game.specs.declared.unequal.sign.Sign.TheVariants.{Absent}
 use Rattle.line_steps.specs.Inner.Narrowing.{KeepsEach}
 use Rattle.unequal_game.specs.Inner.UnequalItems.{denied_item, item_cell, turned_sign, with_item}
 use Rattle.unequal_game.specs.Unequal.{UnequalValue, IsUnequal, holds_sign, holds_signs, lower_sign, right_sign, sign_between, unequal_puzzle}

@@ -1,11 +1,10 @@
 -- The signs of the full puzzle of a grid.
 use Rattle.std.proofs.lemmas.Bool.Decides.{nat_tests}
-use Rattle.std.proofs.Common.{◌≡◌, ◌↔◌, ℕ, ◌<◌, ◌≤◌, List, inl, inr, refl, sym, ◌∙◌, arith}
-use Rattle.std.proofs.lemmas.Bool.{lt-ltb, le-ltb, cases_lt}
+use Rattle.std.proofs.Common.{◌≡◌, ◌↔◌, ℕ, ◌<◌, ◌≤◌, List, inl, inr, arith}
 use Rattle.latin_board.specs.Squares.{GridValue, IsGrid, number_at}
 use Rattle.unequal_game.specs.declared.unequal.direction.Direction.TheVariants.{Right, Down}
 use Rattle.unequal_game.specs.declared.unequal.sign.Sign.{Sign}
-use Rattle.unequal_game.specs.declared.unequal.sign.Sign.TheVariants.{Absent, FirstGreater, SecondGreater}
+use Rattle.unequal_game.specs.declared.unequal.sign.Sign.TheVariants.{FirstGreater, SecondGreater}
 use Rattle.unequal_game.specs.Unequal.{IsGreater, AreNeighbours, sign_of, sign_in_grid, full_unequal}
 use Rattle.unequal_game.specs.Inner.UnequalFields.{HoldsSignsOf, unequal_value}
 use Rattle.unequal_game.specs.Laws.Neighbours.{neighbours_next, next_towards}

@@ -1,19 +1,18 @@
 -- Letters and numbers as the bytes of a piece: what is read of a piece that was written, and what is written of one
 -- that was read.
-use Rattle.std.proofs.Common.{◌≡◌, ◌≢◌, ℕ, zero, suc, ◌+◌, ◌-◌, ◌<◌, ◌≤◌, ◌⊎◌, Bool, true, false, nat_le, not, ◌&&◌}
+use Rattle.std.proofs.Common.{◌≡◌, ◌≢◌, ℕ, zero, suc, ◌+◌, ◌-◌, ◌<◌, ◌≤◌, ◌⊎◌, Bool, true, false, nat_le}
 use Rattle.std.proofs.Common.{List, [], ◌∷◌, length, drop, map, Option, Some, None, is_some, unwrap_or, refl, sym, ap}
-use Rattle.std.proofs.Common.{◌∙◌, inl, inr, arith, ◌==◌, if◌then◌else◌}
+use Rattle.std.proofs.Common.{◌∙◌, inl, inr, arith, ◌==◌}
 use Rattle.std.specs.List.{list_all, list_any, filter, filter_map, Contains}
 use Rattle.std.proofs.lemmas.Bool.{eq-eqb, eqb-true, false≢true, and_parts, cond_both, or_cases, or_right}
 use Rattle.std.proofs.lemmas.Bool.Decides.{nat_tests}
 use Rattle.byte_text.specs.Cuts.{Lacks}
 use Rattle.byte_text.specs.Decimals.{begins_digit}
-use Rattle.byte_text.specs.Bytes.{capital_u, capital_r, capital_d, capital_l, comma, digit_zero}
+use Rattle.byte_text.specs.Bytes.{comma, digit_zero}
 use Rattle.unequal_game.specs.declared.unequal.direction.Direction.{Direction}
 use Rattle.unequal_game.specs.declared.unequal.direction.Direction.TheVariants.{Up, Right, Down, Left}
 use Rattle.unequal_game.specs.UnequalText.{Piece, letter_of, piece_text, directions_at, number_in, begins_with_number}
 use Rattle.unequal_game.specs.UnequalText.{direction_of, has_letters, piece_at, says}
-use Rattle.unequal_game.specs.Laws.RangeTests.{some_if}
 
 -- directions and letters
 
