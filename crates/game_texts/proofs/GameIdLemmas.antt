@@ -1,23 +1,22 @@
 -- Game IDs: what is read has the grammar, what has the grammar is read, and reading is not refused for memory.
-use Rattle.std.specs.Prelude.{◌≡◌, ℕ, ◌≤◌, Bool, false, ◌==◌, ◌||◌, List, [], ◌∷◌, Option, Some, None, Result, Ok, Err}
+use Rattle.std.proofs.lemmas.Bool.Decides.{nat_tests}
+use Rattle.std.specs.Prelude.{◌≡◌, ℕ, ◌≤◌, Bool, false, List, [], ◌∷◌, Option, Some, None, Result, Ok, Err}
 use Rattle.byte_text.specs.Decimals.{decimal_value}
 use Rattle.game_texts.specs.declared.id_fault.IdFault.{IdFault}
-use Rattle.game_texts.specs.declared.id_fault.IdFault.TheVariants.{ForeignSeed, BadSize, BadLetter, AdjacentMode, BadParams}
 use Rattle.game_texts.specs.declared.game_id.GameId.{GameId}
 use Rattle.game_texts.specs.declared.game_id.GameId.TheVariants.{Described, Seeded}
 use Rattle.game_texts.specs.declared.params.Params.{Params}
 use Rattle.trail_solver.specs.Puzzles.{Puzzle}
-use Rattle.game_texts.specs.Parameters.{params_at, IsParams, letter_part, params_text, IsParamText, if_no_more, letter_at, behind_size, is_size}
+use Rattle.game_texts.specs.Parameters.{params_at, IsParams, letter_part, params_text, IsParamText, if_no_more, letter_at, behind_size}
 use Rattle.game_texts.specs.GameIds.{is_separator, params_part, from_separator, seeded, behind_params, id_parts_at, with_description, id_at, LacksSeparators, describes_at, IsIdText, IsAnyText, largest_seed}
-use Rattle.std.proofs.Common.{◌≡◌, IfOk, ◌≢◌, ℕ, ◌+◌, ◌^◌, ◌<◌, ◌≤◌, Bool, true, false, ◌==◌, ◌||◌, List, [], ◌∷◌, ◌++◌, Option, Some, None, IfSome, Result, Ok, Err, refl, sym, ap, ◌∙◌, subst, arith, inl, inr, ◌-◌, ◌&&◌, if◌then◌else◌}
-use Rattle.std.specs.List.{AllByRecursion, Contains, list_any}
+use Rattle.std.proofs.Common.{◌≡◌, IfOk, ◌≢◌, ℕ, ◌+◌, ◌^◌, ◌<◌, ◌≤◌, Bool, true, false, List, [], ◌∷◌, ◌++◌, Option, Some, None, IfSome, Result, Ok, Err, refl, sym, ap, ◌∙◌, subst, arith, if◌then◌else◌}
+use Rattle.std.specs.List.{AllByRecursion, Contains}
 use Rattle.std.specs.Fmt.{decimal}
-use Rattle.std.proofs.lemmas.List.Elements.{All-contains}
-use Rattle.std.proofs.lemmas.Bool.{or_cases, eqb-true, eqb-false, ne_eqb}
+use Rattle.std.proofs.lemmas.Bool.{ne_eqb}
 use Rattle.byte_text.proofs.DecimalLaws.{number_taken, number_again}
 use Rattle.byte_text.proofs.ReadingLaws.{bind_taken, bind_again}
 use Rattle.game_texts.proofs.ParameterLemmas.{params_taken, params_again}
-use Rattle.byte_text.specs.Bytes.{digit_zero, colon, hash, exclamation, letter_a, letter_d}
+use Rattle.byte_text.specs.Bytes.{digit_zero, colon, hash, exclamation}
 use Rattle.game_texts.specs.IdFaults.{NotForMemory}
 use Rattle.game_texts.specs.Laws.NotForMemory.{not_for_memory-then, not_for_memory-if}
 use Rattle.game_texts.specs.Laws.Refusals.{refused_then}
@@ -59,9 +58,7 @@ digit_no_separator w small =
 
 letter_no_separator : (letters : List ℕ) (letter : Option ℕ) → LacksSeparators letters → IfSome letter (λ l. Contains letters l)
     → NoSeparators (letter_part letter)
-letter_no_separator letters None lacks member = tt
-letter_no_separator letters (Some letter) lacks member =
-    (refl, (All-contains (λ l. is_separator l ≡ false) letters letter lacks member, tt))
+letter_no_separator letters letter lacks member = grind (arith, nat_tests)
 
 params_no_separator : (letters : List ℕ) (p : Params) → LacksSeparators letters → IsParams letters p → NoSeparators (params_text p)
 params_no_separator letters p lacks params =
@@ -74,34 +71,14 @@ Behind p bs (Seeded q seed) = (q ≡ p) × (seed < 2 ^ 64) × (bs ≡ exclamatio
 
 seed_taken : (p : Params) (bs : List ℕ) (seed : Option ℕ) (parts : GameId (List ℕ)) → decimal_value largest_seed bs ≡ seed
     → seeded p seed ≡ Ok parts → Behind p (exclamation ∷ bs) parts
-seed_taken p bs None parts number read = cc
-seed_taken p bs (Some seed) parts number read =
-    let is : Seeded p seed ≡ parts = cc in
-    let (written, within) = number_taken largest_seed seed bs (omega arith) number in
-    subst (Behind p (exclamation ∷ bs)) is (refl, omega (arith, within), ap (λ xs. exclamation ∷ xs) written)
+seed_taken p bs seed parts number read = grind (arith, nat_tests, number_taken)
 
 behind_params_taken : (p : Params) (bs : List ℕ) (parts : GameId (List ℕ)) → behind_params p bs ≡ Ok parts → Behind p bs parts
-behind_params_taken p [] parts = λ read. cc
-behind_params_taken p (b ∷ bs) parts = λ read.
-    let own = refused_then (b == hash) ForeignSeed _ parts read in
-    elim (b == exclamation) as (λ t. (b == exclamation) ≡ t → (if t then seeded p (decimal_value largest_seed bs) else Ok (Described p bs)) ≡ Ok parts → Behind p (b ∷ bs) parts) [
-      | true ↦ λ seed read. rw (eqb-true b exclamation seed) (seed_taken p bs (decimal_value largest_seed bs) parts refl read)
-      | false ↦ λ described read.
-          let is : Described p bs ≡ parts = cc in
-          subst (Behind p (b ∷ bs)) is (refl, (b, refl, eqb-false b hash own.0, eqb-false b exclamation described))
-    ] refl own.1
+behind_params_taken p bs parts = grind (arith, nat_tests, refused_then, seed_taken)
 
 -- the separator before a description
 colon_left : (b : ℕ) → is_separator b ≡ true → b ≢ hash → b ≢ exclamation → b ≡ colon
-colon_left b is not_hash not_exclamation =
-    elim (or_cases (b == colon) ((b == hash) || (b == exclamation)) is) [
-      | inl same ↦ eqb-true b colon same
-      | inr other ↦
-          elim (or_cases (b == hash) (b == exclamation) other) [
-            | inl same ↦ absurd (not_hash (eqb-true b hash same))
-            | inr same ↦ absurd (not_exclamation (eqb-true b exclamation same))
-          ]
-    ]
+colon_left b is not_hash not_exclamation = grind (arith, nat_tests)
 
 parts_text : (letters : List ℕ) (text : List ℕ) (p : Params) (parts : GameId (List ℕ)) → IsParamText letters p (params_part text)
     → Behind p (from_separator text) parts → IsIdText letters IsAnyText parts text
@@ -121,9 +98,7 @@ pub id_parts_taken : (letters : List ℕ) (has_adjacent : Bool) (text : List ℕ
     → id_parts_at letters has_adjacent text ≡ Ok parts → IsIdText letters IsAnyText parts text
 unfolding id_parts_at
 id_parts_taken letters has_adjacent text parts read =
-    let steps = bind_taken (params_at letters has_adjacent (params_part text)) (λ p. behind_params p (from_separator text)) parts read in
-    parts_text letters text steps.value parts (params_taken letters has_adjacent (params_part text) steps.value steps.gives)
-    (behind_params_taken steps.value (from_separator text) parts steps.rest)
+    grind (arith, nat_tests, bind_taken, parts_text, params_taken, behind_params_taken)
 
 -- what stands after the parameters is read after them
 split_params : (letters : List ℕ) (has_adjacent : Bool) (p : Params) (separator : ℕ) (rest : List ℕ) → LacksSeparators letters
@@ -131,39 +106,18 @@ split_params : (letters : List ℕ) (has_adjacent : Bool) (p : Params) (separato
     → id_parts_at letters has_adjacent (params_text p ++ separator ∷ rest) ≡ behind_params p (separator ∷ rest)
 unfolding id_parts_at
 split_params letters has_adjacent p separator rest lacks params is =
-    let text = params_text p ++ separator ∷ rest in
-    let split = split_again (params_text p) separator rest (params_no_separator letters p lacks params) is in
-    let read : params_at letters has_adjacent (params_part text) ≡ Ok p =
-    ap (params_at letters has_adjacent) split.0
-    ∙ params_again letters has_adjacent (params_text p) p (record { params = params; text_is = refl }) in
-    bind_again (params_at letters has_adjacent (params_part text)) (λ q. behind_params q (from_separator text)) p read
-    ∙ ap (behind_params p) split.1
+    grind (arith, nat_tests, split_again, params_no_separator, params_again, bind_again)
 
 pub id_parts_again : (letters : List ℕ) (has_adjacent : Bool) (text : List ℕ) (parts : GameId (List ℕ)) → LacksSeparators letters
     → IsIdText letters IsAnyText parts text → id_parts_at letters has_adjacent text ≡ Ok parts
-id_parts_again letters has_adjacent text (Described p desc) lacks (params, (said, text_is, same)) =
-    ap (id_parts_at letters has_adjacent) (text_is ∙ ap (λ xs. params_text p ++ colon ∷ xs) (sym same))
-    ∙ split_params letters has_adjacent p colon desc lacks params refl
-id_parts_again letters has_adjacent text (Seeded p seed) lacks (params, small, text_is) =
-    let read : decimal_value largest_seed (decimal seed) ≡ Some seed =
-    number_again largest_seed seed (omega (arith, small)) (omega arith) in
-    ap (id_parts_at letters has_adjacent) text_is
-    ∙ (split_params letters has_adjacent p exclamation (decimal seed) lacks params refl ∙ ap (seeded p) read)
+id_parts_again letters has_adjacent text parts lacks h5 = grind (arith, nat_tests, split_params, number_again)
 
 -- the ID with its description read
 with_taken : (D : Type 0) (letters : List ℕ) (desc_at : ℕ → List ℕ → Result D IdFault) (IsDesc : ℕ → D → List ℕ → Type 0)
     (text : List ℕ) (parts : GameId (List ℕ)) (id : GameId D)
     → ReadsGrammar D desc_at IsDesc → IsIdText letters IsAnyText parts text → with_description desc_at parts ≡ Ok id
     → IsIdText letters IsDesc id text
-with_taken D letters desc_at IsDesc text (Described p desc) id reads (params, (said, stands, same)) read =
-    let steps = bind_taken (desc_at p.size desc) (λ d. Ok (Described p d)) id read in
-    let is : Described p steps.value ≡ id = cc in
-    let text_is : text ≡ params_text p ++ colon ∷ desc = stands ∙ ap (λ xs. params_text p ++ colon ∷ xs) (sym same) in
-    subst (λ v. IsIdText letters IsDesc v text) is
-    (params, (desc, text_is, reads.taken p.size desc steps.value params.smallest params.largest steps.gives))
-with_taken D letters desc_at IsDesc text (Seeded p seed) id reads h read =
-    let is : Seeded p seed ≡ id = cc in
-    subst (λ v. IsIdText letters IsDesc v text) is h
+with_taken D letters desc_at IsDesc text parts id reads h8 read = grind (arith, nat_tests, bind_taken)
 
 -- a text that is read as an ID is one by the grammar, of what was read
 pub id_taken : (D : Type 0) (letters : List ℕ) (has_adjacent : Bool) (desc_at : ℕ → List ℕ → Result D IdFault)
@@ -213,31 +167,21 @@ not_for_memory-more p [] = tt
 not_for_memory-more p (b ∷ bs) = λ e. cc
 
 letter_not_for_memory : (letters : List ℕ) (w : ℕ) (bs : List ℕ) → NotForMemory (letter_at letters w bs)
-letter_not_for_memory letters w [] = λ e. cc
-letter_not_for_memory letters w (b ∷ bs) =
-    not_for_memory-if (list_any (λ l. l == b) letters) _ (Err BadLetter) (not_for_memory-more (record { size = w; letter = Some b }) bs) (λ e. cc)
+letter_not_for_memory letters w bs = grind (arith, nat_tests, not_for_memory-if, not_for_memory-more)
 
 size_not_for_memory : (letters : List ℕ) (adjacent : Bool) (w : ℕ) (bs : List ℕ) → NotForMemory (behind_size letters adjacent w bs)
-size_not_for_memory letters adjacent w [] = tt
-size_not_for_memory letters adjacent w (b ∷ bs) =
-    not_for_memory-if (adjacent && (b == letter_a)) (Err AdjacentMode) _ (λ e. cc)
-    (not_for_memory-if (b == letter_d) _ (Err BadParams) (letter_not_for_memory letters w bs) (λ e. cc))
+size_not_for_memory letters adjacent w bs = grind (arith, nat_tests, not_for_memory-if, letter_not_for_memory)
 
 pub params_not_for_memory : (letters : List ℕ) (adjacent : Bool) (text : List ℕ) → NotForMemory (params_at letters adjacent text)
 unfolding params_at
-params_not_for_memory letters adjacent [] = λ e. cc
-params_not_for_memory letters adjacent (b ∷ bs) =
-    not_for_memory-if (is_size b bs) _ (Err BadSize) (size_not_for_memory letters adjacent (b - digit_zero) bs) (λ e. cc)
+params_not_for_memory letters adjacent text = grind (arith, nat_tests, not_for_memory-if, size_not_for_memory)
 
 seed_not_for_memory : (p : Params) (seed : Option ℕ) → NotForMemory (seeded p seed)
 seed_not_for_memory p None = λ e. cc
 seed_not_for_memory p (Some seed) = tt
 
 parts_not_for_memory : (p : Params) (bs : List ℕ) → NotForMemory (behind_params p bs)
-parts_not_for_memory p [] = λ e. cc
-parts_not_for_memory p (b ∷ bs) =
-    not_for_memory-if (b == hash) (Err ForeignSeed) _ (λ e. cc)
-    (not_for_memory-if (b == exclamation) _ (Ok (Described p bs)) (seed_not_for_memory p (decimal_value largest_seed bs)) tt)
+parts_not_for_memory p bs = grind (arith, nat_tests, not_for_memory-if, seed_not_for_memory)
 
 description_not_for_memory : {D : Type 0} (desc_at : ℕ → List ℕ → Result D IdFault)
     → ((w : ℕ) (text : List ℕ) → NotForMemory (desc_at w text)) → (id : GameId (List ℕ))
@@ -250,6 +194,11 @@ pub id_not_for_memory : {D : Type 0} (letters : List ℕ) (adjacent : Bool) (des
     → NotForMemory (id_at letters adjacent desc_at text)
 unfolding id_parts_at id_at
 id_not_for_memory letters adjacent desc_at not_for_memory text =
-    not_for_memory-then (id_parts_at letters adjacent text) (with_description desc_at)
-    (not_for_memory-then (params_at letters adjacent (params_part text)) _ (params_not_for_memory letters adjacent (params_part text)) (λ p. parts_not_for_memory p (from_separator text)))
-    (description_not_for_memory desc_at not_for_memory)
+    grind (
+      arith,
+      nat_tests,
+      not_for_memory-then,
+      params_not_for_memory,
+      parts_not_for_memory,
+      description_not_for_memory,
+    )

@@ -1,7 +1,8 @@
 -- The levels of starts: how a value at the end leads from one to another, and that each start that a filling begins with has one.
-use Rattle.std.proofs.Common.{◌≡◌, ◌≢◌, ℕ, ◌+◌, ◌-◌, ◌^◌, ◌<◌, ◌≤◌, ◌↔◌, inl, inr, true, false, ◌||◌, eqb, ltb, List, [], ◌∷◌, ◌++◌, length, get_or, refl, sym, ap, ◌∙◌, arith, append_assoc}
+use Rattle.std.proofs.lemmas.Bool.Decides.{nat_tests}
+use Rattle.std.proofs.Common.{◌≡◌, ℕ, ◌+◌, ◌-◌, ◌^◌, ◌<◌, ◌≤◌, ◌↔◌, inl, inr, true, false, ◌||◌, eqb, ltb, List, [], ◌∷◌, ◌++◌, length, get_or, refl, sym, ap, ◌∙◌, arith, append_assoc}
 use Rattle.std.specs.List.{list_all}
-use Rattle.std.proofs.lemmas.Bool.{eqb-true, eqb-false, eq-eqb, ne_eqb, lt-ltb, le-ltb, cases_eq, cases_lt, cases_Bool, false≢true, or_left}
+use Rattle.std.proofs.lemmas.Bool.{eqb-true, eq-eqb, ne_eqb, lt-ltb, le-ltb, cases_eq, cases_lt, cases_Bool, false≢true, or_left}
 use Rattle.std.proofs.Math.Bool.{or-false}
 use Rattle.std.proofs.lemmas.List.{nil_from_length}
 use Rattle.std.proofs.lemmas.List.Folds.{list_all_at, list_any-append}
@@ -21,9 +22,7 @@ use Rattle.tower_lines.proofs.WholeLines.{whole_mask}
 
 -- the greatest value hides what comes after it
 hidden_after : (p : List ℕ) (n x : ℕ) → is_in n p ≡ true → x ≤ n → list_all (λ y. ltb y x) p ≡ false
-hidden_after p n x has most =
-    let (place, inside, here) = is_in-place n p has in
-    list_all_at (λ y. ltb y x) p place 0 inside (le-ltb (get_or p place 0) x (omega arith))
+hidden_after p n x has most = grind (arith, nat_tests, is_in-place, list_all_at)
 
 none_seen : {sets : List ℕ} (p s : List ℕ) → IsStart sets (p ++ s) → is_in (length sets) p ≡ true → seen_after p s ≡ 0
 none_seen {sets} p [] start has = refl
@@ -90,16 +89,11 @@ shown_last {sets} p k is start lacks =
 
 -- the least value is seen where it is the first
 shown_first : (p : List ℕ) (x : ℕ) → length p ≡ 0 → seen (p ++ x ∷ []) ≡ seen p + 1
-shown_first p x none =
-    let all : list_all (λ y. ltb y x) p ≡ true = ap (list_all (λ y. ltb y x)) (nil_from_length p none) in
-    seen-push p x ∙ rw all refl
+shown_first p x none = grind (arith, nat_tests, nil_from_length, seen-push)
 
 -- and otherwise hidden
 shown_later : {sets : List ℕ} (p : List ℕ) (k : ℕ) → k ≡ 0 → IsStart sets p → 0 < length p → seen (p ++ (k + 1) ∷ []) ≡ seen p
-shown_later {sets} p k zero start some =
-    let low = (start.values 0 some).0 in
-    let hidden : list_all (λ y. ltb y (k + 1)) p ≡ false = list_all_at (λ y. ltb y (k + 1)) p 0 0 some (le-ltb (get_or p 0 0) (k + 1) (omega arith)) in
-    seen-push p (k + 1) ∙ rw hidden (omega arith)
+shown_later {sets} p k h2 start some = grind (arith, nat_tests, list_all_at, seen-push)
 
 -- a start with it shows no more
 shown_same : {sets : List ℕ} (p : List ℕ) (k : ℕ) → IsStart sets (p ++ (k + 1) ∷ []) → is_in (length sets) p ≡ true
@@ -116,10 +110,7 @@ at_last {sets} {clue} {level} p at has = eqb-true level clue (sym at.last ∙ ha
 
 -- and before it otherwise
 at_low : {sets : List ℕ} {clue level mask : ℕ} (p : List ℕ) → IsAtLevel sets clue level mask p → is_in (length sets) p ≡ false → level < clue
-at_low {sets} {clue} {level} p at lacks =
-    let apart : level ≢ clue = eqb-false level clue (sym at.last ∙ lacks) in
-    let low = at.low in
-    omega arith
+at_low {sets} {clue} {level} p at lacks = grind (arith, nat_tests)
 
 at_low_lacks : {sets : List ℕ} {clue level mask : ℕ} (p : List ℕ) → IsAtLevel sets clue level mask p → level < clue → is_in (length sets) p ≡ false
 at_low_lacks {sets} {clue} {level} p at low = at.last ∙ ne_eqb level clue (λ e. omega arith)
@@ -130,25 +121,14 @@ at_low_lacks {sets} {clue} {level} p at low = at.last ∙ ne_eqb level clue (λ 
 pushed_at : {sets : List ℕ} {clue level mask level_then mask_then : ℕ} (p : List ℕ) (k : ℕ) → k + 1 < length sets → IsAtLevel sets clue level mask p
     → IsStart sets (p ++ (k + 1) ∷ []) → IsLowMask (length sets) mask_then (p ++ (k + 1) ∷ []) → seen (p ++ (k + 1) ∷ []) ≡ level_then → level_then ≤ clue
     → (level ≡ clue) ↔ (level_then ≡ clue) → IsAtLevel sets clue level_then mask_then (p ++ (k + 1) ∷ [])
-pushed_at {sets} {clue} {level} {mask} {level_then} p k value at start used shown low same = record {
-  start = start;
-  used = used;
-  low = low;
-  shown = shown;
-  last = greatest_in_push p (length sets) k value ∙ at.last ∙ elim (cases_eq level clue) [
-    | inl there ↦ eq-eqb level clue there ∙ sym (eq-eqb level_then clue (same.0 there))
-    | inr apart ↦ ne_eqb level clue apart ∙ sym (ne_eqb level_then clue (λ e. apart (same.1 e)))
-  ];
-}
+pushed_at {sets} {clue} {level} {mask} {level_then} p k value at start used shown low same =
+    grind (arith, nat_tests, greatest_in_push)
 
 -- whether a start lacks the least value, by its mask
 lacks_least : {sets : List ℕ} {clue level mask : ℕ} (p : List ℕ) → 1 < length sets → IsAtLevel sets clue level mask p
     → LacksLeast (length p) clue level mask → is_in 1 p ≡ false
 lacks_least {sets} {clue} {level} p more at told =
-    elim told [
-      | inl low ↦ least_told p (rest_low p at.start (at_low_lacks p at low.0) at.used) (omega (arith, low.1))
-      | inr last ↦ least_told p (rest_last p more at.start (at.last ∙ eq-eqb level clue last.0) at.used) last.1
-    ]
+    grind (arith, nat_tests, least_told, rest_low, at_low_lacks, rest_last)
 
 -- a value that a start lacks, and the mask of the start with it
 record IsNew (sets : List ℕ) (k mask_then : ℕ) (p : List ℕ) : Type 0 where
@@ -212,13 +192,7 @@ step_from {sets} {clue} {k} {level} {mask} {level_then} {mask_then} p at room ca
 -- a start that has the greatest value just where it shows all the towers is at the level of those that it shows
 front_of : {sets : List ℕ} {clue mask : ℕ} (p : List ℕ) → IsStart sets p → IsLowMask (length sets) mask p → (is_in (length sets) p ≡ true → seen p ≡ clue)
     → (is_in (length sets) p ≡ false → seen p < clue) → IsAtLevel sets clue (seen p) mask p
-front_of {sets} {clue} p start used all few =
-    elim (cases_Bool (is_in (length sets) p)) [
-      | inl has ↦ (let last = all has in
-          record { start = start; used = used; low = omega arith; shown = refl; last = has ∙ sym (eq-eqb (seen p) clue last) })
-      | inr lacks ↦ (let early = few lacks in
-          record { start = start; used = used; low = omega arith; shown = refl; last = lacks ∙ sym (ne_eqb (seen p) clue (λ e. omega arith)) })
-    ]
+front_of {sets} {clue} p start used all few = grind (arith, nat_tests)
 
 -- where a start's front is, and how its last value leads from there
 pub record IsStepped (sets : List ℕ) (clue k level mask : ℕ) (p : List ℕ) : Type 0 where
@@ -230,19 +204,21 @@ pub record IsStepped (sets : List ℕ) (clue k level mask : ℕ) (p : List ℕ) 
 front_at : {sets : List ℕ} {clue level mask front : ℕ} (p : List ℕ) (k : ℕ) → IsAtLevel sets clue level mask (p ++ (k + 1) ∷ [])
     → IsLowMask (length sets) front p → IsAtLevel sets clue (seen p) front p
 front_at {sets} {clue} {level} p k at used =
-    let start = start_front p ((k + 1) ∷ []) at.start in
-    let high = (start_next p (k + 1) [] at.start).high in
-    let shown = at.shown in
-    front_of p start used
-    (λ has.
-    let last = at_last (p ++ (k + 1) ∷ []) at (is_in-push p (k + 1) (length sets) ∙ or_left _ _ has) in
-    omega (arith, shown_same p k at.start has))
-    (λ lacks. elim (cases_eq (k + 1) (length sets)) [
-      | inl greatest ↦ (let last = at_last (p ++ (k + 1) ∷ []) at (is_in-push_same p (k + 1) (length sets) greatest) in
-          omega (arith, shown_last p k greatest start lacks))
-      | inr other ↦ (let early = at_low (p ++ (k + 1) ∷ []) at (greatest_in_push p (length sets) k (omega arith) ∙ lacks) in
-          omega (arith, seen-append p ((k + 1) ∷ [])))
-    ])
+    grind (
+      arith,
+      nat_tests,
+      start_front,
+      start_next,
+      front_of,
+      at_last,
+      is_in-push,
+      shown_same,
+      is_in-push_same,
+      shown_last,
+      at_low,
+      greatest_in_push,
+      seen-append,
+    )
 
 -- the greatest value after the front
 step_greatest : {sets : List ℕ} {clue level mask front : ℕ} (p : List ℕ) (k : ℕ) → k + 1 ≡ length sets → IsAtLevel sets clue level mask (p ++ (k + 1) ∷ [])
@@ -331,16 +307,15 @@ stepped {sets} p k at =
 pub front_level : {sets : List ℕ} {clue : ℕ} (p s : List ℕ) → 0 < length sets → IsFilling sets clue (p ++ s)
     → (mask : ℕ) × IsAtLevel sets clue (seen p) mask p
 front_level {sets} {clue} p s some filling =
-    let n = length sets in
-    let start = start_front p s filling.start in
-    let (mask, used) = low_mask_of p start in
-    let parts = seen-append p s in
-    let shown = filling.shown in (
-      mask,
-      front_of p start used
-          (λ has. omega (arith, none_seen p s filling.start has))
-          (λ lacks.
-          let whole = list_any-append (λ x. eqb x n) p s in
-          let later : is_in n s ≡ true = rw lacks at (sym whole ∙ has_greatest (p ++ s) some filling.start filling.whole) in
-          omega (arith, some_seen p s some filling.start lacks later)),
+    grind (
+      arith,
+      nat_tests,
+      start_front,
+      low_mask_of,
+      seen-append,
+      front_of,
+      none_seen,
+      list_any-append,
+      has_greatest,
+      some_seen,
     )

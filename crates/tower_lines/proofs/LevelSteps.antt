@@ -1,6 +1,7 @@
 -- Of which kind a step is, and the masks that it leads to and from: the greatest value, the least, and those between them.
-use Rattle.std.proofs.Common.{◌≡◌, ℕ, ◌+◌, ◌-◌, ◌^◌, ◌<◌, ◌≤◌, ◌⊎◌, ◌↔◌, inl, inr, true, false, not, ◌&&◌, ◌||◌, eqb, leb, ltb, List, [], get_or, refl, sym, ap, ◌∙◌, subst, arith, count_ones, Bool}
-use Rattle.std.proofs.lemmas.Bool.{eqb-true, eq-eqb, ltb-true, leb-true, lt-ltb, le-leb, and_parts, and_from, or_cases, or_left, or_right, not-true, not_from_false, both_ways, false≢true}
+use Rattle.std.proofs.lemmas.Bool.Decides.{nat_tests}
+use Rattle.std.proofs.Common.{◌≡◌, ℕ, ◌+◌, ◌-◌, ◌^◌, ◌<◌, ◌≤◌, ◌⊎◌, ◌↔◌, inl, inr, true, false, not, ◌&&◌, ◌||◌, eqb, leb, ltb, List, [], get_or, refl, sym, ap, ◌∙◌, arith, count_ones, Bool}
+use Rattle.std.proofs.lemmas.Bool.{ltb-true, leb-true, lt-ltb, le-leb, and_parts, and_from, not-true, not_from_false}
 use Rattle.std.proofs.Math.Bool.{and_comm, and_assoc, or_comm}
 use Rattle.std.proofs.lemmas.Nat.{pow_pos}
 use Rattle.std.proofs.lemmas.Grind.{pow_more}
@@ -8,30 +9,22 @@ use Rattle.number_sets.specs.Sets.{has_number}
 use Rattle.number_sets.proofs.Members.{power_most}
 use Rattle.number_sets.proofs.OneMore.{added_with, added_without, added_lacks, added_has}
 use Rattle.tower_lines.specs.Inner.MaskSets.{has_mask, has_at}
-use Rattle.tower_lines.specs.Inner.Levels.{IsMove, Within, Hidden, Shown, LacksLeast, First, Later, IsLastStep, IsLeastStep, IsLowStep, IsLevelStep, Greatest, Least, Between, AreFew, IsCommon, IsLinked, IsReachedBy, LeadsToLevels, IsPassing}
+use Rattle.tower_lines.specs.Inner.Levels.{IsMove, Within, Hidden, Shown, LacksLeast, IsLastStep, IsLeastStep, IsLowStep, IsLevelStep, Between, AreFew, IsCommon, IsLinked, IsReachedBy, LeadsToLevels, IsPassing}
 
 -- ---- of which kind a step is
 
 -- of the greatest value
 pub only_greatest : {place width clue k level mask level_then mask_then : ℕ} → k + 1 ≡ width → IsLevelStep place width clue k level mask level_then mask_then
     → IsLastStep width clue k level mask level_then mask_then
-only_greatest top (Greatest s) = s
-only_greatest top (Least s) = absurd (omega (arith, s.value, s.more))
-only_greatest top (Between bit is s) = absurd (omega (arith, s.value))
+only_greatest top h1 = grind (arith, nat_tests)
 
 only_least : {place width clue k level mask level_then mask_then : ℕ} → k ≡ 0 → 1 < width → IsLevelStep place width clue k level mask level_then mask_then
     → IsLeastStep place width clue k level mask level_then mask_then
-only_least least more (Greatest s) = absurd (omega (arith, s.value))
-only_least least more (Least s) = s
-only_least least more (Between bit is s) = absurd (omega arith)
+only_least least more h2 = grind (arith, nat_tests)
 
 only_between : {place width clue k level mask level_then mask_then : ℕ} → k + 2 < width → IsLevelStep place width clue (k + 1) level mask level_then mask_then
     → IsLowStep width clue k level mask level_then mask_then
-only_between less (Greatest s) = absurd (omega (arith, s.value))
-only_between less (Least s) = absurd (omega (arith, s.value))
-only_between {place} {width} {clue} {k} {level} {mask} {level_then} {mask_then} less (Between bit is s) =
-    let same : bit ≡ k = omega arith in
-    subst (λ i. IsLowStep width clue i level mask level_then mask_then) same s
+only_between less h1 = grind (arith, nat_tests)
 
 -- ---- the masks of the levels with a link, where it tells the level and the mask
 
@@ -50,48 +43,29 @@ linked_two : (Link : ℕ → ℕ → Type 0) (levels : List (List ℕ)) (first s
     → whole ≡ ((near && has_at levels second other) || (far && has_at levels first other))
     → (far ≡ true → Link first other) → (near ≡ true → Link second other)
     → ((level mask : ℕ) → Link level mask → IsAt first other far level mask ⊎ IsAt second other near level mask) → (whole ≡ true) ↔ IsLinked Link levels
-linked_two Link levels first second other far near whole is to_first to_second only = (
-  λ e. elim (or_cases _ _ (sym is ∙ e)) [
-    | inl b ↦ let p = and_parts _ _ b in record { level = second; mask = other; here = p.1; link = to_second p.0 }
-    | inr a ↦ let p = and_parts _ _ a in record { level = first; mask = other; here = p.1; link = to_first p.0 }
-  ],
-  λ r. is ∙ elim (only r.level r.mask r.link) [
-    | inl s ↦ or_right _ _ (found_at levels s r.here)
-    | inr s ↦ or_left _ _ (found_at levels s r.here)
-  ],
-)
+linked_two Link levels first second other far near whole is to_first to_second only = grind (arith, nat_tests, found_at)
 
 -- from that mask at one level
 linked_one : (Link : ℕ → ℕ → Type 0) (levels : List (List ℕ)) (at other : ℕ) (test whole : Bool) → whole ≡ (test && has_at levels at other)
     → (test ≡ true → Link at other) → ((level mask : ℕ) → Link level mask → IsAt at other test level mask) → (whole ≡ true) ↔ IsLinked Link levels
-linked_one Link levels at other test whole is to only =
-    linked_two Link levels at at other test false whole is to (λ e. absurd (false≢true e)) (λ l x s. inl (only l x s))
+linked_one Link levels at other test whole is to only = grind (arith, nat_tests, linked_two)
 
 -- from none
 pub linked_none : (Link : ℕ → ℕ → Type 0) (levels : List (List ℕ)) (set : List ℕ) (mask : ℕ) → has_mask set mask ≡ false
     → ((level mask : ℕ) → Link level mask → ⊥) → (has_mask set mask ≡ true) ↔ IsLinked Link levels
-linked_none Link levels set mask empty none = (
-  λ e. absurd (both_ways (has_mask set mask) empty e),
-  λ r. absurd (none r.level r.mask r.link),
-)
+linked_none Link levels set mask empty none = grind (arith, nat_tests)
 
 -- ---- the greatest value
 
 -- it leads to the last level from the masks of the one before
 pub greatest_reached : (place width clue k : ℕ) (levels : List (List ℕ)) (set : List ℕ) → k + 1 ≡ width → 0 < clue → set ≡ get_or levels (clue - 1) []
     → (mask : ℕ) → (has_mask set mask ≡ true) ↔ IsReachedBy place width clue k levels clue mask
-greatest_reached place width clue k levels set top some is mask =
-    linked_one (λ l x. IsLevelStep place width clue k l x clue mask) levels (clue - 1) mask true (has_mask set mask) (ap (λ (s : List ℕ). has_mask s mask) is)
-    (λ _. Greatest record { value = top; before = omega arith; after = refl; same = refl })
-    (λ l x s. let g = only_greatest top s in record { level_is = omega (arith, g.before); mask_is = sym g.same; passes = refl })
+greatest_reached place width clue k levels set top some is mask = grind (arith, nat_tests, linked_one, only_greatest)
 
 -- and from the level before the last to the masks of the last
 pub greatest_leads : (place width clue k : ℕ) (after : List (List ℕ)) (set : List ℕ) → k + 1 ≡ width → 0 < clue → set ≡ get_or after clue []
     → (mask : ℕ) → (has_mask set mask ≡ true) ↔ LeadsToLevels place width clue k after (clue - 1) mask
-greatest_leads place width clue k after set top some is mask =
-    linked_one (λ l x. IsLevelStep place width clue k (clue - 1) mask l x) after clue mask true (has_mask set mask) (ap (λ (s : List ℕ). has_mask s mask) is)
-    (λ _. Greatest record { value = top; before = omega arith; after = refl; same = refl })
-    (λ l x s. let g = only_greatest top s in record { level_is = g.after; mask_is = g.same; passes = refl })
+greatest_leads place width clue k after set top some is mask = grind (arith, nat_tests, linked_one, only_greatest)
 
 -- ---- the least value
 
@@ -101,15 +75,7 @@ pub least_reached : (place clue count level : ℕ) (levels : List (List ℕ)) (s
     → ((mask : ℕ) → (count_ones mask ≡ count) ↔ LacksLeast place clue level mask)
     → (width mask : ℕ) → 1 < width → (has_mask set mask ≡ true) ↔ IsReachedBy place width clue 0 levels level mask
 least_reached place clue count level levels set some counted told width mask more =
-    linked_one (λ l x. IsLevelStep place width clue 0 l x level mask) levels level mask (eqb (count_ones mask) count) (has_mask set mask)
-    (counted mask ∙ and_comm (has_at levels level mask) _)
-    (λ e. Least record { value = refl; more = more; same = refl; moves = Later some refl ((told mask).0 (eqb-true _ _ e)) })
-    (λ l x s. let b = only_least refl more s in elim b.moves [
-      | First none next low ↦ absurd (omega arith)
-      | Later _ same lacks ↦
-          let here : LacksLeast place clue level mask = rw (same, b.same) lacks in
-          record { level_is = sym same; mask_is = sym b.same; passes = eq-eqb _ _ ((told mask).1 here) }
-    ])
+    grind (arith, nat_tests, linked_one, and_comm, only_least)
 
 -- it leads from these masks
 pub least_leads : (place clue count level : ℕ) (after : List (List ℕ)) (set : List ℕ) → 0 < place
@@ -117,45 +83,25 @@ pub least_leads : (place clue count level : ℕ) (after : List (List ℕ)) (set 
     → ((mask : ℕ) → (count_ones mask ≡ count) ↔ LacksLeast place clue level mask)
     → (width mask : ℕ) → 1 < width → (has_mask set mask ≡ true) ↔ LeadsToLevels place width clue 0 after level mask
 least_leads place clue count level after set some counted told width mask more =
-    linked_one (λ l x. IsLevelStep place width clue 0 level mask l x) after level mask (eqb (count_ones mask) count) (has_mask set mask)
-    (counted mask ∙ and_comm (has_at after level mask) _)
-    (λ e. Least record { value = refl; more = more; same = refl; moves = Later some refl ((told mask).0 (eqb-true _ _ e)) })
-    (λ l x s. let b = only_least refl more s in elim b.moves [
-      | First none next low ↦ absurd (omega arith)
-      | Later _ same lacks ↦ record { level_is = same; mask_is = b.same; passes = eq-eqb _ _ ((told mask).1 lacks) }
-    ])
+    grind (arith, nat_tests, linked_one, and_comm, only_least)
 
 -- where it is the first, it goes to the next level
 pub least_first_reached : (place clue level : ℕ) (levels : List (List ℕ)) (set : List ℕ) → place ≡ 0 → 1 ≤ level → level < clue
     → set ≡ get_or levels (level - 1) []
     → (width mask : ℕ) → 1 < width → (has_mask set mask ≡ true) ↔ IsReachedBy place width clue 0 levels level mask
 least_first_reached place clue level levels set none some early is width mask more =
-    linked_one (λ l x. IsLevelStep place width clue 0 l x level mask) levels (level - 1) mask true (has_mask set mask) (ap (λ (s : List ℕ). has_mask s mask) is)
-    (λ _. Least record { value = refl; more = more; same = refl; moves = First none (omega arith) early })
-    (λ l x s. let b = only_least refl more s in elim b.moves [
-      | First _ next low ↦ record { level_is = omega arith; mask_is = sym b.same; passes = refl }
-      | Later later same lacks ↦ absurd (omega arith)
-    ])
+    grind (arith, nat_tests, linked_one, only_least)
 
 pub least_first_leads : (place clue level : ℕ) (after : List (List ℕ)) (set : List ℕ) → place ≡ 0 → level + 1 < clue
     → set ≡ get_or after (level + 1) []
     → (width mask : ℕ) → 1 < width → (has_mask set mask ≡ true) ↔ LeadsToLevels place width clue 0 after level mask
 least_first_leads place clue level after set none early is width mask more =
-    linked_one (λ l x. IsLevelStep place width clue 0 level mask l x) after (level + 1) mask true (has_mask set mask) (ap (λ (s : List ℕ). has_mask s mask) is)
-    (λ _. Least record { value = refl; more = more; same = refl; moves = First none refl early })
-    (λ l x s. let b = only_least refl more s in elim b.moves [
-      | First _ next low ↦ record { level_is = next; mask_is = b.same; passes = refl }
-      | Later later same lacks ↦ absurd (omega arith)
-    ])
+    grind (arith, nat_tests, linked_one, only_least)
 
 -- as the first it doesn't lead to the last level
 pub least_first_late : {place width clue level mask level_then mask_then : ℕ} → 1 < width → place ≡ 0 → clue ≤ level_then ⊎ clue ≤ level + 1
     → IsLevelStep place width clue 0 level mask level_then mask_then → ⊥
-least_first_late more none late s =
-    elim (only_least refl more s).moves [
-      | First _ next low ↦ elim late [ inl to ↦ omega arith | inr from ↦ omega arith ]
-      | Later later same lacks ↦ omega arith
-    ]
+least_first_late more none late s = grind (arith, nat_tests, only_least)
 
 -- ---- a value between them
 
@@ -256,15 +202,7 @@ shown_step k mask less early p =
 
 step_from_low : {place width clue level : ℕ} (k mask : ℕ) → k + 2 < width → level < clue → (l y : ℕ) → IsLevelStep place width clue (k + 1) level mask l y
     → IsAt level (mask + 2 ^ k) (is_hidden k mask) l y ⊎ (IsAt (level + 1) (mask + 2 ^ k) (is_shown k mask) l y × (level + 1 < clue))
-step_from_low k mask less early l y s =
-    let b = only_between less s in
-    let lacks = not_from_false _ b.fresh in
-    let next = pow_more 2 k in
-    elim b.moves [
-      | Within last same ↦ absurd (omega arith)
-      | Hidden low large same ↦ inl record { level_is = same; mask_is = b.more; passes = and_from _ _ lacks (le-leb _ _ (omega arith)) }
-      | Shown small later low ↦ inr (record { level_is = later; mask_is = b.more; passes = and_from _ _ lacks (lt-ltb _ _ (omega arith)) }, omega arith)
-    ]
+step_from_low k mask less early l y s = grind (arith, nat_tests, only_between, pow_more)
 
 -- from a level before the last to the masks of that level that hide the value, and to those of the next that show it, if that isn't the last
 pub between_leads : (clue k level : ℕ) (after : List (List ℕ)) (same_level next hidden shown either set : List ℕ) → level + 1 < clue
@@ -300,10 +238,7 @@ between_leads_hidden clue k level after same_level hidden set early late is hide
 pub shared_passing : (place width clue k level : ℕ) (fronts after : List (List ℕ)) (set : List ℕ) → level ≤ clue
     → ((m : ℕ) → (has_mask set m ≡ true) ↔ LeadsToLevels place width clue k after level m)
     → (mask : ℕ) → IsPassing place width clue k fronts after level mask ↔ IsCommon fronts set level mask
-shared_passing place width clue k level fronts after set low leads mask = (
-  λ p. record { here = p.here; there = (leads mask).1 p.leads },
-  λ s. record { low = low; here = s.here; leads = (leads mask).0 s.there },
-)
+shared_passing place width clue k level fronts after set low leads mask = grind (arith, nat_tests)
 
 -- it leads to no level before the first, no level past the next, and none past the last
 pub record IsInReach (clue place level : ℕ) : Type 0 where
@@ -313,23 +248,4 @@ pub record IsInReach (clue place level : ℕ) : Type 0 where
 
 pub in_reach : (place width clue k : ℕ) (levels : List (List ℕ)) → AreFew clue place levels
     → (level mask : ℕ) → IsReachedBy place width clue k levels level mask → IsInReach clue place level
-in_reach place width clue k levels few level mask r =
-    let known = few r.level r.mask r.here in
-    let most = known.most in
-    elim r.link [
-      | Greatest s ↦ record { some = omega (arith, s.before, s.after); next = omega (arith, s.before, s.after); last = omega (arith, s.after) }
-      | Least s ↦ elim s.moves [
-        | First none next low ↦ record { some = omega arith; next = omega arith; last = omega arith }
-        | Later some same lacks ↦
-            let least = known.least some in
-            let low : r.level ≤ clue = elim lacks [ inl early ↦ omega (arith, early.0) | inr last ↦ omega (arith, last.0) ] in
-            record { some = omega arith; next = omega arith; last = omega arith }
-      ]
-      | Between bit is s ↦ elim s.moves [
-        | Within last same ↦ let some = known.some (inr last) in record { some = omega arith; next = omega arith; last = omega arith }
-        | Hidden early large same ↦
-            let some = known.some (inl (omega (arith, pow_pos bit))) in
-            record { some = omega arith; next = omega arith; last = omega arith }
-        | Shown small next low ↦ record { some = omega arith; next = omega arith; last = omega arith }
-      ]
-    ]
+in_reach place width clue k levels few level mask r = grind (arith, nat_tests, pow_pos)

@@ -1,6 +1,7 @@
 -- What a value more does to levels that have the masks of all starts, and to those of starts that a filling begins with.
-use Rattle.std.proofs.Common.{◌≡◌, ◌≢◌, ℕ, ◌+◌, ◌-◌, ◌<◌, ◌≤◌, ◌↔◌, inl, inr, true, List, [], ◌∷◌, ◌++◌, length, get_or, set, take, drop, refl, sym, ap, ◌∙◌, subst, arith, append_assoc, length-append}
-use Rattle.std.proofs.lemmas.Bool.{cases_eq, cases_lt, eqb-false, ne_eqb}
+use Rattle.std.proofs.lemmas.Bool.Decides.{nat_tests}
+use Rattle.std.proofs.Common.{◌≡◌, ◌≢◌, ℕ, ◌+◌, ◌-◌, ◌<◌, ◌↔◌, true, List, [], ◌∷◌, ◌++◌, length, get_or, set, take, drop, sym, ap, ◌∙◌, subst, arith, append_assoc, length-append}
+use Rattle.std.proofs.lemmas.Bool.{eqb-false}
 use Rattle.std.proofs.Math.Bool.{and-false}
 use Rattle.std.proofs.lemmas.List.{append-nil, nil_from_length, length_push, get_or_at, get_or-set_same, get_or-set_other, take-append-drop, length-take-le, drop_more}
 use Rattle.number_sets.specs.Sets.{has_number}
@@ -26,25 +27,8 @@ first_level {sets} {clue} {level} {mask} at =
 -- the start without values, before any place
 pub first_reached : {sets : List ℕ} {clue : ℕ} (levels : List (List ℕ)) → 0 < length sets
     → ((level mask : ℕ) → (has_at levels level mask ≡ true) ↔ ((level ≡ 0) × (mask ≡ 0) × (0 < clue))) → AreReached sets clue 0 levels
-first_reached {sets} {clue} levels some first level mask = (
-  λ e.
-      let (zero, empty, shows) = (first level mask).0 e in (
-        [],
-        refl,
-        record {
-          start = record { room = omega arith; values = λ j l. absurd (omega arith); candidates = λ j l. absurd (omega arith); apart = λ i j o l. absurd (omega arith) };
-          used = record { bits = λ k. rw empty (has_number-none k ∙ sym (and-false _)) };
-          low = omega arith;
-          shown = sym zero;
-          last = sym (ne_eqb level clue (λ same. omega arith));
-        },
-      ),
-  λ (line, none, is).
-      let at : IsAtLevel sets clue level mask [] = rw (nil_from_length line none) at is in
-      let zero : level ≡ 0 = sym at.shown in
-      let known = first_level at in
-      (first level mask).1 (zero, known.0, omega (arith, known.1)),
-)
+first_reached {sets} {clue} levels some first level mask =
+    grind (arith, nat_tests, has_number-none, and-false, nil_from_length, first_level)
 
 -- a start in three parts: what comes before the place, the value there, and what comes after it
 pub record IsParted (sets : List ℕ) (place : ℕ) (line : List ℕ) : Type 0 where
@@ -112,21 +96,7 @@ next_reached {sets} {clue} {place} {levels} next inside reached is level mask = 
 -- a start shows no more towers than it has values, and one at least where it has any
 pub reached_few : {sets : List ℕ} {clue place : ℕ} (levels : List (List ℕ)) → AreReached sets clue place levels → AreFew clue place levels
 reached_few {sets} {clue} {place} levels reached level mask e =
-    let (line, long, at) = (reached level mask).0 e in
-    let shown = at.shown in
-    let most : seen line ≤ length line = seen_most [] line in
-    let least : 0 < place → 0 < level = λ some. let one = seen_some line (omega arith) in omega arith in
-    record {
-      most = omega arith;
-      least = least;
-      some = λ has. elim (cases_lt 0 place) [
-        | inl more ↦ least more
-        | inr none ↦
-            let zero : length line ≡ 0 = omega arith in
-            let first = first_level (subst (λ l. IsAtLevel sets clue level mask l) (nil_from_length line zero) at) in
-            absurd (elim has [ inl value ↦ omega (arith, value, first.0) | inr last ↦ omega (arith, last, first.1) ])
-      ];
-    }
+    grind (arith, nat_tests, seen_most, seen_some, first_level, nil_from_length)
 
 -- a start with all values at the last level is a filling
 pub reached_filling : {sets : List ℕ} {clue : ℕ} (levels : List (List ℕ)) → 0 < length sets → AreReached sets clue (length sets) levels
@@ -143,14 +113,7 @@ reached_filling {sets} {clue} levels some reached = (
 -- each start with all values at a level is a filling
 pub last_continued : {sets : List ℕ} {clue : ℕ} {levels : List (List ℕ)} → 0 < length sets → AreReached sets clue (length sets) levels
     → AreContinued sets clue (length sets) levels
-last_continued {sets} {clue} {levels} some reached = record {
-  is = λ level mask line long at. (
-    λ e.
-        let last = at_last line at (has_greatest line some at.start long) in
-        ([], rw append-nil record { start = at.start; whole = long; shown = at.shown ∙ last }),
-    λ filling. (reached level mask).1 (line, long, at),
-  );
-}
+last_continued {sets} {clue} {levels} some reached = grind (arith, nat_tests, at_last, has_greatest, append-nil)
 
 -- a value that leads from a start to levels of which each start is continued: so is this start, with the value
 continued_step : {sets : List ℕ} {after : List (List ℕ)} {clue place k level mask : ℕ} (p : List ℕ) → place < length sets → AreContinued sets clue (place + 1) after
@@ -231,8 +194,4 @@ kept_supported {sets} {clue} {place} {levels} {after} inside reached continued v
 -- what holds of it, and of the others as they were
 pub set_each : {A : Type 0} (P : ℕ → A → Type 0) (xs : List A) (i p : ℕ) (x d : A) → i < length xs → P i x → (p ≢ i → P p (get_or xs p d))
     → P p (get_or (set xs i x) p d)
-set_each P xs i p x d inside here other =
-    elim (cases_eq p i) [
-      | inl same ↦ rw (same, get_or-set_same xs i x d inside) here
-      | inr apart ↦ rw (get_or-set_other xs i p x d apart) (other apart)
-    ]
+set_each P xs i p x d inside here other = grind (arith, nat_tests, get_or-set_same, get_or-set_other)

@@ -1,6 +1,7 @@
 -- One value of a set after another, and what they add to the levels.
-use Rattle.std.proofs.Common.{◌≡◌, ◌≢◌, ℕ, ◌+◌, ◌-◌, ◌^◌, ◌<◌, ◌≤◌, ◌⊎◌, ◌↔◌, inl, inr, true, false, not, ◌&&◌, ◌||◌, eqb, leb, List, refl, sym, ap, ◌∙◌, subst, arith}
-use Rattle.std.proofs.lemmas.Bool.{cases_eq, both_ways, and_parts, and_from, or_cases, or_left, or_right, not-true, not_from_false, eqb-true, eq-eqb, false_from_ne_true, leb-true, le-leb}
+use Rattle.std.proofs.lemmas.Bool.Decides.{nat_tests}
+use Rattle.std.proofs.Common.{◌≡◌, ◌≢◌, ℕ, ◌+◌, ◌-◌, ◌^◌, ◌<◌, ◌≤◌, ◌⊎◌, ◌↔◌, inl, inr, true, false, not, ◌&&◌, ◌||◌, eqb, leb, List, sym, ap, ◌∙◌, arith}
+use Rattle.std.proofs.lemmas.Bool.{cases_eq, and_parts, eqb-true, false_from_ne_true}
 use Rattle.std.proofs.Math.Bool.{and-true}
 use Rattle.std.proofs.lemmas.Nat.{pow_pos}
 use Rattle.number_sets.specs.Sets.{has_number}
@@ -16,13 +17,10 @@ abbrev pub AreOthers : ℕ → ℕ → ℕ → Type 0
 AreOthers left value others = (n : ℕ) → has_number others n ≡ (has_number left n && not (eqb n value))
 
 others_lack : (left value others : ℕ) → AreOthers left value others → has_number others value ≡ false
-others_lack left value others are = false_from_ne_true (has_number others value) (λ e.
-    let both = and_parts _ _ (sym (are value) ∙ e) in
-    both_ways (eqb value value) (not-true (eqb value value) both.1) (eq-eqb value value refl))
+others_lack left value others are = grind (arith, nat_tests)
 
 others_have : (left value others n : ℕ) → AreOthers left value others → n ≢ value → has_number left n ≡ true → has_number others n ≡ true
-others_have left value others n are other e =
-    are n ∙ and_from _ _ e (not_from_false (eqb n value) (false_from_ne_true (eqb n value) (λ s. other (eqb-true n value s))))
+others_have left value others n are other e = grind (arith, nat_tests)
 
 others_inside : (left value others n : ℕ) → AreOthers left value others → has_number others n ≡ true → has_number left n ≡ true
 others_inside left value others n are e = (and_parts _ _ (sym (are n) ∙ e)).0
@@ -56,16 +54,10 @@ AreLeft width values left = (n : ℕ) → has_number left n ≡ true → (1 ≤ 
 
 -- all of them are left at first
 pub all_left : (width values left : ℕ) → ((n : ℕ) → has_number left n ≡ (has_number values n && (leb 1 n && leb n width))) → AreLeft width values left
-all_left width values left is n e =
-    let parts = and_parts _ _ (sym (is n) ∙ e) in
-    let both = and_parts _ _ parts.1 in
-    (leb-true 1 n both.0, leb-true n width both.1, parts.0)
+all_left width values left is n e = grind (arith, nat_tests)
 
 none_done : (width values left k : ℕ) → ((n : ℕ) → has_number left n ≡ (has_number values n && (leb 1 n && leb n width))) → IsDone width values left k → ⊥
-none_done width values left k is d =
-    let inside = d.inside in
-    both_ways (has_number left (k + 1)) d.done
-    (is (k + 1) ∙ and_from _ _ d.candidate (and_from _ _ (le-leb 1 (k + 1) (omega arith)) (le-leb (k + 1) width (omega arith))))
+none_done width values left k is d = grind (arith, nat_tests)
 
 -- one value less is left
 pub fewer_left : (width values left value others : ℕ) → AreLeft width values left → AreOthers left value others → AreLeft width values others
@@ -83,26 +75,7 @@ pub record IsDoneWith (P : ℕ → Type 0) (width values left : ℕ) : Type 0 wh
 done_with : (P : ℕ → Type 0) (width values left value others : ℕ) → AreLeft width values left → has_number left value ≡ true → AreOthers left value others
     → IsDoneWith P width values others ↔ (IsDoneWith P width values left ⊎ P (value - 1))
 done_with P width values left value others are here others_are =
-    let (low, high, candidate) = are value here in
-    let next : value - 1 + 1 ≡ value = omega arith in (
-      λ r.
-          let d = r.done in
-          elim (cases_eq (r.k + 1) value) [
-            | inl same ↦ (let last : r.k ≡ value - 1 = omega arith in inr (subst P last r.holds))
-            | inr other ↦
-                let done = false_from_ne_true _ (λ e. both_ways (has_number others (r.k + 1)) d.done (others_have left value others (r.k + 1) others_are other e)) in
-                inl record { k = r.k; done = record { inside = d.inside; candidate = d.candidate; done = done }; holds = r.holds }
-          ],
-      λ s. elim s [
-        | inl r ↦
-            let d = r.done in
-            let done = false_from_ne_true _ (λ e. both_ways (has_number left (r.k + 1)) d.done (others_inside left value others (r.k + 1) others_are e)) in
-            record { k = r.k; done = record { inside = d.inside; candidate = d.candidate; done = done }; holds = r.holds }
-        | inr h ↦
-            let lacks = others_lack left value others others_are in
-            record { k = value - 1; done = record { inside = omega arith; candidate = rw next candidate; done = rw next lacks }; holds = h }
-      ],
-    )
+    grind (arith, nat_tests, others_have, others_inside, others_lack)
 
 -- a mask that such a value gives
 abbrev pub IsGiven : (ℕ → ℕ → ℕ → Type 0) → ℕ → ℕ → ℕ → ℕ → ℕ → Type 0
@@ -118,8 +91,7 @@ pub given_more : (Given : ℕ → ℕ → ℕ → Type 0) (width values left val
     → has_number left value ≡ true → AreOthers left value others → AreAdded (IsGiven Given width values left) old mid → AreAdded (Given (value - 1)) mid now
     → AreAdded (IsGiven Given width values others) old now
 given_more Given width values left value others old mid now are here others_are before new =
-    added_both (IsGiven Given width values left) (Given (value - 1)) (IsGiven Given width values others) old mid now before new
-    (λ level mask. done_with (λ k. Given k level mask) width values left value others are here others_are)
+    grind (arith, nat_tests, added_both, done_with)
 
 -- the value gives some mask of some level
 pub record IsGiving (Given : ℕ → ℕ → ℕ → Type 0) (value k : ℕ) : Type 0 where
@@ -134,27 +106,14 @@ AreGiving Given width values left kept = (value : ℕ) → (has_number kept valu
 
 pub giving_none : (Given : ℕ → ℕ → ℕ → Type 0) (width values left kept : ℕ) → kept ≡ 0
     → ((n : ℕ) → has_number left n ≡ (has_number values n && (leb 1 n && leb n width))) → AreGiving Given width values left kept
-giving_none Given width values left kept none is value = (
-  λ e. absurd (both_ways (has_number kept value) (ap (λ s. has_number s value) none ∙ has_number-none value) e),
-  λ r. absurd (none_done width values left r.k is r.done),
-)
+giving_none Given width values left kept none is value = grind (arith, nat_tests, has_number-none, none_done)
 
 pub giving_more : (Given : ℕ → ℕ → ℕ → Type 0) (width values left one others kept more : ℕ) → AreLeft width values left → has_number left one ≡ true
     → AreOthers left one others → ((level : ℕ) × (mask : ℕ) × Given (one - 1) level mask)
     → ((value : ℕ) → has_number more value ≡ (has_number kept value || eqb value one))
     → AreGiving Given width values left kept → AreGiving Given width values others more
-giving_more Given width values left one others kept more are here others_are (level, mask, given) more_is before value =
-    let then = done_with (IsGiving Given value) width values left one others are here others_are in
-    let (low, high, candidate) = are one here in (
-      λ e. then.1 (elim (or_cases _ _ (sym (more_is value) ∙ e)) [
-        | inl old ↦ inl ((before value).0 old)
-        | inr new ↦ (let same = eqb-true value one new in inr record { is = omega arith; level = level; mask = mask; given = given })
-      ]),
-      λ r. more_is value ∙ elim (then.0 r) [
-        | inl was ↦ or_left _ _ ((before value).1 was)
-        | inr new ↦ or_right _ _ (eq-eqb value one (omega (arith, new.is)))
-      ],
-    )
+giving_more Given width values left one others kept more are here others_are h11 more_is before value =
+    grind (arith, nat_tests, done_with)
 
 pub giving_skipped : (Given : ℕ → ℕ → ℕ → Type 0) (width values left one others kept : ℕ) → AreLeft width values left → has_number left one ≡ true
     → AreOthers left one others → (((level : ℕ) × (mask : ℕ) × Given (one - 1) level mask) → ⊥)

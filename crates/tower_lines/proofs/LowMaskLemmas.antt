@@ -1,6 +1,7 @@
 -- Masks without the least and the greatest value: one value more, the one mask of a list, and what its number of values tells.
+use Rattle.std.proofs.lemmas.Bool.Decides.{nat_tests}
 use Rattle.std.proofs.Common.{◌≡◌, ◌≢◌, ℕ, ◌+◌, ◌-◌, ◌*◌, ◌/◌, ◌%◌, ◌^◌, ◌<◌, ◌≤◌, inl, inr, true, false, ◌&&◌, ltb, List, [], ◌∷◌, ◌++◌, length, refl, sym, ap, ◌∙◌, arith, count_ones}
-use Rattle.std.proofs.lemmas.Bool.{lt-ltb, le-ltb, cases_eq, cases_lt, both_ways, false_from_ne_true, and_from}
+use Rattle.std.proofs.lemmas.Bool.{lt-ltb, le-ltb, cases_eq, cases_lt, and_from}
 use Rattle.std.proofs.lemmas.Nat.{pow_pos, mod_below, ones_cat, shr_split}
 use Rattle.std.proofs.lemmas.Nat.Bits.{bit_at_lowest}
 use Rattle.std.proofs.lemmas.Grind.{pow_more}
@@ -38,9 +39,7 @@ low_unique {width} {m} {n} p h i = same_set m n (λ k. h.bits k ∙ sym (i.bits 
 -- a value between the least and the greatest is in the mask where it is in the list
 pub low_bit : {width mask : ℕ} (p : List ℕ) (k bit : ℕ) → k ≡ bit + 1 → IsLowMask width mask p → bit + 2 < width
     → has_number mask bit ≡ is_in (k + 1) p
-low_bit {width} {mask} p k bit is h l =
-    let e : bit + 2 ≡ k + 1 = omega arith in
-    h.bits bit ∙ rw (lt-ltb (bit + 2) width l) (ap (λ v. is_in v p) e)
+low_bit {width} {mask} p k bit is h l = grind (arith, nat_tests)
 
 -- one such value more
 pub low_more : {width mask : ℕ} (p : List ℕ) (k bit : ℕ) → k ≡ bit + 1 → IsLowMask width mask p → bit + 2 < width → has_number mask bit ≡ false
@@ -69,11 +68,7 @@ low_same {width} {mask} p x h apart = record {
 
 -- no value from the greatest on is in a start that lacks the greatest
 none_high : {sets : List ℕ} (p : List ℕ) (x : ℕ) → IsStart sets p → is_in (length sets) p ≡ false → length sets ≤ x → is_in x p ≡ false
-none_high {sets} p x start lacks high =
-    false_from_ne_true (is_in x p) (λ e.
-    let (place, inside, here) = is_in-place x p e in
-    let most = (start.values place inside).1 in
-    both_ways (is_in (length sets) p) lacks (is_in-at (length sets) p place inside (omega arith)))
+none_high {sets} p x start lacks high = grind (arith, nat_tests, is_in-place, is_in-at)
 
 -- the mask of all values of a start that lacks the greatest
 pub whole_of : {sets : List ℕ} (p : List ℕ) → IsStart sets p → is_in (length sets) p ≡ false → IsMasked (length sets - 1) p
@@ -96,12 +91,7 @@ whole_half {sets} {mask} p start lacks h w =
 
 -- a value above the least is above all of both masks, or of none
 pub tower_half : (whole mask k bit : ℕ) → k ≡ bit + 1 → mask ≡ whole / 2 → tower whole k ≡ tower mask bit
-tower_half whole mask k bit is half =
-    let e : 2 ^ k ≡ 2 ^ (bit + 1) = ap (λ i. 2 ^ i) is in
-    elim (cases_lt mask (2 ^ bit)) [
-      | inl small ↦ (let l : whole < 2 ^ k = omega (arith, pow_more 2 bit) in rw (lt-ltb whole (2 ^ k) l, lt-ltb mask (2 ^ bit) small) refl)
-      | inr large ↦ (let l : 2 ^ k ≤ whole = omega (arith, pow_more 2 bit) in rw (le-ltb whole (2 ^ k) l, le-ltb mask (2 ^ bit) large) refl)
-    ]
+tower_half whole mask k bit is half = grind (arith, nat_tests, pow_more)
 
 -- ---- whether a start has the least value
 
@@ -125,17 +115,10 @@ pub record IsRest (p : List ℕ) (mask further : ℕ) : Type 0 where
 
 -- the list lacks the least value where the mask has all but the further ones
 pub least_tells : {mask further : ℕ} (p : List ℕ) → IsRest p mask further → is_in 1 p ≡ false → count_ones mask + further ≡ length p
-least_tells {mask} {further} p r lacks =
-    let none : r.rest % 2 ≡ 0 = sym (bit_at_lowest r.rest) ∙ bit-from_no_number r.rest 0 (r.least ∙ lacks) in
-    let same = ap count_ones r.half in
-    omega (arith, ones_half r.rest, r.ones)
+least_tells {mask} {further} p r lacks = grind (arith, nat_tests, bit_at_lowest, bit-from_no_number, ones_half)
 
 pub least_told : {mask further : ℕ} (p : List ℕ) → IsRest p mask further → count_ones mask + further ≡ length p → is_in 1 p ≡ false
-least_told {mask} {further} p r all =
-    false_from_ne_true (is_in 1 p) (λ has.
-    let one : r.rest % 2 ≡ 1 = sym (bit_at_lowest r.rest) ∙ bit-from_number r.rest 0 (r.least ∙ has) in
-    let same = ap count_ones r.half in
-    omega (arith, ones_half r.rest, r.ones))
+least_told {mask} {further} p r all = grind (arith, nat_tests, bit_at_lowest, bit-from_number, ones_half)
 
 -- of a start without the greatest value
 pub rest_low : {sets : List ℕ} {mask : ℕ} (p : List ℕ) → IsStart sets p → is_in (length sets) p ≡ false → IsLowMask (length sets) mask p

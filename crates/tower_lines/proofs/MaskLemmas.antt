@@ -1,7 +1,8 @@
 -- Masks of lists: one value more or less, the one mask of a list, the mask that each start has.
+use Rattle.std.proofs.lemmas.Bool.Decides.{nat_tests}
 use Rattle.std.proofs.Common.{◌≡◌, ◌≢◌, ℕ, ◌+◌, ◌-◌, ◌^◌, ◌<◌, ◌≤◌, inl, inr, true, false, ◌||◌, eqb, ltb, cond, List, [], ◌∷◌, ◌++◌, length, refl, sym, ap, ◌∙◌, arith, append_assoc, count_ones}
 use Rattle.std.specs.List.{list_all}
-use Rattle.std.proofs.lemmas.Bool.{eqb-true, eq-eqb, ne_eqb, lt-ltb, le-ltb, cases_eq, cases_lt, cases_Bool, false≢true, both_ways}
+use Rattle.std.proofs.lemmas.Bool.{eq-eqb, ne_eqb, lt-ltb, le-ltb, cases_eq, cases_lt, cases_Bool, false≢true, both_ways}
 use Rattle.std.proofs.Math.Bool.{or-true, or-false, and-false}
 use Rattle.std.proofs.lemmas.Nat.{pow_pos, ones_le_self}
 use Rattle.std.proofs.lemmas.List.{append-nil, length_push}
@@ -86,11 +87,7 @@ all_below (x ∷ p) k h =
 -- and a value not below k + 1
 some_above : (p : List ℕ) (k j : ℕ) → k ≤ j → is_in (j + 1) p ≡ true → list_all (λ y. ltb y (k + 1)) p ≡ false
 some_above [] k j l e = absurd (false≢true e)
-some_above (x ∷ p) k j l e =
-    elim (cases_Bool (eqb x (j + 1))) [
-      | inl here ↦ (let same = eqb-true x (j + 1) here in rw (le-ltb x (k + 1) (omega arith)) refl)
-      | inr other ↦ rw (some_above p k j l (rw other at e)) (and-false (ltb x (k + 1)))
-    ]
+some_above (x ∷ p) k j l e = grind (arith, nat_tests, and-false, some_above p k j l)
 
 -- a value is greater than all of a list where its power of two is greater than the list's mask
 pub tower_is : {mask : ℕ} (p : List ℕ) (k : ℕ) → IsMask mask p → list_all (λ y. ltb y (k + 1)) p ≡ ltb mask (2 ^ k)

@@ -1,12 +1,13 @@
 -- Sets of masks as words of 64 masks each: a word's masks one bit up or down, a set from its words.
+use Rattle.std.proofs.lemmas.Bool.Decides.{nat_tests}
 use Rattle.std.proofs.Common.{◌≡◌, ◌≢◌, ℕ, ◌+◌, ◌-◌, ◌*◌, ◌/◌, ◌%◌, ◌^◌, ◌<◌, ◌≤◌, ◌↔◌, inl, inr, Bool, true, false, not, ◌&&◌, eqb, leb, ltb, List, [], ◌∷◌, length, get_or, set, replicate, refl, sym, ap, ◌∙◌, arith, bit_and, count_ones, w64}
 use Rattle.std.specs.Bool.{MatchBool}
 use Rattle.std.specs.Int.{bit_not, trailing_zeros}
-use Rattle.std.proofs.lemmas.Bool.{MatchBool-at_true, MatchBool-at_false, not-true, not_from_false, agree_below, agree_below_at, both_ways, cases_Bool, cases_eq, cases_lt, ne_eqb, ltb-true, lt-ltb, le-ltb, lt-leb, le-leb, false_from_ne_true, and_left, and_right}
+use Rattle.std.proofs.lemmas.Bool.{agree_below, agree_below_at, cases_Bool, cases_eq, ne_eqb, ltb-true}
 use Rattle.std.proofs.Math.Bool.{and-true, and-false, and_comm}
 use Rattle.std.proofs.lemmas.Nat.{shl-shr, mod_below, one_shl}
 use Rattle.std.proofs.lemmas.Nat.Bits.{bit_at_not, bit_at_lowest, bit_at-trailing_zeros}
-use Rattle.std.proofs.lemmas.List.{get_or-set_same, get_or-set_other, get_or_past, length-set, length-replicate, get_or-replicate}
+use Rattle.std.proofs.lemmas.List.{get_or-set_same, get_or-set_other, get_or_past, length-replicate, get_or-replicate}
 use Rattle.number_sets.specs.Sets.{has_number}
 use Rattle.number_sets.proofs.Members.{bit-from_number, bit-from_no_number, number-from_bit, no_number-from_bit, has_number-none, has_number-and, has_number-shr, has_number-mod, has_number-one, power_most}
 use Rattle.number_sets.proofs.OneMore.{added_with, added_below}
@@ -23,10 +24,6 @@ bit_of i b h = omega arith
 -- a mask is in the set where the bit of its word is set
 pub has_mask-at : (words : List ℕ) (i b : ℕ) → b < 64 → has_mask words (64 * i + b) ≡ has_number (get_or words i 0) b
 has_mask-at words i b h = rw (word_of i b h, bit_of i b h) refl
-
--- a mask's six lowest bits are those of its bit in the word, and the others those of its word
-pub has_number-low : (i b k : ℕ) → b < 64 → k < 6 → has_number (64 * i + b) k ≡ has_number b k
-has_number-low i b k h low = sym (has_number-mod (64 * i + b) 6 k low) ∙ ap (λ n. has_number n k) (bit_of i b h)
 
 -- ---- a word's masks with a bit that they lack, and without one that they have
 
@@ -53,11 +50,7 @@ has_number-up w s b most h =
 pub raised_word : (w k b : ℕ) → k < 6 → b < 64
     → has_number (bit_and (w * 2 ^ (2 ^ k) % 2 ^ 64) (with_bit k)) b ≡ (has_number b k && has_number w (b - 2 ^ k))
 raised_word w k b small h =
-    rw (has_number-and (w * 2 ^ (2 ^ k) % 2 ^ 64) (with_bit k) b, has_number-with_bit k b small h)
-    (elim (cases_Bool (has_number b k)) [
-      | inl e ↦ rw (e, has_number-up w (2 ^ k) b (power_most b k e) h) (and-true (has_number w (b - 2 ^ k)))
-      | inr e ↦ rw e (and-false (has_number (w * 2 ^ (2 ^ k) % 2 ^ 64) b))
-    ])
+    grind (arith, nat_tests, has_number-and, has_number-with_bit, has_number-up, power_most, and-true, and-false)
 
 has_number-not : (n b : ℕ) → n < 2 ^ 64 → b < 64 → has_number (bit_not w64 n) b ≡ not (has_number n b)
 has_number-not n b small h =
@@ -79,33 +72,33 @@ has_number-down w s b = let e : s + b ≡ b + s = omega arith in has_number-shr 
 pub lowered_word : (w k b : ℕ) → k < 6 → b < 64
     → has_number (bit_and (w / 2 ^ (2 ^ k)) (bit_not w64 (with_bit k))) b ≡ (not (has_number b k) && has_number w (b + 2 ^ k))
 lowered_word w k b small h =
-    has_number-lacks (w / 2 ^ (2 ^ k)) (with_bit k) b (with_bit_small k small) h
-    ∙ rw (has_number-with_bit k b small h, has_number-down w (2 ^ k) b) (and_comm (has_number w (b + 2 ^ k)) (not (has_number b k)))
+    grind (arith, nat_tests, has_number-lacks, with_bit_small, has_number-with_bit, has_number-down, and_comm)
 
 -- ---- the bit below 6: the mask stays in its word
 
-pub word_with_low : (words : List ℕ) (i k b place : ℕ) → k < 6 → b < 64 → place ≡ k
-    → has_number (bit_and (get_or words i 0 * 2 ^ (1 * 2 ^ k % 2 ^ 32) % 2 ^ 64) (with_bit place)) b
-    ≡ (has_number (64 * i + b) k && has_mask words (64 * i + b - 2 ^ k))
-word_with_low words i k b place low h is =
-    rw (is, one_shl k 32 (omega arith), has_number-low i b k h low, raised_word (get_or words i 0) k b low h)
-    (elim (cases_Bool (has_number b k)) [
-      | inl e ↦ (let most = power_most b k e in
-          let place : 64 * i + b - 2 ^ k ≡ 64 * i + (b - 2 ^ k) = omega arith in
-          rw (e, place) (sym (has_mask-at words i (b - 2 ^ k) (omega arith))))
+pub word_with_low : (words : List ℕ) (k m place : ℕ) → k < 6 → place ≡ k
+    → has_number (bit_and (get_or words (m / 64) 0 * 2 ^ (1 * 2 ^ k % 2 ^ 32) % 2 ^ 64) (with_bit place)) (m % 64) ≡ (has_number m k && has_mask words (m - 2 ^ k))
+word_with_low words k m place low is =
+    rw (is, one_shl k 32 (omega arith), ← has_number-mod m 6 k low, raised_word (get_or words (m / 64) 0) k (m % 64) low (mod_below m 64 (omega arith)))
+    (elim (cases_Bool (has_number (m % 64) k)) [
+      | inl e ↦ (let most = power_most (m % 64) k e in
+          let word : (m - 2 ^ k) / 64 ≡ m / 64 = omega arith in
+          let bit : (m - 2 ^ k) % 64 ≡ m % 64 - 2 ^ k = omega arith in
+          rw (word, bit) refl)
       | inr e ↦ rw e refl
     ])
 
-pub word_without_low : (words : List ℕ) (i k b place : ℕ) → k < 6 → b < 64 → place ≡ k
-    → has_number (bit_and (get_or words i 0 / 2 ^ (1 * 2 ^ k % 2 ^ 32)) (bit_not w64 (with_bit place))) b
-    ≡ (not (has_number (64 * i + b) k) && has_mask words (64 * i + b + 2 ^ k))
-word_without_low words i k b place low h is =
-    rw (is, one_shl k 32 (omega arith), has_number-low i b k h low, lowered_word (get_or words i 0) k b low h)
-    (elim (cases_Bool (has_number b k)) [
+pub word_without_low : (words : List ℕ) (k m place : ℕ) → k < 6 → place ≡ k
+    → has_number (bit_and (get_or words (m / 64) 0 / 2 ^ (1 * 2 ^ k % 2 ^ 32)) (bit_not w64 (with_bit place))) (m % 64)
+    ≡ (not (has_number m k) && has_mask words (m + 2 ^ k))
+word_without_low words k m place low is =
+    rw (is, one_shl k 32 (omega arith), ← has_number-mod m 6 k low, lowered_word (get_or words (m / 64) 0) k (m % 64) low (mod_below m 64 (omega arith)))
+    (elim (cases_Bool (has_number (m % 64) k)) [
       | inl e ↦ rw e refl
-      | inr e ↦ (let more : b + 2 ^ k < 64 = added_below (added_with b k (b + 2 ^ k) e refl) 6 h low in
-          let place : 64 * i + b + 2 ^ k ≡ 64 * i + (b + 2 ^ k) = omega arith in
-          rw (e, place) (sym (has_mask-at words i (b + 2 ^ k) more)))
+      | inr e ↦ (let more : m % 64 + 2 ^ k < 64 = added_below (added_with (m % 64) k (m % 64 + 2 ^ k) e refl) 6 (mod_below m 64 (omega arith)) low in
+          let word : (m + 2 ^ k) / 64 ≡ m / 64 = omega arith in
+          let bit : (m + 2 ^ k) % 64 ≡ m % 64 + 2 ^ k = omega arith in
+          rw (word, bit) refl)
     ])
 
 -- ---- the tables, whose rows are sets of two words
@@ -145,11 +138,7 @@ pub below_bit_has : (k m : ℕ) → k < 9 → m < 128 → has_mask (below_bit k)
 below_bit_has k m few small = row_has bounds (λ j n. ltb n (2 ^ j)) refl k m few small
 
 not_below : (m n : ℕ) → not (ltb m n) ≡ leb n m
-not_below m n =
-    elim (cases_lt m n) [
-      | inl low ↦ rw (lt-ltb m n low, lt-leb n m low) refl
-      | inr high ↦ rw (le-ltb m n high, le-leb n m high) refl
-    ]
+not_below m n = grind (arith, nat_tests)
 
 pub above_bit_has : (k m : ℕ) → k < 9 → m < 128 → not (has_mask (below_bit k) m) ≡ leb (2 ^ k) m
 above_bit_has k m few small = ap not (below_bit_has k m few small) ∙ not_below m (2 ^ k)
@@ -158,16 +147,10 @@ above_bit_has k m few small = ap not (below_bit_has k m few small) ∙ not_below
 
 -- after its last word a set has no mask
 pub has_mask-past : (words : List ℕ) (m : ℕ) → 64 * length words ≤ m → has_mask words m ≡ false
-has_mask-past words m h =
-    let past : length words ≤ m / 64 = omega arith in
-    ap (λ w. has_number w (m % 64)) (get_or_past words (m / 64) 0 past) ∙ has_number-none (m % 64)
+has_mask-past words m h = grind (arith, nat_tests, get_or_past, has_number-none)
 
 has_mask-none : (n m : ℕ) → has_mask (replicate n 0) m ≡ false
-has_mask-none n m =
-    elim (cases_lt (m / 64) n) [
-      | inl inside ↦ ap (λ w. has_number w (m % 64)) (get_or-replicate n (m / 64) 0 0 inside) ∙ has_number-none (m % 64)
-      | inr past ↦ (let room : length (replicate {A = ℕ} n 0) ≡ n = length-replicate n 0 in has_mask-past (replicate n 0) m (omega arith))
-    ]
+has_mask-none n m = grind (arith, nat_tests, get_or-replicate, has_number-none, length-replicate, has_mask-past)
 
 -- a mask is in its word, or in another
 has_mask-set_same : (words : List ℕ) (i w m : ℕ) → i < length words → m / 64 ≡ i → has_mask (set words i w) m ≡ has_number w (m % 64)
@@ -186,41 +169,10 @@ start_has n m some =
           ∙ sym (ne_eqb m 0 (λ e. other (rw e refl)))
     ]
 
--- of n words those below i have just the masks that pass the test
-pub record AreFilled (test : ℕ → Bool) (words : List ℕ) (n i : ℕ) : Type 0 where
-  pub room : length words ≡ n
-  pub masks : (m : ℕ) → m < 64 * i → has_mask words m ≡ test m
-
--- before the first word nothing is filled in
-pub filled_none : (test : ℕ → Bool) (n : ℕ) → AreFilled test (replicate n 0) n 0
-filled_none test n = record {
-  room = length-replicate n 0;
-  masks = λ m h. absurd (omega arith);
-}
-
--- one word more is filled in
-pub filled_more : (test : ℕ → Bool) (words : List ℕ) (n i w : ℕ) → AreFilled test words n i → i < n
-    → ((b : ℕ) → b < 64 → has_number w b ≡ test (64 * i + b)) → AreFilled test (set words i w) n (i + 1)
-filled_more test words n i w before inside here =
-    let room = before.room in
-    record {
-      room = length-set words i w ∙ before.room;
-      masks = λ m h. elim (cases_eq (m / 64) i) [
-        | inl same ↦ (let place : 64 * i + m % 64 ≡ m = omega arith in
-            has_mask-set_same words i w m (omega arith) same ∙ here (m % 64) (mod_below m 64 (omega arith)) ∙ ap test place)
-        | inr other ↦ has_mask-set_other words i w m other ∙ before.masks m (omega arith)
-      ];
-    }
-
--- when all words are filled in, the set has just the masks that pass the test
-pub filled_all : (test : ℕ → Bool) (words : List ℕ) (n i : ℕ) → AreFilled test words n i → n ≤ i
+-- a set has just the masks that pass a test where its words do, and none past them passes it
+pub words_have : (test : ℕ → Bool) (words : List ℕ) (n : ℕ) → length words ≡ n → ((m : ℕ) → m / 64 < n → has_mask words m ≡ test m)
     → ((m : ℕ) → 64 * n ≤ m → test m ≡ false) → (m : ℕ) → has_mask words m ≡ test m
-filled_all test words n i filled end past m =
-    let room = filled.room in
-    elim (cases_lt m (64 * n)) [
-      | inl inside ↦ filled.masks m (omega arith)
-      | inr outside ↦ has_mask-past words m (omega arith) ∙ sym (past m outside)
-    ]
+words_have test words n room here past m = grind (arith, nat_tests, has_mask-past)
 
 -- no mask past the words comes of one inside by one of its values
 pub with_past_low : (words : List ℕ) (n k m : ℕ) → length words ≡ n → k < 6 → 64 * n ≤ m → (has_number m k && has_mask words (m - 2 ^ k)) ≡ false
@@ -239,54 +191,39 @@ has_last m = sym (has_number-shr m 6 0)
 pub with_last_has : (words : List ℕ) (n m : ℕ) → n ≡ 2 → length words ≡ n
     → has_mask (set (replicate n 0) 1 (get_or words 0 0)) m ≡ (has_number m 6 && has_mask words (m - 2 ^ 6))
 with_last_has words n m two long =
-    let room : length (replicate {A = ℕ} n 0) ≡ n = length-replicate n 0 in
-    elim (cases_eq (m / 64) 1) [
-      | inl second ↦ (let word : (m - 64) / 64 ≡ 0 = omega arith in
-          let bit : (m - 64) % 64 ≡ m % 64 = omega arith in
-          has_mask-set_same (replicate n 0) 1 (get_or words 0 0) m (omega (arith, room, two)) second ∙ rw (has_last m, second, word, bit) refl)
-      | inr other ↦ has_mask-set_other (replicate n 0) 1 (get_or words 0 0) m other ∙ has_mask-none n m ∙ sym (elim (cases_Bool (has_number m 6)) [
-        | inl has ↦ (let odd : m / 64 % 2 ≡ 1 = sym (bit_at_lowest (m / 64)) ∙ bit-from_number (m / 64) 0 (sym (has_last m) ∙ has) in
-            and_right _ _ (has_mask-past words (m - 64) (omega (arith, long, two, odd, other))))
-        | inr lacks ↦ rw lacks refl
-      ])
-    ]
+    grind (
+      arith,
+      nat_tests,
+      length-replicate,
+      has_mask-set_same,
+      has_last,
+      has_mask-set_other,
+      has_mask-none,
+      bit_at_lowest,
+      bit-from_number,
+      has_mask-past,
+    )
 
 pub without_last_has : (words : List ℕ) (n m : ℕ) → n ≡ 2 → length words ≡ n
     → has_mask (set (replicate n 0) 0 (get_or words 1 0)) m ≡ (not (has_number m 6) && has_mask words (m + 2 ^ 6))
 without_last_has words n m two long =
-    let room : length (replicate {A = ℕ} n 0) ≡ n = length-replicate n 0 in
-    elim (cases_eq (m / 64) 0) [
-      | inl first ↦ (let word : (m + 64) / 64 ≡ 1 = omega arith in
-          let bit : (m + 64) % 64 ≡ m % 64 = omega arith in
-          has_mask-set_same (replicate n 0) 0 (get_or words 1 0) m (omega (arith, room, two)) first ∙ rw (has_last m, first, word, bit) refl)
-      | inr other ↦ has_mask-set_other (replicate n 0) 0 (get_or words 1 0) m other ∙ has_mask-none n m
-          ∙ sym (and_right _ _ (has_mask-past words (m + 64) (omega (arith, long, two))))
-    ]
+    grind (
+      arith,
+      nat_tests,
+      length-replicate,
+      has_mask-set_same,
+      has_last,
+      has_mask-set_other,
+      has_mask-none,
+      has_mask-past,
+    )
 
 -- two tests that agree on the masks of two words take the same masks out of a set of two words at most
 pub same_taken : (words : List ℕ) (test other : ℕ → Bool) (n : ℕ) → length words ≡ n → n ≤ 2 → ((m : ℕ) → m < 128 → test m ≡ other m)
     → (m : ℕ) → (has_mask words m && test m) ≡ (has_mask words m && other m)
-same_taken words test other n room small agree m =
-    elim (cases_lt m 128) [
-      | inl inside ↦ ap (λ b. has_mask words m && b) (agree m inside)
-      | inr past ↦ (let none = has_mask-past words m (omega (arith, room)) in and_left _ _ none ∙ sym (and_left _ _ none))
-    ]
+same_taken words test other n room small agree m = grind (arith, nat_tests, has_mask-past)
 
--- ---- words without a mask
-
-pub none_more : (words : List ℕ) (i : ℕ) → ((m : ℕ) → m < 64 * i → has_mask words m ≡ false) → get_or words i 0 ≡ 0
-    → (m : ℕ) → m < 64 * (i + 1) → has_mask words m ≡ false
-none_more words i before none m h =
-    elim (cases_eq (m / 64) i) [
-      | inl same ↦ rw (same, none) (has_number-none (m % 64))
-      | inr other ↦ before m (omega arith)
-    ]
-
-pub none_all : (words : List ℕ) (n i : ℕ) → length words ≡ n → n ≤ i → ((m : ℕ) → m < 64 * i → has_mask words m ≡ false)
-    → (m : ℕ) → has_mask words m ≡ false
-none_all words n i room end before m =
-    elim (cases_lt m (64 * n)) [ inl inside ↦ before m (omega arith) | inr outside ↦ has_mask-past words m (omega arith) ]
-
+-- a set has a mask where a word of it is not 0
 pub some_mask : (words : List ℕ) (i : ℕ) → get_or words i 0 ≢ 0 → get_or words i 0 < 2 ^ 64 → (m : ℕ) × (has_mask words m ≡ true)
 some_mask words i some small =
     let w = get_or words i 0 in
@@ -299,8 +236,4 @@ some_mask words i some small =
 -- a set that isn't empty has a mask
 pub not_empty : (masks : List ℕ) (empty : Bool) → MatchBool empty ((m : ℕ) → has_mask masks m ≡ false) ((m : ℕ) × (has_mask masks m ≡ true))
     → (not empty ≡ true) ↔ ((m : ℕ) × (has_mask masks m ≡ true))
-not_empty masks empty test = (
-  λ e. MatchBool-at_false ((m : ℕ) → has_mask masks m ≡ false) ((m : ℕ) × (has_mask masks m ≡ true)) (not-true empty e) test,
-  λ r. not_from_false empty (false_from_ne_true empty (λ e.
-      both_ways (has_mask masks r.0) (MatchBool-at_true ((m : ℕ) → has_mask masks m ≡ false) ((m : ℕ) × (has_mask masks m ≡ true)) e test r.0) r.1)),
-)
+not_empty masks empty test = grind (arith, nat_tests)

@@ -43,15 +43,11 @@ pub record IsLeastSeen (p : List ℕ) (least : ℕ) : Type 0 where
 
 -- after a height that is seen, the heights above it are seen
 pub least_seen_more : (p : List ℕ) (least height : ℕ) → IsLeastSeen p least → least ≤ height → IsLeastSeen (p ++ height ∷ []) (height + 1)
-least_seen_more p least height h l = record {
-  taller = λ x. list_all-append (λ y. ltb y x) p (height ∷ []) ∙ rw (h.taller x) (grind (arith, nat_tests));
-}
+least_seen_more p least height h l = grind (arith, nat_tests, list_all-append)
 
 -- after one that is hidden, the same heights are
 pub least_seen_same : (p : List ℕ) (least height : ℕ) → IsLeastSeen p least → height < least → IsLeastSeen (p ++ height ∷ []) least
-least_seen_same p least height h l = record {
-  taller = λ x. list_all-append (λ y. ltb y x) p (height ∷ []) ∙ rw (h.taller x) (grind (arith, nat_tests));
-}
+least_seen_same p least height h l = grind (arith, nat_tests, list_all-append)
 
 -- a height that is seen is one tower more
 pub seen-more_seen : (p : List ℕ) (least height : ℕ) → IsLeastSeen p least → least ≤ height → seen (p ++ height ∷ []) ≡ seen p + 1

@@ -1,6 +1,7 @@
 -- Starts of a line: their parts, and one more value at the end.
+use Rattle.std.proofs.lemmas.Bool.Decides.{nat_tests}
 use Rattle.std.proofs.Common.{◌≡◌, ◌≢◌, ℕ, ◌+◌, ◌<◌, ◌≤◌, inl, inr, true, false, eqb, List, [], ◌∷◌, ◌++◌, length, get_or, refl, sym, ◌∙◌, arith, add-one, length-append}
-use Rattle.std.proofs.lemmas.Bool.{eqb-true, eq-eqb, cases_lt, cases_Bool, false≢true, false_from_ne_true, both_ways}
+use Rattle.std.proofs.lemmas.Bool.{eqb-true, eq-eqb, cases_Bool, false≢true, false_from_ne_true, both_ways}
 use Rattle.std.proofs.lemmas.List.{get_or_append_left, get_or_at, length_push}
 use Rattle.std.proofs.lemmas.List.Folds.{list_any_at}
 use Rattle.number_sets.specs.Sets.{has_number}
@@ -59,12 +60,7 @@ start_next {sets} p v s h =
 -- what holds of each place of p and of v after it
 push_each : (P : ℕ → ℕ → Type 0) (p : List ℕ) (v : ℕ) → ((j : ℕ) → j < length p → P j (get_or p j 0)) → P (length p) v
     → (j : ℕ) → j < length (p ++ v ∷ []) → P j (get_or (p ++ v ∷ []) j 0)
-push_each P p v each last j l =
-    let n = length_push p v in
-    elim (cases_lt j (length p)) [
-      | inl less ↦ rw (get_or_append_left p (v ∷ []) 0 j less) (each j less)
-      | inr more ↦ (let e : j ≡ length p = omega arith in rw e (rw (get_or_at p v [] 0 (length p) refl) last))
-    ]
+push_each P p v each last j l = grind (arith, nat_tests, length_push, get_or_append_left, get_or_at)
 
 -- a start with such a value more is a start
 pub start_more : {sets : List ℕ} (p : List ℕ) (v : ℕ) → IsStart sets p → IsNextValue sets p v → IsStart sets (p ++ v ∷ [])

@@ -4,6 +4,7 @@ use Rattle.std.proofs.lemmas.Bool.{ne_eqb}
 use Rattle.unequal_game.specs.declared.unequal.sign.Sign.{Sign}
 use Rattle.unequal_game.specs.declared.unequal.sign.Sign.TheVariants.{Absent, FirstGreater, SecondGreater}
 use Rattle.unequal_game.specs.Unequal.{UnequalValue, IsGreater, sign_between}
+use Rattle.unequal_game.specs.Laws.Signs.{first_said, second_said}
 
 -- from a square back to an earlier one no sign stands
 none_back : (v : UnequalValue) (a b : ℕ) → a < b → sign_between v b a ≡ Absent
@@ -15,22 +16,16 @@ first_by_sign v a b s low is = (
   λ e. inl (sym is ∙ e),
   λ h. elim h [
     | inl e ↦ is ∙ e
-    | inr e ↦ absurd (clash (sym (none_back v a b low) ∙ e))
+    | inr e ↦ absurd (second_said (sym (none_back v a b low) ∙ e))
   ],
 )
-  where
-    clash : Absent ≡ SecondGreater → ⊥
-    clash e = cc
 
 -- and the second
 pub second_by_sign : (v : UnequalValue) (a b : ℕ) (s : Sign) → a < b → s ≡ sign_between v a b → (s ≡ SecondGreater) ↔ IsGreater v b a
 second_by_sign v a b s low is = (
   λ e. inr (sym is ∙ e),
   λ h. elim h [
-    | inl e ↦ absurd (clash (sym (none_back v a b low) ∙ e))
+    | inl e ↦ absurd (first_said (sym (none_back v a b low) ∙ e))
     | inr e ↦ is ∙ e
   ],
 )
-  where
-    clash : Absent ≡ FirstGreater → ⊥
-    clash e = cc

@@ -1,6 +1,7 @@
 -- An item of Unequal is denied: a given goes from the candidates of its square, and a sign is turned round.
+use Rattle.std.proofs.lemmas.Bool.Decides.{nat_tests}
 use Rattle.std.proofs.Common.{◌≡◌, ◌≢◌, ℕ, ◌+◌, ◌*◌, ◌<◌, ◌≤◌, ◌⊎◌, true, false, List, set, length, refl, sym, ap, subst, ◌∙◌, inl, inr, arith, slice_index}
-use Rattle.std.proofs.lemmas.Bool.{lt-ltb, cases_lt, cases_eq, eq-eqb, ne_eqb}
+use Rattle.std.proofs.lemmas.Bool.{cases_eq, eq-eqb, ne_eqb}
 use Rattle.std.proofs.lemmas.List.{get_or-set_same, get_or-set_other}
 use Rattle.latin_board.specs.Squares.{GridValue, IsGrid, IsLatin, number_at}
 use Rattle.latin_board.proofs.LatinLines.{line_differs}
@@ -10,7 +11,7 @@ use Rattle.trail_solver.specs.Solutions.{Denies}
 use Rattle.unequal_game.specs.declared.unequal.item.Item.{Item}
 use Rattle.unequal_game.specs.declared.unequal.item.Item.TheVariants.{RightSign, LowerSign, Given}
 use Rattle.unequal_game.specs.declared.unequal.sign.Sign.{Sign}
-use Rattle.unequal_game.specs.declared.unequal.sign.Sign.TheVariants.{Absent, FirstGreater, SecondGreater}
+use Rattle.unequal_game.specs.declared.unequal.sign.Sign.TheVariants.{Absent}
 use Rattle.line_steps.specs.Inner.Narrowing.{KeepsEach}
 use Rattle.unequal_game.specs.Inner.UnequalItems.{denied_item, item_cell, turned_sign, with_item}
 use Rattle.unequal_game.specs.Unequal.{UnequalValue, IsUnequal, holds_sign, holds_signs, lower_sign, right_sign, sign_between, unequal_puzzle}
@@ -67,15 +68,7 @@ solved_but v r d p q g x y same here s = record {
 
 -- of two different numbers, a sign holds or its opposite
 held_or_turned : (s : Sign) (m n : ℕ) → (IsSaid s → m ≢ n) → (holds_sign s m n ≡ true) ⊎ (holds_sign (turned_sign s) m n ≡ true)
-held_or_turned Absent m n differ = inl refl
-held_or_turned FirstGreater m n differ = elim (cases_lt n m) [
-  | inl greater ↦ inl (lt-ltb n m greater)
-  | inr other ↦ let apart = differ first_said in let less : m < n = omega arith in inr (lt-ltb m n less)
-]
-held_or_turned SecondGreater m n differ = elim (cases_lt m n) [
-  | inl less ↦ inl (lt-ltb m n less)
-  | inr other ↦ let apart = differ second_said in let greater : n < m = omega arith in inr (lt-ltb n m greater)
-]
+held_or_turned s m n differ = grind (arith, nat_tests, first_said, second_said)
 
 said_differ : (v : UnequalValue) (x y : ℕ) (g : GridValue) → IsUnequal v → IsGrid g → IsLatin g → g.size ≡ v.size
     → IsSaid (sign_between v x y) → number_at g x ≢ number_at g y

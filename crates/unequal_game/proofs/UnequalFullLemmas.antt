@@ -1,40 +1,28 @@
 -- The signs of the full puzzle of a grid.
-use Rattle.std.proofs.Common.{◌≡◌, ◌↔◌, ℕ, ◌<◌, ◌≤◌, List, inl, inr, refl, sym, ◌∙◌, arith}
-use Rattle.std.proofs.lemmas.Bool.{lt-ltb, le-ltb, cases_lt}
+use Rattle.std.proofs.lemmas.Bool.Decides.{nat_tests}
+use Rattle.std.proofs.Common.{◌≡◌, ◌↔◌, ℕ, ◌<◌, ◌≤◌, List, inl, inr, arith}
 use Rattle.latin_board.specs.Squares.{GridValue, IsGrid, number_at}
 use Rattle.unequal_game.specs.declared.unequal.direction.Direction.TheVariants.{Right, Down}
 use Rattle.unequal_game.specs.declared.unequal.sign.Sign.{Sign}
-use Rattle.unequal_game.specs.declared.unequal.sign.Sign.TheVariants.{Absent, FirstGreater, SecondGreater}
+use Rattle.unequal_game.specs.declared.unequal.sign.Sign.TheVariants.{FirstGreater, SecondGreater}
 use Rattle.unequal_game.specs.Unequal.{IsGreater, AreNeighbours, sign_of, sign_in_grid, full_unequal}
 use Rattle.unequal_game.specs.Inner.UnequalFields.{HoldsSignsOf, unequal_value}
 use Rattle.unequal_game.specs.Laws.Neighbours.{neighbours_next, next_towards}
 use Rattle.unequal_game.specs.Laws.Signs.{signed_greater}
 
 first_sign : (x y : ℕ) → y < x → sign_of x y ≡ FirstGreater
-first_sign x y h = rw (lt-ltb y x h) refl
+first_sign x y h = grind (arith, nat_tests)
 
 second_sign : (x y : ℕ) → x < y → sign_of x y ≡ SecondGreater
-second_sign x y h = rw (le-ltb y x (omega arith), lt-ltb x y h) refl
+second_sign x y h = grind (arith, nat_tests)
 
 -- the greater of two numbers is the one that their sign says
 
 sign_first : (x y : ℕ) → sign_of x y ≡ FirstGreater → y < x
-sign_first x y e = elim (cases_lt y x) [
-  | inl greater ↦ greater
-  | inr upper ↦ elim (cases_lt x y) [
-    | inl less ↦ absurd (let f : SecondGreater ≡ FirstGreater = sym (second_sign x y less) ∙ e in cc)
-    | inr lower ↦ absurd (let f : Absent ≡ FirstGreater = rw (le-ltb y x upper, le-ltb x y lower) at e in cc)
-  ]
-]
+sign_first x y e = grind (arith, nat_tests)
 
 sign_second : (x y : ℕ) → sign_of x y ≡ SecondGreater → x < y
-sign_second x y e = elim (cases_lt x y) [
-  | inl less ↦ less
-  | inr lower ↦ elim (cases_lt y x) [
-    | inl greater ↦ absurd (let f : FirstGreater ≡ SecondGreater = sym (first_sign x y greater) ∙ e in cc)
-    | inr upper ↦ absurd (let f : Absent ≡ SecondGreater = rw (le-ltb y x upper, le-ltb x y lower) at e in cc)
-  ]
-]
+sign_second x y e = grind (arith, nat_tests)
 
 -- the full puzzle says of each two neighbours which one the grid has greater
 pub full_greater : (g : GridValue) (a b : ℕ) → IsGrid g

@@ -4,8 +4,8 @@ use Rattle.number_sets.specs.Sets.{has_number}
 use Rattle.trail_solver.specs.Pairs.{IsPair}
 use Rattle.trail_solver.specs.Candidates.{CandidatesValue}
 use Rattle.unequal_game.specs.Unequal.{UnequalValue, IsUnequal, IsGreater}
-use Rattle.unequal_game.specs.Laws.Neighbours.{next_inside}
-use Rattle.unequal_game.specs.Laws.Signs.{greater_next, never_both}
+use Rattle.unequal_game.specs.Laws.Signs.{never_both}
+use Rattle.unequal_game.specs.Laws.UnequalReasons.{ends_inside}
 use Rattle.line_steps.specs.Left.{IsLeft}
 use Rattle.unequal_game.specs.UnequalReasons.{IsBySign}
 
@@ -38,12 +38,6 @@ lesser_struck p c from to cell result v valid inside here down tested = (
 -- a sign's first square is one of the grid
 pub from_inside : (p : UnequalValue) (c : CandidatesValue) (from to cell v : ℕ) → IsUnequal p → IsBySign p c from to cell v → from < p.size * p.size
 from_inside p c from to cell v valid h = elim h.why [
-  | inl above ↦ elim (greater_next p from to valid above.0) [
-    | inl up ↦ up.0.inside
-    | inr down ↦ next_inside p.size to from valid.givens.smallest down.0
-  ]
-  | inr below ↦ elim (greater_next p to from valid below.0) [
-    | inl up ↦ next_inside p.size to from valid.givens.smallest up.0
-    | inr down ↦ down.0.inside
-  ]
+  | inl above ↦ (ends_inside p from to valid above.0).0
+  | inr below ↦ (ends_inside p to from valid below.0).1
 ]

@@ -18,17 +18,17 @@ use Rattle.unequal_game.specs.Unequal.{UnequalValue, IsUnequal, blank_unequal, n
 use Rattle.trail_solver.proofs.KeptItems.{kept-all, kept-same, not_positive}
 use Rattle.unequal_game.specs.Laws.UnequalItems.{number_of_item_at, has_is_item, not_present}
 use Rattle.unequal_game.specs.Laws.Signs.{none_at_end}
-use Rattle.line_steps.proofs.FilledLemmas.{IsFilledBy, filled_more}
+use Rattle.line_steps.proofs.FilledLemmas.{IsFilledBy}
 use Rattle.trail_solver.proofs.ItemsLost.{kept-but_one}
 
 -- the front with one sign set
 pub sign_in_front : (n : ℕ) (places : List Sign) (cell : ℕ) (s : Sign) → cell < n → take n (set places cell s) ≡ set (take n places) cell s
 sign_in_front n places cell s inside = take-set-lt n places cell s inside
 
--- a sign that is turned round stands where one stood
-pub turned_kept : (w : ℕ) (d : Direction) (places : List Sign) (cell : ℕ) (s t : Sign) → cell < w * w → KeepsSigns w d places
-    → s ≡ slice_index_or (take (w * w) places) cell Absent → t ≡ turned_sign s → KeepsSigns w d (set places cell t)
-turned_kept w d places cell s t inside kept is turn = record {
+-- a sign may change where the square has a neighbour, and anywhere to no sign
+sign_put : (w : ℕ) (d : Direction) (places : List Sign) (cell : ℕ) (t : Sign) → cell < w * w → (neighbour w cell d ≡ None → t ≡ Absent) → KeepsSigns w d places
+    → KeepsSigns w d (set places cell t)
+sign_put w d places cell t inside gone kept = record {
   padded = record {
     count = length-set places cell t ∙ kept.padded.count;
     within = kept.padded.within;
@@ -36,12 +36,17 @@ turned_kept w d places cell s t inside kept is turn = record {
   };
   ends = λ k none. rw (sign_in_front (w * w) places cell t inside) (elim (cases_eq k cell) [
     | inl same ↦
-        let gone : s ≡ Absent = is ∙ rw same at (kept.ends k none) in
         let count : cell < length (take (w * w) places) = omega (arith, length-take (w * w) places, kept.padded.count, kept.padded.within) in
-        rw (same, get_or-set_same (take (w * w) places) cell t Absent count) (turn ∙ ap turned_sign gone)
+        rw (same, get_or-set_same (take (w * w) places) cell t Absent count) (gone (rw same at none))
     | inr other ↦ rw (get_or-set_other (take (w * w) places) cell k t Absent other) (kept.ends k none)
   ]);
 }
+
+-- a sign that is turned round stands where one stood
+pub turned_kept : (w : ℕ) (d : Direction) (places : List Sign) (cell : ℕ) (s t : Sign) → cell < w * w → KeepsSigns w d places
+    → s ≡ slice_index_or (take (w * w) places) cell Absent → t ≡ turned_sign s → KeepsSigns w d (set places cell t)
+turned_kept w d places cell s t inside kept is turn =
+    sign_put w d places cell t inside (λ none. turn ∙ ap turned_sign (is ∙ kept.ends cell none)) kept
 
 -- to take the item of a number away is to keep all others
 
@@ -92,14 +97,6 @@ without_cut v i valid = by (item_at v.size i) refl
         let one = one_goes 0 (nat_lt 0) not_positive (λ k. item_number v.size (Given k)) i c v.givens (number (Given c) is) (λ k here e. ap item_cell (only (Given c) (Given k) is here e)) in
         rw (right, below, one) refl
 
--- a table that is filled from the front: one sign more, and all signs
-
--- one sign more is filled in
-pub sign_filled : (w : ℕ) (sign : ℕ → ℕ → Sign) (d : Direction) (cell : ℕ) (places : List Sign) (s : Sign) → cell < 81
-    → s ≡ sign_towards w sign d cell → IsFilledBy Absent 81 (sign_towards w sign d) cell places
-    → IsFilledBy Absent 81 (sign_towards w sign d) (cell + 1) (set places cell s)
-sign_filled w sign d cell places s room is h = filled_more Absent 81 (sign_towards w sign d) cell places s room is h
-
 -- when the squares of the grid are passed, the signs of the direction are there
 pub signs_filled : (w : ℕ) (sign : ℕ → ℕ → Sign) (d : Direction) (cell : ℕ) (places : List Sign) → cell ≡ w * w
     → IsFilledBy Absent 81 (sign_towards w sign d) cell places → HoldsSignsOf w sign d places
@@ -113,32 +110,18 @@ signs_filled w sign d cell places all h =
       front = front;
     }
 
--- a sign may stand where the square has a neighbour
-sign_put : (w : ℕ) (d : Direction) (places : List Sign) (cell : ℕ) (t : Sign) → cell < w * w → (neighbour w cell d ≡ None → ⊥) → KeepsSigns w d places
-    → KeepsSigns w d (set places cell t)
-sign_put w d places cell t inside there kept = record {
-  padded = record {
-    count = length-set places cell t ∙ kept.padded.count;
-    within = kept.padded.within;
-    rest = drop-set-lt (w * w) places cell t inside ∙ kept.padded.rest;
-  };
-  ends = λ k none. rw (sign_in_front (w * w) places cell t inside) (elim (cases_eq k cell) [
-    | inl same ↦ absurd (there (rw same at none))
-    | inr other ↦ rw (get_or-set_other (take (w * w) places) cell k t Absent other) (kept.ends k none)
-  ]);
-}
-
+-- a sign towards the right or the lower neighbour, where the square has one
 pub right_put : (w : ℕ) (places : List Sign) (cell : ℕ) (t : Sign) → cell < w * w → cell % w + 1 < w → KeepsSigns w Right places
     → KeepsSigns w Right (set places cell t)
 right_put w places cell t inside room kept =
-    sign_put w Right places cell t inside (λ none. let there : neighbour w cell Right ≡ Some (cell + 1) = rw (ne_eqb (cell % w + 1) w (λ e. omega arith)) refl in
-    let e : None ≡ Some (cell + 1) = sym none ∙ there in cc) kept
+    sign_put w Right places cell t inside (λ none. absurd (let there : neighbour w cell Right ≡ Some (cell + 1) = rw (ne_eqb (cell % w + 1) w (λ e. omega arith)) refl in
+    let e : None ≡ Some (cell + 1) = sym none ∙ there in cc)) kept
 
 pub below_put : (w : ℕ) (places : List Sign) (cell : ℕ) (t : Sign) → cell < w * w → cell + w < w * w → KeepsSigns w Down places
     → KeepsSigns w Down (set places cell t)
 below_put w places cell t inside room kept =
-    sign_put w Down places cell t inside (λ none. let there : neighbour w cell Down ≡ Some (cell + w) = rw (lt-ltb (cell + w) (w * w) room) refl in
-    let e : None ≡ Some (cell + w) = sym none ∙ there in cc) kept
+    sign_put w Down places cell t inside (λ none. absurd (let there : neighbour w cell Down ≡ Some (cell + w) = rw (lt-ltb (cell + w) (w * w) room) refl in
+    let e : None ≡ Some (cell + w) = sym none ∙ there in cc)) kept
 
 -- no sign and no given
 pub blank_kept : (right below : List Sign) (givens : GridValue) → right ≡ replicate 81 Absent → below ≡ replicate 81 Absent → IsGrid givens

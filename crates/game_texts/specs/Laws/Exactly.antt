@@ -1,17 +1,14 @@
 -- A list of just so many members is taken as it is, and any other refused.
-use Rattle.std.proofs.Common.{◌≡◌, ℕ, ◌<◌, nat_lt, List, length, Ok, Err, refl, arith}
-use Rattle.std.proofs.lemmas.Bool.{ltb-false, lt-ltb, le-ltb}
+use Rattle.std.proofs.lemmas.Bool.Decides.{nat_tests}
+use Rattle.std.proofs.Common.{◌≡◌, ℕ, ◌<◌, List, length, Ok, Err, refl, arith}
+use Rattle.std.proofs.lemmas.Bool.{lt-ltb, le-ltb}
 use Rattle.game_texts.specs.declared.id_fault.IdFault.TheVariants.{TooFew, TooMany}
 use Rattle.game_texts.specs.IdFaults.{exactly}
 use Rattle.game_texts.specs.Laws.Refusals.{refused_then}
 
 -- a list that is taken has the length that was asked for
 pub exactly_taken : {X : Type 0} (n : ℕ) (xs ys : List X) → exactly n xs ≡ Ok ys → (xs ≡ ys) × (length xs ≡ n)
-exactly_taken n xs ys is =
-    let enough = refused_then (nat_lt (length xs) n) TooFew _ ys is in
-    let not_many = refused_then (nat_lt n (length xs)) TooMany (Ok xs) ys enough.1 in
-    let same : Ok xs ≡ Ok ys = not_many.1 in
-    (cc, omega (arith, ltb-false _ _ enough.0, ltb-false _ _ not_many.0))
+exactly_taken n xs ys is = grind (arith, nat_tests, refused_then)
 
 -- a list of that length is taken
 pub exactly_again : {X : Type 0} (n : ℕ) (xs : List X) → length xs ≡ n → exactly n xs ≡ Ok xs

@@ -1,9 +1,10 @@
 -- No reading is refused for memory.
-use Rattle.std.proofs.Common.{ℕ, Bool, true, false, nat_lt, List, length, Result, Ok, Err}
+use Rattle.std.proofs.Common.{arith}
+use Rattle.std.proofs.lemmas.Bool.Decides.{nat_tests}
+use Rattle.std.proofs.Common.{ℕ, Bool, true, false, List, Result, Ok, Err}
 use Rattle.std.proofs.Common.{if◌then◌else◌}
 use Rattle.byte_text.specs.Reading.{◌>>=◌}
 use Rattle.game_texts.specs.declared.id_fault.IdFault.{IdFault}
-use Rattle.game_texts.specs.declared.id_fault.IdFault.TheVariants.{TooFew, TooMany}
 use Rattle.game_texts.specs.IdFaults.{NotForMemory, exactly}
 
 -- where neither of two readings is refused for want of memory, both in turn aren't
@@ -21,6 +22,4 @@ not_for_memory-if false x y h k = k
 
 -- nor is the number of things in a list
 pub exactly_not_for_memory : {X : Type 0} (n : ℕ) (xs : List X) → NotForMemory (exactly n xs)
-exactly_not_for_memory n xs =
-    not_for_memory-if (nat_lt (length xs) n) (Err TooFew) _ (λ e. cc)
-    (not_for_memory-if (nat_lt n (length xs)) (Err TooMany) (Ok xs) (λ e. cc) tt)
+exactly_not_for_memory n xs = grind (arith, nat_tests, not_for_memory-if)

@@ -1,4 +1,5 @@
 -- The square part of a Towers description: what is read has the grammar, and what has the grammar is read.
+use Rattle.std.proofs.lemmas.Bool.Decides.{nat_tests}
 use Rattle.std.proofs.Common.{◌≡◌, ℕ, zero, suc, ◌+◌, ◌-◌, ◌*◌, ◌<◌, ◌≤◌, true, false, ◌==◌, ◌&&◌, ◌||◌, not, nat_le}
 use Rattle.std.proofs.Common.{List, [], ◌∷◌, ◌++◌, length, replicate, Ok, ◌⊎◌, inl, inr, refl, sym, ap, ◌∙◌, subst}
 use Rattle.std.proofs.Common.{arith}
@@ -21,34 +22,13 @@ SquareByte w b bs =
     ⊎ ((digit_zero + 1 ≤ b) × (b ≤ digit_zero + w) × (begins_digit bs ≡ false))
 
 letter_true : (b : ℕ) → letter_a ≤ b → b ≤ letter_z → is_blank_letter b ≡ true
-letter_true b low high =
-    and_from (nat_le letter_a b) (nat_le b letter_z) (le-leb letter_a b low) (le-leb b letter_z high)
+letter_true b low high = grind (arith, nat_tests)
 
 letter_false : (b : ℕ) → b < letter_a → is_blank_letter b ≡ false
 letter_false b low = rw (lt-leb letter_a b low) refl
 
 pub byte_taken : (w b : ℕ) (bs : List ℕ) → is_square_byte w b bs ≡ true → SquareByte w b bs
-byte_taken w b bs is =
-    let digit = nat_le (digit_zero + 1) b && (nat_le b (digit_zero + w) && not (begins_digit bs)) in
-    elim (or_cases (b == underscore) (is_blank_letter b || digit) is) [
-      | inl same ↦ inl (eqb-true b underscore same)
-      | inr other ↦
-          elim (or_cases (is_blank_letter b) digit other) [
-            | inl letter ↦
-                let bounds = and_parts (nat_le letter_a b) (nat_le b letter_z) letter in
-                inr (inl (leb-true letter_a b bounds.0, leb-true b letter_z bounds.1))
-            | inr is_given ↦
-                let first =
-                and_parts (nat_le (digit_zero + 1) b)
-                (nat_le b (digit_zero + w) && not (begins_digit bs)) is_given in
-                let second = and_parts (nat_le b (digit_zero + w)) (not (begins_digit bs)) first.1 in
-                inr (inr (
-                  leb-true (digit_zero + 1) b first.0,
-                  leb-true b (digit_zero + w) second.0,
-                  not-true (begins_digit bs) second.1,
-                ))
-          ]
-    ]
+byte_taken w b bs is = grind (arith, nat_tests)
 
 pub squares_of_underscore : (b : ℕ) → b ≡ underscore → squares_of b ≡ []
 squares_of_underscore b same = rw same refl
@@ -88,13 +68,7 @@ squares_taken w (b ∷ bs) small is =
 
 -- a byte of the grammar passes, and so does the rest
 byte_again : (w b : ℕ) (bs : List ℕ) → SquareByte w b bs → is_square_byte w b bs ≡ true
-byte_again w b bs (inl same) = rw (eq-eqb b underscore same) refl
-byte_again w b bs (inr (inl (low, high))) = or_right (b == underscore) _ (rw (letter_true b low high) refl)
-byte_again w b bs (inr (inr (low, high, ends))) =
-    let last : not (begins_digit bs) ≡ true = rw ends refl in
-    let bounds = and_from (nat_le b (digit_zero + w)) (not (begins_digit bs)) (le-leb b (digit_zero + w) high) last in
-    or_right (b == underscore) _
-    (or_right (is_blank_letter b) _ (and_from (nat_le (digit_zero + 1) b) _ (le-leb (digit_zero + 1) b low) bounds))
+byte_again w b bs is = grind (arith, nat_tests)
 
 pub squares_again : (w : ℕ) (bs squares : List ℕ) → w ≤ 9 → IsSquareText w bs squares
     → (is_square_part w bs ≡ true) × (flat_map squares_of bs ≡ squares)

@@ -1,6 +1,6 @@
 -- What the clues of Towers strike: from fewer candidates too, in no solution, in the whole puzzle if in a cut, and along
 -- which lines.
-use Rattle.std.proofs.Common.{◌≡◌, ◌≢◌, ℕ, ◌*◌, ◌<◌, Bool, List, slice_index, refl, sym, ap, ◌∙◌, subst, arith}
+use Rattle.std.proofs.Common.{◌≡◌, ◌≢◌, ℕ, ◌*◌, ◌<◌, Bool, slice_index, refl, sym, ap, ◌∙◌, subst, arith}
 use Rattle.latin_board.specs.Squares.{GridValue, IsGrid, IsLatin, number_at}
 use Rattle.latin_board.specs.Lines.{line_cell}
 use Rattle.latin_board.proofs.LatinLines.{line_differs, latin_full}
@@ -20,7 +20,7 @@ use Rattle.towers_game.specs.Rows.{May}
 use Rattle.line_steps.specs.Laws.Along.{quiet_own, was_gone}
 use Rattle.trail_solver.proofs.KeptItems.{kept_number}
 use Rattle.line_steps.specs.Laws.Edges.{view_index_low, view_line_low}
-use Rattle.line_steps.specs.Laws.Less.{all_less, no_other_less}
+use Rattle.line_steps.specs.Laws.Less.{all_less}
 use Rattle.line_steps.specs.Laws.LineSquares.{view_index_apart, view_inside}
 use Rattle.line_steps.specs.Laws.Sound.{IsSquareOf, square_of}
 use Rattle.towers_game.specs.Laws.TowersItems.{length-line_from, clues_decide}
@@ -33,43 +33,42 @@ use Rattle.line_steps.specs.declared.grade.Grade.TheVariants.{Easy, Hard}
 
 -- ---- fewer candidates
 
--- what is in no filling is in none of those by less
-pub unfilled_less : (w : ℕ) (May Less : ℕ → ℕ → Type 0) (place clue cell value : ℕ)
-    → ((cell value : ℕ) → Less cell value → May cell value)
-    → IsUnfilled w May place clue cell value → IsUnfilled w Less place clue cell value
-unfilled_less w May Less place clue cell value fewer h = record {
-  index = h.index;
-  inside = h.inside;
-  here = h.here;
-  none = λ line f. h.none line (record {
-    whole = f.whole;
-    pairs = f.pairs;
-    may = λ k low. fewer _ _ (f.may k low);
-    apart = f.apart;
-    shown = f.shown;
-  });
-}
-
--- what a clue strikes by what may stand it strikes by less
-pub clue_less : (v : TowersValue) (May Less : ℕ → ℕ → Type 0) (place cell value : ℕ)
-    → ((cell value : ℕ) → Less cell value → May cell value)
+-- what a clue strikes by what may stand along its line it strikes by less
+clue_less : (v : TowersValue) (May Less : ℕ → ℕ → Type 0) (place cell value : ℕ)
+    → ((k u : ℕ) → k < v.size → Less (view_cell v.size place k) u → May (view_cell v.size place k) u)
     → IsByClue v May place cell value → IsByClue v Less place cell value
 clue_less v May Less place cell value fewer h = record {
   place_is = h.place_is;
   clued = h.clued;
-  unfilled = unfilled_less v.size May Less place _ cell value fewer h.unfilled;
+  unfilled = record {
+    index = h.unfilled.index;
+    inside = h.unfilled.inside;
+    here = h.unfilled.here;
+    none = λ line f. h.unfilled.none line (record {
+      whole = f.whole;
+      pairs = f.pairs;
+      may = λ k low. fewer k (slice_index line k) low (f.may k low);
+      apart = f.apart;
+      shown = f.shown;
+    });
+  };
 }
 
-standing_less : (c d : CandidatesValue) → IsFewer c d → (cell value : ℕ) → Standing d cell value → Standing c cell value
-standing_less c d fewer cell value h = λ alone none. h alone (no_other_less c d cell alone fewer none)
+-- what may stand in a square may stand there while all stays that is left of it
+may_stays : (look : Look) (c d : CandidatesValue) (cell value : ℕ) → ((u : ℕ) → IsLeft c cell u → IsLeft d cell u)
+    → May look c cell value → May look d cell value
+may_stays Alone c d cell value stays may = tt
+may_stays Stands c d cell value stays may = λ alone none. may alone (λ other left. none other (stays other left))
+may_stays Marks c d cell value stays may = stays value may
 
 -- what a clue strikes it strikes from fewer
 pub towers_own_less : (v : TowersValue) (c d : CandidatesValue) (reason : Reason) (cell value : ℕ) → IsFewer c d
     → IsTowersOwn v c reason cell value → IsTowersOwn v d reason cell value
 towers_own_less v c d (Bound place) cell value fewer h = h
 towers_own_less v c d (Stand place) cell value fewer h =
-    clue_less v (Standing c) (Standing d) place cell value (standing_less c d fewer) h
-towers_own_less v c d (Clue place) cell value fewer h = clue_less v (IsLeft c) (IsLeft d) place cell value fewer h
+    clue_less v (Standing c) (Standing d) place cell value (λ k u low. may_stays Stands d c _ u (fewer _)) h
+towers_own_less v c d (Clue place) cell value fewer h =
+    clue_less v (IsLeft c) (IsLeft d) place cell value (λ k u low. may_stays Marks d c _ u (fewer _)) h
 towers_own_less v c d reason cell value fewer h = absurd h
 
 -- so does each reason of Towers
@@ -171,49 +170,19 @@ towers_whole v keep c reason cell value h = absurd h
 
 -- ---- lines
 
--- what may stand in a square may stand there while all stays that is left of it
-may_stays : (look : Look) (c d : CandidatesValue) (cell value : ℕ) → ((u : ℕ) → IsLeft c cell u → IsLeft d cell u)
-    → May look c cell value → May look d cell value
-may_stays Alone c d cell value stays may = tt
-may_stays Stands c d cell value stays may = λ alone none. may alone (λ other left. none other (stays other left))
-may_stays Marks c d cell value stays may = stays value may
-
-filling_stays : (w place clue : ℕ) (First Second : ℕ → ℕ → Type 0) (line : List ℕ)
-    → ((k value : ℕ) → k < w → First (view_cell w place k) value → Second (view_cell w place k) value)
-    → IsFillingFrom w First place clue line → IsFillingFrom w Second place clue line
-filling_stays w place clue First Second line stays h = record {
-  whole = h.whole;
-  pairs = h.pairs;
-  may = λ k low. stays k (slice_index line k) low (h.may k low);
-  apart = h.apart;
-  shown = h.shown;
-}
-
 -- what a clue strikes it struck before, where all stayed along its line
 pub clue_was : (v : TowersValue) (look : Look) (place cell value : ℕ) (c d : CandidatesValue) → c.size ≡ v.size
     → place < 4 * c.size
     → StaysOn (view_line c.size place) c d → IsByClue v (May look d) place cell value
     → IsByClue v (May look c) place cell value
 clue_was v look place cell value c d size place_is stays h =
-    let low : place < 4 * v.size = omega (arith, size, place_is) in
     let On : ℕ → Type 0 =
     λ w. (k u : ℕ) → k < w → IsLeft c (line_cell w (view_line w place) k) u
     → IsLeft d (line_cell w (view_line w place) k) u in
     let on : On v.size = subst On size stays in
-    record {
-      place_is = h.place_is;
-      clued = h.clued;
-      unfilled = record {
-        index = h.unfilled.index;
-        inside = h.unfilled.inside;
-        here = h.unfilled.here;
-        none = λ line filling. h.unfilled.none line
-            (filling_stays v.size place (clue_of v place) (May look c) (May look d) line
-            (λ k u k_is may. may_stays look c d (view_cell v.size place k) u
-            (λ x left. on (view_index v.size place k) x (view_index_low v.size place k k_is) left) may)
-            filling);
-      };
-    }
+    clue_less v (May look d) (May look c) place cell value
+    (λ k u k_is may. may_stays look c d (view_cell v.size place k) u
+    (λ x left. on (view_index v.size place k) x (view_index_low v.size place k k_is) left) may) h
 
 -- a clue that strikes nothing strikes nothing where all stays along its line
 pub view_stays : (v : TowersValue) (look : Look) (place : ℕ) (c d : CandidatesValue) → c.size ≡ v.size
@@ -269,7 +238,7 @@ left_stands c cell value left = λ alone none. none value left
 easy_own : (v : TowersValue) (line : ℕ) (c : CandidatesValue) → AreViewsQuiet v Stands line c
     → IsQuietAlong (IsTowersOwn v) Easy line c
 easy_own v line c quiet (Bound place) cell value has along pair h =
-    quiet place along.0 along.1 cell value pair (clue_less v Anything (Standing c) place cell value (λ k x may. tt) h)
+    quiet place along.0 along.1 cell value pair (clue_less v Anything (Standing c) place cell value (λ k x low may. tt) h)
 easy_own v line c quiet (Stand place) cell value has along pair h = quiet place along.0 along.1 cell value pair h
 easy_own v line c quiet (Clue place) cell value has along pair h = absurd (cc)
 easy_own v line c quiet reason cell value has along pair h = absurd h
@@ -282,9 +251,9 @@ easy_along v line c quiet = quiet_own (towers_puzzle v) (IsTowersOwn v) Easy lin
 hard_own : (v : TowersValue) (line : ℕ) (c : CandidatesValue) → AreViewsQuiet v Marks line c
     → IsQuietAlong (IsTowersOwn v) Hard line c
 hard_own v line c quiet (Bound place) cell value has along pair h =
-    quiet place along.0 along.1 cell value pair (clue_less v Anything (IsLeft c) place cell value (λ k x may. tt) h)
+    quiet place along.0 along.1 cell value pair (clue_less v Anything (IsLeft c) place cell value (λ k x low may. tt) h)
 hard_own v line c quiet (Stand place) cell value has along pair h =
-    quiet place along.0 along.1 cell value pair (clue_less v (Standing c) (IsLeft c) place cell value (left_stands c) h)
+    quiet place along.0 along.1 cell value pair (clue_less v (Standing c) (IsLeft c) place cell value (λ k x low. left_stands c _ x) h)
 hard_own v line c quiet (Clue place) cell value has along pair h = quiet place along.0 along.1 cell value pair h
 hard_own v line c quiet reason cell value has along pair h = absurd h
 

@@ -1,19 +1,18 @@
 -- Letters and numbers as the bytes of a piece: what is read of a piece that was written, and what is written of one
 -- that was read.
-use Rattle.std.proofs.Common.{◌≡◌, ◌≢◌, ℕ, zero, suc, ◌+◌, ◌-◌, ◌<◌, ◌≤◌, ◌⊎◌, Bool, true, false, nat_le, not, ◌&&◌}
+use Rattle.std.proofs.Common.{◌≡◌, ◌≢◌, ℕ, zero, suc, ◌+◌, ◌-◌, ◌<◌, ◌≤◌, ◌⊎◌, Bool, true, false, nat_le}
 use Rattle.std.proofs.Common.{List, [], ◌∷◌, length, drop, map, Option, Some, None, is_some, unwrap_or, refl, sym, ap}
-use Rattle.std.proofs.Common.{◌∙◌, inl, inr, arith, ◌==◌, if◌then◌else◌}
+use Rattle.std.proofs.Common.{◌∙◌, inl, inr, arith, ◌==◌}
 use Rattle.std.specs.List.{list_all, list_any, filter, filter_map, Contains}
 use Rattle.std.proofs.lemmas.Bool.{eq-eqb, eqb-true, false≢true, and_parts, cond_both, or_cases, or_right}
 use Rattle.std.proofs.lemmas.Bool.Decides.{nat_tests}
 use Rattle.byte_text.specs.Cuts.{Lacks}
 use Rattle.byte_text.specs.Decimals.{begins_digit}
-use Rattle.byte_text.specs.Bytes.{capital_u, capital_r, capital_d, capital_l, comma, digit_zero}
+use Rattle.byte_text.specs.Bytes.{comma, digit_zero}
 use Rattle.unequal_game.specs.declared.unequal.direction.Direction.{Direction}
 use Rattle.unequal_game.specs.declared.unequal.direction.Direction.TheVariants.{Up, Right, Down, Left}
 use Rattle.unequal_game.specs.UnequalText.{Piece, letter_of, piece_text, directions_at, number_in, begins_with_number}
 use Rattle.unequal_game.specs.UnequalText.{direction_of, has_letters, piece_at, says}
-use Rattle.unequal_game.specs.Laws.RangeTests.{some_if}
 
 -- directions and letters
 
@@ -25,19 +24,7 @@ direction_of-letter Down = refl
 direction_of-letter Left = refl
 
 pub letter_of-direction : (b : ℕ) (d : Direction) → direction_of b ≡ Some d → letter_of d ≡ b
-letter_of-direction b d e = elim (some_if (b == capital_u) Up d _ e) [
-  | inl up ↦ rw (← up.1) (sym (eqb-true b capital_u up.0))
-  | inr right_on ↦ elim (some_if (b == capital_r) Right d _ right_on.1) [
-    | inl right ↦ rw (← right.1) (sym (eqb-true b capital_r right.0))
-    | inr down_on ↦ elim (some_if (b == capital_d) Down d _ down_on.1) [
-      | inl down ↦ rw (← down.1) (sym (eqb-true b capital_d down.0))
-      | inr left_on ↦ elim (some_if (b == capital_l) Left d None left_on.1) [
-        | inl left ↦ rw (← left.1) (sym (eqb-true b capital_l left.0))
-        | inr none ↦ absurd (let f : None ≡ Some d = none.1 in cc)
-      ]
-    ]
-  ]
-]
+letter_of-direction b d e = grind (arith, nat_tests)
 
 pub same_letter : (d e : Direction) → (letter_of d == letter_of e) ≡ true → d ≡ e
 same_letter d e h =
@@ -46,10 +33,7 @@ same_letter d e h =
     cc
 
 letter_no_comma : (d : Direction) → letter_of d ≢ comma
-letter_no_comma Up e = omega arith
-letter_no_comma Right e = omega arith
-letter_no_comma Down e = omega arith
-letter_no_comma Left e = omega arith
+letter_no_comma d e = grind (arith, nat_tests)
 
 -- members of lists
 
@@ -79,14 +63,7 @@ contains_filter p x (y ∷ xs) h e = elim (contains_cases x y xs h) [
 
 pub filter_contains : {X : Type 0} (p : X → Bool) (x : X) (xs : List X) → Contains (filter p xs) x → p x ≡ true
 filter_contains p x [] h = absurd (omega (arith, h.1))
-filter_contains p x (y ∷ xs) h =
-    cond_both (p y) (y ∷ filter p xs) (filter p xs) (λ ys. Contains ys x → p x ≡ true)
-    (λ e h. elim (contains_cases x y (filter p xs) h) [
-      | inl here ↦ ap p (sym here)
-          ∙ e
-      | inr there ↦ filter_contains p x xs there
-    ])
-    (λ e h. filter_contains p x xs h) h
+filter_contains p x (y ∷ xs) h = grind (arith, nat_tests, contains_cases, filter_contains p x xs)
 
 -- a letter among letters is its direction among directions
 
@@ -187,17 +164,7 @@ letters_written (b ∷ bs) e =
 
 number_written : (w b : ℕ) (bs : List ℕ) → begins_with_number w (b ∷ bs) ≡ true
     → digit_zero + unwrap_or (number_in w (b ∷ bs)) 0 ≡ b
-number_written w b bs e = go (nat_le digit_zero b && nat_le b (digit_zero + w) && not (begins_digit bs)) refl e
-  where
-    go : (t : Bool) → (nat_le digit_zero b && nat_le b (digit_zero + w) && not (begins_digit bs)) ≡ t
-        → is_some (if t then Some (b - digit_zero) else None) ≡ true
-        → digit_zero + unwrap_or (if t then Some (b - digit_zero) else None) 0 ≡ b
-    go false h e = absurd (false≢true e)
-    go true h e =
-        let front = and_parts (nat_le digit_zero b && nat_le b (digit_zero + w)) (not (begins_digit bs)) h in
-        let low = and_parts (nat_le digit_zero b) (nat_le b (digit_zero + w)) front.0 in
-        let more : digit_zero ≤ b = grind (arith, nat_tests, low.0) in
-        omega arith
+number_written w b bs e = grind (arith, nat_tests)
 
 pub read_piece_written : (w : ℕ) (bytes : List ℕ) → begins_with_number w bytes ≡ true → has_letters bytes ≡ true
     → piece_text (read_piece w bytes) ≡ bytes
@@ -206,13 +173,4 @@ read_piece_written w (b ∷ bs) number letters = rw (number_written w b bs numbe
 
 pub number_small : (w : ℕ) (bytes : List ℕ) → unwrap_or (number_in w bytes) 0 ≤ w
 number_small w [] = omega arith
-number_small w (b ∷ bs) = go (nat_le digit_zero b && nat_le b (digit_zero + w) && not (begins_digit bs)) refl
-  where
-    go : (t : Bool) → (nat_le digit_zero b && nat_le b (digit_zero + w) && not (begins_digit bs)) ≡ t
-        → unwrap_or (if t then Some (b - digit_zero) else None) 0 ≤ w
-    go false h = omega arith
-    go true h =
-        let front = and_parts (nat_le digit_zero b && nat_le b (digit_zero + w)) (not (begins_digit bs)) h in
-        let high = and_parts (nat_le digit_zero b) (nat_le b (digit_zero + w)) front.0 in
-        let less : b ≤ digit_zero + w = grind (arith, nat_tests, high.1) in
-        omega arith
+number_small w (b ∷ bs) = grind (arith, nat_tests)

@@ -1,5 +1,6 @@
 -- A square and its neighbours: of each two, one is the right or the lower neighbour of the other, and they follow each
 -- other on a line.
+use Rattle.std.proofs.lemmas.Bool.Decides.{nat_tests}
 use Rattle.std.proofs.Common.{◌≡◌, ℕ, ◌+◌, ◌-◌, ◌*◌, ◌/◌, ◌%◌, ◌<◌, ◌≤◌, ◌⊎◌, Bool, true, false, if◌then◌else◌, ◌==◌}
 use Rattle.std.proofs.Common.{nat_lt, Some, None, refl, sym, ◌∙◌, inl, inr, arith}
 use Rattle.std.proofs.lemmas.Nat.{div_below, mod_below, div-mul-add, mod-mul-add}
@@ -35,10 +36,7 @@ below_of w a b e =
 
 -- of two neighbours the first comes before the second in reading order
 pub next_order : (w a b : ℕ) → 3 ≤ w → IsNext w a b → a < b
-next_order w a b small h = elim h.points [
-  | inl right ↦ omega (arith, (right_of w a b right).1)
-  | inr below ↦ omega (arith, (below_of w a b below).1)
-]
+next_order w a b small h = grind (arith, nat_tests)
 
 -- the neighbour of a square is next to it, or it next to the neighbour
 pub towards : (w a b : ℕ) (d : Direction) → 3 ≤ w → a < w * w → neighbour w a d ≡ Some b → IsNext w a b ⊎ IsNext w b a

@@ -1,13 +1,8 @@
 -- Tests of the numbers of a range.
-use Rattle.std.proofs.Common.{◌≡◌, ℕ, zero, suc, ◌+◌, ◌<◌, ◌≤◌, Bool, true, false, Option, Some, ◌⊎◌, refl, sym, ◌∙◌}
-use Rattle.std.proofs.Common.{inl, inr, arith, if◌then◌else◌}
+use Rattle.std.proofs.Common.{◌≡◌, ℕ, zero, suc, ◌+◌, ◌<◌, ◌≤◌, Bool, true, false, refl, sym, ◌∙◌}
+use Rattle.std.proofs.Common.{inl, inr, arith}
 use Rattle.std.specs.List.{list_all, list_any, range_with_len}
 use Rattle.std.proofs.lemmas.Bool.{false≢true, cases_lt, and_parts, or_cases, or_right, false_from_ne_true}
-
-pub some_if : {X : Type 0} (t : Bool) (x y : X) (o : Option X) → (if t then Some x else o) ≡ Some y
-    → ((t ≡ true) × (x ≡ y)) ⊎ ((t ≡ false) × (o ≡ Some y))
-some_if true x y o e = inl (refl, cc)
-some_if false x y o e = inr (refl, e)
 
 -- a test that holds of all numbers of a range
 pub all_in_range : (p : ℕ → Bool) (a n i : ℕ) → list_all p (range_with_len a n) ≡ true → a ≤ i → i < a + n → p i ≡ true

@@ -1,10 +1,11 @@
 -- What the letters of pieces say of which of two squares is the greater, and that no two squares contradict each other
 -- where no two neighbours do.
-use Rattle.std.proofs.Common.{◌≡◌, ℕ, ◌*◌, ◌<◌, ◌≤◌, true, false, ◌&&◌, List, map, Option, Some, None, refl, sym, ap}
+use Rattle.std.proofs.lemmas.Bool.Decides.{nat_tests}
+use Rattle.std.proofs.Common.{◌≡◌, ℕ, ◌*◌, ◌<◌, ◌≤◌, true, false, ◌&&◌, List, map, Option, Some, None, refl, sym}
 use Rattle.std.proofs.Common.{◌∙◌, inl, inr, arith, ◌==◌}
 use Rattle.std.specs.Option.{option_map_or}
 use Rattle.std.specs.List.{list_any, range_with_len, Contains}
-use Rattle.std.proofs.lemmas.Bool.{eqb-true, eq-eqb, false≢true, false_from_ne_true, and_parts, and_from}
+use Rattle.std.proofs.lemmas.Bool.{eq-eqb, false≢true, false_from_ne_true, and_parts, and_from}
 use Rattle.std.proofs.lemmas.List.Folds.{Any-from_list_any, list_any_at}
 use Rattle.unequal_game.specs.declared.unequal.direction.Direction.{Direction}
 use Rattle.unequal_game.specs.declared.unequal.direction.Direction.TheVariants.{Up, Right, Down, Left}
@@ -23,8 +24,7 @@ all_has Down = (2, omega arith, refl)
 all_has Left = (3, omega arith, refl)
 
 points_to : (o : Option ℕ) (b : ℕ) → option_map_or (λ c. c == b) o false ≡ true → o ≡ Some b
-points_to None b e = absurd (false≢true e)
-points_to (Some c) b e = ap (λ n. Some n) (eqb-true c b e)
+points_to o b e = grind (arith, nat_tests)
 
 -- the letter by which a square is said to be greater than another
 said_by : (w : ℕ) (pieces : List (List ℕ)) (a b : ℕ) → says_greater w pieces a b ≡ true

@@ -1,5 +1,6 @@
 -- The laws of Unequal items: what a cut keeps, what two cuts make, and that the full puzzle of a Latin square is solved
 -- by it.
+use Rattle.std.proofs.lemmas.Bool.Decides.{nat_tests}
 use Rattle.std.proofs.Common.{◌≡◌, ◌≢◌, ℕ, zero, ◌+◌, ◌-◌, ◌*◌, ◌/◌, ◌%◌, ◌<◌, ◌≤◌, nat_lt, ◌⊎◌, Bool, true, false}
 use Rattle.std.proofs.Common.{◌&&◌, List, refl, sym, ap, subst, ◌∙◌, inl, inr, arith, if◌then◌else◌, slice_index, ◌==◌}
 use Rattle.std.proofs.Math.Nat.{mul_comm}
@@ -338,19 +339,10 @@ pub full_valid : (g : GridValue) → IsGrid g → IsUnequal (full_unequal g)
 full_valid g h = signed_valid g.size (sign_in_grid g) g.numbers h
 
 sign_present : (x y : ℕ) → x ≢ y → is_present (sign_of x y) ≡ true
-sign_present x y differ = elim (cases_lt y x) [
-  | inl greater ↦ rw (lt-ltb y x greater) refl
-  | inr other ↦ let less : x < y = omega arith in rw (le-ltb y x other, lt-ltb x y less) refl
-]
+sign_present x y differ = grind (arith, nat_tests)
 
 sign_of_holds : (x y : ℕ) → holds_sign (sign_of x y) x y ≡ true
-sign_of_holds x y = elim (cases_lt y x) [
-  | inl greater ↦ rw (lt-ltb y x greater) (lt-ltb y x greater)
-  | inr other ↦ elim (cases_lt x y) [
-    | inl less ↦ rw (le-ltb y x other, lt-ltb x y less) (lt-ltb x y less)
-    | inr same ↦ rw (le-ltb y x other, le-ltb x y same) refl
-  ]
-]
+sign_of_holds x y = grind (arith, nat_tests)
 
 -- a Latin square solves its full puzzle
 pub full_solved : (g : GridValue) → IsGrid g → IsLatin g → Solves (unequal_puzzle (full_unequal g)) g

@@ -1,6 +1,6 @@
 -- What the signs of Unequal strike: from fewer candidates too, in no solution, in the whole puzzle if in a cut, and along
 -- which lines.
-use Rattle.std.proofs.Common.{◌≡◌, ◌≢◌, ℕ, ◌+◌, ◌*◌, ◌<◌, ◌≤◌, ◌⊎◌, Bool, false, inl, inr, refl, sym, ap, ◌∙◌, subst, arith}
+use Rattle.std.proofs.Common.{◌≡◌, ◌≢◌, ℕ, ◌+◌, ◌*◌, ◌<◌, ◌≤◌, ◌⊎◌, Bool, false, inl, inr, sym, ap, ◌∙◌, subst, arith}
 use Rattle.latin_board.specs.Squares.{GridValue, number_at}
 use Rattle.latin_board.specs.Lines.{line_cell}
 use Rattle.trail_solver.specs.Pairs.{IsPair}
@@ -24,21 +24,24 @@ use Rattle.line_steps.specs.declared.grade.Grade.{Grade}
 
 -- ---- fewer candidates
 
-sign_less : (v : UnequalValue) (c d : CandidatesValue) (from to cell value : ℕ) → IsFewer c d
-    → IsBySign v c from to cell value
-    → IsBySign v d from to cell value
-sign_less v c d from to cell value fewer h = record {
+-- what a sign strikes it strikes in another puzzle, and from other candidates, where its square is the greater or the
+-- lesser one there too and no more is left of the square by which it strikes
+sign_from : (v u : UnequalValue) (from to cell value : ℕ) (c d : CandidatesValue)
+    → ((a b : ℕ) → IsGreater v a b → IsGreater u a b) → ((x : ℕ) → IsLeft d from x → IsLeft c from x)
+    → IsBySign v c from to cell value → IsBySign u d from to cell value
+sign_from v u from to cell value c d says fewer h = record {
   here = h.here;
   why = elim h.why [
-    | inl above ↦ inl (above.0, λ u left. above.1 u (fewer from u left))
-    | inr below ↦ inr (below.0, λ u left. below.1 u (fewer from u left))
+    | inl above ↦ inl (says from to above.0, λ x left. above.1 x (fewer x left))
+    | inr below ↦ inr (says to from below.0, λ x left. below.1 x (fewer x left))
   ];
 }
 
 -- what a sign strikes it strikes from fewer
 pub unequal_own_less : (v : UnequalValue) (c d : CandidatesValue) (reason : Reason) (cell value : ℕ) → IsFewer c d
     → IsUnequalOwn v c reason cell value → IsUnequalOwn v d reason cell value
-unequal_own_less v c d (Sign from to) cell value fewer h = sign_less v c d from to cell value fewer h
+unequal_own_less v c d (Sign from to) cell value fewer h =
+    sign_from v v from to cell value c d (λ a b up. up) (fewer from) h
 unequal_own_less v c d reason cell value fewer h = absurd h
 
 -- so does each reason of Unequal
@@ -83,21 +86,11 @@ unequal_sound v c reason cell value g valid size solved within h = absurd h
 
 -- ---- cuts
 
-sign_whole : (v : UnequalValue) (keep : ℕ → Bool) (c : CandidatesValue) (from to cell value : ℕ)
-    → IsBySign (cut_unequal v keep) c from to cell value
-    → IsBySign v c from to cell value
-sign_whole v keep c from to cell value h = record {
-  here = h.here;
-  why = elim h.why [
-    | inl above ↦ inl (cut_greater v keep from to above.0, above.1)
-    | inr below ↦ inr (cut_greater v keep to from below.0, below.1)
-  ];
-}
-
 -- what a sign strikes in a cut it strikes in the whole
 pub unequal_whole : (v : UnequalValue) (keep : ℕ → Bool) (c : CandidatesValue) (reason : Reason) (cell value : ℕ)
     → IsUnequalOwn (cut_unequal v keep) c reason cell value → IsUnequalOwn v c reason cell value
-unequal_whole v keep c (Sign from to) cell value h = sign_whole v keep c from to cell value h
+unequal_whole v keep c (Sign from to) cell value h =
+    sign_from (cut_unequal v keep) v from to cell value c c (cut_greater v keep) (λ x left. left) h
 unequal_whole v keep c reason cell value h = absurd h
 
 -- ---- lines
@@ -106,13 +99,7 @@ unequal_whole v keep c reason cell value h = absurd h
 pub sign_was : (v : UnequalValue) (from to cell value : ℕ) (c d : CandidatesValue)
     → ((u : ℕ) → IsLeft c from u → IsLeft d from u)
     → IsBySign v d from to cell value → IsBySign v c from to cell value
-sign_was v from to cell value c d stays h = record {
-  here = h.here;
-  why = elim h.why [
-    | inl up ↦ inl (up.0, λ u left. up.1 u (stays u left))
-    | inr down ↦ inr (down.0, λ u left. down.1 u (stays u left))
-  ];
-}
+sign_was v from to cell value c d stays h = sign_from v v from to cell value d c (λ a b up. up) stays h
 
 -- a sign that strikes nothing strikes nothing where all stays at both ends
 pub sign_stays : (v : UnequalValue) (a b : ℕ) (c d : CandidatesValue) → d.size ≡ c.size → IsFewer c d
@@ -126,18 +113,13 @@ sign_stays v a b c d same fewer first second quiet cell value pair = (
 )
 
 -- what is left of the first square of a sign is left of it where all stays along its line
-from_stays : (w line from to : ℕ) (c d : CandidatesValue) → c.size ≡ w → StaysOn line c d
-    → AreNextOn w line from to ⊎ AreNextOn w line to from
+from_stays : (line from to : ℕ) (c d : CandidatesValue) → StaysOn line c d
+    → AreNextOn c.size line from to ⊎ AreNextOn c.size line to from
     → (u : ℕ) → IsLeft c from u → IsLeft d from u
-from_stays w line from to c d size stays (inl (k, low, first, second)) u left =
-    let at : line_cell c.size line k ≡ from = subst (λ (n : ℕ). line_cell n line k ≡ from) (sym size) first in
-    subst (λ (n : ℕ). IsLeft d n u) at
-    (stays k u (omega (arith, low, size)) (subst (λ (n : ℕ). IsLeft c n u) (sym at) left))
-from_stays w line from to c d size stays (inr (k, low, first, second)) u left =
-    let at : line_cell c.size line (k + 1) ≡ from =
-    subst (λ (n : ℕ). line_cell n line (k + 1) ≡ from) (sym size) second in
-    subst (λ (n : ℕ). IsLeft d n u) at
-    (stays (k + 1) u (omega (arith, low, size)) (subst (λ (n : ℕ). IsLeft c n u) (sym at) left))
+from_stays line from to c d stays (inl (k, low, at, second)) u left =
+    subst (λ (n : ℕ). IsLeft d n u) at (stays k u (omega (arith, low)) (subst (λ (n : ℕ). IsLeft c n u) (sym at) left))
+from_stays line from to c d stays (inr (k, low, first, at)) u left =
+    subst (λ (n : ℕ). IsLeft d n u) at (stays (k + 1) u low (subst (λ (n : ℕ). IsLeft c n u) (sym at) left))
 
 -- what a sign strikes that looks along a line it struck before, where all stayed along it
 pub unequal_look : (v : UnequalValue) (c d : CandidatesValue) (reason : Reason) (cell value line : ℕ) → c.size ≡ v.size
@@ -145,7 +127,7 @@ pub unequal_look : (v : UnequalValue) (c d : CandidatesValue) (reason : Reason) 
     → LooksAlong c.size line reason cell → StaysOn line c d → IsUnequalOwn v d reason cell value
     → IsUnequalOwn v c reason cell value
 unequal_look v c d (Sign from to) cell value line size low along stays h =
-    sign_was v from to cell value c d (from_stays c.size line from to c d refl stays along.1) h
+    sign_was v from to cell value c d (from_stays line from to c d stays along.1) h
 unequal_look v c d reason cell value line size low along stays h = absurd h
 
 -- neighbours follow one another on a line

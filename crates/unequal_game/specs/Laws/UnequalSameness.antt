@@ -1,24 +1,16 @@
 -- Equality of Unequal puzzles as a test that computes, and that it decides it.
-use Rattle.std.specs.Prelude.{◌≡◌, ◌↔◌, IsTrue, Bool, true, false, ◌==◌, ◌&&◌}
+use Rattle.std.specs.Prelude.{◌≡◌, ◌↔◌, IsTrue, Bool, ◌==◌, ◌&&◌}
 use Rattle.std.specs.Bool.{Decides}
 use Rattle.std.specs.Cmp.Lexicographic.{pointwise, pointwise_decides, bytes_decides}
-use Rattle.std.proofs.Common.{ap, refl}
+use Rattle.std.proofs.Common.{ap}
 use Rattle.std.proofs.lemmas.Bool.Decides.{Decides-at, Decides-like, Decides-and, Decides-eqb}
 use Rattle.unequal_game.specs.declared.unequal.sign.Sign.{Sign}
-use Rattle.unequal_game.specs.declared.unequal.sign.Sign.TheVariants.{Absent, FirstGreater, SecondGreater}
-use Rattle.unequal_game.specs.Unequal.{UnequalValue}
+use Rattle.unequal_game.specs.Unequal.{UnequalValue, sign_number}
+use Rattle.unequal_game.specs.Laws.UnequalValues.{sign_same}
 
--- both signs are the same
+-- both signs are the same, by their numbers
 abbrev pub same_sign : Sign → Sign → Bool
-same_sign Absent Absent = true
-same_sign FirstGreater FirstGreater = true
-same_sign SecondGreater SecondGreater = true
-same_sign Absent FirstGreater = false
-same_sign Absent SecondGreater = false
-same_sign FirstGreater Absent = false
-same_sign FirstGreater SecondGreater = false
-same_sign SecondGreater Absent = false
-same_sign SecondGreater FirstGreater = false
+same_sign s t = sign_number s == sign_number t
 
 -- both puzzles have the same width, signs and givens
 abbrev pub same_unequal : UnequalValue → UnequalValue → Bool
@@ -27,15 +19,8 @@ same_unequal p q =
     && pointwise ◌==◌ p.givens q.givens
 
 same_sign_decides : (s t : Sign) → Decides (same_sign s t) (s ≡ t)
-same_sign_decides Absent Absent = (λ e. refl, λ e. refl)
-same_sign_decides FirstGreater FirstGreater = (λ e. refl, λ e. refl)
-same_sign_decides SecondGreater SecondGreater = (λ e. refl, λ e. refl)
-same_sign_decides Absent FirstGreater = (λ e. absurd (cc), λ e. absurd (cc))
-same_sign_decides Absent SecondGreater = (λ e. absurd (cc), λ e. absurd (cc))
-same_sign_decides FirstGreater Absent = (λ e. absurd (cc), λ e. absurd (cc))
-same_sign_decides FirstGreater SecondGreater = (λ e. absurd (cc), λ e. absurd (cc))
-same_sign_decides SecondGreater Absent = (λ e. absurd (cc), λ e. absurd (cc))
-same_sign_decides SecondGreater FirstGreater = (λ e. absurd (cc), λ e. absurd (cc))
+same_sign_decides s t =
+    Decides-like (same_sign s t) (sign_same s t) (ap sign_number) (Decides-eqb (sign_number s) (sign_number t))
 
 -- the test of two puzzles answers whether they are equal
 pub same_unequal_decides : (p q : UnequalValue) → Decides (same_unequal p q) (p ≡ q)

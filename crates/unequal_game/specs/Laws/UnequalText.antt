@@ -3,7 +3,6 @@ use Rattle.std.proofs.Common.{◌≡◌, ◌↔◌, ℕ, ◌*◌, ◌<◌, ◌�
 use Rattle.std.proofs.Common.{unwrap_or, Ok, refl, sym, ap, subst, ◌∙◌, inl, inr, arith, slice_index_or}
 use Rattle.std.specs.List.{AllByRecursion}
 use Rattle.std.specs.Option.{option_map_or}
-use Rattle.std.proofs.lemmas.Bool.{false≢true}
 use Rattle.std.proofs.lemmas.List.{length-map, ext_get_or}
 use Rattle.std.proofs.lemmas.List.Elements.{recursion_from_All}
 use Rattle.std.proofs.lemmas.List.FromFn.{length-map-range_with_len}
@@ -32,27 +31,18 @@ use Rattle.byte_text.proofs.ReadingLaws.{bind_taken}
 -- the sign that is said of two squares, by which of them is said to be the greater one
 
 said_first : (s t : Bool) → said_sign s t ≡ FirstGreater → s ≡ true
-said_first true t e = refl
-said_first false true e = absurd (cc)
-said_first false false e = absurd (cc)
+said_first s t e = grind arith
 
 said_second : (s t : Bool) → said_sign s t ≡ SecondGreater → t ≡ true
-said_second true t e = absurd (let f : FirstGreater ≡ SecondGreater = e in cc)
-said_second false true e = refl
-said_second false false e = absurd (cc)
+said_second s t e = grind arith
 
 second_said : (s t : Bool) → (t && s) ≡ false → t ≡ true → said_sign s t ≡ SecondGreater
-second_said true t apart e = absurd (false≢true (sym apart ∙ (rw e refl)))
-second_said false t apart e = rw e refl
+second_said s t apart e = grind arith
 
 sign_matches : (s : Sign) (first second : Bool) → (s ≡ FirstGreater → first ≡ true)
     → (s ≡ SecondGreater → second ≡ true)
     → (first ≡ true → s ≡ FirstGreater) → (second ≡ true → s ≡ SecondGreater) → said_sign first second ≡ s
-sign_matches s true second a b c d = sym (c refl)
-sign_matches s false true a b c d = sym (d refl)
-sign_matches Absent false false a b c d = refl
-sign_matches FirstGreater false false a b c d = absurd (false≢true (a refl))
-sign_matches SecondGreater false false a b c d = absurd (false≢true (b refl))
+sign_matches s first second a b c d = grind arith
 
 -- the puzzle that pieces describe has the greater square where they say so
 greater_said : (w : ℕ) (pieces : List Piece) (a b : ℕ) → IsUnequal (puzzle_in w (map piece_text pieces))

@@ -1,5 +1,6 @@
 -- The laws of what Unequal items say: it shows which items there are, it is all that a puzzle is, and a change of one
 -- leaves all others.
+use Rattle.std.proofs.lemmas.Bool.Decides.{nat_tests}
 use Rattle.std.proofs.Common.{◌≡◌, ◌≢◌, ℕ, ◌+◌, ◌-◌, ◌*◌, ◌%◌, ◌<◌, ◌≤◌, nat_lt, refl, sym, ◌∙◌, ap, inl, inr, arith}
 use Rattle.std.proofs.Common.{slice_index, None, Some, Option, IfSome, false, subst}
 use Rattle.std.proofs.lemmas.Nat.{mod_below}
@@ -30,16 +31,10 @@ sign_back FirstGreater = refl
 sign_back SecondGreater = refl
 
 number_back : (n : ℕ) → n ≤ 2 → sign_number (numbered_sign n) ≡ n
-number_back n small = elim (cases_eq n 0) [
-  | inl none ↦ rw none refl
-  | inr some ↦ elim (cases_eq n 1) [
-    | inl one ↦ rw one refl
-    | inr more ↦ let two : n ≡ 2 = omega arith in rw two refl
-  ]
-]
+number_back n small = grind (arith, nat_tests)
 
 -- signs with the same number are the same
-sign_same : (s t : Sign) → sign_number s ≡ sign_number t → s ≡ t
+pub sign_same : (s t : Sign) → sign_number s ≡ sign_number t → s ≡ t
 sign_same s t e = sym (sign_back s) ∙ ap numbered_sign e ∙ sign_back t
 
 present_number : (s : Sign) → is_present s ≡ nat_lt 0 (sign_number s)

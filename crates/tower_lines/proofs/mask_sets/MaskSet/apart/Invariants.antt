@@ -1,7 +1,7 @@
-use Rattle.std.proofs.Common.{◌&&◌, not}
-use Rattle.tower_lines.specs.Inner.MaskSets.{has_mask}
-use Rattle.tower_lines.proofs.MaskSetLemmas.{AreFilled}
+use Rattle.std.proofs.Common.{◌≡◌, ℕ, ◌<◌, length, get_or, bit_and, w64}
+use Rattle.std.specs.Int.{bit_not}
 use Rattle.tower_lines.proofs.mask_sets.MaskSet.apart.Given as goal
 
 abbrev pub invariant-loop-i : goal.invariant-loop-i
-invariant-loop-i g l = AreFilled (λ m. has_mask l.words m && not (has_mask l.others m)) l.left g.row.W l.i
+invariant-loop-i g l =
+    (length l.left ≡ g.row.W) × ((k : ℕ) → k < l.i → get_or l.left k 0 ≡ bit_and (get_or l.words k 0) (bit_not w64 (get_or l.others k 0)))

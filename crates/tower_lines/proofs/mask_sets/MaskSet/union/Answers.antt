@@ -1,22 +1,14 @@
-use Rattle.std.proofs.Common.{◌||◌, get_or, arith}
+use Rattle.std.proofs.Common.{◌/◌, ◌%◌, ◌||◌, get_or, arith}
 use Rattle.std.proofs.lemmas.Bool.{or_from}
 use Rattle.number_sets.proofs.Members.{has_number-or}
 use Rattle.tower_lines.specs.Inner.MaskSets.{has_mask}
-use Rattle.tower_lines.proofs.MaskSetLemmas.{has_mask-at, has_mask-past, filled_none, filled_more, filled_all}
+use Rattle.tower_lines.proofs.MaskSetLemmas.{has_mask-past, words_have}
 use Rattle.tower_lines.proofs.mask_sets.MaskSet.union.Goals as goal
-
-pub loop-i-init : goal.loop-i-init
-loop-i-init g c = filled_none (λ m. has_mask c.args.self.now m || has_mask c.args.other.now m) g.row.W
-
-pub loop-i-preserved : goal.loop-i-preserved
-loop-i-preserved g c =
-    let i = c.loop-i.i in
-    let a = c.self.inside.words in
-    let d = c.other.inside.words in
-    filled_more (λ m. has_mask c.args.self.now m || has_mask c.args.other.now m) c.loop-i.words g.row.W i _ c.loop-i.invariant c.loop-i-test.true
-    (λ b h. rw (← c.self.view_is, ← c.other.view_is, has_mask-at a i b h, has_mask-at d i b h) (has_number-or (get_or a i 0) (get_or d i 0) b))
 
 pub returns : goal.returns
 returns g c =
-    filled_all (λ m. has_mask c.args.self.now m || has_mask c.args.other.now m) c.loop-i.words g.row.W c.loop-i.i c.loop-i.invariant c.loop-i-test.false
-    (λ m past. rw (← c.self.view_is, ← c.other.view_is) (or_from _ _ (has_mask-past c.self.inside.words m (omega (arith, c.self.told))) (has_mask-past c.other.inside.words m (omega (arith, c.other.told)))))
+    let a = c.self.inside.words in
+    let d = c.other.inside.words in
+    rw (← c.self.view_is, ← c.other.view_is) (words_have (λ m. has_mask a m || has_mask d m) c.loop-i.words g.row.W c.loop-i.invariant.0
+    (λ m inside. rw (c.loop-i.invariant.1 (m / 64) (omega arith)) (has_number-or (get_or a (m / 64) 0) (get_or d (m / 64) 0) (m % 64)))
+    (λ m past. or_from _ _ (has_mask-past a m (omega (arith, c.self.told))) (has_mask-past d m (omega (arith, c.other.told)))))

@@ -1,7 +1,6 @@
-use Rattle.std.proofs.Common.{◌||◌}
-use Rattle.tower_lines.specs.Inner.MaskSets.{has_mask}
-use Rattle.tower_lines.proofs.MaskSetLemmas.{AreFilled}
+use Rattle.std.proofs.Common.{◌≡◌, ℕ, ◌<◌, length, get_or, bit_or}
 use Rattle.tower_lines.proofs.mask_sets.MaskSet.union.Given as goal
 
 abbrev pub invariant-loop-i : goal.invariant-loop-i
-invariant-loop-i g l = AreFilled (λ m. has_mask l.self m || has_mask l.other m) l.words g.row.W l.i
+invariant-loop-i g l =
+    (length l.words ≡ g.row.W) × ((k : ℕ) → k < l.i → get_or l.words k 0 ≡ bit_or (get_or l.self-inside.words k 0) (get_or l.other-inside.words k 0))

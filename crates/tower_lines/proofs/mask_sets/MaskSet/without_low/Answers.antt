@@ -1,21 +1,14 @@
-use Rattle.std.proofs.Common.{◌+◌, ◌^◌, ◌&&◌, not, arith}
+use Rattle.std.proofs.Common.{◌+◌, ◌/◌, ◌^◌, ◌&&◌, not, arith}
 use Rattle.std.proofs.lemmas.Bool.{and_right}
 use Rattle.number_sets.specs.Sets.{has_number}
 use Rattle.tower_lines.specs.Inner.MaskSets.{has_mask}
-use Rattle.tower_lines.proofs.MaskSetLemmas.{word_without_low, has_mask-past, filled_none, filled_more, filled_all}
+use Rattle.tower_lines.proofs.MaskSetLemmas.{word_without_low, has_mask-past, words_have}
 use Rattle.tower_lines.proofs.mask_sets.MaskSet.without_low.Goals as goal
-
-pub loop-i-init : goal.loop-i-init
-loop-i-init g c = filled_none (λ m. not (has_number m c.args.bit) && has_mask c.args.self.now (m + 2 ^ c.args.bit)) g.row.W
-
-pub loop-i-preserved : goal.loop-i-preserved
-loop-i-preserved g c =
-    filled_more (λ m. not (has_number m c.args.bit) && has_mask c.args.self.now (m + 2 ^ c.args.bit)) c.loop-i.words g.row.W c.loop-i.i _
-    c.loop-i.invariant c.loop-i-test.true
-    (λ b h. rw (← c.self.view_is) (word_without_low c.self.inside.words c.loop-i.i c.args.bit b c.from.result c.requires h c.from.ensures))
 
 pub returns : goal.returns
 returns g c =
-    filled_all (λ m. not (has_number m c.args.bit) && has_mask c.args.self.now (m + 2 ^ c.args.bit)) c.loop-i.words g.row.W c.loop-i.i
-    c.loop-i.invariant c.loop-i-test.false
-    (λ m past. rw (← c.self.view_is) (and_right _ _ (has_mask-past c.self.inside.words (m + 2 ^ c.args.bit) (omega (arith, c.self.told)))))
+    let a = c.self.inside.words in
+    let bit = c.args.bit in
+    rw (← c.self.view_is) (words_have (λ m. not (has_number m bit) && has_mask a (m + 2 ^ bit)) c.loop-i.words g.row.W c.loop-i.invariant.0
+    (λ m inside. rw (c.loop-i.invariant.1 (m / 64) (omega arith)) (word_without_low a bit m c.from.result c.requires c.from.ensures))
+    (λ m past. and_right _ _ (has_mask-past a (m + 2 ^ bit) (omega (arith, c.self.told)))))
