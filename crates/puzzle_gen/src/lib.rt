@@ -18,6 +18,7 @@ mod generator;
 mod pruning;
 mod seeded_square;
 
+pub use draws::{MOST_DRAWN, draw_numbers};
 pub use gen_fault::GenFault;
 pub use generator::generate;
 pub use seeded_square::square;
