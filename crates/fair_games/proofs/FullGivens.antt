@@ -1,11 +1,16 @@
 -- The full puzzle of a Latin square follows by its givens.
-use Rattle.std.proofs.Common.{◌≡◌, ◌≢◌, ℕ, zero, suc, ◌*◌, ◌<◌, ◌≤◌, true, false, not, ◌&&◌, ◌||◌, ◌==◌, List, [], ◌∷◌, ◌++◌, inl, inr, refl, sym, ◌∙◌, ap, subst, arith, if◌then◌else◌}
-use Rattle.std.proofs.lemmas.Bool.{both_ways, and_parts, and_from, or_cases, or_left, or_right, eq-eqb, eqb-true, cases_eq, ne_eqb}
+use Rattle.std.proofs.Common.{◌≡◌, ◌≢◌, ℕ, zero, suc, ◌*◌, ◌^◌, ◌<◌, ◌≤◌, true, false, not, ◌&&◌, ◌||◌, List, [], ◌++◌, inl, inr, refl, sym, ◌∙◌, ap, subst, arith, eqb, leb, ltb}
+use Rattle.std.proofs.Math.Bool.{and-false, or-false}
+use Rattle.std.proofs.lemmas.Bool.{both_ways, and_parts, and_from, eq-eqb, cases_eq, cases_lt, ne_eqb, lt-ltb, le-ltb, ltb-true, le-leb, leb-true, lt-leb}
 use Rattle.std.proofs.lemmas.List.Folds.{list_any-append}
+use Rattle.number_sets.specs.Sets.{has_number, numbers_to, flip_number}
+use Rattle.number_sets.proofs.Members.{has_number-numbers_to, has_number-taken, below_from_numbers}
 use Rattle.latin_board.specs.Squares.{GridValue, IsGrid, IsLatin, number_at}
 use Rattle.latin_board.proofs.LatinLines.{latin_full}
+use Rattle.latin_board.proofs.Numbers.{number_within}
 use Rattle.trail_solver.specs.Candidates.{CandidatesValue, may_be}
-use Rattle.trail_solver.specs.Pairs.{has_pair}
+use Rattle.trail_solver.specs.Pairs.{has_pair, pairs_of}
+use Rattle.trail_solver.proofs.SetPairs.{has_pair-pairs_of}
 use Rattle.trail_solver.specs.declared.rules.Rules.{Ghosts}
 use Rattle.needed_items.proofs.ItemLaws.{ItemLaws}
 use Rattle.line_steps.specs.Reasons.{IsByGiven, Striking}
@@ -18,110 +23,54 @@ use Rattle.line_steps.proofs.Leads.{leads_taken}
 use Rattle.line_steps.specs.declared.reason.Reason.TheVariants.{Given}
 use Rattle.line_steps.specs.declared.grade.Grade.{Grade}
 
--- the pairs of a square and the numbers from 1 on, but for one of them
-abbrev others_of : ℕ → ℕ → ℕ → List (ℕ × ℕ)
-others_of cell number zero = []
-others_of cell number (suc m) = if suc m == number then others_of cell number m else ((cell, suc m) ∷ others_of cell number m)
+-- the numbers to w but for one, as a set
+abbrev others : ℕ → ℕ → ℕ
+others w number = flip_number (numbers_to w) number
 
--- the same of the squares before one, but for the grid's numbers
+others_has : (w number v : ℕ) → 1 ≤ number → number ≤ w
+    → has_number (others w number) v ≡ ((leb 1 v && leb v w) && not (eqb v number))
+others_has w number v low high =
+    has_number-taken (numbers_to w) number v
+    (has_number-numbers_to w number ∙ and_from (leb 1 number) (leb number w) (le-leb 1 number low) (le-leb number w high))
+    ∙ ap (λ b. b && not (eqb v number)) (has_number-numbers_to w v)
+
+others_small : (w number : ℕ) → w ≤ 9 → 1 ≤ number → number ≤ w → others w number < 2 ^ 16
+others_small w number small low high =
+    below_from_numbers (others w number) 16 (λ j above.
+    others_has w number j low high ∙ rw (lt-leb j w (omega (arith, small, above)), and-false) refl)
+
+-- the squares before one, each with the numbers but for its own
 abbrev others_before : GridValue → ℕ → List (ℕ × ℕ)
 others_before g zero = []
-others_before g (suc n) = others_of n (number_at g n) g.size ++ others_before g n
+others_before g (suc n) = others_before g n ++ pairs_of n (others g.size (number_at g n))
 
--- the pair is of a square and another number than the square's
-record IsOther (number cell m x y : ℕ) : Type 0 where
-  pub here : x ≡ cell
-  pub low : 1 ≤ y
-  pub high : y ≤ m
-  pub apart : y ≢ number
-
-is_other : (cell number m x y : ℕ) → has_pair (others_of cell number m) x y ≡ true → IsOther number cell m x y
-is_other cell number zero x y has = absurd (both_ways false refl has)
-is_other cell number (suc m) x y has =
-    elim (cases_eq (suc m) number) [
-      | inl same ↦ longer (is_other cell number m x y (sym (skipped (suc m == number) (eq-eqb (suc m) number same)) ∙ has))
-      | inr other ↦ elim (or_cases ((x == cell) && (y == suc m)) (has_pair (others_of cell number m) x y)
-          (sym (taken (suc m == number) (ne_eqb (suc m) number other)) ∙ has)) [
-            | inl now ↦
-                let both = and_parts (x == cell) (y == suc m) now in
-                let is : y ≡ suc m = eqb-true y (suc m) both.1 in
-                record { here = eqb-true x cell both.0; low = omega (arith, is); high = omega (arith, is); apart = λ e. other (sym is ∙ e) }
-            | inr later ↦ longer (is_other cell number m x y later)
-          ]
+before_has : (g : GridValue) (n x y : ℕ) → IsGrid g → IsLatin g → n ≤ g.size * g.size
+    → has_pair (others_before g n) x y ≡ (ltb x n && has_number (others g.size (number_at g x)) y)
+before_has g zero x y grid latin within =
+    ap (λ b. b && has_number (others g.size (number_at g x)) y) (sym (le-ltb x 0 (omega arith)))
+before_has g (suc n) x y grid latin within =
+    let set = others g.size (number_at g n) in
+    let own = has_number (others g.size (number_at g x)) y in
+    let inside : n < g.size * g.size = omega arith in
+    let small = others_small g.size (number_at g n) grid.largest ((latin_full g latin).each n inside) (number_within g grid n inside) in
+    list_any-append _ (others_before g n) (pairs_of n set)
+    ∙ ap (λ b. b || has_pair (pairs_of n set) x y) (before_has g n x y grid latin (omega arith))
+    ∙ ap (λ b. (ltb x n && own) || b) (has_pair-pairs_of n set x y small)
+    ∙ elim (cases_eq x n) [
+      | inl here ↦
+          let none : ltb x n ≡ false = le-ltb x n (omega (arith, here)) in
+          let this : eqb x n ≡ true = eq-eqb x n here in
+          let more : ltb x (suc n) ≡ true = lt-ltb x (suc n) (omega (arith, here)) in
+          rw (none, this, more) (ap (λ k. has_number (others g.size (number_at g k)) y) (sym here))
+      | inr apart ↦
+          ap (λ b. (ltb x n && own) || (b && has_number set y)) (ne_eqb x n apart)
+          ∙ or-false (ltb x n && own) ∙ ap (λ b. b && own) (next x n apart)
     ]
   where
-    rest : List (ℕ × ℕ)
-    rest = others_of cell number m
-
-    skipped : (b : _) → b ≡ true → has_pair (if b then rest else ((cell, suc m) ∷ rest)) x y ≡ has_pair rest x y
-    skipped b e = rw e refl
-
-    taken : (b : _) → b ≡ false → has_pair (if b then rest else ((cell, suc m) ∷ rest)) x y ≡ (((x == cell) && (y == suc m)) || has_pair rest x y)
-    taken b e = rw e refl
-
-    longer : IsOther number cell m x y → IsOther number cell (suc m) x y
-    longer h = record { here = h.here; low = h.low; high = omega (arith, h.high); apart = h.apart }
-
-other_has : (cell number m y : ℕ) → 1 ≤ y → y ≤ m → y ≢ number → has_pair (others_of cell number m) cell y ≡ true
-other_has cell number zero y low high apart = absurd (omega (arith, low, high))
-other_has cell number (suc m) y low high apart =
-    elim (cases_eq (suc m) number) [
-      | inl same ↦
-          let below : y ≤ m = elim (cases_eq y (suc m)) [
-            | inl last ↦ absurd (apart (last ∙ same))
-            | inr before ↦ omega (arith, high, before)
-          ] in
-          skipped (suc m == number) (eq-eqb (suc m) number same) ∙ other_has cell number m y low below apart
-      | inr other ↦
-          taken (suc m == number) (ne_eqb (suc m) number other) ∙ elim (cases_eq y (suc m)) [
-            | inl now ↦ or_left ((cell == cell) && (y == suc m)) (has_pair rest cell y)
-                (and_from (cell == cell) (y == suc m) (eq-eqb cell cell refl) (eq-eqb y (suc m) now))
-            | inr before ↦ or_right ((cell == cell) && (y == suc m)) (has_pair rest cell y)
-                (other_has cell number m y low (omega (arith, high, before)) apart)
-          ]
-    ]
-  where
-    rest : List (ℕ × ℕ)
-    rest = others_of cell number m
-
-    skipped : (b : _) → b ≡ true → has_pair (if b then rest else ((cell, suc m) ∷ rest)) cell y ≡ has_pair rest cell y
-    skipped b e = rw e refl
-
-    taken : (b : _) → b ≡ false
-        → has_pair (if b then rest else ((cell, suc m) ∷ rest)) cell y ≡ (((cell == cell) && (y == suc m)) || has_pair rest cell y)
-    taken b e = rw e refl
-
-both_lists : (ps qs : List (ℕ × ℕ)) (x y : ℕ) → has_pair (ps ++ qs) x y ≡ (has_pair ps x y || has_pair qs x y)
-both_lists ps qs x y = list_any-append _ ps qs
-
-before_is : (g : GridValue) (n x y : ℕ) → has_pair (others_before g n) x y ≡ true → (x < n) × IsOther (number_at g x) x g.size x y
-before_is g zero x y has = absurd (both_ways false refl has)
-before_is g (suc n) x y has =
-    let first = others_of n (number_at g n) g.size in
-    elim (or_cases (has_pair first x y) (has_pair (others_before g n) x y) (sym (both_lists first (others_before g n) x y) ∙ has)) [
-      | inl now ↦
-          let is = is_other n (number_at g n) g.size x y now in (
-            omega (arith, is.here),
-            record {
-              here = refl;
-              low = is.low;
-              high = is.high;
-              apart = λ e. is.apart (e ∙ ap (λ (c : ℕ). number_at g c) is.here);
-            },
-          )
-      | inr later ↦ let is = before_is g n x y later in (omega (arith, is.0), is.1)
-    ]
-
-before_has : (g : GridValue) (n x y : ℕ) → x < n → 1 ≤ y → y ≤ g.size → y ≢ number_at g x → has_pair (others_before g n) x y ≡ true
-before_has g zero x y below low high apart = absurd (omega (arith, below))
-before_has g (suc n) x y below low high apart =
-    let first = others_of n (number_at g n) g.size in
-    both_lists first (others_before g n) x y ∙ elim (cases_eq x n) [
-      | inl here ↦ or_left (has_pair first x y) (has_pair (others_before g n) x y)
-          (subst (λ (c : ℕ). has_pair first c y ≡ true) (sym here)
-          (other_has n (number_at g n) g.size y low high (λ e. apart (e ∙ ap (λ (c : ℕ). number_at g c) (sym here)))))
-      | inr other ↦ or_right (has_pair first x y) (has_pair (others_before g n) x y)
-          (before_has g n x y (omega (arith, below, other)) low high apart)
+    next : (x n : ℕ) → x ≢ n → ltb x n ≡ ltb x (suc n)
+    next x n apart = elim (cases_lt x n) [
+      | inl below ↦ lt-ltb x n below ∙ sym (lt-ltb x (suc n) (omega (arith, below)))
+      | inr above ↦ le-ltb x n above ∙ sym (le-ltb x (suc n) (omega (arith, above, apart)))
     ]
 
 -- the full puzzle follows by each grade, since each of its squares is given
@@ -133,14 +82,25 @@ full_follows f Struck laws grade g less given grid latin =
     let pairs = others_before g (g.size * g.size) in
     let all = all_of g.size in
     let Which : ℕ → ℕ → Type 0 = λ cell v. v ≢ number_at g cell in
+    let low = (latin_full g latin).each in
+    let high = number_within g grid in
     let taken : Takes Which all (without all pairs) = record {
       pairs = pairs;
       size = refl;
       trail = refl;
       each = λ cell v has.
-          let is = before_is g (g.size * g.size) cell v has in
-          (record { inside = is.0; low = is.1.low; high = is.1.high }, is.1.apart);
-      gone = λ cell v pair apart. ap not (before_has g (g.size * g.size) cell v pair.inside pair.low pair.high apart);
+          let both = and_parts _ _ (sym (before_has g (g.size * g.size) cell v grid latin (omega arith)) ∙ has) in
+          let inside = ltb-true cell (g.size * g.size) both.0 in
+          let is = and_parts _ _ (sym (others_has g.size (number_at g cell) v (low cell inside) (high cell inside)) ∙ both.1) in
+          let range = and_parts (leb 1 v) (leb v g.size) is.0 in (
+            record { inside = inside; low = leb-true 1 v range.0; high = leb-true v g.size range.1 },
+            λ same. both_ways (not (eqb v (number_at g cell))) (ap not (eq-eqb v (number_at g cell) same)) is.1,
+          );
+      gone = λ cell v pair apart.
+          ap not (before_has g (g.size * g.size) cell v grid latin (omega arith)
+          ∙ and_from _ _ (lt-ltb cell (g.size * g.size) pair.inside)
+          (others_has g.size (number_at g cell) v (low cell pair.inside) (high cell pair.inside)
+          ∙ and_from _ _ (and_from _ _ (le-leb 1 v pair.low) (le-leb v g.size pair.high)) (ap not (ne_eqb v (number_at g cell) apart))));
     } in
     let leads = leads_taken (Struck (f.full_of g)) less grade Which all (without all pairs) taken (λ cell v pair apart.
     let is = laws.full_given g cell grid latin pair.inside in

@@ -1,5 +1,4 @@
 pub mod Bases
-pub mod Shuffles
 pub mod Trials
 pub mod RowSteps
 pub mod FullGivens

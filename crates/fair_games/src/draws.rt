@@ -1,25 +1,19 @@
 //! The stream of a fair game, and the orders that are drawn from it.
 
-ghost use Rattle.std.specs.Prelude.{◌≡◌, ℕ, ◌+◌, ◌<◌, ◌≤◌, ◌++◌, length, map, slice_index, IsPermutation};
-ghost use Rattle.std.specs.List.{range_with_len};
+ghost use Rattle.std.specs.Prelude.{◌≡◌, ℕ, ◌+◌, ◌<◌, ◌≤◌, ◌++◌, length, map, slice_index};
 ghost use Rattle.rand_chacha.specs.ChaCha.{of_seed};
-ghost use Rattle.puzzle_gen.specs.Orders.{IsOrder};
-ghost use Rattle.puzzle_gen.specs.SeededSquares.{drawn_order};
+ghost use Rattle.puzzle_gen.specs.declared.draws.TheConstants.{MOST_DRAWN};
 ghost use Rattle.fair_games.specs.FairGames.{IsTriedIn};
 ghost use Rattle.fair_games.specs.Pruned.{IsTrial, IsTried};
 ghost use Rattle.fair_games.specs.Squares.{fair_key};
-ghost use Rattle.fair_games.specs.declared.draws.TheConstants.{MOST};
 ghost use Rattle.fair_games.specs.Draws.{drawn_trial, in_turn};
 
 use crate::trial::Trial;
 use arrayvec::ArrayVec;
 use latin_board::Size;
-use rand::seq::SliceRandom;
+use puzzle_gen::{MOST_DRAWN, draw_numbers};
 use rand_chacha::ChaCha20Rng;
 use rand_core::{Rng, SeedableRng};
-
-/// The most items that a puzzle has: the signs and givens of an Unequal puzzle of size 9.
-const MOST: usize = 225;
 
 /// The generator of random words of a size, the letter of a grade, the initial of a game, and a seed.
 pub(crate) fn rng_of(size: Size, letter: u8, initial: u8, seed: u64) -> ChaCha20Rng
@@ -33,46 +27,13 @@ pub(crate) fn rng_of(size: Size, letter: u8, initial: u8, seed: u64) -> ChaCha20
     ChaCha20Rng::from_seed(key)
 }
 
-/// The numbers below the count, in an order that is drawn.
-pub(crate) fn draw_numbers<R: Rng>(rng: &mut R, count: usize) -> ArrayVec<u8, MOST>
-    requires { count ≤ MOST }
-    ensures permutation { IsPermutation (range_with_len 0 count) result.items }
-    ensures order { IsOrder count result.items }
-    ensures drawn { (result.items, R.stream rng.new) ≡ drawn_order count (R.stream rng.old) }
-{
-    let mut numbers = first_numbers(count);
-    shuffle(rng, numbers.as_mut_slice());
-    numbers
-}
-
-// Shuffles a list, as the crate `rand` does.
-fn shuffle<R: Rng>(rng: &mut R, numbers: &mut [u8])
-    requires { numbers.old ≡ range_with_len 0 (length numbers.old) }
-    ensures permutation { IsPermutation numbers.old numbers.new }
-    ensures drawn { (numbers.new, R.stream rng.new) ≡ drawn_order (length numbers.old) (R.stream rng.old) }
-{
-    numbers.shuffle(rng);
-}
-
-// The numbers below the count.
-fn first_numbers(count: usize) -> ArrayVec<u8, MOST>
-    requires { count ≤ MOST }
-    ensures { result.items ≡ range_with_len 0 count }
-{
-    let mut numbers = ArrayVec::new();
-    for number in 0..count {
-        numbers.push(number as u8);
-    }
-    numbers
-}
-
 /// Draws an order of the givens and one of the clues (or signs), and puts them together.
 pub(crate) fn draw_trial<R: Rng>(
     rng: &mut R,
     trial: Trial,
     clue_count: usize,
     cells: usize,
-) -> ArrayVec<u8, MOST>
+) -> ArrayVec<u8, MOST_DRAWN>
     requires clues { clue_count ≤ 144 }
     requires cells { cells ≤ 81 }
     ensures trial { IsTrial (clue_count + cells) result.items }
@@ -85,7 +46,7 @@ pub(crate) fn draw_trial<R: Rng>(
 }
 
 // The items of a trial, from orders of the clues (or signs) and of the givens.
-fn put_in_turn(trial: Trial, clues: &[u8], givens: &[u8]) -> ArrayVec<u8, MOST>
+fn put_in_turn(trial: Trial, clues: &[u8], givens: &[u8]) -> ArrayVec<u8, MOST_DRAWN>
     requires clues { length clues.now ≤ 144 }
     requires cells { length givens.now ≤ 81 }
     requires givens { (k : ℕ) → k < length givens.now → slice_index givens.now k < length givens.now }
@@ -110,8 +71,8 @@ fn put_in_turn(trial: Trial, clues: &[u8], givens: &[u8]) -> ArrayVec<u8, MOST>
 }
 
 // Adds the items of a list, each so many further on.
-fn add_items(order: &mut ArrayVec<u8, MOST>, list: &[u8], further: usize)
-    requires room { length order.old.items + length list.now ≤ MOST }
+fn add_items(order: &mut ArrayVec<u8, MOST_DRAWN>, list: &[u8], further: usize)
+    requires room { length order.old.items + length list.now ≤ MOST_DRAWN }
     requires bytes { (k : ℕ) → k < length list.now → slice_index list.now k + further ≤ 255 }
     ensures { order.new.items ≡ order.old.items ++ map (λ i. further + i) list.now }
 {

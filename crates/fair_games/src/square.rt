@@ -6,10 +6,9 @@ ghost use Rattle.std.specs.Bool.{OnTrue, OnFalse};
 ghost use Rattle.latin_board.specs.Squares.{IsLatin};
 ghost use Rattle.fair_games.specs.Squares.{drawn_latin, drawn_rows, first_row, is_free, next_row, stands_in, with_row};
 
-use crate::draws::draw_numbers;
 use arrayvec::ArrayVec;
 use latin_board::{Grid, Size};
-use puzzle_gen::square;
+use puzzle_gen::{draw_numbers, square};
 use rand_core::Rng;
 
 /// Draws a Latin square, row by row.

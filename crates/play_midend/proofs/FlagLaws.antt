@@ -1,7 +1,8 @@
 -- What the flags of help and of completion say of the moves since the last restart.
-use Rattle.std.proofs.Common.{◌≡◌, ◌⊎◌, ℕ, ◌-◌, ◌*◌, ◌<◌, ◌≤◌, ◌==◌, true, false, cond, Some, None, refl, sym, ◌∙◌, subst, inl, inr, arith, List, [], ◌∷◌}
+use Rattle.std.proofs.Common.{◌≡◌, ◌⊎◌, ℕ, ◌-◌, ◌*◌, ◌<◌, ◌≤◌, ◌==◌, true, false, not, ◌&&◌, ◌||◌, cond, Some, None, refl, sym, ◌∙◌, subst, inl, inr, arith, List, [], ◌∷◌}
 use Rattle.std.specs.Option.{option_map_or}
-use Rattle.std.proofs.lemmas.Bool.{or_cases, or_left, or_right}
+use Rattle.std.proofs.Math.Bool.{and-true, and-false}
+use Rattle.std.proofs.lemmas.Bool.{cond_both, and_parts, or_cases, or_left, or_right, not-true}
 use Rattle.std.proofs.lemmas.List.{get_or-set_same, length-set}
 use Rattle.std.proofs.lemmas.Nat.{mul-add-lt}
 use Rattle.std.proofs.lemmas.List.Elements.{All-set}
@@ -23,45 +24,32 @@ use Rattle.play_midend.proofs.Replaying.{ArePlayable-take, after_step}
 use Rattle.play_midend.proofs.Making.{step_allowed}
 use Rattle.play_midend.proofs.Flagging.{IsSetBy, flagged}
 
--- help
+-- help: a solution sets it, a restart takes it back, and any other move leaves it
+helped_is : (p : Puzzle) (b : BoardValue) (m : Move) → (moved p b m).cheated ≡ (fills_in m || (b.cheated && not (is_restart m)))
+helped_is p b (Pencil x y n) =
+    cond_both (n == 0) _ _ (λ (c : BoardValue). c.cheated ≡ (b.cheated && true)) (λ none. sym (and-true b.cheated)) (λ some. sym (and-true b.cheated))
+helped_is p b (Solve g) = refl
+helped_is p b Restart = sym (and-false b.cheated)
+helped_is p b (Done x y) =
+    elim (edge_place p.size x y) as (λ place. (option_map_or (with_done_flipped b) place b).cheated ≡ (b.cheated && true)) [
+      | None ↦ sym (and-true b.cheated)
+      | Some place ↦ sym (and-true b.cheated)
+    ]
+helped_is p b m = sym (and-true b.cheated)
+
 helped_kept : (p : Puzzle) (b : BoardValue) (m : Move) → b.cheated ≡ true → is_restart m ≡ false → (moved p b m).cheated ≡ true
-helped_kept p b (Real x y n) is other = is
-helped_kept p b (Pencil x y n) is other =
-    elim (n == 0) as (λ t. (cond t (with_number p b (cell_of p.size x y) 0) (with_mark_flipped b (cell_of p.size x y) n)).cheated ≡ true) [
-      | true ↦ is
-      | false ↦ is
-    ]
-helped_kept p b MarkAll is other = is
-helped_kept p b (Solve g) is other = refl
-helped_kept p b Restart is other = cc
-helped_kept p b (Done x y) is other =
-    elim (edge_place p.size x y) as (λ place. (option_map_or (with_done_flipped b) place b).cheated ≡ true) [
-      | None ↦ is
-      | Some place ↦ is
-    ]
+helped_kept p b m is other = helped_is p b m ∙ or_right (fills_in m) _ (rw (is, other) refl)
 
 helped_only : (p : Puzzle) (b : BoardValue) (m : Move) → (moved p b m).cheated ≡ true
     → (fills_in m ≡ true) ⊎ ((b.cheated ≡ true) × (is_restart m ≡ false))
-helped_only p b (Real x y n) is = inr (is, refl)
-helped_only p b (Pencil x y n) is =
-    elim (n == 0) as (λ t. (cond t (with_number p b (cell_of p.size x y) 0) (with_mark_flipped b (cell_of p.size x y) n)).cheated ≡ true
-    → (false ≡ true) ⊎ ((b.cheated ≡ true) × (false ≡ false))) [
-      | true ↦ λ was. inr (was, refl)
-      | false ↦ λ was. inr (was, refl)
-    ] is
-helped_only p b MarkAll is = inr (is, refl)
-helped_only p b (Solve g) is = inl refl
-helped_only p b Restart is = cc
-helped_only p b (Done x y) is =
-    elim (edge_place p.size x y) as (λ place. (option_map_or (with_done_flipped b) place b).cheated ≡ true
-    → (false ≡ true) ⊎ ((b.cheated ≡ true) × (false ≡ false))) [
-      | None ↦ λ was. inr (was, refl)
-      | Some place ↦ λ was. inr (was, refl)
-    ] is
+helped_only p b m is =
+    elim (or_cases (fills_in m) (b.cheated && not (is_restart m)) (sym (helped_is p b m) ∙ is)) [
+      | inl fills ↦ inl fills
+      | inr both ↦ let parts = and_parts b.cheated (not (is_restart m)) both in inr (parts.0, not-true (is_restart m) parts.1)
+    ]
 
 helped_set : (p : Puzzle) (b : BoardValue) (m : Move) → fills_in m ≡ true → (moved p b m).cheated ≡ true
-helped_set p b (Solve g) is = refl
-helped_set p b m is = cc
+helped_set p b m is = helped_is p b m ∙ or_left (fills_in m) _ is
 
 help_set_by : (p : Puzzle) → IsSetBy p (λ b. b.cheated) (λ b m. fills_in m ≡ true) (λ b. Unit {0})
 help_set_by p = record {

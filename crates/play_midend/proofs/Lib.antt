@@ -1,4 +1,5 @@
 -- Lemmas on moves, their texts and histories.
+pub mod OptionSteps
 pub mod SolutionTexts
 pub mod MoveTextLaws
 pub mod MoveTextsRead

@@ -3,6 +3,7 @@ use Rattle.std.proofs.Common.{◌≡◌, ℕ, zero, ◌≤◌, ℤ, pos, negsuc,
 use Rattle.std.specs.Fmt.{decimal}
 use Rattle.std.proofs.lemmas.Fmt.{decimal_digit}
 use Rattle.std.proofs.lemmas.Slice.Eq.{bytes_eq-Decides}
+use Rattle.std.proofs.lemmas.Bool.{cond_both}
 use borrow.Author.Tests.{eqb-true}
 use Rattle.byte_text.specs.Cuts.{Lacks, before, behind}
 use Rattle.byte_text.specs.Decimals.{decimal_value}
@@ -12,6 +13,7 @@ use Rattle.play_midend.specs.declared.moves.Move.{Move}
 use Rattle.play_midend.specs.declared.moves.Move.TheVariants.{Real, Pencil, MarkAll, Solve, Restart, Done}
 use Rattle.play_midend.specs.declared.fault.PlayFault.{PlayFault}
 use Rattle.play_midend.specs.MoveTexts.{three_text, coordinate_text, move_text, AreBytes, IsCoordinate, IsWritable, IsMoveText, move_fault, all_three, three_from, three_at, coordinate_at, both, two_at, solution_at, mark_all_at, move_by, move_at}
+use Rattle.play_midend.proofs.OptionSteps.{map_taken, and_then_taken, ok_or_taken}
 use Rattle.play_midend.proofs.SolutionTexts.{solution_digits_taken, solution_digits_again}
 use Rattle.byte_text.specs.Bytes.{capital_r, capital_p, capital_m, capital_s, capital_d, comma}
 
@@ -26,30 +28,21 @@ all_three_taken None y n i j k e = cc
 all_three_taken (Some x) None n i j k e = cc
 all_three_taken (Some x) (Some y) None i j k e = cc
 
-three_parts : (text rest last : List ℕ) (t : ℕ × ℕ × ℕ) → behind comma text ≡ Some rest → behind comma rest ≡ Some last
-    → all_three (decimal_value 255 (before comma text)) (decimal_value 255 (before comma rest)) (decimal_value 255 last) ≡ Some t
-    → IsThree text t
-three_parts text rest last (i, j, k) cut more read =
-    let (read_x, read_y, read_n) = all_three_taken _ _ _ i j k read in
-    let x = number_taken 255 i (before comma text) (omega arith) read_x in
-    let y = number_taken 255 j (before comma rest) (omega arith) read_y in
-    let n = number_taken 255 k last (omega arith) read_n in
-    let e : text ≡ before comma text ++ (comma ∷ rest) = cut_parts comma text rest cut in
-    let f : rest ≡ before comma rest ++ (comma ∷ last) = cut_parts comma rest last more in
-    let g : rest ≡ decimal j ++ (comma ∷ decimal k) = f ∙ ap (λ front. front ++ (comma ∷ last)) y.0 ∙ ap (λ end. decimal j ++ (comma ∷ end)) n.0 in (
-      record { x_is = x.1; y_is = y.1; n_is = n.1 },
-      e ∙ ap (λ front. front ++ (comma ∷ rest)) x.0 ∙ ap (λ end. decimal i ++ (comma ∷ end)) g,
-    )
-
 three_taken : (text : List ℕ) (t : ℕ × ℕ × ℕ) → three_at text ≡ Some t → IsThree text t
-three_taken text t =
-    elim (behind comma text) as (λ o. behind comma text ≡ o → option_and_then (λ rest. three_from (decimal_value 255 (before comma text)) rest) o ≡ Some t → IsThree text t) [
-      | None ↦ λ cut read. cc
-      | Some rest ↦ λ cut. elim (behind comma rest) as (λ o. behind comma rest ≡ o → option_and_then (λ last. all_three (decimal_value 255 (before comma text)) (decimal_value 255 (before comma rest)) (decimal_value 255 last)) o ≡ Some t → IsThree text t) [
-        | None ↦ λ more read. cc
-        | Some last ↦ λ more read. three_parts text rest last t cut more read
-      ] refl
-    ] refl
+three_taken text (i, j, k) read =
+    let first = and_then_taken _ (behind comma text) (i, j, k) read in
+    let second = and_then_taken _ (behind comma first.value) (i, j, k) first.rest in
+    let (read_x, read_y, read_n) = all_three_taken _ _ _ i j k second.rest in
+    let x = number_taken 255 i (before comma text) (omega arith) read_x in
+    let y = number_taken 255 j (before comma first.value) (omega arith) read_y in
+    let n = number_taken 255 k second.value (omega arith) read_n in
+    let e : text ≡ before comma text ++ (comma ∷ first.value) = cut_parts comma text first.value first.gives in
+    let f : first.value ≡ before comma first.value ++ (comma ∷ second.value) = cut_parts comma first.value second.value second.gives in
+    let g : first.value ≡ decimal j ++ (comma ∷ decimal k) =
+    f ∙ ap (λ front. front ++ (comma ∷ second.value)) y.0 ∙ ap (λ end. decimal j ++ (comma ∷ end)) n.0 in (
+      record { x_is = x.1; y_is = y.1; n_is = n.1 },
+      e ∙ ap (λ front. front ++ (comma ∷ first.value)) x.0 ∙ ap (λ end. decimal i ++ (comma ∷ end)) g,
+    )
 
 three_again : (x y n : ℕ) → AreBytes x y n → three_at (three_text x y n) ≡ Some (x, y, n)
 three_again x y n h =
@@ -64,19 +57,17 @@ minus_one = ap (λ ds. 45 ∷ ds) (decimal_digit 1 (omega arith))
 
 coordinate_taken : (text : List ℕ) (z : ℤ) → coordinate_at text ≡ Some z → IsCoordinate z × (text ≡ coordinate_text z)
 coordinate_taken text z =
-    elim (bytes_eq text (codes "-1")) as (λ t. bytes_eq text (codes "-1") ≡ t → cond t (Some (negsuc zero)) (option_map pos (decimal_value 127 text)) ≡ Some z → IsCoordinate z × (text ≡ coordinate_text z)) [
-      | true ↦ λ is read.
-          let e : negsuc zero ≡ z = cc in
-          let same : text ≡ codes "-1" = (bytes_eq-Decides text (codes "-1")).0 is in
-          subst (λ (v : ℤ). IsCoordinate v × (text ≡ coordinate_text v)) e (refl, same ∙ sym minus_one)
-      | false ↦ λ is. elim (decimal_value 127 text) as (λ o. decimal_value 127 text ≡ o → option_map pos o ≡ Some z → IsCoordinate z × (text ≡ coordinate_text z)) [
-        | None ↦ λ number read. cc
-        | Some n ↦ λ number read.
-            let e : pos n ≡ z = cc in
-            let taken = number_taken 127 n text (omega arith) number in
-            subst (λ (v : ℤ). IsCoordinate v × (text ≡ coordinate_text v)) e (taken.1, taken.0)
-      ] refl
-    ] refl
+    cond_both (bytes_eq text (codes "-1")) _ _ (λ (o : Option ℤ). o ≡ Some z → IsCoordinate z × (text ≡ coordinate_text z)) (
+    λ is read.
+    let e : negsuc zero ≡ z = cc in
+    let same : text ≡ codes "-1" = (bytes_eq-Decides text (codes "-1")).0 is in
+    subst (λ (v : ℤ). IsCoordinate v × (text ≡ coordinate_text v)) e (refl, same ∙ sym minus_one)
+    ) (
+    λ other read.
+    let number = map_taken pos (decimal_value 127 text) z read in
+    let taken = number_taken 127 number.value text (omega arith) number.gives in
+    subst (λ (v : ℤ). IsCoordinate v × (text ≡ coordinate_text v)) number.rest (taken.1, taken.0)
+    )
 
 not_minus : (text : List ℕ) → Lacks 45 text → bytes_eq text (codes "-1") ≡ false
 not_minus [] h = refl
@@ -106,16 +97,13 @@ both_taken None y t e = cc
 both_taken (Some x) None t e = cc
 
 two_taken : (text : List ℕ) (t : ℤ × ℤ) → two_at text ≡ Some t → IsTwo text t
-two_taken text t =
-    elim (behind comma text) as (λ o. behind comma text ≡ o → option_and_then (λ rest. both (coordinate_at (before comma text)) (coordinate_at rest)) o ≡ Some t → IsTwo text t) [
-      | None ↦ λ cut read. cc
-      | Some rest ↦ λ cut read.
-          let each = both_taken _ _ t read in
-          let x = coordinate_taken (before comma text) t.0 each.0 in
-          let y = coordinate_taken rest t.1 each.1 in
-          let e : text ≡ before comma text ++ (comma ∷ rest) = cut_parts comma text rest cut in
-          (x.0, y.0, e ∙ ap (λ front. front ++ (comma ∷ rest)) x.1 ∙ ap (λ end. coordinate_text t.0 ++ (comma ∷ end)) y.1)
-    ] refl
+two_taken text t read =
+    let cut = and_then_taken _ (behind comma text) t read in
+    let each = both_taken _ _ t cut.rest in
+    let x = coordinate_taken (before comma text) t.0 each.0 in
+    let y = coordinate_taken cut.value t.1 each.1 in
+    let e : text ≡ before comma text ++ (comma ∷ cut.value) = cut_parts comma text cut.value cut.gives in
+    (x.0, y.0, e ∙ ap (λ front. front ++ (comma ∷ cut.value)) x.1 ∙ ap (λ end. coordinate_text t.0 ++ (comma ∷ end)) y.1)
 
 two_again : (x y : ℤ) → IsCoordinate x → IsCoordinate y → two_at (coordinate_text x ++ (comma ∷ coordinate_text y)) ≡ Some (x, y)
 two_again x y hx hy =
@@ -127,22 +115,20 @@ two_again x y hx hy =
 abbrev ReadsMove : Option Move → ℕ → List ℕ → Move → Type 0
 ReadsMove read b bs m = read ≡ Some m → IsMoveText m (b ∷ bs)
 
-numbers_taken : (make : ℕ × ℕ × ℕ → Move) (b : ℕ) (bs : List ℕ) (m : Move)
-    → ((t : ℕ × ℕ × ℕ) → three_at bs ≡ Some t → IsMoveText (make t) (b ∷ bs)) → ReadsMove (option_map make (three_at bs)) b bs m
-numbers_taken make b bs m text =
-    elim (three_at bs) as (λ o. three_at bs ≡ o → ReadsMove (option_map make o) b bs m) [
-      | None ↦ λ is read. cc
-      | Some t ↦ λ is read. let e : make t ≡ m = cc in subst (λ (k : Move). IsMoveText k (b ∷ bs)) e (text t is)
-    ] refl
+made_taken : {T : Type 0} (make : T → Move) (o : Option T) (b : ℕ) (bs : List ℕ) (m : Move)
+    → ((t : T) → o ≡ Some t → IsMoveText (make t) (b ∷ bs)) → ReadsMove (option_map make o) b bs m
+made_taken make o b bs m text read =
+    let part = map_taken make o m read in
+    subst (λ (k : Move). IsMoveText k (b ∷ bs)) part.rest (text part.value part.gives)
 
 real_taken : (bs : List ℕ) (m : Move) → ReadsMove (option_map (λ (x, y, n). Real x y n) (three_at bs)) capital_r bs m
 real_taken bs m =
-    numbers_taken (λ (x, y, n). Real x y n) capital_r bs m
+    made_taken (λ (x, y, n). Real x y n) (three_at bs) capital_r bs m
     (λ t is. let h = three_taken bs t is in record { writable = h.0; spelled = ap (λ xs. capital_r ∷ xs) h.1 })
 
 pencil_taken : (bs : List ℕ) (m : Move) → ReadsMove (option_map (λ (x, y, n). Pencil x y n) (three_at bs)) capital_p bs m
 pencil_taken bs m =
-    numbers_taken (λ (x, y, n). Pencil x y n) capital_p bs m
+    made_taken (λ (x, y, n). Pencil x y n) (three_at bs) capital_p bs m
     (λ t is. let h = three_taken bs t is in record { writable = h.0; spelled = ap (λ xs. capital_p ∷ xs) h.1 })
 
 mark_all_taken : (bs : List ℕ) (m : Move) → ReadsMove (mark_all_at bs) capital_m bs m
@@ -153,23 +139,14 @@ mark_all_taken (b ∷ bs) m read = cc
 
 solve_taken : (bs : List ℕ) (m : Move) → ReadsMove (option_map Solve (solution_at bs)) capital_s bs m
 solve_taken bs m =
-    elim (solution_at bs) as (λ o. solution_at bs ≡ o → ReadsMove (option_map Solve o) capital_s bs m) [
-      | None ↦ λ is read. cc
-      | Some g ↦ λ is read.
-          let h = solution_digits_taken bs g is in
-          let e : Solve g ≡ m = cc in
-          subst (λ (k : Move). IsMoveText k (capital_s ∷ bs)) e (record { writable = h.0; spelled = ap (λ xs. capital_s ∷ xs) h.1 })
-    ] refl
+    made_taken Solve (solution_at bs) capital_s bs m
+    (λ g is. let h = solution_digits_taken bs g is in record { writable = h.0; spelled = ap (λ xs. capital_s ∷ xs) h.1 })
 
 done_taken : (bs : List ℕ) (m : Move) → ReadsMove (option_map (λ (x, y). Done x y) (two_at bs)) capital_d bs m
 done_taken bs m =
-    elim (two_at bs) as (λ o. two_at bs ≡ o → ReadsMove (option_map (λ (x, y). Done x y) o) capital_d bs m) [
-      | None ↦ λ is read. cc
-      | Some t ↦ λ is read.
-          let (x_is, y_is, spelled) = two_taken bs t is in
-          let e : Done t.0 t.1 ≡ m = cc in
-          subst (λ (k : Move). IsMoveText k (capital_d ∷ bs)) e (record { writable = (x_is, y_is); spelled = ap (λ xs. capital_d ∷ xs) spelled })
-    ] refl
+    made_taken (λ (x, y). Done x y) (two_at bs) capital_d bs m (λ t is.
+    let (x_is, y_is, spelled) = two_taken bs t is in
+    record { writable = (x_is, y_is); spelled = ap (λ xs. capital_d ∷ xs) spelled })
 
 -- one letter's row of the table: its move, or what the rows after it give
 letter_taken : (b k : ℕ) (bs : List ℕ) (m : Move) (here later : Option Move) → ReadsMove here k bs m → ReadsMove later b bs m
@@ -205,8 +182,7 @@ move_again text m h = rw h.spelled (spelled_again m h.writable)
 -- the clauses of a reader
 pub read_found : (text : List ℕ) (result : Result Move PlayFault) → result ≡ move_at text → IfOk result (λ m. IsMoveText m text)
 unfolding move_at
-read_found text (Ok m) is =
-    move_taken text m (elim (move_by text) as (λ o. Ok m ≡ ok_or o (move_fault text) → o ≡ Some m) [ None ↦ λ e. cc | Some k ↦ λ e. cc ] is)
+read_found text (Ok m) is = move_taken text m (ok_or_taken (move_by text) (move_fault text) m (sym is))
 read_found text (Err e) is = tt
 
 -- a text of a move is read as that move and no other

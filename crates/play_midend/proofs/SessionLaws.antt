@@ -11,6 +11,7 @@ use Rattle.play_midend.specs.declared.fault.PlayFault.TheVariants.{NothingToUndo
 use Rattle.play_midend.specs.Steps.{start_of, replay_from}
 use Rattle.play_midend.specs.Histories.{History, IsValid, past, shown, refusal_in, with_move, at_position, played, SolveGives, undone, redone}
 use Rattle.play_midend.specs.Laws.{Call, Play, FromStart, ToSolution, Undo, Redo, CallGives, may_take_memory, Answered, AnsweredInTurn, RunsStayValid, IsSameBack, UndoTakesBack, UndoTakesRestartBack, UndoTakesSolveBack, RedoTakesUndoBack}
+use Rattle.play_midend.proofs.OptionSteps.{ok_else}
 use Rattle.play_midend.proofs.Making.{step_allowed}
 use Rattle.play_midend.proofs.Replaying.{ArePlayable-append, ArePlayable-take, restart_first-take, restart_first-push}
 use Rattle.play_midend.proofs.Playing.{Allowed, allowed_in, accepted, solved_as_played}
@@ -52,20 +53,16 @@ valid_at p h position v first last = record { size = v.size; legal = v.legal; fe
 
 -- an accepted undo or redo shows the state beside the one that was shown
 pub undone_is : {P : Type 0} (h new : History P) → undone h ≡ Ok new → (h.position ≢ 1) × (at_position h (h.position - 1) ≡ new)
-undone_is h new =
-    elim (h.position == 1) as (λ t. (h.position == 1) ≡ t → cond t (Err NothingToUndo) (Ok (at_position h (h.position - 1))) ≡ Ok new → (h.position ≢ 1) × (at_position h (h.position - 1) ≡ new)) [
-      | true ↦ λ first is. cc
-      | false ↦ λ later is. (eqb-false h.position 1 later, cc)
-    ] refl
+undone_is h new is =
+    let made = ok_else (h.position == 1) NothingToUndo (Ok (at_position h (h.position - 1))) new is in
+    (eqb-false h.position 1 made.0, cc (made.1))
 
 -- where redo gives a session, it wasn't at the last state, and is one further
 pub redone_is : {P : Type 0} (h new : History P) → redone h ≡ Ok new
     → (h.position ≢ length h.moves + 1) × (at_position h (h.position + 1) ≡ new)
-redone_is h new =
-    elim (h.position == length h.moves + 1) as (λ t. (h.position == length h.moves + 1) ≡ t → cond t (Err NothingToRedo) (Ok (at_position h (h.position + 1))) ≡ Ok new → (h.position ≢ length h.moves + 1) × (at_position h (h.position + 1) ≡ new)) [
-      | true ↦ λ last is. cc
-      | false ↦ λ before is. (eqb-false h.position (length h.moves + 1) before, cc)
-    ] refl
+redone_is h new is =
+    let made = ok_else (h.position == length h.moves + 1) NothingToRedo (Ok (at_position h (h.position + 1))) new is in
+    (eqb-false h.position (length h.moves + 1) made.0, cc (made.1))
 
 valid_undone : {P : Type 0} (p : Puzzle) (h new : History P) → IsValid p h → undone h ≡ Ok new → IsValid p new
 valid_undone {P} p h new v is =

@@ -3,9 +3,11 @@ use Rattle.std.proofs.Common.{◌≡◌, ℕ, ◌+◌, ◌-◌, ◌*◌, ◌<◌
 use Rattle.std.specs.List.{AllByRecursion}
 use Rattle.std.proofs.lemmas.List.{length-map}
 use Rattle.std.proofs.lemmas.List.Elements.{All-from_recursion, All-from_get_or, recursion_from_All}
-use Rattle.std.proofs.lemmas.Bool.{cases_eq}
+use Rattle.std.proofs.lemmas.Bool.{cases_eq, and_parts}
+use Rattle.std.proofs.lemmas.Option.{cond_some}
 use borrow.Author.Tests.{eqb-true, leb-true, le-leb}
 use Rattle.latin_board.specs.Squares.{GridValue}
+use Rattle.play_midend.proofs.OptionSteps.{map_taken, and_then_taken}
 use Rattle.play_midend.specs.MoveTexts.{digit_at, digits_at, size_by_count, solution_of, solution_at, IsFullGrid}
 
 -- what is read so far, in front of what more is read
@@ -17,18 +19,13 @@ abbrev Within : ℕ → ℕ → Type 0
 Within w n = (1 ≤ n) × (n ≤ w)
 
 digit_taken : (w b n : ℕ) → digit_at w b ≡ Some n → Within w n × (b ≡ 48 + n)
-digit_taken w b n =
-    elim (nat_le 49 b) as (λ t. nat_le 49 b ≡ t → cond (t && nat_le b (48 + w)) (Some (b - 48)) None ≡ Some n → Within w n × (b ≡ 48 + n)) [
-      | true ↦ λ low. elim (nat_le b (48 + w)) as (λ t. nat_le b (48 + w) ≡ t → cond t (Some (b - 48)) None ≡ Some n → Within w n × (b ≡ 48 + n)) [
-        | true ↦ λ high read.
-            let e : b - 48 ≡ n = cc in
-            let l = leb-true _ _ low in
-            let h = leb-true _ _ high in
-            ((omega arith, omega arith), omega arith)
-        | false ↦ λ high read. cc
-      ] refl
-      | false ↦ λ low read. cc
-    ] refl
+digit_taken w b n read =
+    let found = cond_some (nat_le 49 b && nat_le b (48 + w)) (b - 48) n read in
+    let range = and_parts (nat_le 49 b) (nat_le b (48 + w)) found.0 in
+    let low = leb-true _ _ range.0 in
+    let high = leb-true _ _ range.1 in
+    let e = found.1 in
+    ((omega arith, omega arith), omega arith)
 
 digit_again : (w n : ℕ) → Within w n → digit_at w (48 + n) ≡ Some n
 digit_again w n h =
@@ -38,19 +35,16 @@ digit_again w n h =
     rw (le-leb _ _ low, le-leb _ _ high, back) refl
 
 digits_taken : (w : ℕ) (text ns : List ℕ) → digits_at w text ≡ Some ns → AllByRecursion (Within w) ns × (text ≡ map (λ n. 48 + n) ns)
-digits_taken w [] ns = λ read. let e : [] ≡ ns = cc in subst (λ (xs : List ℕ). AllByRecursion (Within w) xs × ([] ≡ map (λ n. 48 + n) xs)) e (tt, refl)
-digits_taken w (b ∷ bs) ns =
-    elim (digit_at w b) as (λ o. digit_at w b ≡ o → option_and_then (λ n. option_map (λ xs. n ∷ xs) (digits_at w bs)) o ≡ Some ns → AllByRecursion (Within w) ns × (b ∷ bs ≡ map (λ n. 48 + n) ns)) [
-      | None ↦ λ is read. cc
-      | Some n ↦ λ is. elim (digits_at w bs) as (λ o. digits_at w bs ≡ o → option_map (λ xs. n ∷ xs) o ≡ Some ns → AllByRecursion (Within w) ns × (b ∷ bs ≡ map (λ n. 48 + n) ns)) [
-        | None ↦ λ are read. cc
-        | Some xs ↦ λ are read.
-            let first = digit_taken w b n is in
-            let rest = digits_taken w bs xs are in
-            let e : n ∷ xs ≡ ns = cc in
-            subst (λ (ys : List ℕ). AllByRecursion (Within w) ys × (b ∷ bs ≡ map (λ n. 48 + n) ys)) e ((first.0, rest.0), ap (λ x. x ∷ bs) first.1 ∙ ap (λ xs. (48 + n) ∷ xs) rest.1)
-      ] refl
-    ] refl
+digits_taken w [] ns read =
+    let e : [] ≡ ns = cc in
+    subst (λ (xs : List ℕ). AllByRecursion (Within w) xs × ([] ≡ map (λ n. 48 + n) xs)) e (tt, refl)
+digits_taken w (b ∷ bs) ns read =
+    let one = and_then_taken _ (digit_at w b) ns read in
+    let more = map_taken (λ xs. one.value ∷ xs) (digits_at w bs) ns one.rest in
+    let first = digit_taken w b one.value one.gives in
+    let rest = digits_taken w bs more.value more.gives in
+    subst (λ (ys : List ℕ). AllByRecursion (Within w) ys × (b ∷ bs ≡ map (λ n. 48 + n) ys)) more.rest
+    ((first.0, rest.0), ap (λ x. x ∷ bs) first.1 ∙ ap (λ xs. (48 + one.value) ∷ xs) rest.1)
 
 digits_again : (w : ℕ) (ns : List ℕ) → AllByRecursion (Within w) ns → digits_at w (map (λ n. 48 + n) ns) ≡ Some ns
 digits_again w [] h = refl
@@ -114,17 +108,13 @@ full_grid text ns w size within is =
 
 pub solution_digits_taken : (text : List ℕ) (g : GridValue) → solution_at text ≡ Some g
     → IsFullGrid g × (text ≡ map (λ n. 48 + n) g.numbers)
-solution_digits_taken text g =
-    elim (size_by_count (length text)) as (λ o. size_by_count (length text) ≡ o → option_and_then (λ w. solution_of text w) o ≡ Some g → IsFullGrid g × (text ≡ map (λ n. 48 + n) g.numbers)) [
-      | None ↦ λ size read. cc
-      | Some w ↦ λ size. elim (digits_at w text) as (λ o. digits_at w text ≡ o → option_map (λ ns. let r : GridValue = record { size = w; numbers = ns } in r) o ≡ Some g → IsFullGrid g × (text ≡ map (λ n. 48 + n) g.numbers)) [
-        | None ↦ λ digits read. cc
-        | Some ns ↦ λ digits read.
-            let taken = digits_taken w text ns digits in
-            let e : record { size = w; numbers = ns } ≡ g = cc in
-            subst (λ (h : GridValue). IsFullGrid h × (text ≡ map (λ n. 48 + n) h.numbers)) e (full_grid text ns w (square_size_taken (length text) w size) taken.0 taken.1, taken.1)
-      ] refl
-    ] refl
+solution_digits_taken text g read =
+    let size = and_then_taken _ (size_by_count (length text)) g read in
+    let w = size.value in
+    let digits = map_taken (λ ns. let r : GridValue = record { size = w; numbers = ns } in r) (digits_at w text) g size.rest in
+    let taken = digits_taken w text digits.value digits.gives in
+    subst (λ (h : GridValue). IsFullGrid h × (text ≡ map (λ n. 48 + n) h.numbers)) digits.rest
+    (full_grid text digits.value w (square_size_taken (length text) w size.gives) taken.0 taken.1, taken.1)
 
 pub solution_digits_again : (g : GridValue) → IsFullGrid g → solution_at (map (λ n. 48 + n) g.numbers) ≡ Some g
 solution_digits_again g h =

@@ -21,7 +21,7 @@ use Rattle.play_save.specs.KeyedRecords.{KeyedRecord, states_in}
 use Rattle.play_save.specs.SaveTexts.{SavedGame}
 use Rattle.play_save.specs.FirstFaults.{MetValue, met, count_met, positive, count_at, fault_unless, go_together, count_fault, behind_counts, state_fault, fault_by, has_all, is_complete, Listing, needed, met_in}
 use Rattle.play_save.specs.Inner.Taking.{IsPlayable, added}
-use Rattle.play_save.proofs.OptionSteps.{and_then_taken}
+use Rattle.play_midend.proofs.OptionSteps.{and_then_taken}
 use Rattle.play_save.proofs.Meeting.{once_taken, met_added}
 use Rattle.play_save.proofs.RightLists.{AreRight, right_end, needed_taken}
 

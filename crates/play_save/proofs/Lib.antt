@@ -1,5 +1,4 @@
 -- Lemmas on the texts of save files.
-pub mod OptionSteps
 pub mod KeyLaws
 pub mod RecordLaws
 pub mod NextRecord
@@ -17,4 +16,3 @@ pub mod WrittenLists
 pub mod WrittenRecords
 pub mod SessionRecords
 pub mod SavedWritten
-pub mod SavesStorable

@@ -1,12 +1,12 @@
 -- What reading the next record answers.
-use Rattle.std.proofs.Common.{◌≡◌, ℕ, List, Option, Some, None, option_map, Result, Ok, Err, IfOk, IfErr, MatchOption, Bor, sym, ◌∙◌}
+use Rattle.std.proofs.Common.{◌≡◌, ℕ, List, Option, Some, None, option_map, Result, Ok, Err, IfOk, IfErr, MatchOption, Bor}
 use Rattle.byte_text.specs.Reading.{Gives}
 use Rattle.play_save.specs.declared.fault.LoadFault.{LoadFault}
 use Rattle.play_save.specs.declared.fault.LoadFault.TheVariants.{Malformed}
 use Rattle.play_save.specs.declared.record.Record.{Record}
-use Rattle.play_save.specs.Records.{Entry, AreBreaks, BeginsWith, record_at}
+use Rattle.play_save.specs.Records.{AreBreaks, BeginsWith, record_at}
 use Rattle.play_save.specs.Views.{entry_of, entry_and_rest}
-use Rattle.play_save.proofs.RecordLaws.{record_taken, record_again, end_taken, end_again, record_fault}
+use Rattle.play_save.proofs.RecordLaws.{record_taken, end_taken, record_fault}
 
 -- what a step of reading answers
 abbrev pub Answer : Type 0
@@ -18,17 +18,6 @@ pub record_found : (bs : List ℕ) (answer : Answer)
 record_found bs (Ok (Some p)) gives = record_taken bs (entry_of p.0) p.1.now gives
 record_found bs (Ok None) gives = end_taken bs gives
 record_found bs (Err e) gives = tt
-
-pub record_only : (bs : List ℕ) (e : Entry) (rest : List ℕ) (answer : Answer)
-    → Gives (option_map entry_and_rest) answer (record_at bs) → BeginsWith e rest bs
-    → Gives (option_map entry_and_rest) answer (Ok (Some (e, rest)))
-record_only bs e rest (Ok o) gives h = sym (record_again bs e rest h) ∙ gives
-record_only bs e rest (Err f) gives h = sym (record_again bs e rest h) ∙ gives
-
-pub record_end : (bs : List ℕ) (answer : Answer)
-    → Gives (option_map entry_and_rest) answer (record_at bs) → AreBreaks bs → Gives (option_map entry_and_rest) answer (Ok None)
-record_end bs (Ok o) gives are = sym (end_again bs are) ∙ gives
-record_end bs (Err f) gives are = sym (end_again bs are) ∙ gives
 
 pub record_refused : (bs : List ℕ) (answer : Answer)
     → Gives (option_map entry_and_rest) answer (record_at bs) → IfErr answer (λ f. f ≡ Malformed)

@@ -11,7 +11,7 @@ use Rattle.byte_text.proofs.CutLaws.{cut_parts, before_at, behind_at, lacks_befo
 use Rattle.play_save.specs.declared.fault.LoadFault.{LoadFault}
 use Rattle.play_save.specs.declared.fault.LoadFault.TheVariants.{Malformed}
 use Rattle.play_save.specs.Records.{Entry, is_break, begins_with_break, AreBreaks, is_empty, unpadded, length_at, BeginsWith, skip_breaks, field_at, value_at, value_behind, record_of, record_behind, record_or_end, record_at}
-use Rattle.play_save.proofs.OptionSteps.{map_taken, and_then_taken, ok_or_taken, where_taken}
+use Rattle.play_midend.proofs.OptionSteps.{map_taken, and_then_taken, ok_or_taken, where_taken}
 
 -- a name and one more byte
 pub unpadded-snoc : (xs : List ℕ) (b : ℕ) → unpadded (xs ++ b ∷ []) ≡ cond (b == space) (unpadded xs) (xs ++ b ∷ [])
@@ -96,59 +96,44 @@ value_again value rest =
     rw (le-leb (length value) (length (value ++ rest)) within)
     (rw (take_at value rest (length value) refl, drop_at value rest (length value) refl) refl)
 
--- a text that is a length, a colon, the value of that length, and the rest
-record IsSized (value rest : List ℕ) (text : List ℕ) : Type 0 where
-  digits : List ℕ
-  spelled : text ≡ digits ++ (colon ∷ (value ++ rest))
-  lacks : Lacks colon digits
-  sized : length_at digits ≡ Some (length value)
-
-sized_taken : (bs : List ℕ) (parts : List ℕ × List ℕ) → value_behind bs ≡ Some parts → IsSized parts.0 parts.1 bs
-sized_taken bs parts is =
-    let field = and_then_taken _ (field_at bs) parts is in
-    let size = and_then_taken _ (length_at field.value.0) parts field.rest in
-    let cut = field_taken bs field.value field.gives in
-    let value = value_taken size.value field.value.1 parts size.rest in
-    record {
-      digits = field.value.0;
-      spelled = cut.0 ∙ ap (λ xs. field.value.0 ++ (colon ∷ xs)) value.1;
-      lacks = cut.1;
-      sized = size.gives ∙ ap Some (sym value.0);
-    }
-
+-- what is read of a text that is a length, a colon, the value of that length, and the rest
 sized_again : (digits value rest : List ℕ)
     → length_at digits ≡ Some (length value) → value_behind (digits ++ (colon ∷ (value ++ rest))) ≡ Some (value, rest)
 sized_again digits value rest sized =
     rw (field_again digits (value ++ rest) (length_lacks_colon digits (length value) sized), sized) (value_again value rest)
 
--- a record that begins with its key
-record IsKeyed (e : Entry) (rest : List ℕ) (text : List ℕ) : Type 0 where
-  key : List ℕ
-  digits : List ℕ
-  spelled : text ≡ key ++ (colon ∷ (digits ++ (colon ∷ (e.value ++ rest))))
-  eight : length key ≡ 8
-  no_colon : Lacks colon key
-  name_is : e.key ≡ unpadded key
-  length_is : length_at digits ≡ Some (length e.value)
-
-keyed_taken : (bs : List ℕ) (e : Entry) (rest : List ℕ) → record_behind bs ≡ Some (e, rest) → IsKeyed e rest bs
+-- a record after line breaks, where it begins with its key
+keyed_taken : (front bs : List ℕ) (e : Entry) (rest : List ℕ) → AreBreaks front → begins_with_break bs ≡ false
+    → record_behind bs ≡ Some (e, rest) → BeginsWith e rest (front ++ bs)
 unfolding record_behind
-keyed_taken bs e rest is =
+keyed_taken front bs e rest breaks no_break is =
     let field = and_then_taken _ (field_at bs) (e, rest) is in
+    let key = field.value.0 in
     let cut = field_taken bs field.value field.gives in
-    let made = where_taken (length field.value.0 == 8) _ (e, rest) field.rest in
-    let value = map_taken (record_of field.value.0) (value_behind field.value.1) (e, rest) made.1 in
-    let sized = sized_taken field.value.1 value.value value.gives in
-    let keyed : IsKeyed (record_of field.value.0 value.value).0 (record_of field.value.0 value.value).1 bs = record {
-      key = field.value.0;
-      digits = sized.digits;
-      spelled = cut.0 ∙ ap (λ xs. field.value.0 ++ (colon ∷ xs)) sized.spelled;
-      eight = eqb-true (length field.value.0) 8 made.0;
+    let made = where_taken (length key == 8) _ (e, rest) field.rest in
+    let value = map_taken (record_of key) (value_behind field.value.1) (e, rest) made.1 in
+    let sized = and_then_taken _ (field_at field.value.1) value.value value.gives in
+    let size = and_then_taken _ (length_at sized.value.0) value.value sized.rest in
+    let own = field_taken field.value.1 sized.value sized.gives in
+    let parts = value_taken size.value sized.value.1 value.value size.rest in
+    let eight = eqb-true (length key) 8 made.0 in
+    let begins : BeginsWith (record_of key value.value).0 (record_of key value.value).1 (front ++ bs) = record {
+      breaks = front;
+      key = key;
+      digits = sized.value.0;
+      spelled = ap (λ xs. front ++ xs) (cut.0 ∙ ap (λ xs. key ++ (colon ∷ xs)) (own.0 ∙ ap (λ xs. sized.value.0 ++ (colon ∷ xs)) parts.1));
+      are_breaks = breaks;
+      eight = eight;
       no_colon = cut.1;
+      no_break = no_break_in key _ eight (ap begins_with_break (sym cut.0) ∙ no_break);
       name_is = refl;
-      length_is = sized.sized;
+      length_is = size.gives ∙ ap Some (sym parts.0);
     } in
-    subst (λ (p : Entry × List ℕ). IsKeyed p.0 p.1 bs) value.rest keyed
+    subst (λ (p : Entry × List ℕ). BeginsWith p.0 p.1 (front ++ bs)) value.rest begins
+  where
+    no_break_in : (xs ys : List ℕ) → length xs ≡ 8 → begins_with_break (xs ++ ys) ≡ false → begins_with_break xs ≡ false
+    no_break_in [] ys eight is_none = absurd (omega arith)
+    no_break_in (x ∷ xs) ys eight is_none = is_none
 
 keyed_again : (e : Entry) (rest key digits : List ℕ)
     → length key ≡ 8 → Lacks colon key → e.key ≡ unpadded key → length_at digits ≡ Some (length e.value)
@@ -179,23 +164,8 @@ pub record_taken : (bs : List ℕ) (e : Entry) (rest : List ℕ) → record_at b
 unfolding record_at
 record_taken bs e rest is =
     let (front, split, breaks) = skip_split bs in
-    let keyed = keyed_taken (skip_breaks bs) e rest (or_end_taken (skip_breaks bs) e rest is) in
-    record {
-      breaks = front;
-      key = keyed.key;
-      digits = keyed.digits;
-      spelled = split ∙ ap (λ xs. front ++ xs) keyed.spelled;
-      are_breaks = breaks;
-      eight = keyed.eight;
-      no_colon = keyed.no_colon;
-      no_break = no_break_in keyed.key _ keyed.eight (ap begins_with_break (sym keyed.spelled) ∙ skip_no_break bs);
-      name_is = keyed.name_is;
-      length_is = keyed.length_is;
-    }
-  where
-    no_break_in : (xs ys : List ℕ) → length xs ≡ 8 → begins_with_break (xs ++ ys) ≡ false → begins_with_break xs ≡ false
-    no_break_in [] ys eight is_none = absurd (omega arith)
-    no_break_in (x ∷ xs) ys eight is_none = is_none
+    subst (BeginsWith e rest) (sym split)
+    (keyed_taken front (skip_breaks bs) e rest breaks (skip_no_break bs) (or_end_taken (skip_breaks bs) e rest is))
 
 -- what a text begins with is read as its record
 pub record_again : (bs : List ℕ) (e : Entry) (rest : List ℕ) → BeginsWith e rest bs → record_at bs ≡ Ok (Some (e, rest))

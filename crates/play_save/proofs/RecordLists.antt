@@ -9,7 +9,7 @@ use Rattle.play_save.specs.declared.key.Key.TheVariants.{Header, State}
 use Rattle.play_save.specs.Keys.{same_header, kept_at, each_kept}
 use Rattle.play_save.specs.KeyedRecords.{KeyedRecord, KeyedState, onto_values, values_of, onto_states, states_in}
 use Rattle.play_save.specs.FirstFaults.{first_of}
-use Rattle.play_save.proofs.KeyLaws.{same_key, own_key}
+use Rattle.play_save.proofs.KeyLaws.{own_key}
 
 -- what is kept, by its keys
 pub kept_each : (value : KeptKey → Option (List ℕ)) (k : KeptKey) → kept_at (each_kept value) k ≡ value k
@@ -69,41 +69,6 @@ values_at k value before later = values_of-append k before (one (Header k) value
 pub append_none : {A : Type 0} (xs ys : List A) → xs ++ ys ≡ [] → (xs ≡ []) × (ys ≡ [])
 append_none [] ys none = (refl, none)
 append_none (x ∷ xs) ys none = cc
-
--- the first record with a key
-pub record FirstAt (k : HeaderKey) (value : List ℕ) (more : List (List ℕ)) (rs : List KeyedRecord) : Type 0 where
-  pub front : List KeyedRecord
-  pub later : List KeyedRecord
-  pub split : rs ≡ front ++ (one (Header k) value ++ later)
-  pub more_is : values_of k later ≡ more
-
-pub first_at : (k : HeaderKey) (value : List ℕ) (more : List (List ℕ)) (rs : List KeyedRecord)
-    → values_of k rs ≡ value ∷ more → FirstAt k value more rs
-first_at k value more [] is = cc
-first_at k value more (r ∷ rs) is = by_key r.key refl is (λ e. first_at k value more rs e)
-  where
-    behind_one : FirstAt k value more rs → FirstAt k value more (r ∷ rs)
-    behind_one rest = record {
-      front = r ∷ rest.front;
-      later = rest.later;
-      split = ap (λ xs. r ∷ xs) rest.split;
-      more_is = rest.more_is;
-    }
-
-    by_name : (j : HeaderKey) (own : Bool) → r.key ≡ Header j → (same_header j k) ≡ own
-        → cond own (r.value ∷ values_of k rs) (values_of k rs) ≡ value ∷ more
-        → (values_of k rs ≡ value ∷ more → FirstAt k value more rs) → FirstAt k value more (r ∷ rs)
-    by_name j true key same e along =
-        let own : KeyedRecord = record r { key = r.key } in
-        let key_is : r.key ≡ Header k = key ∙ ap Header (same_key j k same) in
-        let whole : own ≡ record { key = Header k; value = value } = cc in
-        record { front = []; later = rs; split = ap (λ x. x ∷ rs) whole; more_is = cc }
-    by_name j false key same e along = behind_one (along e)
-
-    by_key : (key : Key) → r.key ≡ key → onto_values k key r.value (values_of k rs) ≡ value ∷ more
-        → (values_of k rs ≡ value ∷ more → FirstAt k value more rs) → FirstAt k value more (r ∷ rs)
-    by_key (Header j) key e along = by_name j (same_header j k) key refl e along
-    by_key _ key e along = behind_one (along e)
 
 -- the first of some values
 pub no_first : {A : Type 0} (xs : List A) → is_some (first_of xs) ≡ false → xs ≡ []

@@ -1,19 +1,21 @@
 -- Lists of records without a fault: they are what is read up to the last record that is needed.
-use Rattle.std.proofs.Common.{◌≡◌, ℕ, zero, suc, ◌<◌, ◌≤◌, true, false, List, [], ◌∷◌, ◌++◌, length, Option, Some, None, Result, Ok, Err, refl, sym, ap, ◌∙◌, subst, arith, length-append}
+use Rattle.std.proofs.Common.{◌≡◌, ℕ, zero, suc, ◌<◌, ◌≤◌, Bool, true, false, cond, List, [], ◌∷◌, ◌++◌, length, Option, Some, None, Result, Ok, Err, refl, sym, ap, ◌∙◌, subst, arith, length-append}
 use Rattle.std.proofs.lemmas.Bool.{cond_both}
 use Rattle.std.proofs.lemmas.List.{append-nil, append_assoc}
 use Rattle.play_save.specs.declared.fault.LoadFault.{LoadFault}
 use Rattle.play_save.specs.declared.fault.LoadFault.TheVariants.{Malformed, Missing}
 use Rattle.play_save.specs.declared.key.HeaderKey.{HeaderKey}
+use Rattle.play_save.specs.declared.key.Key.{Key}
 use Rattle.play_save.specs.declared.key.Key.TheVariants.{Header}
 use Rattle.play_save.specs.Records.{Entry, record_at}
-use Rattle.play_save.specs.KeyedRecords.{KeyedRecord, BeginsWithAll, values_of}
+use Rattle.play_save.specs.Keys.{same_header}
+use Rattle.play_save.specs.KeyedRecords.{KeyedRecord, BeginsWithAll, onto_values, values_of}
 use Rattle.play_save.specs.SaveTexts.{SavedGame}
 use Rattle.play_save.specs.FirstFaults.{met, value_fault, fault_by, is_complete, Listing, nothing, broken, first, listed, listing_within, records_of, unless, needed}
-use Rattle.play_save.proofs.OptionSteps.{ok_where}
+use Rattle.play_midend.proofs.OptionSteps.{ok_where}
 use Rattle.play_save.proofs.RecordLaws.{record_taken, record_again, record_shorter}
-use Rattle.play_save.proofs.KeyLaws.{own_key}
-use Rattle.play_save.proofs.RecordLists.{one, values_of-append, first_at}
+use Rattle.play_save.proofs.KeyLaws.{same_key}
+use Rattle.play_save.proofs.RecordLists.{values_of-append}
 use Rattle.play_save.proofs.Meeting.{first_faultless}
 
 -- after what stands before, no record has a fault, and the last is the first that completes them
@@ -123,21 +125,7 @@ pub records_again : (rs : List KeyedRecord) (text : List ℕ) → BeginsWithAll 
 unfolding records_of
 records_again rs text begins = follows_again (length text) rs text (omega arith) begins
 
--- right lists that are put together
-pub record IsRightAt {P : Type 0} (game : SavedGame P) (before : List KeyedRecord) (r : KeyedRecord) (later : List KeyedRecord)
-    : Type 0 where
-  pub undone : is_complete (met before) ≡ false
-  pub faultless : fault_by game (met before) r.key r.value ≡ None
-  pub right : AreRight game (before ++ r ∷ []) later
-
-pub right_at : {P : Type 0} (game : SavedGame P) (before front later : List KeyedRecord) (r : KeyedRecord)
-    → AreRight game before (front ++ r ∷ later) → IsRightAt game (before ++ front) r later
-right_at game before [] later r (undone, faultless, right) =
-    rw (append-nil before) (record { undone = undone; faultless = faultless; right = right })
-right_at {P} game before (x ∷ front) later r (undone, faultless, right) =
-    subst (λ xs. IsRightAt game xs r later) (append_assoc before (x ∷ []) front)
-    (right_at game (before ++ x ∷ []) front later r right)
-
+-- right lists end complete
 pub right_end : {P : Type 0} (game : SavedGame P) (before rs : List KeyedRecord)
     → AreRight game before rs → is_complete (met (before ++ rs)) ≡ true
 right_end game before [] right = rw (append-nil before) right
@@ -148,45 +136,70 @@ right_end game before (r ∷ rs) (undone, faultless, right) =
 -- a key that may stand once, once it was met, doesn't stand again
 pub none_again : {P : Type 0} (game : SavedGame P) (before rs : List KeyedRecord) (k : HeaderKey)
     → 0 < length (values_of k before) → AreRight game before rs → values_of k rs ≡ []
-none_again game before rs k some right = by_values (values_of k rs) refl
+none_again game before [] k some right = refl
+none_again game before (r ∷ rs) k some (undone, faultless, right) =
+    let all = ap length (values_of-append k before (r ∷ [])) in
+    let sum = length-append (values_of k before) (values_of k (r ∷ [])) in
+    by_key r.key faultless (none_again game (before ++ r ∷ []) rs k (omega (arith, some, all, sum)) right)
   where
-    by_values : (values : List (List ℕ)) → values_of k rs ≡ values → values ≡ []
-    by_values [] is = refl
-    by_values (v ∷ more) is =
-        let at = first_at k v more rs is in
-        let here = right_at game before at.front at.later _ (rw at.split at right) in
-        let none = (first_faultless game (before ++ at.front) k v here.faultless).0 in
-        let all = values_of-append k before at.front in
-        absurd (omega (arith, ap length none, ap length all, length-append (values_of k before) (values_of k at.front)))
+    by_name : (j : HeaderKey) (own : Bool) → same_header j k ≡ own → fault_by game (met before) (Header j) r.value ≡ None
+        → values_of k rs ≡ [] → cond own (r.value ∷ values_of k rs) (values_of k rs) ≡ []
+    by_name j true same none rest =
+        let empty = (first_faultless game before j r.value none).0 in
+        let here : values_of k before ≡ [] = ap (λ i. values_of i before) (sym (same_key j k same)) ∙ empty in
+        absurd (omega (arith, some, ap length here))
+    by_name j false other none rest = rest
+
+    by_key : (key : Key) → fault_by game (met before) key r.value ≡ None → values_of k rs ≡ []
+        → onto_values k key r.value (values_of k rs) ≡ []
+    by_key (Header j) none rest = by_name j (same_header j k) refl none rest
+    by_key key none rest = rest
 
 -- where a value of such a key stands, it stands alone and has no fault
-pub record StandsAlone {P : Type 0} (game : SavedGame P) (k : HeaderKey) (value : List ℕ) (rs : List KeyedRecord) : Type 0 where
-  pub alone : values_of k rs ≡ value ∷ []
+pub record StandsAlone {P : Type 0} (game : SavedGame P) (k : HeaderKey) (value : List ℕ) (values : List (List ℕ)) : Type 0 where
+  pub alone : values ≡ value ∷ []
   pub front : List KeyedRecord
   pub faultless : value_fault game (met front) k value ≡ None
 
-pub stands_alone : {P : Type 0} (game : SavedGame P) (rs : List KeyedRecord) (k : HeaderKey) (value : List ℕ) (more : List (List ℕ))
-    → AreRight game [] rs → values_of k rs ≡ value ∷ more → StandsAlone game k value rs
-stands_alone game rs k value more right is =
-    let at = first_at k value more rs is in
-    let here = right_at game [] at.front at.later _ (rw at.split at right) in
-    let good = first_faultless game at.front k value here.faultless in
-    let some : 0 < length (values_of k (at.front ++ one (Header k) value)) =
-    rw (values_of-append k at.front (one (Header k) value), own_key k)
-    (omega (arith, length-append (values_of k at.front) (value ∷ []))) in
-    let none = none_again game (at.front ++ one (Header k) value) at.later k some here.right in
-    record {
-      alone = is ∙ ap (λ vs. value ∷ vs) (sym at.more_is ∙ none);
-      front = at.front;
-      faultless = good.1;
-    }
+stands_alone : {P : Type 0} (game : SavedGame P) (before rs : List KeyedRecord) (k : HeaderKey) (value : List ℕ) (more : List (List ℕ))
+    → AreRight game before rs → values_of k rs ≡ value ∷ more → StandsAlone game k value (values_of k rs)
+stands_alone game before [] k value more right is = cc
+stands_alone {P} game before (r ∷ rs) k value more (undone, faultless, right) is =
+    by_key r.key refl faultless is (λ e. stands_alone game (before ++ r ∷ []) rs k value more right e)
+  where
+    by_name : (j : HeaderKey) (own : Bool) → r.key ≡ Header j → same_header j k ≡ own
+        → fault_by game (met before) (Header j) r.value ≡ None
+        → cond own (r.value ∷ values_of k rs) (values_of k rs) ≡ value ∷ more
+        → (values_of k rs ≡ value ∷ more → StandsAlone game k value (values_of k rs))
+        → StandsAlone game k value (cond own (r.value ∷ values_of k rs) (values_of k rs))
+    by_name j true key same none e along =
+        let good = (first_faultless game before j r.value none).1 in
+        let first : r.value ≡ value = cc in
+        let here : values_of k (r ∷ []) ≡ r.value ∷ [] = rw (key, same) refl in
+        let all = ap length (values_of-append k before (r ∷ [])) in
+        let sum = length-append (values_of k before) (values_of k (r ∷ [])) in
+        let none_after = none_again game (before ++ r ∷ []) rs k (omega (arith, all, sum, ap length here)) right in
+        record {
+          alone = ap (λ x. x ∷ values_of k rs) first ∙ ap (λ xs. value ∷ xs) none_after;
+          front = before;
+          faultless = subst (λ v. value_fault game (met before) k v ≡ None) first
+              (subst (λ i. value_fault game (met before) i r.value ≡ None) (same_key j k same) good);
+        }
+    by_name j false key other none e along = along e
+
+    by_key : (key : Key) → r.key ≡ key → fault_by game (met before) key r.value ≡ None
+        → onto_values k key r.value (values_of k rs) ≡ value ∷ more
+        → (values_of k rs ≡ value ∷ more → StandsAlone game k value (values_of k rs))
+        → StandsAlone game k value (onto_values k key r.value (values_of k rs))
+    by_key (Header j) key none e along = by_name j (same_header j k) key refl none e along
+    by_key c key none e along = along e
 
 -- what holds where no value stands, and where one stands alone, holds of the values that stand
 pub by_standing : {P : Type 0} (game : SavedGame P) (rs : List KeyedRecord) (k : HeaderKey) (R : List (List ℕ) → Type 0)
-    → AreRight game [] rs → R [] → ((value : List ℕ) → StandsAlone game k value rs → R (value ∷ [])) → R (values_of k rs)
+    → AreRight game [] rs → R [] → ((value : List ℕ) → StandsAlone game k value (values_of k rs) → R (value ∷ [])) → R (values_of k rs)
 by_standing game rs k R right none some = by_values (values_of k rs) refl
   where
     by_values : (values : List (List ℕ)) → values_of k rs ≡ values → R (values_of k rs)
     by_values [] is = subst R (sym is) none
     by_values (v ∷ more) is =
-        let at = stands_alone game rs k v more right is in subst R (sym at.alone) (some v at)
+        let at = stands_alone game [] rs k v more right is in subst R (sym at.alone) (some v at)

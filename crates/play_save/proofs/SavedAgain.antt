@@ -185,7 +185,7 @@ ends_later r [] ends = tt
 ends_later r (k ∷ rs) ends = ends
 
 -- a list that ends with a state record or a count, and has no count, has a state
-pub has_state_or_count : (rs : List KeyedRecord)
+has_state_or_count : (rs : List KeyedRecord)
     → EndsWithState rs → ((which : WhichCount) → values_of (Count which) rs ≡ []) → 0 < length (states_in rs)
 has_state_or_count [] ends none = absurd ends
 has_state_or_count (r ∷ []) ends none = by_key r.key r.value ends none

@@ -1,6 +1,6 @@
 -- What is read as a session is a save of it.
 use Rattle.std.proofs.Common.{◌≡◌, length-append, option_and_then, ℕ, ◌<◌, true, false, ◌&&◌, nat_lt, List, [], ◌∷◌, ◌++◌, length, codes, bytes_eq, Option, Some, None, is_some, Result, Ok, ok_or, refl, sym, ap, ◌∙◌, subst, arith}
-use Rattle.std.specs.Result.{result_ok}
+use Rattle.std.specs.Result.{result_ok, result_unwrap_or}
 use Rattle.std.specs.Fmt.{decimal}
 use Rattle.std.proofs.lemmas.Slice.Eq.{bytes_eq-Decides}
 use Rattle.std.proofs.lemmas.Bool.{and_parts, ltb-false}
@@ -12,7 +12,7 @@ use Rattle.play_midend.specs.Histories.{History, started, at_position}
 use Rattle.play_midend.specs.MoveLists.{with_moves}
 use Rattle.play_midend.proofs.MoveListLaws.{accepted_list_legal}
 use Rattle.play_save.specs.declared.fault.LoadFault.{LoadFault}
-use Rattle.play_save.specs.declared.fault.LoadFault.TheVariants.{NotASave, Version, WrongGame, BadDesc, Missing, TooLarge}
+use Rattle.play_save.specs.declared.fault.LoadFault.TheVariants.{NotASave, Version, WrongGame, Repeated, Unsupported, BadDesc, Missing, TooLarge}
 use Rattle.play_save.specs.declared.key.WhoseParams.{WhoseParams}
 use Rattle.play_save.specs.declared.key.WhoseParams.TheVariants.{Next, Current}
 use Rattle.play_save.specs.declared.key.KeptKey.TheVariants.{Seed}
@@ -28,7 +28,7 @@ use Rattle.play_save.specs.KeyedRecords.{KeyedRecord, values_of, states_in, IsOn
 use Rattle.play_save.specs.SaveTexts.{SavedGame, HasValues, collection, format_record, AreSaved, SaveText}
 use Rattle.play_save.specs.FirstFaults.{MetValue, saved_params_at, count_at, first_of, met, params_met, count_met, extras_met, fault_unless, state_fault, value_fault, fault_by, is_complete, records_of, unless, needed, states_played, session_of, head_or_fault, behind_head, met_in, load_at}
 use Rattle.play_save.specs.Inner.Taking.{added}
-use Rattle.play_save.proofs.OptionSteps.{and_then_taken, ok_or_taken, result_taken, ok_else, ok_where}
+use Rattle.play_midend.proofs.OptionSteps.{and_then_taken, ok_or_taken, result_taken, ok_else, ok_where}
 use Rattle.play_save.proofs.RecordLaws.{record_taken}
 use Rattle.play_save.proofs.RecordLists.{kept_each, values_of-append}
 use Rattle.play_save.proofs.Meeting.{met_added}
@@ -37,24 +37,6 @@ use Rattle.play_save.proofs.Counting.{count_taken, fault_unless_taken, counts_me
 use Rattle.play_save.proofs.GameTexts.{IsGame}
 use Rattle.play_save.proofs.StatesPlayed.{IsDescribed, ok_taken, states_taken, have_length}
 
--- What a session was made of.
-record Parts {P : Type 0} (game : SavedGame P) (m : MetValue) (h : History P) : Type 0 where
-  version : is_some (m.first FormatVersion) ≡ true
-  name : is_some (m.first Title) ≡ true
-  next_params : Params
-  next_read : params_met game m Next ≡ Some next_params
-  params : Params
-  read : params_met game m Current ≡ Some params
-  desc : List ℕ
-  desc_is : m.first Desc ≡ Some desc
-  position : ℕ
-  position_is : count_met m Position ≡ Some position
-  puzzle : P
-  described : game.desc_at params.size desc ≡ Ok puzzle
-  last : History P
-  played_is : states_played game (started puzzle params next_params (extras_met m)) 1 m.states ≡ Ok last
-  whole : at_position last position ≡ h
-
 -- what was met of a key is its only value
 only_value : {P : Type 0} (game : SavedGame P) (rs : List KeyedRecord) (k : HeaderKey) (value : List ℕ)
     → AreRight game [] rs → (met rs).first k ≡ Some value → values_of k rs ≡ value ∷ []
@@ -62,10 +44,10 @@ only_value game rs k value right is =
     by_standing game rs k (λ vs. first_of vs ≡ Some value → vs ≡ value ∷ []) right (λ e. cc) (λ v at e. cc) is
 
 -- a key whose value always has a fault never stands
-never : {P : Type 0} (game : SavedGame P) (rs : List KeyedRecord) (k : HeaderKey)
-    → AreRight game [] rs → ((m : MetValue) (value : List ℕ) → value_fault game m k value ≡ None → ⊥) → values_of k rs ≡ []
-never game rs k right refused =
-    by_standing game rs k (λ vs. vs ≡ []) right refl (λ v at. absurd (refused (met at.front) v at.faultless))
+never : {P : Type 0} (game : SavedGame P) (rs : List KeyedRecord) (k : HeaderKey) (fault : LoadFault)
+    → AreRight game [] rs → ((m : MetValue) (value : List ℕ) → value_fault game m k value ≡ Some fault) → values_of k rs ≡ []
+never game rs k fault right refused =
+    by_standing game rs k (λ vs. vs ≡ []) right refl (λ v at. let some = refused (met at.front) v in let none = at.faultless in cc)
 
 -- a key that stands with one value alone
 fixed_value : {P : Type 0} (game : SavedGame P) (rs : List KeyedRecord) (k : HeaderKey) (value : List ℕ) (fault : LoadFault)
@@ -146,9 +128,11 @@ unless_taken : {A : Type 0} (fault : Option LoadFault) (r : Result A LoadFault) 
 unless_taken None r a is = (refl, is)
 unless_taken (Some fault) r a is = cc
 
-parts_taken : {P : Type 0} (game : SavedGame P) (m : MetValue) (h : History P) → session_of game m ≡ Ok h → Parts game m h
+pub saved_taken : {P : Type 0} (game : SavedGame P) (rs : List KeyedRecord) (h : History P)
+    → IsGame game → AreRight game [] rs → session_of game (met rs) ≡ Ok h → AreSaved game h rs
 unfolding session_of
-parts_taken {P} game m h is =
+saved_taken {P} game rs h owes right is =
+    let m = met rs in
     let stand = is_some (m.first FormatVersion) && is_some (m.first Title) in
     let both = unless_taken (fault_unless stand Missing) _ h is in
     let names = and_parts _ _ (fault_unless_taken stand Missing both.0) in
@@ -157,69 +141,49 @@ parts_taken {P} game m h is =
     let desc = bind_taken (ok_or (m.first Desc) Missing) _ h now.rest in
     let place = bind_taken (ok_or (count_met m Position) Missing) _ h desc.rest in
     let puzzle = bind_taken (ok_or (result_ok (game.desc_at now.value.size desc.value)) BadDesc) _ h place.rest in
-    let last = bind_taken (states_played game (started puzzle.value now.value next.value (extras_met m)) 1 m.states) _ h puzzle.rest in
-    record {
-      version = names.0;
-      name = names.1;
-      next_params = next.value;
-      next_read = ok_or_taken _ Missing next.value next.gives;
-      params = now.value;
-      read = ok_or_taken _ Missing now.value now.gives;
-      desc = desc.value;
-      desc_is = ok_or_taken (m.first Desc) Missing desc.value desc.gives;
-      position = place.value;
-      position_is = ok_or_taken _ Missing place.value place.gives;
-      puzzle = puzzle.value;
-      described = result_taken (game.desc_at now.value.size desc.value) BadDesc puzzle.value puzzle.gives;
-      last = last.value;
-      played_is = last.gives;
-      whole = cc last.rest;
-    }
-
-pub saved_taken : {P : Type 0} (game : SavedGame P) (rs : List KeyedRecord) (h : History P)
-    → IsGame game → AreRight game [] rs → session_of game (met rs) ≡ Ok h → AreSaved game h rs
-saved_taken {P} game rs h owes right is =
-    let m = met rs in
-    let parts = parts_taken game m h is in
+    let p = puzzle.value in
+    let start = started p now.value next.value (extras_met m) in
+    let last = bind_taken (states_played game start 1 m.states) _ h puzzle.rest in
+    let next_are = params_taken_of game rs Next next.value right (ok_or_taken _ Missing next.value next.gives) in
+    let now_are = params_taken_of game rs Current now.value right (ok_or_taken _ Missing now.value now.gives) in
+    let desc_is = ok_or_taken (m.first Desc) Missing desc.value desc.gives in
+    let position_is = ok_or_taken (count_met m Position) Missing place.value place.gives in
     let counts = counted game rs right in
-    let next = params_taken_of game rs Next parts.next_params right parts.next_read in
-    let now = params_taken_of game rs Current parts.params right parts.read in
-    let own_params = now.holds.params in
+    let own_params = now_are.holds.params in
     let described =
-    owes.reads.taken parts.params.size parts.desc parts.puzzle own_params.smallest own_params.largest parts.described in
-    let size = owes.sized parts.params.size parts.puzzle parts.desc described in
-    let own : IsDescribed game parts.puzzle = record {
-      text = parts.desc;
-      described = subst (λ w. game.Describes w parts.puzzle parts.desc) (sym size) described;
+    owes.reads.taken now.value.size desc.value p own_params.smallest own_params.largest
+    (result_taken (game.desc_at now.value.size desc.value) BadDesc p puzzle.gives) in
+    let size = owes.sized now.value.size p desc.value described in
+    let own : IsDescribed game p = record {
+      text = desc.value;
+      described = subst (λ w. game.Describes w p desc.value) (sym size) described;
       smallest = rw size own_params.smallest;
       largest = rw size own_params.largest;
     } in
-    let start = started parts.puzzle parts.params parts.next_params (extras_met m) in
-    let played = states_taken game start parts.last 1 m.states owes own parts.played_is in
+    let played = states_taken game start last.value 1 m.states owes own last.gives in
     let (legal, few, played_on) =
-    accepted_list_legal (game.puzzle parts.puzzle) parts.puzzle parts.params parts.next_params (extras_met m)
-    played.moves parts.last played.played_is in
-    let long = have_length game parts.puzzle played.moves (states_in rs) played.have in
-    let here : counts.p ≡ parts.position = (let a = counts.position_is in let b = parts.position_is in cc) in
-    let whole_h : History P = at_position (with_moves start played.moves) parts.position in
+    accepted_list_legal (game.puzzle p) p now.value next.value (extras_met m) played.moves last.value played.played_is in
+    let long = have_length game p played.moves (states_in rs) played.have in
+    let here : counts.p ≡ place.value = (let a = counts.position_is in cc) in
+    let whole_h : History P = at_position (with_moves start played.moves) place.value in
     let count = count_taken_of game rs States counts.n right counts.count_is in
     let made : AreSaved game whole_h rs = record {
       values = λ k. elim k as (λ j. HasValues game whole_h j (values_of j rs)) [
-        | SaveFile ↦ never game rs SaveFile right (λ n v none. cc)
-        | FormatVersion ↦ fixed_value game rs FormatVersion (codes "1") Version right (λ n v none. none) parts.version
-        | Title ↦ fixed_value game rs Title game.title WrongGame right (λ n v none. none) parts.name
+        | SaveFile ↦ never game rs SaveFile Repeated right (λ n v. refl)
+        | FormatVersion ↦ fixed_value game rs FormatVersion (codes "1") Version right (λ n v none. none) names.0
+        | Title ↦ fixed_value game rs Title game.title WrongGame right (λ n v none. none) names.1
         | ParamsOf whose ↦ elim whose as (λ w. HasValues game whole_h (ParamsOf w) (values_of (ParamsOf w) rs)) [
-          | Next ↦ next
-          | Current ↦ now
+          | Next ↦ next_are
+          | Current ↦ now_are
         ]
-        | Desc ↦ record { value = parts.desc; alone = only_value game rs Desc parts.desc right parts.desc_is; holds = described }
-        | PrivateDesc ↦ never game rs PrivateDesc right (λ n v none. cc)
+        | Desc ↦ record { value = desc.value; alone = only_value game rs Desc desc.value right desc_is; holds = described }
+        | PrivateDesc ↦ never game rs PrivateDesc Unsupported right (λ n v. refl)
         | Kept j ↦
             by_standing game rs (Kept j) (λ vs. vs ≡ once_if_kept (first_of vs)) right refl (λ v at. refl)
             ∙ ap once_if_kept (sym (kept_each (λ i. m.first (Kept i)) j))
         | Count which ↦ elim which as (λ w. HasValues game whole_h (Count w) (values_of (Count w) rs)) [
           | States ↦ count ∙ ap (λ n. decimal n ∷ []) (omega (arith, counts.states, long))
-          | Position ↦ count_taken_of game rs Position parts.position right parts.position_is
+          | Position ↦ count_taken_of game rs Position place.value right position_is
         ]
       ];
       states = played.have;
@@ -233,7 +197,8 @@ saved_taken {P} game rs h owes right is =
         last = omega (arith, here, counts.inside, counts.states, long);
       };
     } in
-    let whole = ap (λ (x : History P). at_position x parts.position) (sym played_on) ∙ parts.whole in
+    let given = ap (λ (r : Result (History P) LoadFault). result_unwrap_or r h) last.rest in
+    let whole = ap (λ (x : History P). at_position x place.value) (sym played_on) ∙ given in
     subst (λ (x : History P). AreSaved game x rs) whole made
 
 -- the first record

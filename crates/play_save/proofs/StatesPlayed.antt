@@ -16,7 +16,7 @@ use Rattle.play_save.specs.declared.key.StateKey.TheVariants.{AnyMove, SolveMove
 use Rattle.play_save.specs.KeyedRecords.{KeyedState}
 use Rattle.play_save.specs.SaveTexts.{SavedGame, is_solve, IsStateOf, HaveStates}
 use Rattle.play_save.specs.FirstFaults.{solution_alone, restart_of, state_move, move_played, state_played, states_played, state_fault}
-use Rattle.play_save.proofs.OptionSteps.{and_then_taken, result_taken}
+use Rattle.play_midend.proofs.OptionSteps.{and_then_taken, result_taken}
 use Rattle.play_save.proofs.GameTexts.{IsGame, same_puzzle, restart_taken, restart_again, other_puzzle}
 
 -- where a result gives a value, it was this one

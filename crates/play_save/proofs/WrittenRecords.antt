@@ -1,5 +1,5 @@
 -- A record that is written is read, and so is a list of them up to its end.
-use Rattle.std.proofs.Common.{◌≡◌, ℕ, ◌<◌, ◌≤◌, ◌^◌, lit<, true, List, [], ◌∷◌, ◌++◌, length, Some, refl, sym, ap, ◌∙◌, subst, arith, length-append, append_assoc}
+use Rattle.std.proofs.Common.{◌≡◌, ℕ, ◌<◌, ◌≤◌, ◌^◌, lit<, Bool, true, false, cond, List, [], ◌∷◌, ◌++◌, length, Some, refl, sym, ap, ◌∙◌, subst, arith, length-append, append_assoc}
 use Rattle.std.specs.Fmt.{decimal}
 use Rattle.std.proofs.lemmas.Fmt.{decimal_nonempty, length-decimal-le}
 use Rattle.std.proofs.lemmas.Bool.{le-leb}
@@ -8,12 +8,15 @@ use Rattle.std.proofs.lemmas.List.{append-nil}
 use Rattle.byte_text.specs.Bytes.{colon, line_feed}
 use Rattle.byte_text.proofs.DecimalLaws.{digits_again}
 use Rattle.play_save.specs.declared.save_format.TheConstants.{MOST_BYTES}
+use Rattle.play_save.specs.declared.key.HeaderKey.{HeaderKey}
+use Rattle.play_save.specs.declared.key.Key.{Key}
+use Rattle.play_save.specs.declared.key.Key.TheVariants.{Header}
 use Rattle.play_save.specs.Records.{Entry, AreBreaks, length_at, BeginsWith}
-use Rattle.play_save.specs.Keys.{key_name, padded}
-use Rattle.play_save.specs.KeyedRecords.{KeyedRecord, keyed, BeginsWithAll}
+use Rattle.play_save.specs.Keys.{key_name, padded, same_header}
+use Rattle.play_save.specs.KeyedRecords.{KeyedRecord, keyed, BeginsWithAll, onto_values, values_of}
 use Rattle.play_save.specs.Written.{record_text, records_text}
 use Rattle.play_save.proofs.KeyLaws.{is_known, free_lacks, is_key}
-use Rattle.play_save.proofs.RecordLaws.{record_again, end_again}
+use Rattle.play_save.proofs.RecordLaws.{record_again}
 
 -- the length of a value is read
 length_written : (n : ℕ) → n ≤ 99999999 → length_at (decimal n) ≡ Some n
@@ -53,12 +56,6 @@ written_begins r breaks more are known few =
       length_is = length_written (length r.value) few;
     }
 
--- all records of a text, up to its end
-abbrev pub AreToTheEnd : List KeyedRecord → List ℕ → Type 0
-AreToTheEnd [] text = AreBreaks text
-AreToTheEnd (r ∷ rs) text =
-    (e : Entry) × (rest : List ℕ) × (keyed e ≡ r) × BeginsWith e rest text × AreToTheEnd rs rest
-
 -- all keys are known
 abbrev pub AreKnown : List KeyedRecord → Type 0
 AreKnown [] = Unit {0}
@@ -81,8 +78,8 @@ own_record r known =
 
 pub all_written : (rs : List KeyedRecord) (breaks : List ℕ)
     → AreBreaks breaks → AreKnown rs → length (records_text rs) ≤ MOST_BYTES
-    → AreToTheEnd rs (breaks ++ records_text rs)
-all_written [] breaks are known small = subst (λ t. AreBreaks t) (sym (append-nil breaks)) are
+    → BeginsWithAll rs (breaks ++ records_text rs)
+all_written [] breaks are known small = tt
 all_written (r ∷ rs) breaks are known small =
     let split = length-append (record_text r) (records_text rs) in
     let few : length r.value ≤ 99999999 = omega (arith, value_within r, split) in (
@@ -93,26 +90,27 @@ all_written (r ∷ rs) breaks are known small =
       all_written rs (line_feed ∷ []) (refl, tt) known.1 (omega (arith, split)),
     )
 
--- the records with which a text begins are the first of all of them
-pub record IsPrefix (rs ms : List KeyedRecord) : Type 0 where
-  pub later : List KeyedRecord
-  pub split : ms ≡ rs ++ later
-
-pub begins_prefix : (rs ms : List KeyedRecord) (text : List ℕ)
-    → BeginsWithAll rs text → AreToTheEnd ms text → IsPrefix rs ms
-begins_prefix [] ms text begins all = record { later = ms; split = refl }
-begins_prefix (r ∷ rs) [] text (entry, rest, keyed_is, begins, more) all =
+-- a value that stands alone in two lists of records with which a text begins is the same, since one list begins the other
+pub same_alone : (k : HeaderKey) (v w : List ℕ) (rs ms : List KeyedRecord) (text : List ℕ)
+    → BeginsWithAll rs text → BeginsWithAll ms text → values_of k rs ≡ v ∷ [] → values_of k ms ≡ w ∷ [] → v ≡ w
+same_alone k v w [] ms text begins other one own = cc
+same_alone k v w (r ∷ rs) [] text begins other one own = cc
+same_alone k v w (r ∷ rs) (m ∷ ms) text (entry, rest, keyed_is, begins, more) (own, own_rest, own_is, own_begins, own_more) one other =
     let read = record_again text entry rest begins in
-    let none = end_again text all in
-    cc
-begins_prefix (r ∷ rs) (m ∷ ms) text (entry, rest, keyed_is, begins, more) (own, own_rest, own_is, own_begins, own_more) =
-    let read = record_again text entry rest begins in
-    let other = record_again text own own_rest own_begins in
+    let own_read = record_again text own own_rest own_begins in
     let both = some_pair_parts entry own rest own_rest (cc) in
-    let same : r ≡ m = sym keyed_is ∙ (ap keyed both.0 ∙ own_is) in
-    let front = begins_prefix rs ms own_rest (subst (λ t. BeginsWithAll rs t) both.1 more) own_more in
-    record { later = front.later; split = ap (λ x. x ∷ ms) (sym same) ∙ ap (λ xs. r ∷ xs) front.split }
+    let same : m ≡ r = sym own_is ∙ (ap keyed (sym both.0) ∙ keyed_is) in
+    by_key r.key r.value one (subst (λ (x : KeyedRecord). onto_values k x.key x.value (values_of k ms) ≡ w ∷ []) same other)
+    (same_alone k v w rs ms own_rest (subst (λ t. BeginsWithAll rs t) both.1 more) own_more)
+  where
+    by_name : (own : Bool) (value : List ℕ) → cond own (value ∷ values_of k rs) (values_of k rs) ≡ v ∷ []
+        → cond own (value ∷ values_of k ms) (values_of k ms) ≡ w ∷ []
+        → (values_of k rs ≡ v ∷ [] → values_of k ms ≡ w ∷ [] → v ≡ w) → v ≡ w
+    by_name true value one other along = cc
+    by_name false value one other along = along one other
 
-pub all_begin : (rs : List KeyedRecord) (text : List ℕ) → AreToTheEnd rs text → BeginsWithAll rs text
-all_begin [] text all = tt
-all_begin (r ∷ rs) text (entry, rest, keyed_is, begins, more) = (entry, rest, keyed_is, begins, all_begin rs rest more)
+    by_key : (key : Key) (value : List ℕ)
+        → onto_values k key value (values_of k rs) ≡ v ∷ [] → onto_values k key value (values_of k ms) ≡ w ∷ []
+        → (values_of k rs ≡ v ∷ [] → values_of k ms ≡ w ∷ [] → v ≡ w) → v ≡ w
+    by_key (Header j) value one other along = by_name (same_header j k) value one other along
+    by_key key value one other along = along one other

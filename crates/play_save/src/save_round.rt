@@ -7,6 +7,7 @@ ghost use Rattle.play_save.specs.Written.{save_of};
 
 use crate::fault::LoadFault;
 use crate::loading::load;
+use crate::save_laws::laws;
 use crate::saving::save;
 use game_texts::Game;
 use play_midend::Session;
@@ -30,6 +31,7 @@ pub fn saved_and_loaded<P: Game>(
 {
     let _board = session.board();
     let _size = session.puzzle().size();
+    laws::<P>();
     let text = save(alloc, session)?;
     load(alloc, &text)
 }

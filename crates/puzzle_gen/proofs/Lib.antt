@@ -2,4 +2,3 @@ pub mod OrderPlaces
 pub mod CombinedSquares
 pub mod OnePruned
 pub mod GeneratedOnce
-pub mod ForcedNumbers

@@ -105,21 +105,22 @@ order_of_permutation n xs same =
 pub length_range_made : (n : ℕ) (xs : List ℕ) → xs ≡ range_with_len 0 n → length xs ≡ n
 length_range_made n xs made = ap length made ∙ length-range_with_len 0 n
 
--- a list that is written over as a whole
-refill_whole : (xs ws : List ℕ) → length ws ≡ length xs → refill (length xs) xs ws ≡ ws
-refill_whole xs ws same = rw (← same) (take-append_seam ws (drop (length ws) xs))
+-- a list that is written over as a whole by a list that was one of its orders
+refill_whole : (first lent order : List ℕ) → lent ≡ first → IsPermutation lent order → refill (length first) first order ≡ order
+refill_whole first lent order same moved =
+    let count : length order ≡ length first = length_permutation lent order moved ∙ ap length same in
+    rw (← count) (take-append_seam order (drop (length order) first))
 
--- the first n numbers, put into an order through a reference to them
-pub refilled : (n : ℕ) (first lent order : List ℕ) → first ≡ range_with_len 0 n → lent ≡ first → IsOrder (length lent) order
-    → (length lent ≡ n) × (refill (length first) first order ≡ order) × IsOrder n (refill (length first) first order)
-refilled n first lent order made same is =
-    let count = ap length same ∙ length_range_made n first made in
-    let whole = refill_whole first order (is.count ∙ ap length same) in
-    (count, whole, subst (IsOrder n) (sym whole) (subst (λ (k : ℕ). IsOrder k order) count is))
+-- the first n numbers, shuffled through a reference to them
+pub shuffled_whole : (n : ℕ) (first lent order : List ℕ) → first ≡ range_with_len 0 n → lent ≡ first → IsPermutation lent order
+    → IsPermutation (range_with_len 0 n) (refill (length first) first order)
+shuffled_whole n first lent order made same moved =
+    subst (IsPermutation (range_with_len 0 n)) (sym (refill_whole first lent order same moved))
+    (subst (λ (xs : List ℕ). IsPermutation xs order) (same ∙ made) moved)
 
 -- the same, with what is left of a stream
-pub refilled_drawn : {S : Type 0} (drawn : ℕ → List ℕ × S) (n : ℕ) (first lent order : List ℕ) (left : S) → first ≡ range_with_len 0 n
-    → lent ≡ first → IsOrder (length lent) order → (order, left) ≡ drawn (length lent) → (refill (length first) first order, left) ≡ drawn n
-refilled_drawn drawn n first lent order left made same is drew =
-    let (count, whole, order) = refilled n first lent order made same is in
-    ap (λ (xs : List ℕ). (xs, left)) whole ∙ drew ∙ ap drawn count
+pub shuffled_drawn : {S : Type 0} (drawn : ℕ → List ℕ × S) (n : ℕ) (first lent order : List ℕ) (left : S) → first ≡ range_with_len 0 n
+    → lent ≡ first → IsPermutation lent order → (order, left) ≡ drawn (length lent) → (refill (length first) first order, left) ≡ drawn n
+shuffled_drawn drawn n first lent order left made same moved drew =
+    ap (λ (xs : List ℕ). (xs, left)) (refill_whole first lent order same moved) ∙ drew
+    ∙ ap drawn (ap length same ∙ length_range_made n first made)

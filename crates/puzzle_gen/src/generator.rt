@@ -8,7 +8,7 @@ ghost use Rattle.puzzle_gen.specs.Inner.OnePruned.{IsOnePruned};
 ghost use Rattle.puzzle_gen.specs.declared.gen_fault.GenFault.{GenFault};
 ghost use Rattle.puzzle_gen.specs.Generating.{Generates};
 
-use crate::draws::{draw_items, rng_of};
+use crate::draws::{draw_numbers, rng_of};
 use crate::gen_fault::GenFault;
 use crate::pruning::pruned;
 use crate::seeded_square::draw_square;
@@ -58,6 +58,6 @@ fn seeded<P: Game>(size: Size, seed: u64) -> P
 {
     let mut rng = rng_of(seed);
     let grid = draw_square(size, &mut rng);
-    let order = draw_items(&mut rng, P::item_count(size));
+    let order = draw_numbers(&mut rng, P::item_count(size));
     pruned(&grid, order.as_slice())
 }

@@ -2,7 +2,7 @@
 //!
 //! A seed gives a stream of random words, the stream gives a Latin square and an order of the items, and `generate` tries
 //! each item of the square's full puzzle once, in that order: it goes where the rest still has just one solution. `square`
-//! is the square alone. Nothing here takes memory.
+//! is the square alone, and `draw_numbers` an order of the first numbers from any stream. Nothing here takes memory.
 //!
 //! ```
 //! let params = Params::read::<Towers>(b"5")?;
@@ -12,12 +12,12 @@
 #![tactic(auto)]
 
 mod draws;
-mod forced_squares;
 mod gen_fault;
 mod generator;
 mod pruning;
 mod seeded_square;
 
+pub use draws::{MOST_DRAWN, draw_numbers};
 pub use gen_fault::GenFault;
 pub use generator::generate;
 pub use seeded_square::square;

@@ -6,12 +6,11 @@ ghost use Rattle.needed_items.specs.Needed.{HasOnly};
 ghost use Rattle.needed_items.specs.InTurn.{HasSeveral};
 ghost use Rattle.puzzle_gen.specs.Inner.OnePruned.{IsOnePruned};
 
-use crate::forced_squares::is_forced;
 use latin_board::Grid;
 use needed_items::{Order, Test, is_needed, left_in_turn};
 use trail_solver::Rules;
 
-// Whether a grid stays the only solution, where rows and columns often show it at once.
+// Whether a grid stays the only solution.
 #[derive(Clone, Copy)]
 struct OnlySquare<'a>(&'a Grid);
 
@@ -20,12 +19,8 @@ impl<'a, P: Rules> Test<P> for OnlySquare<'a> {
 
     ghost fails = { λ test. HasSeveral ⟦<P as Rules>⟧ };
 
-    #[tactic(auto, using(needed_items::proofs::SecondSolutions::only_of_not_two))]
     fn fails_without(&self, puzzle: &P, item: usize) -> bool {
-        let _size = puzzle.size();
-        let mut fewer = *puzzle;
-        fewer.drop_item(item);
-        !is_forced(&fewer, self.0) && is_needed(puzzle, self.0, item)
+        is_needed(puzzle, self.0, item)
     }
 
     ghost use Rattle.std.proofs.Common.{◌∙◌, sym};

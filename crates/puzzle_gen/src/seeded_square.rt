@@ -5,7 +5,7 @@ ghost use Rattle.latin_board.specs.Squares.{IsLatin};
 ghost use Rattle.puzzle_gen.specs.Orders.{IsOrder};
 ghost use Rattle.puzzle_gen.specs.SeededSquares.{combined, drawn_square, square_of};
 
-use crate::draws::{draw_items, rng_of};
+use crate::draws::{draw_numbers, rng_of};
 use latin_board::{Grid, Size};
 use rand_core::Rng;
 
@@ -24,9 +24,9 @@ pub(crate) fn draw_square<R: Rng>(size: Size, rng: &mut R) -> Grid
     ensures latin { IsLatin result }
 {
     let width = size.get() as usize;
-    let rows = draw_items(rng, width);
-    let columns = draw_items(rng, width);
-    let symbols = draw_items(rng, width);
+    let rows = draw_numbers(rng, width);
+    let columns = draw_numbers(rng, width);
+    let symbols = draw_numbers(rng, width);
     combine(
         size,
         rows.as_slice(),

@@ -7,7 +7,7 @@ use Rattle.play_save.specs.Views.{entry_of}
 use Rattle.play_save.specs.SaveTexts.{saves_of}
 use Rattle.play_save.specs.FirstFaults.{is_complete, records_of}
 use Rattle.play_save.specs.Inner.Taking.{met_of}
-use Rattle.play_save.proofs.OptionSteps.{error_of_none}
+use Rattle.play_midend.proofs.OptionSteps.{error_of_none}
 use Rattle.play_save.proofs.RecordLaws.{record_shorter}
 use Rattle.play_save.proofs.Counting.{playable}
 use Rattle.play_save.proofs.ReadingOn.{reads_all, reads_done, reads_end, reads_broken, reads_fault, reads_more}

@@ -1,5 +1,5 @@
 use Rattle.needed_items.proofs.ItemLaws.{laws_of}
-use Rattle.play_save.proofs.SavesStorable.{saves_are_storable}
+use Rattle.play_save.proofs.LoadAnswers.{saves_are_storable}
 use Rattle.puzzle_cli.specs.GameFacts.{undrawn_facts}
 use Rattle.puzzle_cli.proofs.StorableReplies.{begins_storable}
 use Rattle.puzzle_cli.proofs.start.begin.Goals as goal

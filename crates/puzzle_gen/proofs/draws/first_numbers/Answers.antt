@@ -1,6 +1,6 @@
 use Rattle.std.proofs.Common.{ℕ, List, ◌++◌, ◌∷◌, [], ap, ◌∙◌, sym, arith, lit<}
 use Rattle.puzzle_gen.proofs.OrderPlaces.{length_range_made, range_more}
-use Rattle.fair_games.proofs.draws.first_numbers.Goals as goal
+use Rattle.puzzle_gen.proofs.draws.first_numbers.Goals as goal
 
 pub push-requires : goal.push-requires
 push-requires c =

@@ -8,6 +8,7 @@ pub record BothThere {A B : Type 0} (o : Option A) (of : A → B) (y : B) : Type
   pub gives : o ≡ Some value
   pub rest : of value ≡ y
 
+-- where something comes of an option, it was there
 pub map_taken : {A B : Type 0} (f : A → B) (o : Option A) (y : B) → option_map f o ≡ Some y → BothThere o f y
 map_taken f None y is = cc
 map_taken f (Some x) y is = record { value = x; gives = refl; rest = cc }
