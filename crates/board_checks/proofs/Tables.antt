@@ -5,32 +5,35 @@ use Rattle.std.specs.List.{list_any}
 use Rattle.std.proofs.lemmas.Bool.{cases_lt, cases_eq, both_ways, false≢true}
 use Rattle.std.proofs.Math.Nat.{mul-le-mul_left}
 use Rattle.latin_board.specs.declared.grid.TheConstants.{CELLS}
-use Rattle.std.proofs.lemmas.List.{get_or_past, get_or-replicate, length-replicate, get_or-set_same, get_or-set_other}
+use Rattle.std.proofs.lemmas.List.{get_or_past, get_or-replicate, length-replicate, length-set, get_or-set_same, get_or-set_other}
 use Rattle.board_checks.specs.declared.spot.Spot.{Spot}
 use Rattle.board_checks.specs.declared.spot.Spot.TheVariants.{Edge, RightOf, Below}
 use Rattle.board_checks.specs.Errors.{ErrorsValue, has_broken}
 
 -- the answers below n say of which numbers P holds, and from n on none is yes
 pub record AreTold (n : ℕ) (P : ℕ → Type 0) (found : List Bool) : Type 0 where
+  pub room : length found ≡ CELLS
   pub told : (k : ℕ) → k < n → IsTrue (get_or found k false) ↔ P k
   pub rest : (k : ℕ) → n ≤ k → get_or found k false ≡ false
 
 -- at first nothing is told of any entry
-pub none_told : (P : ℕ → Type 0) (m : ℕ) → AreTold 0 P (replicate m false)
-none_told P m = record {
+pub none_told : (P : ℕ → Type 0) → AreTold 0 P (replicate CELLS false)
+none_told P = record {
+  room = length-replicate CELLS false;
   told = λ k low. absurd (omega arith);
-  rest = λ k low. elim (cases_lt k m) [
-    | inl inside ↦ get_or-replicate m k false false inside
-    | inr past ↦ get_or_past (replicate m false) k false (omega (arith, length-replicate m false))
+  rest = λ k low. elim (cases_lt k CELLS) [
+    | inl inside ↦ get_or-replicate CELLS k false false inside
+    | inr past ↦ get_or_past (replicate CELLS false) k false (omega (arith, length-replicate CELLS false))
   ];
 }
 
 -- one entry more is told
-pub one_more_told : (P : ℕ → Type 0) (n : ℕ) (b : Bool) (found : List Bool) → n < length found → IsTrue b ↔ P n → AreTold n P found
+pub one_more_told : (P : ℕ → Type 0) (n : ℕ) (b : Bool) (found : List Bool) → n < CELLS → IsTrue b ↔ P n → AreTold n P found
     → AreTold (n + 1) P (set found n b)
 one_more_told P n b found inside here h = record {
+  room = length-set found n b ∙ h.room;
   told = λ k low. elim (cases_eq k n) [
-    | inl same ↦ rw same (rw (get_or-set_same found n b false inside) here)
+    | inl same ↦ rw same (rw (get_or-set_same found n b false (omega (arith, inside, h.room))) here)
     | inr other ↦ rw (get_or-set_other found n k b false other) (h.told k (omega arith))
   ];
   rest = λ k low. get_or-set_other found n k b false (λ same. omega arith) ∙ h.rest k (omega arith);
@@ -45,8 +48,8 @@ all_told P n found h within k = elim (cases_lt k n) [
 ]
 
 -- a square of a grid of at most 9 has a place
-pub square_in_table : (w cell : ℕ) (found : List Bool) → w ≤ 9 → cell < w * w → length found ≡ CELLS → cell < length found
-square_in_table w cell found small inside room =
+pub square_in_table : (w cell : ℕ) → w ≤ 9 → cell < w * w → cell < CELLS
+square_in_table w cell small inside =
     let more : w * w ≤ w * 9 = mul-le-mul_left w small in
     omega arith
 

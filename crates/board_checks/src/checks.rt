@@ -31,24 +31,22 @@ pub fn errors<P: Demands>(p: &P, grid: &Grid) -> BoardErrors
 {
     let _size = p.size();
     let _valid = grid.size();
-    BoardErrors {
-        repeated: repeated_squares(grid),
-        edges: broken_edges(p, grid),
-        right: broken_right(p, grid),
-        below: broken_below(p, grid),
-    }
-}
-
-// For each square whether its number is repeated.
-fn repeated_squares(grid: &Grid) -> [bool; CELLS]
-    ensures { (cell : ℕ) → IsTrue (slice_index_or result cell false) ↔ IsRepeated grid.now cell }
-{
-    let width = grid.size().get() as usize;
-    let mut found = [false; CELLS];
+    let edges = broken_edges(p, grid);
+    let width = p.size().get() as usize;
+    let mut repeated = [false; CELLS];
+    let mut right = [false; CELLS];
+    let mut below = [false; CELLS];
     for cell in 0..width * width {
-        found[cell] = is_repeated(grid, cell);
+        repeated[cell] = is_repeated(grid, cell);
+        right[cell] = p.is_broken(grid, Spot::RightOf { cell });
+        below[cell] = p.is_broken(grid, Spot::Below { cell });
     }
-    found
+    BoardErrors {
+        repeated,
+        edges,
+        right,
+        below,
+    }
 }
 
 // For each edge place whether what is demanded there is broken.
@@ -61,34 +59,6 @@ fn broken_edges<P: Demands>(p: &P, grid: &Grid) -> [bool; CELLS]
     let mut found = [false; CELLS];
     for place in 0..4 * width {
         found[place as usize] = p.is_broken(grid, Spot::Edge { place });
-    }
-    found
-}
-
-// For each square whether what is demanded on its right is broken.
-fn broken_right<P: Demands>(p: &P, grid: &Grid) -> [bool; CELLS]
-    requires { grid.now.size ≡ (P.puzzle p.now).size }
-    ensures { (cell : ℕ) → IsTrue (slice_index_or result cell false)
-        ↔ IsBrokenAt (P.demand p.now) grid.now (RightOf cell) }
-{
-    let width = p.size().get() as usize;
-    let mut found = [false; CELLS];
-    for cell in 0..width * width {
-        found[cell] = p.is_broken(grid, Spot::RightOf { cell });
-    }
-    found
-}
-
-// For each square whether what is demanded below it is broken.
-fn broken_below<P: Demands>(p: &P, grid: &Grid) -> [bool; CELLS]
-    requires { grid.now.size ≡ (P.puzzle p.now).size }
-    ensures { (cell : ℕ) → IsTrue (slice_index_or result cell false)
-        ↔ IsBrokenAt (P.demand p.now) grid.now (Below cell) }
-{
-    let width = p.size().get() as usize;
-    let mut found = [false; CELLS];
-    for cell in 0..width * width {
-        found[cell] = p.is_broken(grid, Spot::Below { cell });
     }
     found
 }

@@ -39,6 +39,7 @@ pub where_taken : {A : Type 0} (test : Bool) (o : Option A) (y : A)
 where_taken true o y is = (refl, is)
 where_taken false o y is = cc
 
+-- where a value comes of it, the test fails and the rest gives that value
 pub ok_else : {A E : Type 0} (test : Bool) (fault : E) (r : Result A E) (y : A)
     → cond test (Err fault) r ≡ Ok y → (test ≡ false) × (r ≡ Ok y)
 ok_else true fault r y is = cc
