@@ -59,7 +59,7 @@ fn told_step<P: StepNames>(
 ) -> Result<ToldStep, AllocError>
     ensures { IfOk result (IsToldOf candidates.now first.now.reason look.now) }
 {
-    let line = ClueCounts::of(candidates, first.reason, numbers_in(look));
+    let line = ClueCounts::of(candidates, first.reason);
     let strikes = told_strikes(alloc, candidates, first, &line, look)?;
     let mut text = Writing::new(alloc);
     let told = Look {
@@ -110,13 +110,4 @@ fn shows_of(counts: &Option<ClueCounts>, step: &Step) -> Option<[NumberSet; 10]>
         Some(counts) => Some(counts.shows(step.cell, step.values)),
         None => None,
     }
-}
-
-// How many numbers steps strike.
-fn numbers_in(steps: &[Step]) -> usize {
-    let mut numbers = 0usize;
-    for step in steps {
-        numbers = numbers.saturating_add(step.values.len() as usize);
-    }
-    numbers
 }
