@@ -1,5 +1,5 @@
 -- A filling of a row with a value alone at a place is one of the row with the value there.
-use Rattle.std.proofs.Common.{◌≡◌, ◌↔◌, ℕ, ◌+◌, ◌<◌, ◌≤◌, true, false, List, [], length, take, set, slice_index, slice_index_or, sym, ap, ◌∙◌, subst, arith, inl, inr}
+use Rattle.std.proofs.Common.{◌≡◌, ◌↔◌, ℕ, ◌+◌, ◌<◌, ◌≤◌, true, false, List, length, take, set, slice_index, sym, ap, ◌∙◌, subst, arith, inl, inr}
 use Rattle.std.proofs.lemmas.Bool.{both_ways, cases_eq, cases_lt, eqb-true, eq-eqb}
 use Rattle.std.proofs.lemmas.List.{get_or-take, length-take-le, get_or-set_same, get_or-set_other, get_or_past}
 use Rattle.number_sets.specs.Sets.{has_number}
@@ -7,7 +7,7 @@ use Rattle.number_sets.proofs.Members.{has_number-none}
 use Rattle.tower_lines.specs.LineFillings.{IsFilling, IsSupported}
 use Rattle.tower_lines.specs.TowersSeen.{seen}
 use Rattle.tower_lines.proofs.SeenLemmas.{seen_most, seen_some}
-use Rattle.shown_counts.specs.Inner.Counted.{IsFilled, HasAlone, AreCounts, AreCountsBelow, AreCountsOf, AreKeptBelow}
+use Rattle.shown_counts.specs.Inner.Counted.{IsFilled, HasAlone, AreCounts, AreCountsBelow, AreCountsOf}
 
 -- a line of some squares shows one tower at least, and no more than it has squares
 pub supported_range : (sets : List ℕ) (clue place value : ℕ) → IsSupported sets clue place value → (1 ≤ clue) × (clue ≤ length sets)
@@ -84,42 +84,6 @@ all_counts IsSo sets place value n counts past are is = λ count. (
       let below : count < n = omega (arith, past, range.1) in
       (are count).1 (range.0, below, (is count range.0 below).1 s),
 )
-
--- ---- the values kept for each count
-
--- those of the next count
-pub kept_more : (sets : List ℕ) (n : ℕ) (rows : List (List ℕ)) (kept : List ℕ) → n < length rows → AreKeptBelow sets n rows
-    → ((place value : ℕ) → (has_number (slice_index kept place) value ≡ true) ↔ IsSupported sets n place value)
-    → AreKeptBelow sets (n + 1) (set rows n kept)
-kept_more sets n rows kept inside are new = λ count place value some below. elim (cases_eq count n) [
-  | inl same ↦
-      let here : slice_index_or (set rows n kept) count [] ≡ kept =
-      ap (λ i. slice_index_or (set rows n kept) i []) same ∙ get_or-set_same rows n kept [] inside in
-      rw here (subst (λ k. (has_number (slice_index kept place) value ≡ true) ↔ IsSupported sets k place value) (sym same) (new place value))
-  | inr other ↦
-      let stays : slice_index_or (set rows n kept) count [] ≡ slice_index_or rows count [] = get_or-set_other rows n count kept [] other in
-      rw stays (are count place value some (omega (arith, below, other)))
-]
-
-supported_by : (sets others : List ℕ) (clue place value : ℕ) → length sets ≡ length others
-    → ((line : List ℕ) → IsFilling sets clue line → IsFilling others clue line) → IsSupported sets clue place value → IsSupported others clue place value
-supported_by sets others clue place value same has s = record {
-  line = s.line;
-  filling = has s.line s.filling;
-  inside = omega (arith, same, s.inside);
-  here = s.here;
-}
-
--- those of a row that has the same fillings
-pub kept_same : (w : ℕ) (row rest : List ℕ) (n : ℕ) (rows : List (List ℕ)) → w ≤ length row → w ≤ length rest
-    → ((line : List ℕ) (count : ℕ) → IsFilling (take w row) count line ↔ IsFilling (take w rest) count line) → AreKeptBelow (take w rest) n rows
-    → AreKeptBelow (take w row) n rows
-kept_same w row rest n rows inside rest_inside same are = λ count place value some below.
-    let long : length (take w row) ≡ length (take w rest) = length-take-le w row inside ∙ sym (length-take-le w rest rest_inside) in
-    let is = are count place value some below in (
-      λ has. supported_by (take w rest) (take w row) count place value (sym long) (λ line f. (same line count).1 f) (is.0 has),
-      λ s. is.1 (supported_by (take w row) (take w rest) count place value long (λ line f. (same line count).0 f) s),
-    )
 
 -- ---- the counts of each value
 

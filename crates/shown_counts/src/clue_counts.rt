@@ -1,6 +1,6 @@
 //! The counts of a clue's line, by what a reason knows of its squares.
-ghost use Rattle.std.specs.Prelude.{◌≡◌, ◌≢◌, ◌↔◌, ℕ, ◌+◌, ◌*◌, ◌<◌, ◌≤◌, true, false, List, take, slice_index, ◌==◌};
-ghost use Rattle.std.specs.Prelude.{◌||◌, ◌&&◌, IsTrue, MatchOption, slice_index_or, []};
+ghost use Rattle.std.specs.Prelude.{◌≡◌, ◌≢◌, ◌↔◌, ℕ, ◌+◌, ◌*◌, ◌<◌, ◌≤◌, true, List, take, slice_index, ◌==◌};
+ghost use Rattle.std.specs.Prelude.{◌||◌, ◌&&◌, IsTrue, MatchOption};
 ghost use Rattle.number_sets.specs.Sets.{has_number};
 ghost use Rattle.tower_lines.specs.LineFillings.{IsFilling, IsSupported};
 ghost use Rattle.line_steps.specs.Views.{view_cell};
@@ -8,7 +8,7 @@ ghost use Rattle.trail_solver.specs.Candidates.{CandidatesValue};
 ghost use Rattle.line_steps.specs.declared.reason.Reason.{Reason};
 ghost use Rattle.towers_game.specs.Rows.{May};
 ghost use Rattle.shown_counts.specs.Shown.{AreShown, IsRowFrom, IsRowOf, IsLineOf, IsRowWith, IsRowKnowing, IsKnownIn};
-ghost use Rattle.shown_counts.specs.Inner.Counted.{IsFilled, HasAlone, AreCounts, AreCountsOf, AreKeptBelow};
+ghost use Rattle.shown_counts.specs.Inner.Counted.{IsFilled, HasAlone, AreCounts, AreCountsOf};
 
 use crate::lone_numbers::without_lone;
 use crate::possible_counts::possible_counts;
@@ -17,12 +17,9 @@ use line_steps::view_cell;
 use named_steps::Reason;
 use number_sets::NumberSet;
 use std::marker::Model;
-use tower_lines::{has_filling, supported};
+use tower_lines::has_filling;
 use towers_game::{Look, looked_row};
 use trail_solver::Candidates;
-
-// For so many numbers of a line or more it takes less time to go over the line once for each count.
-const MANY: usize = 10;
 
 /// The squares of a clue's line, with what may stand in each of them, to be asked for counts.
 #[derive(Debug, Drop)]
@@ -30,30 +27,28 @@ pub struct ClueCounts {
     size: Size,
     place: u8,
     row: [NumberSet; 9],
-    // where many are asked for: for each count the values of each square that fillings with this count have there
-    kept: Option<[[NumberSet; 9]; 10]>,
 }
 
 impl Model for ClueCounts {
+    ghost use Rattle.std.specs.Prelude.{◌*◌, ◌<◌};
     ghost use Rattle.shown_counts.specs.Shown.{ClueRow};
-    ghost use Rattle.shown_counts.specs.Inner.Counted.{IsRowFound};
 
     ghost Value = { ClueRow };
 
     ghost view = { λ k. record { size = k.size; place = k.place; row = k.row } };
 
-    ghost invariant = { λ k. IsRowFound k.size k.place k.row k.kept };
+    ghost invariant = { λ k. k.place < 4 * k.size };
 }
 
 impl ClueCounts {
-    /// The line of a reason's clue, to be asked for so many numbers; none, where the reason looks from no place of the edge.
-    pub fn of(candidates: &Candidates, reason: Reason, asked: usize) -> Option<ClueCounts>
+    /// The line of a reason's clue; none, where the reason looks from no place of the edge.
+    pub fn of(candidates: &Candidates, reason: Reason) -> Option<ClueCounts>
         ensures { IsLineOf candidates.now reason result }
     {
         match reason {
-            Reason::Bound { place } => counts_from(candidates, Look::Alone, place, asked),
-            Reason::Stand { place } => counts_from(candidates, Look::Stands, place, asked),
-            Reason::Clue { place } => counts_from(candidates, Look::Marks, place, asked),
+            Reason::Bound { place } => counts_from(candidates, Look::Alone, place),
+            Reason::Stand { place } => counts_from(candidates, Look::Stands, place),
+            Reason::Clue { place } => counts_from(candidates, Look::Marks, place),
             _ => None,
         }
     }
@@ -94,24 +89,22 @@ impl ClueCounts {
         ensures { IsRowWith self.now index number result }
     {
         let _size = self.size.get();
-        counts_of(
-            self.size,
-            self.place,
-            with_alone(&self.row, index, number),
-            1,
-        )
+        ClueCounts {
+            size: self.size,
+            place: self.place,
+            row: with_alone(&self.row, index, number),
+        }
     }
 
     /// The same line where only these squares of it are known: anything may stand in the others.
     pub fn knowing(&self, squares: NumberSet) -> ClueCounts
         ensures { IsRowKnowing self.now squares result }
     {
-        counts_of(
-            self.size,
-            self.place,
-            known_row(&self.row, self.size.get(), squares),
-            1,
-        )
+        ClueCounts {
+            size: self.size,
+            place: self.place,
+            row: known_row(&self.row, self.size.get(), squares),
+        }
     }
 
     /// Which square of the line a cell is, counted from 0, from the clue on.
@@ -148,21 +141,12 @@ impl ClueCounts {
         ensures { (count : ℕ)
             → (has_number result count ≡ true) ↔ IsSupported (take self.now.size self.now.row) count index value }
     {
-        let width = self.size.get();
-        match &self.kept {
-            Some(rows) => kept_counts(rows, width, index, value),
-            None => alone_counts(&self.row, width, index, value),
-        }
+        alone_counts(&self.row, self.size.get(), index, value)
     }
 }
 
 // The line from a place, if it is one of the edge's, as it is looked at.
-fn counts_from(
-    candidates: &Candidates,
-    look: Look,
-    place: usize,
-    asked: usize,
-) -> Option<ClueCounts>
+fn counts_from(candidates: &Candidates, look: Look, place: usize) -> Option<ClueCounts>
     ensures { MatchOption result (4 * candidates.now.size ≤ place)
         (λ counts. IsRowFrom candidates.now.size (May look candidates.now) place counts) }
 {
@@ -171,72 +155,9 @@ fn counts_from(
     if place >= 4 * width as usize {
         return None;
     }
-    let row = looked_row(candidates, look, place as u8);
-    Some(counts_of(size, place as u8, row, asked))
-}
-
-fn counts_of(size: Size, place: u8, row: [NumberSet; 9], asked: usize) -> ClueCounts
-    requires { place < 4 * size }
-    ensures size { result.size ≡ size }
-    ensures place { result.place ≡ place }
-    ensures row { result.row ≡ row }
-{
-    let kept = if asked < MANY {
-        None
-    } else {
-        Some(kept_rows(&row, size.get()))
-    };
-    ClueCounts {
-        size,
-        place,
-        row,
-        kept,
-    }
-}
-
-// For each count from 1 to the width the values of each square that fillings with this count have there.
-fn kept_rows(row: &[NumberSet; 9], width: u8) -> [[NumberSet; 9]; 10]
-    requires { width ≤ 9 }
-    ensures { AreKeptBelow (take width row.now) (width + 1) result }
-{
-    let rest = without_lone(row, width);
-    let possible = possible_counts(&rest, width);
-    let mut rows = [[NumberSet::empty(); 9]; 10];
-    for count in 1..width + 1 {
-        rows[count as usize] = kept_row(&rest, width, possible, count);
-    }
-    rows
-}
-
-// The values of each square that fillings with one count have there: none, where the count can't be shown.
-fn kept_row(row: &[NumberSet; 9], width: u8, possible: NumberSet, count: u8) -> [NumberSet; 9]
-    requires width { width ≤ 9 }
-    requires count { count ≤ width }
-    requires possible { (line : List ℕ) (count : ℕ) → IsFilling (take width row.now) count line
-        → has_number possible count ≡ true }
-    ensures { (place value : ℕ) → (has_number (slice_index result place) value ≡ true)
-        ↔ IsSupported (take width row.now) count place value }
-{
-    if !possible.has(count) {
-        return [NumberSet::empty(); 9];
-    }
-    supported(&row[..width as usize], count)
-}
-
-// The counts for which the value was kept at the index.
-fn kept_counts(rows: &[[NumberSet; 9]; 10], width: u8, index: u8, value: u8) -> NumberSet
-    requires width { width ≤ 9 }
-    requires index { index < 9 }
-    requires value { value < 16 }
-    ensures { AreCounts (λ count. has_number (slice_index (slice_index_or rows.now count []) index) value ≡ true)
-        (width + 1) result }
-{
-    let mut counts = NumberSet::empty();
-    for count in 1..width + 1 {
-        let is_kept = rows[count as usize][index as usize].has(value);
-        counts = with_count(counts, count, is_kept);
-    }
-    counts
+    let place = place as u8;
+    let row = looked_row(candidates, look, place);
+    Some(ClueCounts { size, place, row })
 }
 
 // The counts of the row's fillings that have the value at the index: those of the row with the value alone there.

@@ -5,46 +5,36 @@ use crate::aims::{Aim, Aimed};
 use crate::chain::Step;
 use crate::needs::left;
 use crate::replays::take;
-use latin_board::OutOfMemory;
-use std::alloc::Global;
 use trail_solver::Candidates;
 
 /// The steps from the candidates on to the first that leaves its square nothing, which is then what they come to, if there is one.
-pub(crate) fn cut(
-    alloc: Global,
-    candidates: &mut Candidates,
-    found: Aimed,
-) -> Result<Aimed, OutOfMemory> {
+pub(crate) fn cut(candidates: &mut Candidates, found: Aimed) -> Aimed {
     let mark = candidates.mark();
-    let last = first_emptying(candidates, found.steps.as_slice());
+    let emptied = emptied_first(candidates, found.steps.as_slice());
     if mark.len() <= candidates.trail_len() {
         candidates.give_back(mark);
     }
-    let Some(last) = last else {
-        return Ok(found);
+    let Some((end, cell)) = emptied else {
+        return found;
     };
-    let mut steps = Vec::new(alloc);
-    for place in 0..found.steps.len() {
-        if place <= last {
-            steps.push(found.steps[place])?;
-        }
+    let mut steps = found.steps;
+    for _ in end..steps.len() {
+        let _later = steps.pop();
     }
-    let aim = match steps.as_slice().last() {
-        Some(step) => Aim::Nothing {
-            cell: step.cell as usize,
-        },
-        None => found.aim,
-    };
-    Ok(Aimed { steps, aim })
+    Aimed {
+        steps,
+        aim: Aim::Nothing { cell },
+    }
 }
 
-// The place of the first step that leaves its square nothing. What the steps list is taken away up to there.
-fn first_emptying(candidates: &mut Candidates, steps: &[Step]) -> Option<usize> {
+// How many steps there are up to the first that leaves its square nothing, and that square. What the steps list is taken away up to there.
+fn emptied_first(candidates: &mut Candidates, steps: &[Step]) -> Option<(usize, usize)> {
     for place in 0..steps.len() {
         let step = &steps[place];
+        let cell = step.cell as usize;
         take(candidates, step);
-        if left(candidates, step.cell as usize).is_empty() {
-            return Some(place);
+        if left(candidates, cell).is_empty() {
+            return Some((place + 1, cell));
         }
     }
     None

@@ -26,9 +26,6 @@ const ROUNDS: usize = 729;
 // cheaper strikes: it is found sooner, and has somewhat more steps.
 const MANY: usize = 60;
 
-// From so many steps on, the first clue that strikes anything is enough in a round, and the next round begins with the clue after it.
-const VERY_MANY: usize = 150;
-
 /// Rounds of steps: the candidates at the beginning of a round, what its steps have struck by now, and all steps so far.
 #[derive(Drop)]
 pub(crate) struct Rounds<'a, P: Steps> {
@@ -47,8 +44,7 @@ pub(crate) struct Rounds<'a, P: Steps> {
     has_signs: bool,
     // From which places a clue strikes something by itself: from the others there is none.
     has_clue: [bool; PLACES],
-    // The place at which clues are looked at first.
-    first_place: usize,
+    places: Looks,
     stands: Looks,
     clues: Looks,
     groups: Looks,
@@ -75,7 +71,7 @@ impl<'a, P: Steps> Rounds<'a, P> {
             peers: Values::none(),
             has_signs: true,
             has_clue: [false; PLACES],
-            first_place: 0,
+            places: Looks::none(),
             stands: Looks::none(),
             clues: Looks::none(),
             groups: Looks::none(),
@@ -217,31 +213,14 @@ impl<'a, P: Steps> Rounds<'a, P> {
 
     // The steps of the clues at the edge as the kind looks at them, where it sees what it didn't.
     fn look_at_clues(&mut self, p: &P, grade: Grade, kind: Kind) -> Result<(), OutOfMemory> {
-        let before = self.steps.len();
-        let count = 4 * self.now.size().get() as usize;
-        for turn in 0..count {
-            let place = self.first_place.wrapping_add(turn) % count;
+        for place in 0..4 * self.now.size().get() as usize {
             match kind {
                 Kind::Stand => self.look_at_line(p, grade, &Reason::Stand { place }, place)?,
                 Kind::Clue => self.look_at_line(p, grade, &Reason::Clue { place }, place)?,
                 _ => self.look_at_bound(p, grade, place)?,
             }
-            if self.is_enough(kind, before) {
-                self.first_place = place.wrapping_add(1);
-                return Ok(());
-            }
         }
         Ok(())
-    }
-
-    // Whether a clue has struck anything since there were so many steps, and the others of its kind can wait.
-    fn is_enough(&self, kind: Kind, before: usize) -> bool {
-        match self.sought {
-            Sought::NumberShown => false,
-            Sought::SquareEmptied => {
-                before >= VERY_MANY && before < self.steps.len() && !is_done(kind)
-            }
-        }
     }
 
     // The steps of one clue by itself.
@@ -279,13 +258,16 @@ impl<'a, P: Steps> Rounds<'a, P> {
         Ok(())
     }
 
-    // The steps of the values that have one place left in a row or column; or none, and then that of the line's first square.
+    // The steps of the values that have one place left in a row or column that isn't what it was; or none, and then that of the line's first
+    // square.
     fn look_at_places(&mut self, p: &P, grade: Grade) -> Result<(), OutOfMemory> {
         let size = self.now.size();
         for line in 0..2 * size.get() as usize {
             let cells = squares_of(size, line);
             let row = row_of(&self.now, &cells);
-            self.look_along(p, grade, line, &cells, &row)?;
+            if self.places.is_new(line, &row) {
+                self.look_along(p, grade, line, &cells, &row)?;
+            }
         }
         Ok(())
     }

@@ -67,9 +67,9 @@ fn ended<P: Steps>(
         return Ok(found);
     }
     let mut view = view_of(grid);
-    let Aimed { steps, aim } = cut(alloc, &mut view, found)?;
+    let Aimed { steps, aim } = cut(&mut view, found);
     let steps = joined(alloc, p, grade, &mut view, steps, aim, cache)?;
-    cut(alloc, &mut view, Aimed { steps, aim })
+    Ok(cut(&mut view, Aimed { steps, aim }))
 }
 
 // The same as `shorten` from what is in view of the grid.

@@ -3,8 +3,8 @@ ghost use Rattle.std.specs.Prelude.{◌<◌, length};
 
 use crate::known_squares::{needed_places, say_known, squares_from};
 use crate::names::{EdgeClue, GridLine, Joined, List, Losses, Square, Squares, numbers};
+use crate::sentences::Look;
 use crate::showing::{Showing, ShownStrike, shown_strikes};
-use crate::told::Strike;
 use crate::writing::Writing;
 use number_sets::NumberSet;
 use shown_counts::ClueCounts;
@@ -27,14 +27,14 @@ pub(crate) fn say_clue(
     at: &EdgeClue,
     knowing: Knowing,
     line: &ClueCounts,
-    strikes: &[Strike],
+    look: &Look,
 ) -> fmt::Result {
-    let size = at.size;
+    let (size, strikes) = (at.size, look.strikes);
     write!(text, "Clue {at}")?;
     let why = match knowing {
         Knowing::Alone if at.clue == 1 => "the nearest tower is the tallest",
         Knowing::Alone if at.clue == size.get() => "all towers are seen and rise",
-        _ => return say_shown(text, at, knowing, line, strikes),
+        _ => return say_shown(text, at, knowing, line, look),
     };
     write!(text, ": {why}, so {}.", Losses { size, strikes })
 }
@@ -45,11 +45,16 @@ fn say_shown(
     at: &EdgeClue,
     knowing: Knowing,
     line: &ClueCounts,
-    strikes: &[Strike],
+    look: &Look,
 ) -> fmt::Result {
-    let shown = shown_strikes(line, strikes, at.clue);
+    let shown = shown_strikes(line, look.strikes, at.clue);
     let shown = shown.as_slice();
-    say_knowing(text, at, knowing, line, shown)?;
+    let places = if look.is_of_many {
+        None
+    } else {
+        needed_places(line, shown, at.clue)
+    };
+    say_knowing(text, at, knowing, line, places)?;
     write!(text, ": ")?;
     for index in 0..shown.len() {
         for number in 1..10 {
@@ -59,20 +64,20 @@ fn say_shown(
     write!(text, ".")
 }
 
-// What has to be known of the other squares: what a few of them have, or otherwise what stands or is left in the line.
+// What has to be known of the other squares: what those at a few places have, or otherwise what stands or is left in the line.
 fn say_knowing(
     text: &mut Writing,
     at: &EdgeClue,
     knowing: Knowing,
     line: &ClueCounts,
-    shown: &[ShownStrike],
+    places: Option<NumberSet>,
 ) -> fmt::Result {
     let words = match knowing {
         Knowing::Alone => return Ok(()),
         Knowing::Stands => "with the numbers in",
         Knowing::Marks => "by what is left in",
     };
-    match needed_places(line, shown, at.clue) {
+    match places {
         None => write!(text, ", {words} {}", GridLine::from(at.size, at.place)),
         Some(places) if places.is_empty() => Ok(()),
         Some(places) => {

@@ -13,28 +13,37 @@ use shown_counts::ClueCounts;
 use std::fmt::{self, Write};
 use trail_solver::Candidates;
 
-/// Why a reason strikes, by the candidates before it, or by its clue's line, and what it strikes.
+/// A look to tell: its reason, its clue's line where it has one, and what it strikes.
+#[derive(Clone, Copy)]
+pub(crate) struct Look<'a> {
+    pub(crate) reason: Reason,
+    pub(crate) line: &'a Option<ClueCounts>,
+    pub(crate) strikes: &'a [Strike],
+    // Whether it is one of so many that nobody looks for the squares that its clue needs.
+    pub(crate) is_of_many: bool,
+}
+
+/// Why a look strikes, by the candidates before it, or by its clue's line, and what it strikes.
 pub(crate) fn say_step<P: StepNames>(
     text: &mut Writing,
     p: &P,
     candidates: &Candidates,
-    reason: Reason,
-    line: &Option<ClueCounts>,
-    strikes: &[Strike],
+    look: &Look,
 ) -> fmt::Result {
     let size = candidates.size();
-    match reason {
+    let strikes = look.strikes;
+    match look.reason {
         Reason::Given { cell } => write!(text, "{} is given", Square::of(size, cell))?,
         Reason::Peer { cell } => say_left(text, Square::of(size, cell), left_of(candidates, cell))?,
         Reason::Place { line, index, value } => say_place(text, candidates, line, index, value)?,
         Reason::Bound { place } => {
-            return say_looked(text, &edge_clue(p, place), Knowing::Alone, line, strikes);
+            return say_looked(text, &edge_clue(p, place), Knowing::Alone, look);
         }
         Reason::Stand { place } => {
-            return say_looked(text, &edge_clue(p, place), Knowing::Stands, line, strikes);
+            return say_looked(text, &edge_clue(p, place), Knowing::Stands, look);
         }
         Reason::Clue { place } => {
-            return say_looked(text, &edge_clue(p, place), Knowing::Marks, line, strikes);
+            return say_looked(text, &edge_clue(p, place), Knowing::Marks, look);
         }
         Reason::Sign { from, to } => say_sign(text, p, candidates, from, to, strikes)?,
         Reason::Set {
@@ -47,15 +56,9 @@ pub(crate) fn say_step<P: StepNames>(
 }
 
 // The sentence of a clue, of whose line there is nothing to say where its place is none of the edge's.
-fn say_looked(
-    text: &mut Writing,
-    at: &EdgeClue,
-    knowing: Knowing,
-    line: &Option<ClueCounts>,
-    strikes: &[Strike],
-) -> fmt::Result {
-    match line {
-        Some(line) => say_clue(text, at, knowing, line, strikes),
+fn say_looked(text: &mut Writing, at: &EdgeClue, knowing: Knowing, look: &Look) -> fmt::Result {
+    match look.line {
+        Some(line) => say_clue(text, at, knowing, line, look),
         None => Ok(()),
     }
 }

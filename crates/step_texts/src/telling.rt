@@ -7,7 +7,7 @@ ghost use Rattle.shown_counts.specs.Shown.{IsLineOf};
 ghost use Rattle.step_texts.specs.Told.{AreToldCounts, AreToldStrikes, IsToldOf, AreTold};
 
 use crate::looks::joined_steps;
-use crate::sentences::say_step;
+use crate::sentences::{Look, say_step};
 use crate::step_names::StepNames;
 use crate::told::{Strike, ToldStep};
 use crate::writing::{Writing, said};
@@ -16,6 +16,9 @@ use shown_counts::ClueCounts;
 use std::alloc::{AllocError, Global};
 use step_chains::{Step, take_all};
 use trail_solver::{Candidates, Rules};
+
+// Of more steps nobody reads each sentence, and the squares that a clue needs take long to find.
+const MANY: usize = 60;
 
 /// The steps of a chain from candidates on, as they are told: those side by side that have one reason, hold at once and are in reading order
 /// are one.
@@ -34,10 +37,11 @@ pub fn told_steps<P: StepNames>(
     let mut cache = P::Cache::default();
     let mut told = Vec::new(alloc);
     let mut rest = steps;
+    let are_many = steps.len() > MANY;
     while let Some(first) = rest.first() {
         let joined = joined_steps(p, &candidates, first, &rest[1..], &mut cache);
         let (look, more) = rest.split_at(joined + 1);
-        told.push(told_step(alloc, p, &candidates, first, look)?)?;
+        told.push(told_step(alloc, p, &candidates, first, look, are_many)?)?;
         take_all(&mut candidates, look);
         rest = more;
     }
@@ -51,20 +55,20 @@ fn told_step<P: StepNames>(
     candidates: &Candidates,
     first: &Step,
     look: &[Step],
+    is_of_many: bool,
 ) -> Result<ToldStep, AllocError>
     ensures { IfOk result (IsToldOf candidates.now first.now.reason look.now) }
 {
-    let line = ClueCounts::of(candidates, first.reason, numbers_in(look));
+    let line = ClueCounts::of(candidates, first.reason);
     let strikes = told_strikes(alloc, candidates, first, &line, look)?;
     let mut text = Writing::new(alloc);
-    said(say_step(
-        &mut text,
-        p,
-        candidates,
-        first.reason,
-        &line,
-        strikes.as_slice(),
-    ))?;
+    let told = Look {
+        reason: first.reason,
+        line: &line,
+        strikes: strikes.as_slice(),
+        is_of_many,
+    };
+    said(say_step(&mut text, p, candidates, &told))?;
     text.end()?;
     Ok(ToldStep {
         reason: first.reason,
@@ -106,13 +110,4 @@ fn shows_of(counts: &Option<ClueCounts>, step: &Step) -> Option<[NumberSet; 10]>
         Some(counts) => Some(counts.shows(step.cell, step.values)),
         None => None,
     }
-}
-
-// How many numbers steps strike.
-fn numbers_in(steps: &[Step]) -> usize {
-    let mut numbers = 0usize;
-    for step in steps {
-        numbers = numbers.saturating_add(step.values.len() as usize);
-    }
-    numbers
 }

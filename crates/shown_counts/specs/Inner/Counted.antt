@@ -1,6 +1,5 @@
 -- What was found of the fillings of a row.
-use Rattle.std.specs.Prelude.{◌≡◌, ◌≢◌, ◌↔◌, ℕ, ◌<◌, ◌≤◌, ◌+◌, ◌*◌, true, [], List, length, slice_index, slice_index_or}
-use Rattle.std.specs.Prelude.{take, ◌==◌, Option, Some, None}
+use Rattle.std.specs.Prelude.{◌≡◌, ◌≢◌, ◌↔◌, ℕ, ◌<◌, ◌≤◌, true, List, length, slice_index, ◌==◌}
 use Rattle.number_sets.specs.Sets.{has_number}
 use Rattle.tower_lines.specs.LineFillings.{IsFilling, IsSupported}
 
@@ -31,20 +30,3 @@ abbrev pub AreCountsOf : List ℕ → ℕ → ℕ → List ℕ → Type 0
 AreCountsOf sets place values shows =
     (v count : ℕ) → has_number values v ≡ true
     → (has_number (slice_index shows v) count ≡ true) ↔ IsSupported sets count place v
-
--- for each count below a number, at its own index, the values of each place that fillings with the count have there
-abbrev pub AreKeptBelow : List ℕ → ℕ → List (List ℕ) → Type 0
-AreKeptBelow sets n rows =
-    (count place value : ℕ) → 1 ≤ count → count < n
-    → (has_number (slice_index (slice_index_or rows count []) place) value ≡ true)
-    ↔ IsSupported sets count place value
-
--- so for each count that a row of this width can show, where they were found
-abbrev pub AreListed : ℕ → List ℕ → Option (List (List ℕ)) → Type 0
-AreListed w row None = Unit {0}
-AreListed w row (Some rows) = AreKeptBelow (take w row) (w + 1) rows
-
--- the place is one of the edge's, and what was found of the row is so
-pub record IsRowFound (w place : ℕ) (row : List ℕ) (kept : Option (List (List ℕ))) : Type 0 where
-  pub edge : place < 4 * w
-  pub listed : AreListed w row kept
