@@ -2,9 +2,10 @@
 
 from __future__ import annotations
 
+import contextlib
 import os
 import shutil
-from typing import Dict, List, NamedTuple, Optional, Sequence, Set, Tuple
+from typing import Dict, Iterator, List, NamedTuple, Optional, Sequence, Set, Tuple
 
 from playing.naming import Place
 from playing.program import Program
@@ -59,8 +60,21 @@ class BoardFront:
             **bytecode(),
         }
 
-    def window(self, words: Sequence[str], size: Tuple[int, int] = USUAL, env: Optional[Dict[str, str]] = None) -> Terminal:
-        return Terminal([self.path, *words], self.env() if env is None else env, size, cwd=self.room.path, user=self._user)
+    @contextlib.contextmanager
+    def window(self, words: Sequence[str], size: Tuple[int, int] = USUAL, env: Optional[Dict[str, str]] = None, leave: str = '') -> Iterator[Terminal]:
+        """With these words. At the end it is left by these keys, if by any, and has to end well."""
+        with Terminal([self.path, *words], self.env() if env is None else env, size, cwd=self.room.path, user=self._user) as window:
+            yield window
+            if leave:
+                window.leave(leave)
+
+    def shows(  # pylint: disable=too-many-arguments
+        self, words: Sequence[str], *texts: str, size: Tuple[int, int] = USUAL, env: Optional[Dict[str, str]] = None, leave: str = 'q', status: int = 0
+    ) -> None:
+        """That is seen at first; then it is left by these keys, or ends by itself, with this status."""
+        with self.window(words, size, env) as window:
+            window.look('', texts)
+            window.leave(leave, status)
 
     def play(self, game: BoardGame) -> None:
         """In what is pressed and seen FOLDER is the path of the room."""

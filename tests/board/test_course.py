@@ -186,18 +186,14 @@ def files_in(folder: str) -> Dict[str, Tuple[bytes, float]]:
 
 def test_kept(front: BoardFront, room: Room) -> None:
     """The game before goes on afterwards, and each file is as it was; the last game's course comes where none is named."""
-    with front.window(['unequal', '3:0,0L,0L,0U,0,0,0U,0,0,']) as window:
+    with front.window(['unequal', '3:0,0L,0L,0U,0,0,0U,0,0,'], leave='q') as window:
         window.look('M2', ['move 1/1'])
-        window.leave('q')
     before = files_in(room.path)
     assert before
-    with front.window(['learn']) as window:
+    with front.window(['learn'], leave='q') as window:
         window.look('2<enter>M', ['From now on, marks go'])
-        window.leave('q')
     assert files_in(room.path) == before
-    with front.window([]) as window:
-        window.look('', ['Unequal 3x3', 'move 1/1'])
-        window.leave('q')
+    front.shows([], 'Unequal 3x3', 'move 1/1')
 
 
 def test_pipe(objects: str, room: Room) -> None:

@@ -74,7 +74,7 @@ def test_typed(front: BoardFront, room: Room, game: str) -> None:
     """A printed puzzle of five by five, in a minute. It has one solution once all is there, and is played then, as a game that is kept."""
     id = stored(game, 5, 'x')[0]
     plain = id[0] + id[id.index(':') :]
-    with front.window([game, '3!7' if game == 'unequal' else ID]) as window:
+    with front.window([game, '3!7' if game == 'unequal' else ID], leave='qq') as window:
         window.look('1', ['move 1/1'])
         keys = ['E', '5', '<enter>', *typed(front.program, game, id)]
         for key in keys:
@@ -83,7 +83,6 @@ def test_typed(front: BoardFront, room: Room, game: str) -> None:
         assert len(keys) < MINUTE
         window.look('p', ['0 of ', 'move 0/0'], ['desk'])
         window.look('o', [f'{game.capitalize()} 3x3'])
-        window.leave('qq')
     kept = room.read(f'state/puzzles/{game}.sav') or b''
     assert f':{plain.partition(":")[2]}\n'.encode() in kept
     assert (room.read(f'state/puzzles/{game}-draft.ids') or b'').endswith(f'\n{plain}\n'.encode())

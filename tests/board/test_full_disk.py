@@ -3,7 +3,6 @@
 from __future__ import annotations
 
 import contextlib
-import os
 import signal
 from typing import Callable, Iterator, List, NamedTuple, Sequence, Tuple
 
@@ -58,8 +57,7 @@ ENDS = [(face, *end) for face in FACES for end in face.ends]
 @contextlib.contextmanager
 def full_disk(front: BoardFront, room: Room, face: Face) -> Iterator[Tuple[Terminal, Folder]]:
     """A move was made after the disk was full; the file has the game as it was before."""
-    os.mkdir(os.path.join(room.path, 'state'))
-    with small_disk(os.path.join(room.path, 'state'), 1 << 16), Folder('state', room) as disk:
+    with small_disk(room.lay('state'), 1 << 16), Folder('state', room) as disk:
         with front.window([*face.words, 'towers', ID]) as window:
             window.look(face.one, [face.shows[0]])
             fill(disk)
@@ -113,11 +111,10 @@ def test_no_room(front: BoardFront, room: Room) -> None:
 def test_late_folder(front: BoardFront, room: Room, face: Face) -> None:
     """A game that had no file gets one as soon as it can, and takes no other game's place."""
     room.link('state', 'later')
-    with front.window([*face.words, 'towers', ID]) as window:
+    with front.window([*face.words, 'towers', ID], leave='q' if face is FACES[0] else 'q<enter>') as window:
         window.look('', ['The game is not kept: nothing can be written to'])
-        os.makedirs(os.path.join(room.path, 'later', 'puzzles'))
+        room.lay('later/puzzles')
         room.put(f'later/{KEPT}', save_text(3))
         window.look(face.one, [face.shows[0]], ['not kept'] if face is FACES[0] else [])
-        window.leave('q' if face is FACES[0] else 'q<enter>')
     assert room.read(f'later/{KEPT}') == save_text(3), 'the other game'
     assert room.read('later/puzzles/towers-2.sav') == save_text(1), 'this one'

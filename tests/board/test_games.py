@@ -285,22 +285,19 @@ def test_game(front: BoardFront, game: BoardGame) -> None:
 
 def test_kept_choice(front: BoardFront, room: Room) -> None:
     """That marks go is kept, and holds in lines, too; what is saved can be opened anywhere."""
-    with front.window(['towers', ID]) as window:
+    with front.window(['towers', ID], leave='q') as window:
         window.look('M', ['From now on'])
-        window.leave('q')
-    with front.window(['--lines']) as window:
+    with front.window(['--lines'], leave='q<enter>') as window:
         window.look('m<enter>', ['9 squares have other pencil marks'])
         window.look('1 1 1<enter>', ['r1c1 is 1; row 1 lacks 2 and 3; 4 other squares have other pencil marks'])
         window.look('2 1<enter>', ['r2c1 is empty, marked 2 and 3'])
         window.look('undo<enter>', ['towers 2/7>'])
         window.look('tidy<enter>', ['From now on, marks stay'])
         window.look('redo<enter>', ['towers 7/7>'])
-        window.leave('q<enter>')
-    with front.window([]) as window:
+    with front.window([], leave='q') as window:
         # What goes together is kept, too.
         window.look('u', ['0 of 9', 'move 1/6', '│ 1   2   3 │ 1   2   3 │'])
         window.look('r', ['1 of 9', 'move 6/6'])
-        window.leave('q')
     moves = [b'M', b'P1,0,1', b'P2,0,1', b'P0,1,1', b'P0,2,1', b'R0,0,1']
     assert re.findall(rb'^MOVE    :.:(.*)$', room.read('state/puzzles/towers.sav') or b'', re.MULTILINE) == moves
 
@@ -325,8 +322,7 @@ def test_question(front: BoardFront) -> None:
 @pytest.mark.parametrize(('game', 'id', 'most'), WHOLE)
 def test_whole_game(front: BoardFront, game: str, id: str, most: int) -> None:
     """A game from its first to its last number."""
-    with front.window([game, id]) as window:
+    with front.window([game, id], leave='q') as window:
         window.look('', ['move 0/0'])
         window.look(whole_game(*solution(front.program, game, id)), ['Solved!'])
         assert window.pressed <= most
-        window.leave('q')

@@ -102,6 +102,4 @@ def test_killed(front: BoardFront, room: Room, seed: int) -> None:
     found = kept(room)
     print(f'{seed}: {name}: {len(may_be[0].moves)} moves seen, {len(may_be) - 1} on the way, of which {may_be.index(found) if found in may_be else "?"} kept')
     assert found in may_be, f'{name}: {may_be[0].told} was seen, {found.told} is kept'
-    with front.window([]) as window:
-        window.look('', [found.told])
-        window.leave('q')
+    front.shows([], found.told)

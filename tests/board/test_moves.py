@@ -60,10 +60,9 @@ def test_joined() -> None:
 @pytest.mark.parametrize(('before', 'keys', 'shows'), SAME)
 def test_same(front: BoardFront, before: str, keys: str, shows: str) -> None:
     """What changes nothing is no move, and what could be redone stays."""
-    with front.window(['towers', ID]) as window:
+    with front.window(['towers', ID], leave='q') as window:
         window.look(before, [shows])
         window.look(keys, ['Nothing changes: the board has that already.', shows])
-        window.leave('q')
 
 
 GAMES = [
@@ -108,22 +107,19 @@ def test_all_or_none(front: BoardFront, room: Room) -> None:
     moves = [b'M', *[b'P2,2,1'] * 99_997, b'R2,2,2']
     head = save_text(0).replace(b'NSTATES :1:1\nSTATEPOS:1:1\n', b'NSTATES :6:100000\nSTATEPOS:5:99999\n')
     room.put('long.sav', head + b''.join(b'MOVE    :%d:%s\n' % (len(move), move) for move in moves))
-    with front.window(['towers', os.path.join(room.path, 'long.sav')]) as window:
+    with front.window(['towers', os.path.join(room.path, 'long.sav')], leave='q') as window:
         window.look('M', ['move 99998/99999', 'marks go'])
         window.look('1', ['A game has at most 100,000 states. Undo some moves first.', 'move 99998/99999', '│ 1   2   3 │ 1   2   3 │'])
         window.look('r', ['move 99999/99999', '│     2     │'])
-        window.leave('q')
 
 
 def test_order(front: BoardFront, room: Room) -> None:
     """Marks that go with a number go before it, in reading order; possible marks begin with all marks where that is shorter."""
-    with front.window(['towers', ID]) as window:
+    with front.window(['towers', ID], leave='q') as window:
         window.look('Mm<right><down>2', ['1 of 9'])
         window.look('P', ['1 of 9'])
-        window.leave('q')
-    with front.window(['towers', '3:///////////,1h']) as window:
+    with front.window(['towers', '3:///////////,1h'], leave='q') as window:
         window.look('P', ['move 5/5'])
-        window.leave('q')
     first = [b'M', b'P1,0,2', b'P0,1,2', b'P2,1,2', b'P1,2,2', b'R1,1,2']
     assert moves_of(room.read(f'state/puzzles/old/{old(room)}')) == first
     assert moves_of(room.read('state/puzzles/towers.sav')) == [b'M', b'P1,0,1', b'P2,0,1', b'P0,1,1', b'P0,2,1']

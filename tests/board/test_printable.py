@@ -23,8 +23,7 @@ def test_printable(text: str, wanted: str) -> None:
 def test_faces(front: BoardFront, room: Room) -> None:
     """Words, names that are typed, and the name of the folder for games, in both faces and on standard error."""
     folder = os.path.join(room.path, f'st{STEERING}te')
-    os.makedirs(os.path.join(folder, 'puzzles'))
-    os.mkfifo(os.path.join(folder, 'puzzles', 'towers.sav'))
+    room.lay(f'{folder}/puzzles/towers.sav', os.mkfifo)
     env = {**front.env(), 'XDG_STATE_HOME': folder}
     with front.window(['towers', STEERING], (24, 200), env) as window:
         window.look('', ["There is no file 'x?]0;steered?y'"])

@@ -50,7 +50,6 @@ UNEQUAL_REFUSALS: List[Tuple[str, str]] = [
 
 @pytest.mark.parametrize(('words', 'refusals'), [(['towers', '3:///////////,1c3c2'], REFUSALS), (['unequal', '3!7'], UNEQUAL_REFUSALS)])
 def test_refusals(front: BoardFront, words: List[str], refusals: List[Tuple[str, str]]) -> None:
-    with front.window(words) as window:
+    with front.window(words, leave='q') as window:
         for line, sentence in refusals:
             window.look(f':{line}<enter>', [sentence])
-        window.leave('q')

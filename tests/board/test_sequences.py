@@ -62,7 +62,7 @@ def test_late(came: str, lasts: float, wanted: str) -> None:
 @pytest.mark.parametrize('term', ['xterm-256color', 'vt100'])
 def test_slow_line(front: BoardFront, term: str) -> None:
     """Home isn't H, which counts a hint, and F3 isn't R, which goes back to the start; arrows move, and an Escape by itself leaves a question."""
-    with front.window(['towers', ID], env=front.env(term)) as window:
+    with front.window(['towers', ID], env=front.env(term), leave='q') as window:
         window.look('1', ['1 of 9', 'move 1/1'])
         for sent, shows in (('\x1b[H', 'That key does nothing'), ('\x1bOR', 'That key does nothing'), ('\x1b[C', 'move 1/1'), ('\x1bOB', 'move 1/1')):
             for character in sent:
@@ -73,4 +73,3 @@ def test_slow_line(front: BoardFront, term: str) -> None:
         window.look('<left>', [])
         window.look('S', ['y/N'])
         window.look('<escape>', ['2 of 9'], ['y/N'])
-        window.leave('q')

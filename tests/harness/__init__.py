@@ -16,7 +16,9 @@ mounts    a file that is mounted alone, and a disk that is soon full
 users     whom a program can be run as
 """
 
-from typing import Protocol
+from typing import Any, Iterable, List, Protocol
+
+import pytest
 
 from tests.harness.faults import FaultLibrary, Met
 from tests.harness.program import SLOWNESS, Ended, run
@@ -24,7 +26,7 @@ from tests.harness.room import Folder, Room, Skip
 from tests.harness.skips import need
 from tests.harness.users import User, is_root, need_root
 
-__all__ = ['SLOWNESS', 'Ended', 'FaultLibrary', 'Folder', 'Met', 'Room', 'Skip', 'User', 'by_name', 'is_root', 'need', 'need_root', 'run']
+__all__ = ['SLOWNESS', 'Ended', 'FaultLibrary', 'Folder', 'Met', 'Room', 'Skip', 'User', 'by_name', 'by_words', 'is_root', 'named', 'need', 'need_root', 'run']
 
 
 class Named(Protocol):
@@ -35,3 +37,13 @@ class Named(Protocol):
 def by_name(row: Named) -> str:
     """What pytest calls the case of a row that has a name."""
     return str(row.name)
+
+
+def named(rows: Iterable[Any]) -> List[Any]:
+    """Rows as cases of pytest, each called by its first member, which it isn't given."""
+    return [pytest.param(*row[1:], id=row[0]) for row in rows]
+
+
+def by_words(rows: Iterable[Any]) -> List[Any]:
+    """The same, where each row begins with the words of a command, which it is given, too."""
+    return [pytest.param(*row, id=' '.join(row[0])) for row in rows]

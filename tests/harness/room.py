@@ -6,7 +6,7 @@ import os
 import shutil
 import stat
 import tempfile
-from typing import BinaryIO, List, Optional, Tuple, Union
+from typing import BinaryIO, Callable, List, Optional, Tuple, Union
 
 from _pytest.outcomes import Skipped
 
@@ -56,6 +56,13 @@ class Folder:
                 os.fchown(fd, *owner)
             os.fchmod(fd, mode)
             file.write(content)
+
+    def lay(self, path: str, make: Callable[[str], object] = os.mkdir) -> str:
+        """Makes something at a path from here, with the folders above it, and gives its whole path."""
+        whole = os.path.join(self.path, path)
+        os.makedirs(os.path.dirname(whole), exist_ok=True)
+        make(whole)
+        return whole
 
     def link(self, name: Name, text: Name) -> None:
         """Makes a symbolic link with this text."""

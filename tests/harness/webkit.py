@@ -2,7 +2,6 @@
 
 from __future__ import annotations
 
-import base64
 import contextlib
 import http.client
 import json
@@ -88,9 +87,6 @@ class WebKit(Driver):
         self._do('window/rect', width=width, height=height)
         inner = self.value('[innerWidth, innerHeight]')
         self._do('window/rect', width=2 * width - inner[0], height=2 * height - inner[1])
-
-    def picture(self) -> bytes:
-        return base64.b64decode(self._ask('GET', 'screenshot'))
 
     def open(self) -> str:
         tab = str(self._do('window/new', type='tab')['handle'])

@@ -3,11 +3,12 @@
 from __future__ import annotations
 
 import json
-from typing import Any, Callable, Dict, List, Optional, Sequence, Set, Tuple
+import re
+from typing import Any, Callable, Dict, List, Optional, Sequence, Set, Tuple, Union
 
 from playing.naming import Place
 from tests.harness.builds import TOP
-from tests.harness.driver import Driver
+from tests.harness.driver import BLANK, RIGHT, Driver
 from tests.harness.game import ID
 
 #: Sizes of windows.
@@ -21,6 +22,11 @@ UNEQUAL = 'unequal:3:0,0L,0L,0U,0,0,0U,0,0,'
 
 #: What is kept in the browser begins so.
 OURS = 'puzzles:'
+
+#: What is done, as `Player.look` has it: keys; or what is clicked, and how, if not by the left button. And keys with Control, or others.
+ACTS = re.compile(r'([^{]+)|\{(?:(tap|hold|right|menu|switch|load)\b ?)?([^}]*)\}')
+KEYS = re.compile(r'<ctrl-(.)>|((?:<(?!ctrl-)[a-z]+>|[^<])+)')
+KEY = re.compile(r'<(up|down|left|right)>|<([a-z]+)>|(.)')
 
 #: A picture beside the page, which keeps nothing; of a disk's pages Chromium shows it what they keep.
 BESIDE = f'file://{TOP}/page/icon.svg'
@@ -59,9 +65,9 @@ class Seen:
     def text(self, selector: str) -> str:
         return str(self.value(f'document.querySelector({json.dumps(selector)}).textContent'))
 
-    def name(self, x: int, y: int) -> str:
-        """What a square, or a clue, is called."""
-        return str(self.value(f'document.querySelector({json.dumps(at(x, y))}).getAttribute("aria-label")'))
+    def name(self, name: str) -> str:
+        """What the square or clue of a name is called now."""
+        return str(self.value(f'document.querySelector({json.dumps(place_of(name))}).getAttribute("aria-label")'))
 
     def kind(self, x: int, y: int) -> Set[str]:
         """How it is drawn."""
@@ -84,13 +90,36 @@ class Seen:
         """Waits until the game has this title."""
         self.driver.wait_for(f'document.querySelector("#title").textContent === {json.dumps(title)}')
 
-    def is_called(self, x: int, y: int, name: str) -> None:
-        """Waits until a square is called so."""
-        self.driver.wait_for(f'document.querySelector({json.dumps(at(x, y))}).getAttribute("aria-label") === {json.dumps(name)}')
+    def is_called(self, name: str) -> None:
+        """Waits until the square or clue that a name tells of is called so; or, with `..` at the end, until what it is called begins so."""
+        begins = name[:-2] if name.endswith('..') else ''
+        wanted = f'.startsWith({json.dumps(begins)})' if begins else f' === {json.dumps(name)}'
+        self.driver.wait_for(f'document.querySelector({json.dumps(place_of(name))}).getAttribute("aria-label"){wanted}')
 
-    def begins(self, x: int, y: int, name: str) -> None:
-        """Waits until what a square is called begins so."""
-        self.driver.wait_for(f'document.querySelector({json.dumps(at(x, y))}).getAttribute("aria-label").startsWith({json.dumps(name)})')
+    def stays(self, name: str) -> None:
+        """Once what was done is seen a square is called so still."""
+        self.settles()
+        assert self.name(name).startswith(name[:-2]) if name.endswith('..') else self.name(name) == name
+
+    def reads(self, text: str) -> None:
+        """Waits until that stands on a page of text."""
+        self.driver.wait_for(f'document.querySelector("#page[open] #page-text")?.textContent.includes({json.dumps(text)})')
+
+    def games(self, number: str) -> None:
+        """So many are kept."""
+        assert len(self.kept()) == int(number)
+
+    def ruled(self, verdict: str) -> None:
+        """Waits until that is the verdict of the desk."""
+        self.driver.wait_for(f'document.querySelector("#ruling").textContent === {json.dumps(verdict)}')
+
+    def grounds(self, text: str) -> None:
+        """Waits until that is among its grounds."""
+        self.driver.wait_for(f'document.querySelector("#grounds").textContent.includes({json.dumps(text)})')
+
+    def has(self, number: int, selector: str) -> None:
+        """Waits until there are so many elements."""
+        self.driver.wait_for(f'document.querySelectorAll({json.dumps(selector)}).length === {number}')
 
     def is_shown(self, selector: str) -> None:
         """Waits until an element is there and has room."""
@@ -120,11 +149,20 @@ class Seen:
         return [line.split(':', 2)[2] for line in lines if line.startswith('MOVE    :')]
 
 
-class Hands(Seen):
-    """What is pressed and written there, and the files that come and go."""
+class Player(Seen):
+    """Opens the page, and plays: what is pressed and written there, and the files that come and go."""
 
-    def press(self, *keys: str) -> None:
-        self.driver.press(*keys)
+    def press(self, keys: str) -> None:
+        """One after the other, as on the board in a terminal: `2<right><ctrl-z>`."""
+        for control, others in KEYS.findall(keys):
+            names = [f'Arrow{arrow.title()}' if arrow else name.title() or character for arrow, name, character in KEY.findall(others)]
+            self.driver.press(*(control or names), control=bool(control))
+
+    def target(self, what: str) -> str:
+        """The selector of a place, a number of the pad, or a button by its text; or that selector itself."""
+        if re.fullmatch(r'-?\d,-?\d', what):
+            return f'[data-place="{what}"]'
+        return f'[data-number="{what}"]' if what.isdigit() else what if what[0] in '#.[' else self.button(what)
 
     def click(self, text: str) -> None:
         """A button that is seen, by its text."""
@@ -147,45 +185,62 @@ class Hands(Seen):
             f' return true; }})(document.querySelector({json.dumps(selector)}))'
         )
 
-    def drop(self, content: Optional[bytes] = None, name: str = 'a.sav', text: str = '', size: int = 0) -> None:
-        """Drops a file onto the page, or a text; or a file of so many bytes."""
-        parts = f'new Uint8Array({size})' if size else f'Uint8Array.from({json.dumps(list(content or b""))})'
-        what = f'data.setData("text/plain", {json.dumps(text)})' if text else f'data.items.add(new File([{parts}], {json.dumps(name)}))'
-        script = f'const data = new DataTransfer(); {what}; document.dispatchEvent(new DragEvent("drop", {{dataTransfer: data, cancelable: true}})); return true;'
-        self.value(f'(() => {{ {script} }})()')
+    def drop(self, content: Union[bytes, int], name: str = 'a.sav', **waits: str) -> None:
+        """Drops a file onto the page, or one of so many bytes; and waits as `look` does."""
+        parts = f'new Uint8Array({content})' if isinstance(content, int) else f'Uint8Array.from({json.dumps(list(content))})'
+        script = f'const data = new DataTransfer(); data.items.add(new File([{parts}], {json.dumps(name)}));'
+        self.value(f'(() => {{ {script} document.dispatchEvent(new DragEvent("drop", {{dataTransfer: data, cancelable: true}})); return true; }})()')
+        self.look('', **waits)
 
     def catch_files(self) -> None:
         """What the page gives as a file from here on is caught."""
         self.value('(() => { window.files = []; URL.createObjectURL = (blob) => { window.files.push(blob); return "#"; }; return true; })()')
 
-    def caught(self) -> str:
-        """The text of the last file."""
-        self.driver.wait_for('window.files.length > 0')
-        return str(self.value('window.files[window.files.length - 1].text()'))
-
-    def caught_bytes(self) -> bytes:
+    def caught(self) -> bytes:
         """The bytes of the last file."""
         self.driver.wait_for('window.files.length > 0')
         return bytes(self.value('window.files[window.files.length - 1].arrayBuffer().then((all) => [...new Uint8Array(all)])'))
 
+    def __enter__(self) -> Player:
+        return self
 
-class Player(Hands):
-    """Opens the page, and plays."""
+    def __exit__(self, *_: object) -> None:
+        self.forget()
+        self.driver.go(BLANK)
 
-    def sit(self, link: str = '', size: Optional[Tuple[int, int]] = None) -> Player:
+    def look(self, does: str, *names: str, **waits: str) -> None:
+        """Does something, and waits until squares have these names, and for more by the methods below, as `told='Right.'`.
+
+        Keys are those of `press`. What is clicked stands in braces: a square or clue by its place `{1,0}`, a number of the pad `{2}`, a button by its text
+        `{Hint}`, or anything by its selector `{#offer}`; touched or held with `tap` or `hold` ahead, or clicked by the other button with `right`.
+        `{menu Pause}`, `{switch Show equal numbers}` and `{load}` do what these methods do, and `{#desk-size = 5}` writes.
+        """
+        for keys, how, what in ACTS.findall(does):
+            if keys:
+                self.press(keys)
+            elif how in ('menu', 'switch', 'load'):
+                getattr(self, how)(what)
+            elif ' = ' in what:
+                self.write(*what.split(' = '))
+            elif how == 'right':
+                self.driver.click(self.target(what), RIGHT)
+            else:
+                getattr(self.driver, how or 'click')(self.target(what))
+        for name in names:
+            self.is_called(name)
+        for method, text in waits.items():
+            getattr(self, method)(text)
+
+    def sit(self, link: str = '', size: Optional[Tuple[int, int]] = None) -> None:
         """Opens the page with what stands after its #, in a browser that keeps nothing of it yet."""
         if size:
             self.driver.size(*size)
         self.load(link)
-        return self
 
     def load(self, link: str = '') -> None:
         """Opens the page, as on the next day."""
-        self.driver.go('about:blank')
+        self.driver.go(BLANK)
         self.driver.go(self.address + (f'#{link}' if link else ''))
-        self.there()
-
-    def there(self) -> None:
         self.driver.wait_for('document.readyState === "complete" && document.querySelector("[data-place]")')
 
     def forget(self) -> None:
@@ -201,8 +256,7 @@ class Player(Hands):
 
     def menu(self, text: str) -> None:
         """A button of the menu."""
-        self.click('Menu')
-        self.is_shown('#menu')
+        self.look('{Menu}', is_shown='#menu')
         self.click(text)
 
     def switch(self, text: str) -> None:
@@ -217,7 +271,7 @@ class Player(Hands):
 
     def leaves(self, selector: str) -> None:
         """Leaves a dialog."""
-        self.press('Escape')
+        self.press('<escape>')
         self.closes(selector)
 
     def begin(self, title: str, **values: str) -> None:
@@ -225,14 +279,23 @@ class Player(Hands):
         self.opens('n', '#fresh')
         for name, value in values.items():
             self.write(f'#fresh-{name}', value)
-        self.click('Begin')
-        self.closes('#fresh')
-        self.called(title)
+        self.look('{Begin}', closes='#fresh', called=title)
 
-    def put_first(self, number: int) -> None:
-        """Puts a number into the first square, which is chosen."""
-        self.press(str(number))
-        self.is_called(0, 0, f'row 1, column 1, {number}')
+    def put(self, how: str, x: int, y: int, number: int) -> None:
+        """Puts a number into a square or clue: by keys, by mouse, or with a finger. A driver without a finger has a mouse."""
+        if how == 'keys':
+            self.go_to(x, y, str(number))
+        else:
+            self.touch(how, at(x, y))
+            self.touch(how, f'#pad [data-number="{number}"]')
+
+    def touch(self, how: str, selector: str) -> None:
+        (self.driver.tap if how == 'finger' and self.driver.has_touch else self.driver.click)(selector)
+
+    def go_to(self, x: int, y: int, keys: str = '') -> None:
+        """By arrows; and presses keys there."""
+        from_x, from_y = self.chosen() if self.value('document.activeElement.dataset.place') else (0, 0)
+        self.press('<down>' * (y - from_y) + '<up>' * (from_y - y) + '<right>' * (x - from_x) + '<left>' * (from_x - x) + keys)
 
     def answer(self, text: str) -> None:
         """Answers a question."""
@@ -257,6 +320,12 @@ Scripted = Callable[[str], Player]
 
 def at(x: int, y: int) -> str:
     return f'[data-place="{x},{y}"]'
+
+
+def place_of(name: str) -> str:
+    """The selector of the square or clue that a name tells of."""
+    found = dict(re.findall(r'(row|column) (\d)', name))
+    return at(int(found.get('column', 0)) - 1, int(found.get('row', 0)) - 1)
 
 
 def squares(numbers: Sequence[int], givens: Set[Place]) -> List[Tuple[Place, int]]:

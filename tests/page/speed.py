@@ -100,7 +100,8 @@ def taps(player: Player, size: int, words: List[int]) -> Iterator[float]:
 def main(page: str) -> None:
     with Room() as room, Browser(room) as browser:
         browser.ask('Page.addScriptToEvaluateOnNewDocument', source=WATCH)
-        player = Player(browser, f'file://{page}').sit('', PHONE)
+        player = Player(browser, f'file://{page}')
+        player.sit('', PHONE)
 
         def load(_: int) -> float:
             player.load('towers-5-easy-7')
@@ -118,7 +119,7 @@ def main(page: str) -> None:
 
         def hint(_: int) -> float:
             taken = float(player.value(HINT))
-            player.press('h', 'h')
+            player.press('hh')
             player.driver.wait_for('!document.querySelector("#told").textContent')
             return taken
 

@@ -55,7 +55,6 @@ def pytest_generate_tests(metafunc: pytest.Metafunc) -> None:
     metafunc.parametrize('name', [name for name in chosen(metafunc.config.getoption('--browsers')) if name in BEGIN])
 
 
-@pytest.mark.gate
 @pytest.mark.parametrize('is_long', [False, True], ids=['short', 'long'])
 def test_killed(name: str, is_long: bool, page: Path, room: Room, request: pytest.FixtureRequest) -> None:
     rounds = Rounds(name, page, room, is_long)
@@ -108,7 +107,7 @@ class Rounds:
         elif not self.seen:
             moves = b''.join(b'MOVE    :6:R0,0,%d\n' % (1 + number % 2) for number in range(MOVES))
             player.drop(HEAD + b'NSTATES :5:%d\nSTATEPOS:5:%d\n' % (MOVES + 1, MOVES + 1) + moves)
-            player.is_called(0, 0, 'row 1, column 1, 2')
+            player.is_called('row 1, column 1, 2')
             self.see('', MOVES)
         else:
             player.called('Towers 3×3')

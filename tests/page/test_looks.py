@@ -9,6 +9,7 @@ from __future__ import annotations
 import base64
 import json
 import os
+import re
 from pathlib import Path
 from typing import Any, Callable, Dict, List, NamedTuple, Sequence, Tuple
 
@@ -18,6 +19,7 @@ from playing.cards import CARDS
 from playing.games import SIZES, stored
 from tests.harness import by_name
 from tests.harness.browser import Browser
+from tests.harness.driver import BLANK
 from tests.page.conftest import ALL
 from tests.page.playing import LAPTOP, PHONE, SMALL, TOWERS, UNEQUAL, Player
 
@@ -75,7 +77,6 @@ def pytest_generate_tests(metafunc: pytest.Metafunc) -> None:
         metafunc.parametrize('window', WINDOWS if is_all else [PHONE], ids=str)
 
 
-@pytest.mark.gate
 @pytest.mark.parametrize('game', ['towers', 'unequal'])
 def test_checks(piped: Player, game: str, window: Tuple[int, int]) -> None:
     """On the board, at all sizes, and over it in each dialog."""
@@ -84,22 +85,20 @@ def test_checks(piped: Player, game: str, window: Tuple[int, int]) -> None:
         piped.value(f'(location.hash = "#{game}-{size}-easy-7", true)')
         piped.called(f'{game.title()} {size}×{size}')
         assert wrong(piped) == [], size
-    piped.press('m', 'H')
-    piped.is_shown('#walk')
+    piped.look('mH', is_shown='#walk')
     assert wrong(piped) == []
-    piped.press('Escape')
+    piped.press('<escape>')
     for key, dialog in [('n', '#fresh'), ('o', '#games'), ('t', '#daily'), ('?', '#rules'), ('i', '#page'), (':', '#ask'), ('S', '#ask')]:
         piped.opens(key, dialog)
         assert wrong(piped) == [], dialog
         piped.leaves(dialog)
-    piped.click('Menu')
-    piped.is_shown('#menu')
+    piped.look('{Menu}', is_shown='#menu')
     assert wrong(piped) == []
     piped.click('Learn')
     for number, _ in enumerate(CARDS[game], 1):
         piped.counts(f'Card {number} of')
         assert wrong(piped) == [], number
-        piped.press('Enter')
+        piped.press('<enter>')
 
 
 def wrong(player: Player) -> List[Any]:
@@ -107,6 +106,7 @@ def wrong(player: Player) -> List[Any]:
     return [(name, found) for name, found in player.value(f'[{checks}]') if found]
 
 
+@pytest.mark.always
 @pytest.mark.parametrize('scheme', ['light', 'dark'])
 def test_contrast(piped: Player, browser: Browser, scheme: str) -> None:
     piped.sit(TOWERS)
@@ -128,13 +128,12 @@ FORCED = [
 ]
 
 
-@pytest.mark.gate
 @pytest.mark.parametrize('scheme', ['light', 'dark'])
 def test_forced_colours(piped: Player, browser: Browser, scheme: str) -> None:
     """What is wrong is read on its mark, and a pressed button is another than the others."""
     piped.sit(TOWERS)
     browser.media(features={'forced-colors': 'active', 'prefers-color-scheme': scheme})
-    piped.press('2', 'ArrowRight', '2', 'p')
+    piped.press('2<right>2p')
     piped.driver.wait_for('document.querySelector(".clue.wrong") && document.querySelector(".square.wrong") && document.querySelector("[data-do=marks]").ariaPressed === "true"')
     for one, colour, other, ground in FORCED:
         values = piped.value(f'[["{one}", "{colour}"], ["{other}", "{ground}"]].map(([what, name]) => getComputedStyle(document.querySelector(what))[name])')
@@ -158,11 +157,11 @@ def contrast(one: float, other: float) -> float:
     return (max(one, other) + 0.05) / (min(one, other) + 0.05)
 
 
+@pytest.mark.always
 def test_tree(piped: Player, browser: Browser) -> None:
     """What the browser tells a reader of screens."""
     piped.sit(TOWERS)
-    piped.press('p', '1', '3', 'ArrowUp', 'd')
-    piped.is_called(0, -1, 'clue 3 above column 1, done')
+    piped.look('p13<up>d', 'clue 3 above column 1, done')
     browser.ask('Accessibility.enable')
     nodes = browser.ask('Accessibility.getFullAXTree')['nodes']
     named = [(node['role']['value'], node.get('name', {}).get('value', '')) for node in nodes if not node['ignored']]
@@ -174,25 +173,22 @@ def test_tree(piped: Player, browser: Browser) -> None:
     assert [role for role, _ in named].count('status') == 2
 
 
-@pytest.mark.gate
 def test_tab(piped: Player) -> None:
     """The head, the board, the numbers, the buttons; and an arrow leaves the one tab stop of the board where it goes."""
     piped.sit('unequal:4!7', LAPTOP)
     # The second time nothing is offered between the two.
     piped.load('unequal:4!7')
-    piped.press('ArrowDown', 'Tab')
+    piped.press('<down><tab>')
     assert piped.value('document.activeElement.dataset.number') == '1'
-    piped.press(*['Tab'] * 4)
+    piped.press('<tab>' * 4)
     assert piped.value('document.activeElement.textContent') == 'Marks'
     # On a button keys are the button's.
-    piped.press('3', 'Enter')
-    piped.told('Numbers are pencil marks now.')
+    piped.look('3<enter>', told='Numbers are pencil marks now.')
     piped.value('(document.querySelector("[data-do=menu]").focus(), true)')
-    piped.press('Tab')
+    piped.press('<tab>')
     assert piped.chosen() == (0, 1)
 
 
-@pytest.mark.gate
 def test_announced(piped: Player) -> None:
     """In the shortest form."""
     piped.sit('unequal:3:0,0L,0,0U,0,0,0U,0,0,')
@@ -202,14 +198,12 @@ def test_announced(piped: Player) -> None:
         piped.driver.wait_for(f'document.querySelector("#said").textContent === {json.dumps(said)}')
 
 
-@pytest.mark.gate
 def test_messages_cover_nothing(piped: Player) -> None:
     """A sentence stands beside the buttons, fades, and a long one moves none of them."""
     piped.sit('towers:5!7', PHONE)
     tops = '[...document.querySelectorAll("#play button")].map((node) => node.getBoundingClientRect().top)'
     before = piped.value(tops)
-    piped.press('h', 'h')
-    piped.told('Clue 4 left of row 2')
+    piped.look('hh', told='Clue 4 left of row 2')
     assert piped.value(tops) == before
     low, high = piped.value('[document.querySelector("#message").getBoundingClientRect().bottom, document.querySelector("#pad").getBoundingClientRect().top]')
     assert low <= high
@@ -228,81 +222,66 @@ class Picture(NamedTuple):
     kind: str = ''
 
 
-def play(*pressed: str) -> Callable[[Player], object]:
+def play(keys: str) -> Callable[[Player], object]:
     """Presses keys, a moment after each other."""
 
     def act(player: Player) -> None:
-        for key in pressed:
+        for key in re.findall('<[a-z]+>|.', keys):
             player.press(key)
             player.settles()
 
     return act
 
 
-def solve(player: Player) -> None:
-    player.press('S')
-    player.answer('Yes')
-    player.told('Filled in')
-
-
 def paper(player: Player) -> None:
     """As a browser tells of it before it prints: with a hint open, of which nothing is seen then."""
-    play('m', '1', 'h')(player)
+    play('m1h')(player)
     player.told('Look at')
     player.value('dispatchEvent(new Event("beforeprint"))')
 
 
-def learn(*pressed: str) -> Callable[[Player], object]:
+def learn(keys: str = '') -> Callable[[Player], object]:
     """Begins the course, and presses keys there."""
 
     def act(player: Player) -> None:
-        player.press('m', 'u')
-        player.is_gone('#offer')
-        player.menu('Learn')
-        player.counts('Card 1 of')
-        play(*pressed)(player)
+        player.look('mu', is_gone='#offer')
+        player.look('{menu Learn}', counts='Card 1 of')
+        play(keys)(player)
 
     return act
 
 
 def setting(player: Player) -> None:
     """At the setter's desk, with two clues that contradict each other."""
-    player.menu('Check or set a puzzle')
-    player.counts('0 clues')
-    player.press('ArrowUp', '1', 'ArrowRight', '1')
-    player.driver.wait_for('document.querySelectorAll(".blamed").length === 2')
+    player.look('{menu Check or set a puzzle}', counts='0 clues')
+    player.press('<up>1<right>1')
+    player.has(2, '.blamed')
 
 
 def number_first(player: Player) -> None:
-    player.switch('Number first, then squares')
-    player.press('m')
-    player.driver.click('[data-number="2"]')
-    player.driver.click('[data-place="0,0"]')
-    player.begins(0, 0, 'row 1, column 1, 2')
+    player.look('{switch Number first, then squares}m{2}{0,0}', 'row 1, column 1, 2..')
 
 
 def puzzle(game: str, size: int) -> str:
     return f'{game}:{stored(game, size, "x")[0]}'
 
 
-DOWN, RIGHT, LEFT = 'ArrowDown', 'ArrowRight', 'ArrowLeft'
-
 DARK, FORCED_COLOURS = {'prefers-color-scheme': 'dark'}, {'forced-colors': 'active'}
 
 ALL_PICTURES: List[Picture] = [
-    Picture('towers-5', puzzle('towers', 5), LAPTOP, play('m', '1', RIGHT, '1', DOWN, 'p', '1', '2', 'p', LEFT, LEFT, 'd', RIGHT)),
-    Picture('unequal-6-dark', puzzle('unequal', 6), LAPTOP, play(*['m', '3', RIGHT, '1', RIGHT, RIGHT, '6', DOWN, '6']), DARK),
-    Picture('towers-9-phone', puzzle('towers', 9), PHONE, play('m', '3')),
-    Picture('unequal-9-phone-dark', puzzle('unequal', 9), PHONE, play('m', '3', DOWN), DARK),
-    Picture('towers-4-small', puzzle('towers', 4), SMALL, play('4', DOWN, '4')),
-    Picture('forced-colours', UNEQUAL, (800, 480), play('3', RIGHT, '3', 'p'), FORCED_COLOURS),
+    Picture('towers-5', puzzle('towers', 5), LAPTOP, play('m1<right>1<down>p12p<left><left>d<right>')),
+    Picture('unequal-6-dark', puzzle('unequal', 6), LAPTOP, play('m3<right>1<right><right>6<down>6'), DARK),
+    Picture('towers-9-phone', puzzle('towers', 9), PHONE, play('m3')),
+    Picture('unequal-9-phone-dark', puzzle('unequal', 9), PHONE, play('m3<down>'), DARK),
+    Picture('towers-4-small', puzzle('towers', 4), SMALL, play('4<down>4')),
+    Picture('forced-colours', UNEQUAL, (800, 480), play('3<right>3p'), FORCED_COLOURS),
     Picture('hint-look', 'towers:5!7', PHONE, play('h')),
-    Picture('hint-reason', 'towers:5!7', LAPTOP, play('h', 'h')),
-    Picture('why-phone', 'unequal:5!7', PHONE, play('H', DOWN)),
+    Picture('hint-reason', 'towers:5!7', LAPTOP, play('hh')),
+    Picture('why-phone', 'unequal:5!7', PHONE, play('H<down>')),
     Picture('new-game', TOWERS, SMALL, lambda player: player.opens('n', '#fresh')),
     Picture('menu', UNEQUAL, PHONE, lambda player: player.click('Menu')),
     Picture('rules', TOWERS, PHONE, lambda player: player.opens('?', '#rules')),
-    Picture('filled-in-zoomed', puzzle('towers', 6), (683, 384), solve),
+    Picture('filled-in-zoomed', puzzle('towers', 6), (683, 384), lambda player: player.look('S', answer='Yes', told='Filled in')),
     Picture('number-first', 'unequal-5-easy-7', PHONE, number_first),
     Picture('course', UNEQUAL, SMALL, learn('1')),
     Picture('desk', TOWERS, PHONE, setting),
@@ -332,7 +311,6 @@ COMPARE = """
 """
 
 
-@pytest.mark.gate
 @pytest.mark.parametrize('picture', ALL_PICTURES, ids=by_name)
 def test_picture(piped: Player, browser: Browser, picture: Picture) -> None:
     """With PICTURES=new in the environment they are stored anew."""
@@ -346,7 +324,7 @@ def test_picture(piped: Player, browser: Browser, picture: Picture) -> None:
     path = PICTURES / f'{picture.name}.png'
     if os.environ.get('PICTURES') == 'new':
         path.write_bytes(shown)
-    browser.go('about:blank')
+    browser.go(BLANK)
     data = [json.dumps(base64.b64encode(content).decode()) for content in (shown, path.read_bytes())]
     assert browser.value(COMPARE.replace('ONE', data[0]).replace('OTHER', data[1])) < MOST_OTHER
     piped.load()

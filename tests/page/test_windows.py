@@ -22,7 +22,6 @@ ROOM = """
 """
 
 
-@pytest.mark.gate
 @pytest.mark.parametrize('window', [(280, 568), (320, 200), (320, 568), (568, 320), (640, 360)], ids=str)
 def test_room(piped: Player, window: Tuple[int, int]) -> None:
     """No word touches the edge of its button, and nothing of the head lies under another part of it."""
@@ -31,33 +30,30 @@ def test_room(piped: Player, window: Tuple[int, int]) -> None:
     title, button, count = piped.value('["#title", "[data-do=new]", "#count"].map((name) => document.querySelector(name).getBoundingClientRect().toJSON())')
     assert title['right'] <= button['left'] and count['right'] <= button['left'] and count['height'] < 60
     assert piped.value('document.documentElement.scrollWidth') <= window[0]
-    piped.driver.click('#offer')
-    piped.counts('Card 1 of')
+    piped.look('{#offer}', counts='Card 1 of')
     assert min(piped.value(ROOM)) >= 3 and piped.value('document.documentElement.scrollWidth') <= window[0]
 
 
-@pytest.mark.gate
 @pytest.mark.parametrize('scheme', ['light', 'dark'])
 def test_forms(piped: Player, browser: Browser, scheme: str) -> None:
     """Where the system forces its colours, equal numbers have a line, the light of a mark a ring, and row and column a ground."""
     piped.sit(TOWERS, LAPTOP)
     browser.media(features={'forced-colors': 'active', 'prefers-color-scheme': scheme})
-    piped.press('2', 'ArrowDown', 'ArrowRight', '2', 'ArrowRight', 'p', '2', '3', 'ArrowLeft')
+    piped.press('2<down><right>2<right>p23<left>')
     piped.driver.wait_for('document.querySelectorAll(".square.same").length === 2 && document.querySelector(".light + .mark")')
     style = 'getComputedStyle(document.querySelector(`{}`)).{}'
     assert piped.value(style.format(f'{at(0, 0)} .number', 'textDecorationLine')) == 'underline'
     assert piped.value(style.format('.light', 'stroke')) not in ('none', piped.value(style.format('.square rect', 'fill')))
     lane, other = (piped.value(style.format(f'{at(x, 2)} rect', 'fill')) for x in (1, 0))
     assert lane != other
-    piped.press('ArrowDown')
+    piped.press('<down>')
     piped.driver.wait_for('!document.querySelector(".square.same, .light")')
 
 
-@pytest.mark.gate
 def test_paper(piped: Player, browser: Browser, room: Room) -> None:
     """The link stands where the time was, and nothing of a hint that is open; afterwards it is as it was."""
     piped.sit('towers-5-easy-7', PHONE)
-    piped.press('m', 'h', 'h')
+    piped.press('mhh')
     piped.driver.wait_for('document.querySelector(".square .left")')
     before = piped.text('#count')
     browser.media('print')

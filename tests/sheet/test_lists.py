@@ -10,7 +10,7 @@ from typing import Iterator, List, NamedTuple
 
 import pytest
 
-from tests.harness import SLOWNESS, Room, by_name
+from tests.harness import SLOWNESS, Room, by_name, named
 from tests.harness.game import ID, save_text
 from tests.second_implementation.seeded import generate
 from tests.sheet.making import Maker, content, stored
@@ -64,32 +64,27 @@ def test_good(maker: Maker, row: Good) -> None:
     assert row.has in page
 
 
-class Wrong(NamedTuple):
-    name: str
-    list: bytes
-    told: str
-
-
+#: A list, and what is told of it.
 WRONG = [
-    Wrong('several solutions', content([TOWERS] * 6 + [SEVERAL]), 'line 7: several solutions\n'),
-    Wrong('each line is told', content([SEVERAL, TOWERS, NONE, SHORT, 'x']), f'line 1: several solutions\nline 3: no solution\nline 4: {FEW}\nline 5: {SIZE}\n'),
-    Wrong('a seed that fits both', b'3!7', 'line 1: it fits both games: write towers or unequal before it\n'),
-    Wrong('of the game that is named', f'towers {UNEQUAL}'.encode(), f'line 1: {FEW}\n'),
-    Wrong('a long line', b'3:' + b'/' * 5000, 'line 1: A line has 1,024 bytes at most.\n'),
-    Wrong('a line of zeros', b'3:\x00', "line 1: Too few parts: a description has one for each square, separated by ','.\n"),
-    Wrong('a folder', b'/tmp', 'line 1: /tmp is a folder\n'),
-    Wrong('no save', b'/etc/passwd', "line 1: This is not a save file of the collection: one begins with 'SAVEFILE:41:'.\n"),
-    Wrong('empty', b'', 'standard input has no puzzles\n'),
-    Wrong('empty lines', b'\n\r\n \n', 'standard input has no puzzles\n'),
-    Wrong('too many', content([TOWERS] * 201), 'There are more than 200 puzzles, and a sheet has 200 at most: --count 200 takes the first ones.\n'),
-    Wrong('letters for the terminal', b'\x1b[31m', f'line 1: {SIZE}\n'),
+    ('several solutions', content([TOWERS] * 6 + [SEVERAL]), 'line 7: several solutions\n'),
+    ('each line is told', content([SEVERAL, TOWERS, NONE, SHORT, 'x']), f'line 1: several solutions\nline 3: no solution\nline 4: {FEW}\nline 5: {SIZE}\n'),
+    ('a seed that fits both', b'3!7', 'line 1: it fits both games: write towers or unequal before it\n'),
+    ('of the game that is named', f'towers {UNEQUAL}'.encode(), f'line 1: {FEW}\n'),
+    ('a long line', b'3:' + b'/' * 5000, 'line 1: A line has 1,024 bytes at most.\n'),
+    ('a line of zeros', b'3:\x00', "line 1: Too few parts: a description has one for each square, separated by ','.\n"),
+    ('a folder', b'/tmp', 'line 1: /tmp is a folder\n'),
+    ('no save', b'/etc/passwd', "line 1: This is not a save file of the collection: one begins with 'SAVEFILE:41:'.\n"),
+    ('empty', b'', 'standard input has no puzzles\n'),
+    ('empty lines', b'\n\r\n \n', 'standard input has no puzzles\n'),
+    ('too many', content([TOWERS] * 201), 'There are more than 200 puzzles, and a sheet has 200 at most: --count 200 takes the first ones.\n'),
+    ('letters for the terminal', b'\x1b[31m', f'line 1: {SIZE}\n'),
 ]
 
 
-@pytest.mark.parametrize('row', WRONG, ids=by_name)
-def test_wrong(maker: Maker, room: Room, row: Wrong) -> None:
-    ended = maker.run(['--ids', '-', '--output', 'page.html'], row.list)
-    assert (ended.status, ended.output, ended.error.decode()) == (3, b'', row.told)
+@pytest.mark.parametrize(('listed', 'told'), named(WRONG))
+def test_wrong(maker: Maker, room: Room, listed: bytes, told: str) -> None:
+    ended = maker.run(['--ids', '-', '--output', 'page.html'], listed)
+    assert (ended.status, ended.output, ended.error.decode()) == (3, b'', told)
     assert room.names() == []
 
 

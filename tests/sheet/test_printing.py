@@ -11,7 +11,7 @@ from typing import Iterator, List, NamedTuple, Sequence, Tuple
 import pytest
 
 from sheet.pdf import BROWSERS, OTHERWISE
-from tests.harness import Room, Skip, by_name
+from tests.harness import Room, Skip, by_words
 from tests.harness.browser import Browser
 from tests.second_implementation.seeded import full_puzzle
 from tests.sheet.making import Maker, content, stored
@@ -97,40 +97,28 @@ def expect_sheet(browser: Browser, room: Room, maker: Maker, sheet: Sheet, paper
         assert set(pages) <= set(of_number) and len(of_number) >= (1 if sheet.pages else 0), line
 
 
-class Answers(NamedTuple):
-    """The words of a sheet of Towers, how many pages its answers take, and the side of their squares in mm: at least and at most, reckoned by hand."""
-
-    words: Sequence[str]
-    size: int
-    pages: int
-    sides: Tuple[float, float]
-
-    @property
-    def name(self) -> str:
-        return ' '.join(self.words)
-
-
+#: Words of a sheet of Towers, its size, how many pages the answers take, and the side of their squares in mm: at least and at most, reckoned by hand.
 ANSWERS = [
     # Four rows of 65 mm, of which a number and what is free take 10.
-    Answers(['--count', '12'], 5, 1, (8.8, 9.4)),
+    (['--count', '12'], 5, 1, (8.8, 9.4)),
     # Six rows of 43 mm, with four each.
-    Answers(['--size', '6', '--count', '24'], 6, 1, (4.8, 5.2)),
+    (['--size', '6', '--count', '24'], 6, 1, (4.8, 5.2)),
     # Larger ones than those of 12 mm look childish.
-    Answers(['--size', '4', '--count', '4'], 4, 1, (11.8, 12.3)),
+    (['--size', '4', '--count', '4'], 4, 1, (11.8, 12.3)),
     # Three rows of 84 mm, of which 16 are no board.
-    Answers(['--count', '6', '--large'], 5, 1, (11, 11.5)),
+    (['--count', '6', '--large'], 5, 1, (11, 11.5)),
     # No page has room for 16 with squares of 4.4 mm. On two there are three columns of 59 mm.
-    Answers(['--size', '9', '--count', '16', '--seed', '7'], 9, 2, (5.7, 5.95)),
+    (['--size', '9', '--count', '16', '--seed', '7'], 9, 2, (5.7, 5.95)),
 ]
 
 
-@pytest.mark.parametrize('row', ANSWERS, ids=by_name)
-def test_answers(maker: Maker, row: Answers) -> None:
+@pytest.mark.parametrize(('words', 'size', 'pages', 'sides'), by_words(ANSWERS))
+def test_answers(maker: Maker, words: List[str], size: int, pages: int, sides: Tuple[float, float]) -> None:
     """They are as large as their pages have room for, and all alike."""
-    page = maker.page(['towers', *row.words, '--answers', 'only'])
-    assert page.count('<h1 dir="auto">Answers: ') == row.pages
+    page = maker.page(['towers', *words, '--answers', 'only'])
+    assert page.count('<h1 dir="auto">Answers: ') == pages
     (width,) = set(re.findall(r'<svg role="img" width="([0-9.]+)mm"', page))
-    assert row.sides[0] <= float(width) / (row.size + 1.04) <= row.sides[1]
+    assert sides[0] <= float(width) / (size + 1.04) <= sides[1]
 
 
 #: Words, and how many of the puzzles come onto a page whose squares aren't smaller than 7 mm: reckoned by hand for A4, of which 186 by 250 mm are free.

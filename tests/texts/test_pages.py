@@ -1,11 +1,11 @@
 """The manual pages name what the programs have, and can be read: without a warning, and in 80 columns."""
 
 import re
-from typing import Dict, Iterator, List, NamedTuple, Sequence
+from typing import Dict, Iterator, List
 
 import pytest
 
-from tests.harness import Room, Skip, by_name, need, run
+from tests.harness import Room, Skip, need, run
 from tests.objects import schema
 from tests.objects.reading import ALL_OWN
 from tests.texts import sources
@@ -20,18 +20,11 @@ ONE_FAULT = {'OutOfMemory': {'1': 'OutOfMemory'}, 'DeviceFault': {'1': 'DeviceFa
 COLUMNS = 80
 
 
-class Reader(NamedTuple):
-    """A reader of manual pages: how it tells what is wrong with one, and how it shows one."""
-
-    name: str
-    checks: Sequence[str]
-    shows: Sequence[str]
-
-
+#: Readers of manual pages: how each tells what is wrong with one, and how it shows one.
 READERS = [
-    Reader('mandoc', ['mandoc', '-T', 'lint', '-W', 'style'], ['mandoc', '-T', 'ascii']),
-    Reader('groff', ['groff', '-ww', '-mandoc', '-T', 'utf8', '-z'], ['groff', '-mandoc', '-T', 'ascii', '-P', '-c']),
-    Reader('man', ['man', '--warnings', '-E', 'UTF-8', '-Tutf8', '-Z', '-l'], ['man', '-E', 'ascii', '-l']),
+    (['mandoc', '-T', 'lint', '-W', 'style'], ['mandoc', '-T', 'ascii']),
+    (['groff', '-ww', '-mandoc', '-T', 'utf8', '-z'], ['groff', '-mandoc', '-T', 'ascii', '-P', '-c']),
+    (['man', '--warnings', '-E', 'UTF-8', '-Tutf8', '-Z', '-l'], ['man', '-E', 'ascii', '-l']),
 ]
 
 #: The pages that are documents.
@@ -130,14 +123,14 @@ def test_source(page: str) -> None:
     assert not set(others) - set(re.findall(r'^\.(?:Xr|BR) (\S+) \(?(\d)', text, re.MULTILINE))
 
 
-@pytest.mark.parametrize('reader', READERS, ids=by_name)
+@pytest.mark.parametrize(('checks', 'shows'), READERS, ids=['mandoc', 'groff', 'man'])
 @pytest.mark.parametrize('page', pages())
-def test_reader(room: Room, reader: Reader, page: str) -> None:
+def test_reader(room: Room, checks: List[str], shows: List[str], page: str) -> None:
     """Each reader finds faults that the others pass over."""
-    need(reader.name)
+    need(checks[0])
     path = str(ROOT / page)
-    told = run([*reader.checks, path], room)
-    warnings = (told.output + told.error).decode(errors='replace') if reader.name == 'mandoc' else told.error.decode(errors='replace')
+    told = run([*checks, path], room)
+    warnings = (told.output + told.error).decode(errors='replace') if checks[0] == 'mandoc' else told.error.decode(errors='replace')
     assert [line for line in warnings.splitlines() if not re.search(OF_OTHERS, line)] == []
-    shown = run([*reader.shows, path], room, env={'MANWIDTH': str(COLUMNS)})
+    shown = run([*shows, path], room, env={'MANWIDTH': str(COLUMNS)})
     assert list(too_wide(shown.output.decode(errors='replace'))) == []
