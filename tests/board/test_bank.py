@@ -1,7 +1,5 @@
 """The stored puzzles: of the grades that have no fair games, and each has one solution, by the program's own solver."""
 
-from __future__ import annotations
-
 from pathlib import Path
 
 import pytest

@@ -1,18 +1,14 @@
 """What lies in the place of a kept file and can't be read: it stays as it is, it is told, and the game is kept beside it."""
 
-from __future__ import annotations
-
 import os
 import socket
 from typing import Callable, List, NamedTuple, Optional, Sequence, Tuple
 
 import pytest
 
-from tests.board.front import BoardFront
-from tests.harness import Room
-from tests.harness.game import ID, left_files, save_text
-from tests.harness.room import Folder, Owner
-from tests.harness.users import ANNA, CARL, need_root
+from tests.board.playing import BoardFront
+from tests.harness import ANNA, CARL, ID, Folder, Room, left_files, need_root, save_text
+from tests.harness.room import Owner
 
 FOLDER = 'state/puzzles'
 KEPT, BESIDE = f'{FOLDER}/towers.sav', f'{FOLDER}/towers-2.sav'

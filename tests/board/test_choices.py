@@ -1,7 +1,5 @@
 """New games by words of the command line, IDs that are printed, and what is remembered of either."""
 
-from __future__ import annotations
-
 import os
 import re
 import time
@@ -9,7 +7,7 @@ from typing import List, Tuple
 
 import pytest
 
-from tests.board.front import BoardFront
+from tests.board.playing import BoardFront
 from tests.harness import Room, by_words, run
 from tests.second_implementation.fair import fair
 

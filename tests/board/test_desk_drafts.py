@@ -1,7 +1,5 @@
 """The setter's desk: its drafts, how it is left and comes back, what takes long, and the desk in the line mode."""
 
-from __future__ import annotations
-
 import re
 import signal
 from typing import List, Optional, Sequence, Tuple
@@ -9,12 +7,8 @@ from typing import List, Optional, Sequence, Tuple
 import pytest
 
 from playing.desk import MOST, Draft, draft_in
-from tests.board.front import BoardFront
-from tests.harness import Room, run
-from tests.harness.builds import TOP
-from tests.harness.game import ID, save_text
-from tests.harness.mounts import fill, small_disk
-from tests.harness.room import Folder
+from tests.board.playing import BoardFront
+from tests.harness import ID, TOP, Folder, Room, fill, run, save_text, small_disk
 
 UNEQUAL = '3:0,0L,0L,0U,0,0,0U,0,0,'
 DRAFT = 'state/puzzles/towers-draft.ids'

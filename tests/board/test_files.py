@@ -1,7 +1,5 @@
 """Games that are begun, put away, opened and saved on the board, and the stored puzzles."""
 
-from __future__ import annotations
-
 import os
 import re
 import time
@@ -10,9 +8,8 @@ from typing import List, Set, Tuple
 
 from playing import games
 from playing.state import SOLVED_GAMES, State
-from tests.board.front import BoardFront
-from tests.harness import Room
-from tests.harness.game import ID, save_text
+from tests.board.playing import BoardFront
+from tests.harness import ID, Room, save_text
 from tests.second_implementation.fair import fair
 
 SAVE = save_text(2)

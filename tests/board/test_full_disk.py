@@ -1,19 +1,13 @@
 """A disk that is full, and has room again: nothing is lost, whatever ends the board then."""
 
-from __future__ import annotations
-
 import contextlib
-import signal
 from typing import Callable, Iterator, List, NamedTuple, Sequence, Tuple
 
 import pytest
 
-from tests.board.front import BoardFront
-from tests.harness import Room, by_name
-from tests.harness.game import ID, left_files, save_text
-from tests.harness.mounts import fill, small_disk
-from tests.harness.room import Folder
-from tests.harness.terminal import Terminal
+from tests.board.playing import BoardFront
+from tests.board.test_lives import ENDS as ENDS_OF_ALL
+from tests.harness import ID, Folder, Room, Terminal, by_name, fill, left_files, save_text, small_disk
 
 KEPT = 'puzzles/towers.sav'
 NOT_KEPT = 'The game is not kept: No space left on device'
@@ -35,15 +29,7 @@ def keys(text: str) -> Callable[[Terminal], None]:
     return lambda window: window.press(text)
 
 
-def by_signal(number: signal.Signals) -> Callable[[Terminal], None]:
-    return lambda window: window.signal(number)
-
-
-def close(window: Terminal) -> None:
-    window.close()
-
-
-SIGNALS: List[Tuple[Callable[[Terminal], None], int]] = [(by_signal(signal.SIGHUP), 129), (by_signal(signal.SIGTERM), 143), (close, 129)]
+SIGNALS: List[Tuple[Callable[[Terminal], None], int]] = [end[1:] for end in ENDS_OF_ALL if end[0] != 'the front is killed']
 FACES = [
     Face('the board', [], '1', '<right>2', ('1 of 9', '2 of 9'), ('?', 'any key goes back'), [(keys('q'), 0), (keys('<ctrl-c>'), 0), *SIGNALS]),
     Face(

@@ -1,7 +1,5 @@
 """Where the board and its texts are in windows of many sizes; no terminal is needed for that."""
 
-from __future__ import annotations
-
 from typing import Optional, Tuple
 
 import pytest
@@ -10,7 +8,7 @@ from board.layout import fit
 from board.picture import KEYS_ASIDE, KEYS_BELOW, Look, picture
 from playing.naming import Place
 from playing.program import Program
-from tests.harness.puzzles import made
+from tests.harness import made
 
 #: Two lines of 78 columns.
 MESSAGE = 'Here only one number is left: the deductions rule out all others, and a hint once more tells which one it is.'
@@ -61,9 +59,8 @@ def test_click(line: int, column: int, place: Optional[Place]) -> None:
 @pytest.mark.parametrize(('game', 'size', 'window', 'deep', 'message'), WINDOWS)
 def test_window(objects: str, game: str, size: int, window: Tuple[int, int], deep: int, message: Tuple[int, int]) -> None:
     """The message is beside the board, or right below it, and the keys are shown whatever it says."""
-    program = Program(objects, game, ['--id', made(game, size, 'e')[0]])
-    program.stop()
-    board = program.first.board
+    with Program(objects, game, ['--id', made(game, size, 'e')[0]]) as program:
+        board = program.first.board
     layout = fit(size, game == 'towers', *window)
     assert board and layout
     pieces = picture(board, layout, Look(message=MESSAGE))

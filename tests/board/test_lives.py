@@ -1,7 +1,5 @@
 """Terminals that are closed, resized and stopped, programs that are killed: and how the game goes on then."""
 
-from __future__ import annotations
-
 import os
 import signal
 import time
@@ -10,16 +8,14 @@ from typing import Callable, List, Tuple
 import pytest
 
 from board import manual
-from tests.board.front import BoardFront
-from tests.harness import SLOWNESS, Room, run
-from tests.harness.game import ID, save_text
-from tests.harness.terminal import Terminal
+from tests.board.playing import BoardFront
+from tests.harness import ID, SLOWNESS, Room, Terminal, run, save_text
 
 KEPT = 'state/puzzles/towers.sav'
 
 #: Whatever ends the front, and how the front ends then.
 ENDS: List[Tuple[str, Callable[[Terminal], None], int]] = [
-    ('the window is closed', lambda window: window.close(), 129),
+    ('the window is closed', Terminal.close, 129),
     ('HUP', lambda window: window.signal(signal.SIGHUP), 129),
     ('TERM', lambda window: window.signal(signal.SIGTERM), 143),
     ('the front is killed', lambda window: window.signal(signal.SIGKILL), -9),

@@ -1,7 +1,5 @@
 """A player's move as lines of the program: all of them or none, one step for undo, and none where nothing changes."""
 
-from __future__ import annotations
-
 import os
 import re
 from typing import List, Sequence, Tuple
@@ -10,10 +8,8 @@ import pytest
 
 from playing.beside import Beside, beside_in, content_of
 from playing.moves import Joined, Pair
-from tests.board.front import BoardFront, BoardGame
-from tests.harness import Room, by_name
-from tests.harness.game import ID, save_text
-from tests.harness.terminal import Look
+from tests.board.playing import BoardFront, BoardGame
+from tests.harness import ID, Look, Room, by_name, save_text
 
 #: Pairs as they were kept, how many states the game has, and those of them that fit it.
 KEPT: List[Tuple[Sequence[Pair], int, List[Pair]]] = [
@@ -66,34 +62,26 @@ def test_same(front: BoardFront, before: str, keys: str, shows: str) -> None:
 
 
 GAMES = [
-    BoardGame(
-        'a number that is refused takes no marks with it',
-        ['towers', '3:///////////,1c3c2'],
-        [
-            Look('mM', ['marks go when their number']),
-            Look('3', ['was given with the puzzle', 'move 1/1', '│ 1   2   3 │']),
-            Look('<right>3', ['│     1     │     3!    │', 'move 4/4']),
-            Look('3', ['Nothing changes', 'move 4/4']),
-            Look('u', ['move 1/4']),
-        ],
-    ),
+    BoardGame('a number that is refused takes no marks with it', ['towers', '3:///////////,1c3c2'], [
+        Look('mM', ['marks go when their number']),
+        Look('3', ['was given with the puzzle', 'move 1/1', '│ 1   2   3 │']),
+        Look('<right>3', ['│     1     │     3!    │', 'move 4/4']),
+        Look('3', ['Nothing changes', 'move 4/4']),
+        Look('u', ['move 1/4']),
+    ]),
     BoardGame(
         'a solved board is not solved again',
         ['towers', ID],
         [Look('Sy', ['Filled in by the program.', 'move 1/1']), Look('S', ['The board is solved.', 'move 1/1'])],
     ),
-    BoardGame(
-        'possible marks are one move, by the shortest way',
-        ['towers', ID],
-        [
-            Look('1P', ['move 6/6', '│           │     2   3 │     2   3 │']),
-            Look('<right>p2', ['move 7/7', '│           │         3 │     2   3 │']),
-            Look('P', ['move 8/8', '│           │     2   3 │     2   3 │']),
-            Look('u', ['move 7/8']),
-            Look('uu', ['move 1/8']),
-            Look('r', ['move 6/8']),
-        ],
-    ),
+    BoardGame('possible marks are one move, by the shortest way', ['towers', ID], [
+        Look('1P', ['move 6/6', '│           │     2   3 │     2   3 │']),
+        Look('<right>p2', ['move 7/7', '│           │         3 │     2   3 │']),
+        Look('P', ['move 8/8', '│           │     2   3 │     2   3 │']),
+        Look('u', ['move 7/8']),
+        Look('uu', ['move 1/8']),
+        Look('r', ['move 6/8']),
+    ]),
 ]
 
 

@@ -1,16 +1,13 @@
 """What the commands in Python do where nothing can be written to standard output, or where the program isn't there or ends: a line on standard error."""
 
-from __future__ import annotations
-
 import os
 import subprocess
 from typing import Dict, List, Sequence, Tuple
 
 import pytest
 
-from tests.board.front import BoardFront
-from tests.harness.builds import TOP
-from tests.harness.game import ID
+from tests.board.playing import BoardFront
+from tests.harness import ID, TOP
 
 #: The commands, by their folders and the status that says so.
 COMMANDS: Dict[str, Tuple[str, int]] = {'puzzles-play': ('board', 1), 'puzzles-sheet': ('sheet', 1), 'puzzles-check': ('check', 3)}

@@ -1,7 +1,5 @@
 """Folders for games that can't be used, what is no file where a player opens or saves one, and kept files that vanish."""
 
-from __future__ import annotations
-
 import os
 import shutil
 import signal
@@ -10,11 +8,9 @@ from typing import Callable, List, Tuple
 
 import pytest
 
-from tests.board.front import BoardFront
+from tests.board.playing import BoardFront
 from tests.board.test_beside import FOLDER, KEPT, LINES, LOW, SCREEN, THINGS, known, link_to, own_folder
-from tests.harness import Room, run
-from tests.harness.game import ID, left_files, save_text
-from tests.harness.users import ANNA, CARL, need_root
+from tests.harness import ANNA, CARL, ID, Room, left_files, need_root, run, save_text
 
 #: What is in the place of the folder for games, and what is said of it.
 FOLDERS: List[Tuple[Callable[[str], None], str]] = [

@@ -1,15 +1,12 @@
 """Text from outside doesn't steer the terminal."""
 
-from __future__ import annotations
-
 import os
 
 import pytest
 
 from playing.printable import printable
-from tests.board.front import BoardFront
-from tests.harness import Room, run
-from tests.harness.game import ID
+from tests.board.playing import BoardFront
+from tests.harness import ID, Room, run
 
 #: Sets the title of a window where a terminal obeys it.
 STEERING = 'x\x1b]0;steered\x07y'

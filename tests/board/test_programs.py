@@ -1,19 +1,15 @@
 """Programs below the board that end, take long, or lack memory: and how the game goes on then."""
 
-from __future__ import annotations
-
 import os
 import signal
 import time
 from pathlib import Path
 from typing import Dict
 
-from tests.board.front import BoardFront
+from tests.board.playing import BoardFront
 from tests.board.test_lives import is_gone
-from tests.harness import SLOWNESS, Room
+from tests.harness import ID, SLOWNESS, Room, Terminal, save_text
 from tests.harness.between import put_between
-from tests.harness.game import ID, save_text
-from tests.harness.terminal import Terminal
 
 KEPT = 'state/puzzles/towers.sav'
 

@@ -1,12 +1,10 @@
 """Lines of the program that are refused on the board, and the sentences then."""
 
-from __future__ import annotations
-
 from typing import List, Tuple
 
 import pytest
 
-from tests.board.front import BoardFront
+from tests.board.playing import BoardFront
 
 #: A line of the program, and the sentence where it is refused.
 REFUSALS: List[Tuple[str, str]] = [

@@ -1,15 +1,13 @@
 """Keys that a terminal sends as several characters, as they come over a slow line."""
 
-from __future__ import annotations
-
 from typing import List, Tuple
 
 import pytest
 
 from board.keys import Key
 from board.sequences import ESCAPE_LASTS, KEY_LASTS, Sequences
-from tests.board.front import BoardFront
-from tests.harness.game import ID
+from tests.board.playing import BoardFront
+from tests.harness import ID
 
 #: So many seconds between two characters, as over a bad line.
 APART = 0.3

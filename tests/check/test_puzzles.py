@@ -1,16 +1,12 @@
 """What is said of puzzles: IDs, pictures and saves, as the second implementation has it, and what can't be read, by its line."""
 
-from __future__ import annotations
-
 import json
 from typing import List, Sequence
 
 import pytest
 
 from tests.check.conftest import Checker
-from tests.harness import Room, named, run
-from tests.harness.game import ID, PICTURE, save_text
-from tests.harness.puzzles import made
+from tests.harness import ID, PICTURE, Room, made, named, run, save_text
 
 #: The one way to fill the first is 1 2 3, 2 3 1, 3 1 2.
 ONE, NONE, SEVERAL = ID, '3:3/3//////////', '3:///////////'

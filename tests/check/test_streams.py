@@ -1,7 +1,5 @@
 """How it reads and writes: as it comes, large and odd files, outputs that are closed, signals, and programs that end."""
 
-from __future__ import annotations
-
 import os
 import resource
 import signal
@@ -12,9 +10,7 @@ from typing import List
 import pytest
 
 from tests.check.conftest import PATH, Checker
-from tests.harness import SLOWNESS, Room
-from tests.harness.game import ID, PICTURE
-from tests.harness.terminal import Terminal
+from tests.harness import ID, PICTURE, SLOWNESS, Room, Terminal
 
 #: What is written of the small game where items that could go aren't counted.
 LINE = f'towers one e - {ID}\n'

@@ -1,7 +1,5 @@
 """Fair games: the usual program opens the ID of each as a puzzle of its own, and finds the solution that ours finds."""
 
-from __future__ import annotations
-
 import json
 
 import pytest

@@ -20,13 +20,25 @@ from typing import Any, Iterable, List, Protocol
 
 import pytest
 
+from tests.harness.browser import Browser
+from tests.harness.builds import TOP
+from tests.harness.bytecode import bytecode
+from tests.harness.driver import BLANK, RIGHT, Driver
 from tests.harness.faults import FaultLibrary, Met
+from tests.harness.game import HEAD, ID, PICTURE, left_files, save_text
+from tests.harness.mounts import fill, small_disk
 from tests.harness.program import SLOWNESS, Ended, run
+from tests.harness.puzzles import made
 from tests.harness.room import Folder, Room, Skip
 from tests.harness.skips import need
-from tests.harness.users import User, is_root, need_root
+from tests.harness.terminal import Look, Terminal
+from tests.harness.users import ANNA, CARL, User, is_root, need_root
 
-__all__ = ['SLOWNESS', 'Ended', 'FaultLibrary', 'Folder', 'Met', 'Room', 'Skip', 'User', 'by_name', 'by_words', 'is_root', 'named', 'need', 'need_root', 'run']
+__all__ = [
+    'ANNA', 'BLANK', 'Browser', 'CARL', 'Driver', 'Ended', 'FaultLibrary', 'Folder', 'HEAD', 'ID', 'Look', 'Met', 'PICTURE', 'RIGHT', 'Room', 'SLOWNESS',
+    'Skip', 'TOP', 'Terminal', 'User', 'by_name', 'by_words', 'bytecode', 'fill', 'is_root', 'left_files', 'made', 'named', 'need', 'need_root', 'run',
+    'save_text', 'small_disk',
+]
 
 
 class Named(Protocol):

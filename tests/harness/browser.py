@@ -1,7 +1,5 @@
 """A browser without a window: Chromium, told what to do by its own protocol."""
 
-from __future__ import annotations
-
 import base64
 import json
 from typing import Any, Dict, List, Mapping, Optional

@@ -1,7 +1,5 @@
 """A browser that plays as a person does, by the actions that WebDriver and its younger kin, BiDi, have in common."""
 
-from __future__ import annotations
-
 import contextlib
 import json
 import os

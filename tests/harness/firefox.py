@@ -1,7 +1,5 @@
 """Firefox, told what to do by WebDriver BiDi over its own port: Debian has no geckodriver."""
 
-from __future__ import annotations
-
 import json
 import os
 import shutil

@@ -1,7 +1,5 @@
 """Puzzles that the usual program made: those of bench/puzzles.txt, some of each size and grade."""
 
-from __future__ import annotations
-
 from typing import List
 
 from tests.harness.builds import TOP

@@ -1,7 +1,5 @@
 """WebKitGTK, which is the engine of Safari, told what to do by WebDriver: its own WebKitWebDriver listens on a port."""
 
-from __future__ import annotations
-
 import contextlib
 import http.client
 import json

@@ -3,8 +3,7 @@
 import os
 from typing import List, Sequence
 
-from tests.harness.users import CARL
-from tests.harness import need_root, run
+from tests.harness import CARL, need_root, run
 from tests.installing.site import ANSWERS, Site, expect_plays, snapshot, words_of
 
 

@@ -1,7 +1,5 @@
 """A player at a game, in the browsers that are asked for; the page from a disk and from a server."""
 
-from __future__ import annotations
-
 import contextlib
 import functools
 import http.server
@@ -12,12 +10,8 @@ from typing import Callable, Iterator, List
 
 import pytest
 
-from tests.harness import Room
-from tests.harness.browser import Browser
-from tests.harness.builds import TOP
-from tests.harness.driver import Driver
+from tests.harness import TOP, Browser, Driver, Room, Skip
 from tests.harness.firefox import firefox
-from tests.harness.room import Skip
 from tests.harness.webkit import webkit
 from tests.page.playing import Player
 

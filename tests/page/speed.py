@@ -1,17 +1,14 @@
 """How fast the page is in Chromium: python3 -m tests.page.speed FILE. It prints a line for each kind, with the median, the 95th and the 99th per cent."""
 
-from __future__ import annotations
-
 import itertools
 import statistics
 import sys
 import time
 from typing import Callable, Iterator, List
 
-from tests.harness import Room
-from tests.harness.browser import Browser
-from tests.harness.builds import TOP
-from tests.page.playing import PHONE, Player, at
+from tests.harness import TOP, Browser, Room
+from tests.page.playing import PHONE, Player
+from tests.page.seen import at
 
 #: Set before the page begins: when its first board was painted, counted from the navigation; and how long after a finger was lifted the board had
 #: changed, or the verdict of the setter's desk.

@@ -1,17 +1,12 @@
 """Which game begins, and what is said of it: solved boards, refused links, games that can't be read, and browsers that can't run the page."""
 
-from __future__ import annotations
-
 import json
 from typing import Dict, List
 
 import pytest
 
 from tests.conftest import Programs
-from tests.harness import Room
-from tests.harness.browser import Browser
-from tests.harness.driver import BLANK
-from tests.harness.program import run
+from tests.harness import BLANK, Browser, Room, run
 from tests.page.playing import NO_JOURNAL, PHONE, TOWERS, Player, Scripted
 from tests.page.test_keeping import solve_by_hints
 

@@ -1,7 +1,5 @@
 """The course: each card by keys, by mouse and with a finger; what is said of a wrong number; and that no kept game is changed by it."""
 
-from __future__ import annotations
-
 import json
 from typing import Any, Dict, List
 

@@ -1,7 +1,5 @@
 """The setter's desk: puzzles are typed in, by keys and with a finger, and what is said of them; drafts; how it begins and ends."""
 
-from __future__ import annotations
-
 import json
 from typing import Any, Dict, List, Tuple
 
@@ -10,8 +8,10 @@ import pytest
 from playing.games import stored
 from playing.program import Program
 from tests.conftest import Programs
-from tests.harness.game import ID
-from tests.page.playing import LAPTOP, PHONE, SMALL, TOWERS, UNEQUAL, Player, at
+from tests.harness import ID
+from tests.page.playing import LAPTOP, PHONE, SMALL, TOWERS, UNEQUAL, Player
+from tests.page.seen import at
+from tests.page.test_keyboard import send
 
 NONE, ONE, SEVERAL = '✗ No solution', '✓ Exactly one solution', '≥2 Several solutions'
 
@@ -33,11 +33,8 @@ def sit(player: Player, link: str, window: Tuple[int, int] = LAPTOP, size: int =
 
 def items(programs: Programs, game: str, id: str) -> Dict[str, Any]:
     """The board of a puzzle, as the program tells it."""
-    run = Program(programs.objects, game, ['--id', id])
-    try:
-        return dict(run.first.board.told) if run.first.board else {}
-    finally:
-        run.stop()
+    with Program(programs.objects, game, ['--id', id]) as program:
+        return dict(program.first.board.told) if program.first.board else {}
 
 
 def draft(player: Player, game: str) -> Dict[str, Any]:
@@ -61,7 +58,8 @@ def test_typed(player: Player, programs: Programs, game: str, how: str, window: 
     for (x, y), way in ends(told):
         if how == 'keys':
             player.go_to(x, y)
-            shifted(player, WAYS[way][0])
+            key = WAYS[way][0]
+            send(player, {'key': key, 'code': key, 'shiftKey': True})
         else:
             player.touch(how, at(x, y))
             player.touch(how, f'#signs [data-do={WAYS[way][1]}]')
@@ -82,11 +80,6 @@ def ends(told: Dict[str, Any]) -> List[Tuple[Tuple[int, int], Tuple[int, int]]]:
     """Each sign: the greater square, and where the other one is."""
     size, signs = told['size'], [(sign['greater'], sign['less']) for sign in told['signs']]
     return [((greater % size, greater // size), (less % size - greater % size, less // size - greater // size)) for greater, less in signs]
-
-
-def shifted(player: Player, key: str) -> None:
-    event = json.dumps({'key': key, 'code': key, 'shiftKey': True, 'bubbles': True, 'cancelable': True})
-    player.value(f'document.activeElement.dispatchEvent(new KeyboardEvent("keydown", {event}))')
 
 
 @pytest.mark.always

@@ -1,7 +1,5 @@
 """The dialogs: what was chosen in one stays there until it has done its work; and the time stands still in each, as in a pause."""
 
-from __future__ import annotations
-
 from typing import Dict, List, Tuple
 
 import pytest

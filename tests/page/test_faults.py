@@ -1,17 +1,12 @@
 """What may go wrong: the module ends in a trap, works for too long, or has no memory; and links, saves and names from people who mean ill."""
 
-from __future__ import annotations
-
 import json
 from pathlib import Path
 from typing import Iterator, List, Tuple
 
 import pytest
 
-from tests.harness import Room
-from tests.harness.browser import Browser
-from tests.harness.driver import Driver
-from tests.harness.game import save_text
+from tests.harness import Browser, Driver, Room, save_text
 from tests.page.playing import PHONE, TOWERS, UNEQUAL, Player
 
 #: Before and after the text of the worker: some lines fail as the engine fails, and one takes forever.
@@ -116,8 +111,7 @@ def test_spoiled(player: Player) -> None:
     player.sit(TOWERS, PHONE)
     for name, text in SPOILED:
         player.value(f'(localStorage[{json.dumps(name)}] = {json.dumps(text)}, true)')
-        player.look('{load}{menu Statistics}', is_shown='#statistics')
-        player.leaves('#statistics')
+        player.look('{load}{menu Statistics}', is_shown='#statistics', leaves='#statistics')
         player.opens('o', '#games')
         assert player.value('document.images.length') == 0
         player.leaves('#games')

@@ -1,16 +1,12 @@
 """Files that come onto the page and go from it: saves byte by byte, and all games in one file."""
 
-from __future__ import annotations
-
 import json
 from typing import Any, Dict, List, Tuple, Union
 
 import pytest
 
 from tests.conftest import Programs
-from tests.harness import Room
-from tests.harness.game import save_text
-from tests.harness.program import run
+from tests.harness import Room, run, save_text
 from tests.page.playing import LAPTOP, PHONE, TOWERS, UNEQUAL, Player
 
 #: Records of a seed with bytes from 128 on: one letter for each byte, and two.

@@ -1,19 +1,16 @@
 """Games that are played on the page to their end, by keys, by mouse and with a finger; and what may be done in between."""
 
-from __future__ import annotations
-
 import datetime
 from typing import NamedTuple, Tuple
 
 import pytest
 
 from playing.games import stored
-from tests.board.front import solution
+from tests.board.playing import solution
 from tests.conftest import Programs
-from tests.harness import by_name
-from tests.harness.driver import RIGHT, Driver
-from tests.harness.game import ID
-from tests.page.playing import LAPTOP, PHONE, SMALL, TOWERS, UNEQUAL, Player, at, squares
+from tests.harness import ID, RIGHT, Driver, by_name
+from tests.page.playing import LAPTOP, PHONE, SMALL, TOWERS, UNEQUAL, Player, squares
+from tests.page.seen import at
 
 class Whole(NamedTuple):
     """A stored puzzle, and how it is played: by keys, by mouse or with a finger; and whether the page comes from a server."""
@@ -69,10 +66,8 @@ def test_keys(player: Player) -> None:
     player.look('<enter><down>m', 'clue 3 above column 1', 'row 3, column 3, empty, marks 1 2 3')
     player.look('R', told='Back at the start')
     player.look('uc', told='can still be completed')
-    player.look('i', reads=ID)
-    player.leaves('#page')
-    player.opens('?', '#rules')
-    player.leaves('#rules')
+    player.look('i', reads=ID, leaves='#page')
+    player.look('?', is_shown='#rules', leaves='#rules')
     player.opens(':', '#ask')
     player.look('status<enter>', told='playing ')
 
@@ -236,7 +231,6 @@ def test_new_games(player: Player) -> None:
     player.look('{Today’s game}', told=f'Unequal, tricky 6, number {datetime.date.today():%Y%m%d}.', closes='#fresh')
     player.begin('Towers 5×5', game='towers', size='5', grade='e', number='020261126')
     for text in ('number 20261126.', '#towers-5-easy-20261126'):
-        player.look('i', reads=text)
-        player.leaves('#page')
+        player.look('i', reads=text, leaves='#page')
     for id, title in [(ID, 'Towers 3×3'), ('unequal-4-easy-7', 'Unequal 4×4'), (f'https://a.example/p#{UNEQUAL}', 'Unequal 3×3'), ('4!7', 'Unequal 4×4')]:
         player.begin(title, id=id)

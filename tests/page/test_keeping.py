@@ -1,13 +1,11 @@
 """What the browser keeps: every game that was begun, the settings, and what was solved; in several tabs, as files, and where it keeps nothing."""
 
-from __future__ import annotations
-
 import datetime
 import json
 
 import pytest
 
-from tests.harness.game import save_text
+from tests.harness import save_text
 from tests.page.playing import LAPTOP, PHONE, TOWERS, UNEQUAL, Player, Scripted
 
 
@@ -131,8 +129,7 @@ def test_solved_days(player: Player) -> None:
     player.opens('t', '#daily')
     player.look('{#daily-size = 3}{Today’s game}', called='Towers 3×3')
     today = datetime.date.today()
-    player.look('i', reads=f'number {today:%Y%m%d}.')
-    player.leaves('#page')
+    player.look('i', reads=f'number {today:%Y%m%d}.', leaves='#page')
     solve_by_hints(player)
     player.told('Solved')
     player.opens('t', '#daily')

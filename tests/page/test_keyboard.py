@@ -1,7 +1,5 @@
 """Keyboards of other languages and of Macs; and where the focus is after a button that is gone once it was pressed."""
 
-from __future__ import annotations
-
 import json
 from typing import Any, Dict, List, NamedTuple
 

@@ -5,8 +5,6 @@ With `--kills N` each case kills so many browsers, one after the other with what
     tests/run PUZZLES PUZZLES_JSON -n0 -s tests/page/test_killed.py --browsers=all --kills 60
 """
 
-from __future__ import annotations
-
 import random
 import threading
 import time
@@ -15,12 +13,11 @@ from typing import Callable, Dict, List, NamedTuple, Union
 
 import pytest
 
-from tests.harness import Room
-from tests.harness.browser import Browser
+from tests.harness import HEAD, Browser, Room
 from tests.harness.firefox import Firefox, firefox
-from tests.harness.game import HEAD
 from tests.page.conftest import chosen
-from tests.page.playing import Player, at
+from tests.page.playing import Player
+from tests.page.seen import at
 
 #: What was seen so many seconds before the end has to last.
 LASTS = 0.5

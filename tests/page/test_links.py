@@ -1,14 +1,12 @@
 """What a player gives to others: the link to a game, the ID, and how it was solved, which shows nothing of the solution."""
 
-from __future__ import annotations
-
 import datetime
 import json
 from typing import Iterator
 
 import pytest
 
-from tests.harness.driver import Driver
+from tests.harness import Driver
 from tests.page.playing import LAPTOP, PHONE, TOWERS, Player
 from tests.page.test_keeping import solve_by_hints
 

@@ -1,7 +1,5 @@
 """The list of all games: its order, its place, and a thousand of them."""
 
-from __future__ import annotations
-
 from typing import List
 
 import pytest

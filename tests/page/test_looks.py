@@ -4,8 +4,6 @@ The checks are of names and roles, one tab stop in the board, the order of Tab, 
 that nothing has to be scrolled sideways. They don't try real readers of screens. All windows are tried with --browsers=all, otherwise a phone's alone.
 """
 
-from __future__ import annotations
-
 import base64
 import json
 import os
@@ -17,9 +15,7 @@ import pytest
 
 from playing.cards import CARDS
 from playing.games import SIZES, stored
-from tests.harness import by_name
-from tests.harness.browser import Browser
-from tests.harness.driver import BLANK
+from tests.harness import BLANK, Browser, by_name
 from tests.page.conftest import ALL
 from tests.page.playing import LAPTOP, PHONE, SMALL, TOWERS, UNEQUAL, Player
 

@@ -1,7 +1,5 @@
 """The modules of the page by themselves: their types, their own tests, their lengths, and where their sentences stand."""
 
-from __future__ import annotations
-
 import json
 import re
 import shutil
@@ -12,9 +10,7 @@ from typing import Dict, Iterator, List, Tuple
 import pytest
 
 from board import keys
-from tests.harness import Room
-from tests.harness.builds import TOP
-from tests.harness.room import Skip
+from tests.harness import TOP, Room, Skip
 
 PAGE = TOP / 'page'
 

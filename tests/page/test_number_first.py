@@ -1,13 +1,12 @@
 """A number that is lit wherever it stands; and numbers that are chosen before their squares."""
 
-from __future__ import annotations
-
 import json
 from typing import List, Tuple
 
 import pytest
 
-from tests.page.playing import LAPTOP, PHONE, TOWERS, Player, at
+from tests.page.playing import LAPTOP, PHONE, TOWERS, Player
+from tests.page.seen import at
 
 #: The marks that are lit, by their squares.
 LIT = '[...document.querySelectorAll(".light + .mark")].map((node) => `${node.closest("[data-place]").dataset.place} ${node.textContent}`)'

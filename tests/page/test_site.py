@@ -2,8 +2,7 @@
 
 import pytest
 
-from tests.harness import Room
-from tests.harness.browser import Browser
+from tests.harness import Browser, Room
 from tests.page.conftest import serving
 from tests.page.playing import Player
 from web_build.site import files

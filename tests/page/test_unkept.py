@@ -1,15 +1,13 @@
 """Nothing is lost of what the store has no room for, nor of what it loses; and the player knows."""
 
-from __future__ import annotations
-
 import json
 from typing import List
 
 import pytest
 
-from tests.harness.browser import Browser
-from tests.harness.game import HEAD
-from tests.page.playing import PHONE, TOWERS, UNEQUAL, Player, Scripted, at
+from tests.harness import HEAD, Browser
+from tests.page.playing import PHONE, TOWERS, UNEQUAL, Player, Scripted
+from tests.page.seen import at
 from tests.page.test_keeping import FULL, REFUSED
 
 #: A game that takes much room.

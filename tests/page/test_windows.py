@@ -1,14 +1,12 @@
 """Very small windows, colours that the system forces, and paper."""
 
-from __future__ import annotations
-
 from typing import Tuple
 
 import pytest
 
-from tests.harness import Room
-from tests.harness.browser import Browser
-from tests.page.playing import LAPTOP, PHONE, TOWERS, Player, at
+from tests.harness import Browser, Room
+from tests.page.playing import LAPTOP, PHONE, TOWERS, Player
+from tests.page.seen import at
 from tests.sheet.printing import need_tools, said
 
 #: How much room is left of a button beside the widest word in it, at each side.

@@ -1,7 +1,5 @@
 """The page in a browser, and what it prints: so many pages, nothing cut, nothing over another thing, all IDs whole."""
 
-from __future__ import annotations
-
 import os
 import re
 import shutil
@@ -11,8 +9,7 @@ from typing import Iterator, List, NamedTuple, Sequence, Tuple
 import pytest
 
 from sheet.pdf import BROWSERS, OTHERWISE
-from tests.harness import Room, Skip, by_words
-from tests.harness.browser import Browser
+from tests.harness import Browser, Room, Skip, by_words
 from tests.second_implementation.seeded import full_puzzle
 from tests.sheet.making import Maker, content, stored
 from tests.sheet.printing import MEASURE, need_tools, printed, said, shown
@@ -136,9 +133,8 @@ TOO_MANY = [
 def test_too_many(maker: Maker, room: Room, words: List[str], number: int) -> None:
     """More than have room are refused, with the number that has; so many are printed."""
     asked = words[words.index('--per-page') + 1]
-    ended = maker.run([*words, '--output', 'page.html'])
     told = f'puzzles-sheet: --per-page {asked}: the squares would be smaller than 7 mm; {number} on a page have room\n'
-    assert (ended.status, ended.output, ended.error.decode()) == (2, b'', told)
+    maker.refuses([*words, '--output', 'page.html'], 2, told)
     assert room.names() == []
     page = maker.page([word if word != asked else str(number) for word in words])
     first = re.split('<section>', page)[1]
@@ -177,8 +173,7 @@ def test_no_pdf(maker: Maker, room: Room, words: List[str], told: str) -> None:
     """It is told what is lacking, and nothing is written."""
     env = {} if words else {'PATH': here_alone(room)}
     room.put('a-firefox', FIREFOX, 0o755)
-    ended = maker.run(['towers', '--count', '1', '--pdf', 'sheet.pdf', *words], env=env)
-    assert (ended.status, ended.output, ended.error.decode()) == (1, b'', f'puzzles-sheet: {told}\n')
+    maker.refuses(['towers', '--count', '1', '--pdf', 'sheet.pdf', *words], 1, f'puzzles-sheet: {told}\n', env=env)
     assert 'sheet.pdf' not in room.names()
 
 
@@ -253,6 +248,5 @@ LONG = [
 @pytest.mark.parametrize(('words', 'letters', 'lines', 'most'), LONG)
 def test_long_title(maker: Maker, words: List[str], letters: int, lines: int, most: int) -> None:
     """It is refused, and nothing is made."""
-    ended = maker.run([*words, '--title', 'A' * letters])
     told = f'puzzles-sheet: --title: it is too long: it may take {lines} lines, and {most} have room\n'
-    assert (ended.status, ended.output, ended.error.decode()) == (2, b'', told)
+    maker.refuses([*words, '--title', 'A' * letters], 2, told)

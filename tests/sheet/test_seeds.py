@@ -1,14 +1,11 @@
 """Fair games by size, grade and seed: which ones come onto a sheet, as a second implementation makes and grades them, and what is told where there are none."""
 
-from __future__ import annotations
-
 import re
 from html import unescape
 from typing import List
 
 import pytest
 
-from playing.board import Board
 from playing.games import GRADES
 from playing.program import Program
 from tests.harness import Room, by_words
@@ -128,8 +125,7 @@ REFUSED = [
 
 @pytest.mark.parametrize(('words', 'told'), by_words(REFUSED))
 def test_refused(maker: Maker, room: Room, words: List[str], told: str) -> None:
-    ended = maker.run([*words, '--output', 'page.html'])
-    assert (ended.status, ended.output, ended.error.decode()) == (3, b'', told)
+    maker.refuses([*words, '--output', 'page.html'], 3, told)
     assert room.names() == []
 
 
@@ -151,15 +147,17 @@ def test_passed_over(maker: Maker, room: Room, objects: str) -> None:
     assert ids(page) == [made('unequal', 4, 'k', 1186)]
     page = before(room, objects, 'seed in (2, 3, 5)').page(['towers', '--count', '4', '--answers', 'none'])
     assert ids(page) == [made('towers', 5, 'e', seed) for seed in (1, 4, 6, 7)]
-    ended = before(room, objects, '8 < seed < 2**64').run(['towers', '--seed', '7', '--output', 'page.html'])
-    assert (ended.status, ended.output) == (3, b'')
-    assert ended.error.decode() == 'No easy puzzle of Towers of size 5 was found with the 100 seeds from 9 to 108.\n'
+    told = 'No easy puzzle of Towers of size 5 was found with the 100 seeds from 9 to 108.\n'
+    before(room, objects, '8 < seed < 2**64').refuses(['towers', '--seed', '7', '--output', 'page.html'], 3, told)
     assert room.names() == ['between']
 
 
 def test_grade(maker: Maker, objects: str) -> None:
     """The grade of a caption is the program's; where the program finds none, that of the ID's letter."""
-    description = board_of(objects, TOWERS).session.id[2:]
+    with Program(objects, 'towers', ['--id', TOWERS.split()[1]]) as program:
+        board = program.first.board
+    assert board is not None
+    description = board.session.id[2:]
     rows = [
         ('3:3//////3/////', '3 Easy'),
         ('3dh:3//////3/////', '3 Easy'),
@@ -174,13 +172,3 @@ def test_grade(maker: Maker, objects: str) -> None:
     page = ended.output.decode()
     assert captions(page) == [caption for _, caption in rows]
     assert [graded(picture) for picture in pictures(page)][:-1] == [caption for _, caption in rows][:-1]
-
-
-def board_of(objects: str, line: str) -> Board:
-    """The board of a game and an ID."""
-    game, id = line.split()
-    program = Program(objects, game, ['--id', id])
-    board = program.first.board
-    program.stop()
-    assert board is not None
-    return board

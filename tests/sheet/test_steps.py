@@ -1,7 +1,5 @@
 """The steps of the answers, and the example: which moves are told, in the sentences of the program's hints, and that no text is torn."""
 
-from __future__ import annotations
-
 import re
 from html import unescape
 from typing import List
@@ -30,9 +28,8 @@ def paragraphs(text: str) -> List[str]:
 def hinted(objects: str, puzzle: Puzzle, id: str) -> List[str]:
     """The sentences of the first hint of a puzzle; a step that is the only one has no number."""
     game = 'unequal' if '/' not in id else 'towers'
-    program = Program(objects, game, ['--id', id])
-    hint = program.ask('hint').hint
-    program.stop()
+    with Program(objects, game, ['--id', id]) as program:
+        hint = program.ask('hint').hint
     assert hint and hint.grade and hint.text
     found = sentences(hint.text)
     return found if any(text.startswith('2. ') for text in found) else [re.sub('^1[.] ', '', text) for text in found]

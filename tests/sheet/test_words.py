@@ -1,7 +1,5 @@
 """The words of the command line, where the page goes, and that nothing is left where that comes to nothing."""
 
-from __future__ import annotations
-
 import os
 import signal
 import time
@@ -9,10 +7,7 @@ from typing import Callable, List, Sequence, Tuple
 
 import pytest
 
-from tests.harness import SLOWNESS, Folder, Room, by_words
-from tests.harness.game import ID
-from tests.harness.mounts import fill, small_disk
-from tests.harness.terminal import Terminal
+from tests.harness import ID, SLOWNESS, Folder, Room, Terminal, by_words, fill, small_disk
 from tests.sheet.making import PATH, Maker, content
 
 TIP = "'puzzles-sheet --help' lists all options.\n"
@@ -83,8 +78,7 @@ def test_unwritten(maker: Maker, room: Room) -> None:
     """A folder, a folder that isn't there, a device that is full: told, and nothing is left."""
     room.make_folder('folder').close()
     for name, why in (('folder', 'Is a directory'), ('none/page', 'No such file or directory'), ('/dev/full', 'No space left on device')):
-        ended = maker.run(['--ids', '-', '--output', name], LIST)
-        assert (ended.status, ended.output, ended.error.decode()) == (1, b'', f'puzzles-sheet: {name}: {why}\n')
+        maker.refuses(['--ids', '-', '--output', name], 1, f'puzzles-sheet: {name}: {why}\n', LIST)
     assert room.names() == ['folder']
 
 
@@ -93,8 +87,7 @@ def test_full_disk(maker: Maker, room: Room) -> None:
     with small_disk(room.lay('disk'), 1 << 16), Folder('disk', room) as disk:
         disk.put('page.html', b'before')
         fill(disk)
-        ended = maker.run(['--ids', '-', '--output', 'disk/page.html'], content([ID] * 9))
-        assert (ended.status, ended.error) == (1, b'puzzles-sheet: disk/page.html: No space left on device\n')
+        maker.refuses(['--ids', '-', '--output', 'disk/page.html'], 1, 'puzzles-sheet: disk/page.html: No space left on device\n', content([ID] * 9))
         assert (disk.read('page.html'), disk.names()) == (b'before', ['filler', 'page.html'])
 
 

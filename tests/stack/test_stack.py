@@ -9,8 +9,7 @@ from pathlib import Path
 
 import pytest
 
-from tests.harness import Room, named, run
-from tests.harness.bytecode import bytecode
+from tests.harness import Room, bytecode, named, run
 from tests.lines.runs import Player, Run
 from tests.second_implementation.grades import LETTERS
 

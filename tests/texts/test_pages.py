@@ -1,7 +1,7 @@
 """The manual pages name what the programs have, and can be read: without a warning, and in 80 columns."""
 
 import re
-from typing import Dict, Iterator, List
+from typing import Dict, List
 
 import pytest
 
@@ -48,10 +48,6 @@ def words(text: str, pattern: str) -> List[str]:
 
 def named_options(page: str) -> List[str]:
     return found(r'Fl -([\w-]+)', '\n'.join(found(r'^\.It (.*)$', part(page, '.Ss Options', r'^\.S[hs]'))))
-
-
-def too_wide(shown: str) -> Iterator[str]:
-    return (line for line in re.sub(STRUCK_TWICE, '', shown).splitlines() if len(line) > COLUMNS)
 
 
 def test_made(room: Room) -> None:
@@ -129,8 +125,9 @@ def test_reader(room: Room, checks: List[str], shows: List[str], page: str) -> N
     """Each reader finds faults that the others pass over."""
     need(checks[0])
     path = str(ROOT / page)
-    told = run([*checks, path], room)
-    warnings = (told.output + told.error).decode(errors='replace') if checks[0] == 'mandoc' else told.error.decode(errors='replace')
+    ended = run([*checks, path], room)
+    warnings = ended.said if checks[0] == 'mandoc' else ended.error.decode(errors='replace')
     assert [line for line in warnings.splitlines() if not re.search(OF_OTHERS, line)] == []
     shown = run([*shows, path], room, env={'MANWIDTH': str(COLUMNS)})
-    assert list(too_wide(shown.output.decode(errors='replace'))) == []
+    told = re.sub(STRUCK_TWICE, '', shown.output.decode(errors='replace'))
+    assert [line for line in told.splitlines() if len(line) > COLUMNS] == []
