@@ -2,16 +2,12 @@
 
 from typing import List, Tuple
 
-from tests.board.playing import Game, Refused, Step
+from tests.board.playing import Game, Step
 from tests.harness import ID, save_text
 from tests.second_implementation.fair import fair
 
-#: These words are refused, the last ones since there is no terminal.
-REFUSED = [
-    Refused('no game', [], 2),
-    Refused('another game', ['chess'], 2),
-    Refused('no terminal', ['towers'], 2, 'the board is for a terminal; in a pipe use --lines'),
-]
+#: Words that are refused, and what is said of the last ones, since there is no terminal.
+REFUSED: List[Tuple[List[str], str]] = [([], ''), (['chess'], ''), (['towers'], 'the board is for a terminal; in a pipe use --lines')]
 
 #: Lines that come through a pipe, and all that is written then. A question is answered by the next line; at the end of the input the game is kept.
 PIPED: List[Tuple[str, str]] = [

@@ -10,7 +10,7 @@ from typing import Dict, Iterator, List, NamedTuple, Optional, Sequence, Set, Tu
 
 from playing.naming import Place
 from playing.program import Program
-from tests.harness import TOP, Look, Room, Terminal, User, bytecode, run
+from tests.harness import ID, TOP, Look, Room, Terminal, User, bytecode, run
 from tests.harness.builds import copy
 from tests.harness.terminal import SIZE
 
@@ -59,15 +59,6 @@ class Game(NamedTuple):
     without: Sequence[str] = ()
 
 
-class Refused(NamedTuple):
-    """Words that are refused, or a front without a terminal, and what is said then."""
-
-    name: str
-    words: Sequence[str]
-    status: int
-    says: str = ''
-
-
 class BoardFront:
     """The front that is tested, in a room, over a program. Where this has no name it has to find it by itself."""
 
@@ -103,6 +94,13 @@ class BoardFront:
             if leave:
                 window.leave(leave)
 
+    @contextlib.contextmanager
+    def begun(self, leave: str = '', size: Tuple[int, int] = USUAL, env: Optional[Dict[str, str]] = None) -> Iterator[Terminal]:
+        """A game in which the first number was put in."""
+        with self.window(['towers', ID], size, env, leave) as window:
+            window.look('1', ['1 of 9', 'move 1/1'])
+            yield window
+
     def shows(  # pylint: disable=too-many-arguments
         self, words: Sequence[str], *texts: str, size: Tuple[int, int] = USUAL, env: Optional[Dict[str, str]] = None, leave: str = 'q', status: int = 0
     ) -> None:
@@ -119,9 +117,9 @@ class BoardFront:
                 window.look(*look)
             window.leave(game.last, game.status)
 
-    def refuse(self, refused: Refused) -> None:
-        """Without a terminal: the status, and what is said."""
-        run([self.path, *refused.words], self.room, env=self.env('dumb', 'C')).expect(refused.says, status=refused.status)
+    def refuses(self, words: Sequence[str], says: str = '') -> None:
+        """Without a terminal."""
+        run([self.path, *words], self.room, env=self.env('dumb', 'C')).expect(says, status=2)
 
     def play_in_lines(self, game: Game) -> None:
         """In what is typed and seen FOLDER is the path of the room."""

@@ -150,8 +150,7 @@ def test_other_game(front: BoardFront, room: Room) -> None:
     whole = room.lay(path, os.mkfifo)
     before = known(room, path)
     told = f"FOLDER/{path} is a named pipe: a file that can't be read stays as it is, and this game is kept in unequal-2.sav."
-    with front.window(['towers', ID], LOW, leave='q') as window:
-        window.look('1', ['1 of 9'])
+    with front.begun('q', size=LOW) as window:
         window.look('n<up><up><right><enter>', [told])
         window.look('x', ['Unequal 3x3'], ['named pipe'])
     assert known(room, path) == before, 'what was there'

@@ -1,12 +1,16 @@
-"""New games by words of the command line, IDs that are printed, and what is remembered of either."""
+"""New games by words of the command line, IDs that are printed, and what is remembered of either; and the stored puzzles, of the grades that have no fair
+games: each has one solution, by the program's own solver."""
 
 import os
 import re
 import time
+from pathlib import Path
 from typing import List, Tuple
 
 import pytest
 
+from playing import fair as fair_games
+from playing.games import GRADES, SIZES, bank_path, letters, stored
 from tests.board.playing import BoardFront
 from tests.harness import Room, by_words, run
 from tests.second_implementation.fair import fair
@@ -113,3 +117,28 @@ def test_no_place_for_choices(front: BoardFront, room: Room) -> None:
         window.look('M', ['From now on, marks stay'])
         window.look('n', ['[4]', '[hard]'])
     assert os.listdir(choices) == [], 'what was there'
+
+
+#: One run takes so many.
+PIECE = 200
+
+
+@pytest.mark.parametrize('game', list(GRADES))
+def test_bank(program: str, room: Room, game: str) -> None:
+    ids = Path(bank_path(game)).read_text(encoding='ascii').splitlines()
+    for first in range(0, len(ids), PIECE):
+        piece = ids[first : first + PIECE]
+        text = ''.join(f'new {id}\nlist 2\n' for id in piece)
+        replies = run([program, game], room, input=text.encode(), seconds=120).output.decode().split('ok\n')[1:]
+        assert len(replies) == len(piece)
+        assert [(id, reply) for id, reply in zip(piece, replies) if len(reply.split()) != 1 or not reply.strip().isdigit()] == []
+
+
+@pytest.mark.parametrize('game', list(GRADES))
+def test_grades(game: str) -> None:
+    """Of each size there are such of the greater grades, but of the last one none of size 9, and of no grade that has fair games."""
+    above = [letter for letter in GRADES[game] if letter not in fair_games.OFFERED[game]]
+    for size in SIZES:
+        there = [letter for letter in GRADES[game] if stored(game, size, letter)]
+        assert there == (above if size < 9 else above[:1])
+        assert letters(game, size) == [*fair_games.letters(game, size), *there]

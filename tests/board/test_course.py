@@ -9,7 +9,7 @@ import pytest
 from playing.cards import CARDS, Card
 from playing.naming import name
 from playing.program import Program
-from tests.board.playing import BoardFront, BoardGame, Game, Refused, Step
+from tests.board.playing import BoardFront, BoardGame, Game, Step
 from tests.harness import Look, Room, by_name, run
 from tests.harness.cards import SHOWS, Shows
 from tests.second_implementation.puzzles import Puzzle
@@ -145,14 +145,9 @@ def test_lines(front: BoardFront, game: Game) -> None:
     front.play_in_lines(game)
 
 
-NOTHING_ELSE = "'learn' takes the name of a game and --lines, and nothing else"
-
-REFUSED = [Refused(words, words.split(), 2, NOTHING_ELSE) for words in ('learn chess', 'learn 5', '--ids learn', 'towers 5 learn')]
-
-
-@pytest.mark.parametrize('refused', REFUSED, ids=by_name)
-def test_refused(front: BoardFront, refused: Refused) -> None:
-    front.refuse(refused)
+@pytest.mark.parametrize('words', ['learn chess', 'learn 5', '--ids learn', 'towers 5 learn'])
+def test_refused(front: BoardFront, words: str) -> None:
+    front.refuses(words.split(), "'learn' takes the name of a game and --lines, and nothing else")
 
 
 def files_in(folder: str) -> Dict[str, Tuple[bytes, float]]:

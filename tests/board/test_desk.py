@@ -8,7 +8,7 @@ from playing.games import stored
 from playing.naming import Place
 from playing.program import Program
 from tests.board.playing import BoardFront, BoardGame, to_and_fro
-from tests.harness import ID, Look, Room, by_name
+from tests.harness import ID, TOP, Look, Room, by_name
 
 #: The desk with a blank board like the game's, with that of another size, and with the puzzle of the game.
 BLANK, PRESENT = 'E<enter>', 'E<left><enter>'
@@ -84,6 +84,10 @@ def test_typed(front: BoardFront, room: Room, game: str) -> None:
     assert (room.read(f'state/puzzles/{game}-draft.ids') or b'').endswith(f'\n{plain}\n'.encode())
 
 
+#: The ID of a puzzle whose items take minutes.
+LISTED = (TOP / 'bench' / 'hard_families.txt').read_text(encoding='ascii').splitlines()
+SLOW = next(line.split()[2] for line in LISTED if line.startswith('unequal climbed'))
+
 GAMES: List[BoardGame] = [
     BoardGame('several, none and one, with their grounds', ['towers', ID], [
         Look('E', ['Check or set a puzzle', '[Towers]', ' [3] ', "[blank] as it was left  the game's puzzle"]),
@@ -158,6 +162,30 @@ GAMES: List[BoardGame] = [
         Look('T', ['0 clues, 0 given; several solutions', 'towers desk 0/0>']),
         Look('E<enter>', ['towers 1/1>']),
     ], size=(10, 30), last='q<enter>'),
+    BoardGame('an answer that takes long says so; the next key ends that, and does its work', ['unequal', SLOW], [
+        Look('E<left><enter>', ['89 signs, 0 given', 'Looking for solutions. The next key ends that.']),
+        Look('<right><right>3', ['89 signs, 1 given', 'No solution. h shows it in ', 'Looking for solutions.']),
+        Look('h', ['1 of ', 'arrows walk'], ['Looking']),
+        Look('<escape>', ['Looking for solutions.']),
+        Look('uu', ['0 signs, 0 given', 'Several solutions.'], ['Looking']),
+    ], last='qq'),
+    BoardGame('in lines Ctrl-C ends what takes long', ['--lines', 'unequal', SLOW], [
+        Look('desk<enter>', ['0 signs, 0 given; several solutions', 'unequal desk 0/0>']),
+        Look('game<enter>', ['89 signs, 0 given; no solution', 'unequal desk 1/1>']),
+        Look('check<enter>', ['unequal desk 1/1> check The program is at work: Ctrl-C stops it.']),
+        Look('<ctrl-c>', ['No solution. No chain of steps shows it; all ways were tried.', 'Stopped. Nothing has changed.', 'unequal desk 1/1>']),
+    ], last='q<enter>q<enter>'),
+    BoardGame('T goes to the line mode at the desk, and comes back to it', ['towers', ID], [
+        Look('E<enter>1', ['0 clues, 1 given']),
+        Look('T', ['0 clues, 1 given; several solutions', 'towers desk 1/1>']),
+        Look('clue above 1 3<enter>', ['clue 3 above column 1; several solutions', 'towers desk 2/2>']),
+        Look('T<enter>', ['1 clue, 1 given', 'change 2/2', 'This is your draft']),
+        Look('T', ['towers desk 2/2>']),
+        Look('E<enter>', ['towers 1/1>']),
+        Look('E<enter>', ['towers desk 2/2>']),
+        Look('game<enter>', ['2 clues, 0 given; exactly one solution', 'towers desk 3/3>']),
+        Look('p<enter>', ['towers 1/1>']),
+    ], last='q<enter>'),
 ]
 
 

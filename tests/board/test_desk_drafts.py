@@ -8,7 +8,7 @@ import pytest
 
 from playing.desk import MOST, Draft, draft_in
 from tests.board.playing import BoardFront
-from tests.harness import ID, TOP, Folder, Room, fill, run, save_text, small_disk
+from tests.harness import ID, Folder, Room, fill, run, save_text, small_disk
 
 UNEQUAL = '3:0,0L,0L,0U,0,0,0U,0,0,'
 DRAFT = 'state/puzzles/towers-draft.ids'
@@ -47,8 +47,7 @@ def test_draft() -> None:
 
 def test_kept(front: BoardFront, room: Room) -> None:
     """It is there at the next start, with what can be undone; so is the other game's. The game is as it was, and its file has nothing of the desk."""
-    with front.window(['towers', ID], leave='q') as window:
-        window.look('1', ['move 1/1'])
+    with front.begun('q') as window:
         window.look('E<enter><up>1<down>1', ['change 2/2', '1 clue, 1 given'])
         window.look('n<up><up><right><down><down><enter>', ['Unequal 3x3', '0 signs, 0 given', 'change 0/0'])
         window.look('3', ['0 signs, 1 given', 'change 1/1'])
@@ -103,45 +102,6 @@ def test_full_disk(front: BoardFront, room: Room) -> None:
             disk.remove('filler')
             window.look('<right>', ['change 2/2'], ['is not kept'])
             assert (disk.read('puzzles/towers-draft.ids') or b'').startswith(b'draft 1, puzzle 3\n')
-
-
-def slow() -> str:
-    """The ID of a puzzle whose items take minutes."""
-    lines = (TOP / 'bench' / 'hard_families.txt').read_text(encoding='ascii').splitlines()
-    return next(line.split()[2] for line in lines if line.startswith('unequal climbed'))
-
-
-def test_long(front: BoardFront) -> None:
-    """An answer that takes long says so; the next key ends that, and does its work."""
-    with front.window(['unequal', slow()], leave='qq') as window:
-        window.look('E<left><enter>', ['89 signs, 0 given', 'Looking for solutions. The next key ends that.'])
-        window.look('<right><right>3', ['89 signs, 1 given', 'No solution. h shows it in ', 'Looking for solutions.'])
-        window.look('h', ['1 of ', 'arrows walk'], ['Looking'])
-        window.look('<escape>', ['Looking for solutions.'])
-        window.look('uu', ['0 signs, 0 given', 'Several solutions.'], ['Looking'])
-
-
-def test_long_lines(front: BoardFront) -> None:
-    """In the line mode Ctrl-C ends it."""
-    with front.window(['--lines', 'unequal', slow()], leave='q<enter>q<enter>') as window:
-        window.look('desk<enter>', ['0 signs, 0 given; several solutions', 'unequal desk 0/0>'])
-        window.look('game<enter>', ['89 signs, 0 given; no solution', 'unequal desk 1/1>'])
-        window.look('check<enter>', ['unequal desk 1/1> check The program is at work: Ctrl-C stops it.'])
-        window.look('<ctrl-c>', ['No solution. No chain of steps shows it; all ways were tried.', 'Stopped. Nothing has changed.', 'unequal desk 1/1>'])
-
-
-def test_lines_and_back(front: BoardFront) -> None:
-    """T goes to the line mode at the desk, and comes back to it."""
-    with front.window(['towers', ID], leave='q<enter>') as window:
-        window.look('E<enter>1', ['0 clues, 1 given'])
-        window.look('T', ['0 clues, 1 given; several solutions', 'towers desk 1/1>'])
-        window.look('clue above 1 3<enter>', ['clue 3 above column 1; several solutions', 'towers desk 2/2>'])
-        window.look('T<enter>', ['1 clue, 1 given', 'change 2/2', 'This is your draft'])
-        window.look('T', ['towers desk 2/2>'])
-        window.look('E<enter>', ['towers 1/1>'])
-        window.look('E<enter>', ['towers desk 2/2>'])
-        window.look('game<enter>', ['2 clues, 0 given; exactly one solution', 'towers desk 3/3>'])
-        window.look('p<enter>', ['towers 1/1>'])
 
 
 #: What is typed to the desk of a game, and what is answered.

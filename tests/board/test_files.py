@@ -35,8 +35,7 @@ SAVES: List[Tuple[bytes, bytes, str]] = [
 
 def test_put_away(front: BoardFront, room: Room) -> None:
     """The present game is put away, and comes back from there."""
-    with front.window(['towers', ID], leave='qq') as window:
-        window.look('1', ['1 of 9'])
+    with front.begun('qq') as window:
         window.look('n', ['A new game', '[easy]', '[random]'])
         window.look('<right>', ['[extreme]', '50 puzzles, 50 of them new to you'], ['random'])
         window.look('<enter>', ['0 of ', 'Towers 3x3   extreme'])
@@ -75,31 +74,6 @@ def test_number(front: BoardFront, room: Room) -> None:
         assert window.reads(first), 'the same puzzle'
 
 
-def test_menu(front: BoardFront) -> None:
-    """The game on the board is offered, and not what was chosen last; what is refused stays in the menu, with a sentence."""
-    with front.window(['towers', '6', 'hard'], leave='q') as window:
-        window.look(':new 4de:////2///////////2,c2b4i<enter>', ['Towers 4x4'])
-        window.look('n', ['[Towers]', '[4]', '[easy]', '[random]'])
-        window.look('<down><right><right><enter>', ['A new game', 'Type the number: digits.'])
-        window.look('99999999999999999999', ['[typed: 9999999999999999999]', 'A number goes from 0 to 18446744073709551615'])
-        window.look('<up><right><right><right><right><enter>', ['ID, or a number as the seed:'])
-        window.look('7#7<enter>', ['A new game', "There, copy the game ID, which has ':'."])
-        window.look('<up><right>', ['[5]'], ['copy the game ID'])
-        window.look('q', ['Towers 4x4', '0 of 14'])
-
-
-def test_typed_line(front: BoardFront) -> None:
-    """The program's own line begins a game, too, and what it refuses is told."""
-    with front.window(['towers', ID], leave='q') as window:
-        window.look('1', ['1 of 9'])
-        window.look(':fair 5 e 7<enter>', ['Towers 5x5   easy', '0 of '])
-        window.look('i', ['puzzles-play towers 5 easy number 7'])
-        window.look('x', ['Towers 5x5'])
-        window.look('o', ['Towers 3x3, ID 3:3//////3/////, 1 of 9'])
-        window.look('q:fair 3 h 7<enter>', ["The grades of such games are 'e' and 'h', 'h' from size 4 on."])
-        window.look(':fair<enter>', ["'fair 5 e 20261126' begins a game"])
-
-
 def test_saved(front: BoardFront, room: Room) -> None:
     """A file that is no save is written over only after a question, and no other file is left."""
     room.put('notes.txt', b'not a save\n')
@@ -128,8 +102,7 @@ def test_listed(front: BoardFront, room: Room) -> None:
     room.put('notes.txt', b'not a save')
     with front.window(['unequal', '3!7'], leave='q') as window:
         window.look('1', ['1 of 7'])
-    with front.window(['towers', ID], leave='<escape>q') as window:
-        window.look('1', ['1 of 9'])
+    with front.begun('<escape>q') as window:
         shows = ['0 Unequal 3x3, ID 3:', ', 1 of 7, in play, ', '1 a file ..', 'mine.sav: Towers 3x3, ID 3:3//////3/////, 3 of 9']
         shows += ['other.sav: Keen, not played here', "bad.sav: save, can't be read"]
         window.look('o', shows, ['notes.txt'])
@@ -146,8 +119,7 @@ def test_names(front: BoardFront, room: Room) -> None:
     room.lay('saves')
     for name in ('saves/one.sav', 'saves/one more.sav', 'towers-3.sav'):
         room.put(name, SAVE)
-    with front.window(['towers', ID], leave='<escape>q') as window:
-        window.look('1', ['1 of 9'])
+    with front.begun('<escape>q') as window:
         window.look('w', ['save as: towers-3-2.sav'])
         window.look('<enter>', ['Saved in towers-3-2.sav'])
         assert room.read('towers-3-2.sav') == save_text(1), 'the save'
@@ -163,8 +135,7 @@ def test_names(front: BoardFront, room: Room) -> None:
 
 
 def test_refused_saves(front: BoardFront, room: Room) -> None:
-    with front.window(['towers', ID]) as window:
-        window.look('1', ['1 of 9'])
+    with front.begun() as window:
         for old, new, sentence in SAVES:
             room.put('edited.sav', SAVE.replace(old, new, 1))
             window.look('o0FOLDER/edited.sav<enter>', [sentence, '1 of 9'])

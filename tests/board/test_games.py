@@ -194,6 +194,25 @@ GAMES: List[BoardGame] = [
         [Look('', ['Unequal 5x5 needs a window of 36 columns and 14 lines, and this one has 30 and 10.']), Look('123', ['needs a window'])],
         size=(10, 30),
     ),
+    BoardGame('the game on the board is offered, and not what was chosen last; what is refused stays in the menu', ['towers', '6', 'hard'], [
+        Look(':new 4de:////2///////////2,c2b4i<enter>', ['Towers 4x4']),
+        Look('n', ['[Towers]', '[4]', '[easy]', '[random]']),
+        Look('<down><right><right><enter>', ['A new game', 'Type the number: digits.']),
+        Look('99999999999999999999', ['[typed: 9999999999999999999]', 'A number goes from 0 to 18446744073709551615']),
+        Look('<up><right><right><right><right><enter>', ['ID, or a number as the seed:']),
+        Look('7#7<enter>', ['A new game', "There, copy the game ID, which has ':'."]),
+        Look('<up><right>', ['[5]'], ['copy the game ID']),
+        Look('q', ['Towers 4x4', '0 of 14']),
+    ]),
+    BoardGame("the program's own line begins a game, too, and what it refuses is told", ['towers', ID], [
+        Look('1', ['1 of 9', 'move 1/1']),
+        Look(':fair 5 e 7<enter>', ['Towers 5x5   easy', '0 of ']),
+        Look('i', ['puzzles-play towers 5 easy number 7']),
+        Look('x', ['Towers 5x5']),
+        Look('o', ['Towers 3x3, ID 3:3//////3/////, 1 of 9']),
+        Look('q:fair 3 h 7<enter>', ["The grades of such games are 'e' and 'h', 'h' from size 4 on."]),
+        Look(':fair<enter>', ["'fair 5 e 20261126' begins a game"]),
+    ]),
 ]
 
 MORE = [

@@ -1,15 +1,17 @@
 """The line mode: what is typed to it, and what has to be seen then."""
 
+from typing import List
+
 import pytest
 
-from tests.board.playing import BoardFront, Game, Refused
+from tests.board.playing import BoardFront, Game
 from tests.board.line_games import BOARD, GAMES, PIPED, REFUSED, SAVES
 from tests.harness import ID, Room, by_name, run, save_text
 
 
-@pytest.mark.parametrize('refused', REFUSED, ids=by_name)
-def test_refused(front: BoardFront, refused: Refused) -> None:
-    front.refuse(refused)
+@pytest.mark.parametrize(('words', 'says'), REFUSED)
+def test_refused(front: BoardFront, words: List[str], says: str) -> None:
+    front.refuses(words, says)
 
 
 @pytest.mark.parametrize('game', GAMES, ids=by_name)

@@ -142,8 +142,7 @@ def test_two_windows(front: BoardFront, room: Room) -> None:
 
 def test_place_taken(front: BoardFront, room: Room) -> None:
     """A folder or a pipe that takes the place of the kept file while one plays stays, and the game is kept beside it."""
-    with front.window(['towers', ID], leave='q') as window:
-        window.look('1', ['1 of 9'])
+    with front.begun('q') as window:
         for at, make in enumerate((os.mkdir, os.mkfifo), 2):
             kept = KEPT if at == 2 else f'state/puzzles/towers-{at - 1}.sav'
             os.remove(os.path.join(room.path, kept))

@@ -47,8 +47,7 @@ def test_linked_folder(front: BoardFront, room: Room) -> None:
 
 def test_vanished(front: BoardFront, room: Room) -> None:
     """A kept file that is gone is made again; without its folder it is told, and the game can be saved elsewhere."""
-    with front.window(['towers', ID], leave='y') as window:
-        window.look('1', ['1 of 9'])
+    with front.begun('y') as window:
         room.remove(KEPT)
         window.look('<right>2', ['2 of 9'], ['not kept'])
         assert room.read(KEPT) == save_text(2), 'what is kept'
@@ -115,8 +114,7 @@ def test_old_games(front: BoardFront, room: Room) -> None:
 def test_no_old_folder(front: BoardFront, room: Room) -> None:
     """Where games should be put away there is a pipe: nothing is lost without a question."""
     room.lay(f'{FOLDER}/old', os.mkfifo)
-    with front.window(['towers', ID], LOW, leave='q') as window:
-        window.look('1', ['1 of 9'])
+    with front.begun('q', size=LOW) as window:
         window.look('n<enter>', [f"The present game can't be put away (FOLDER/{FOLDER}/old is a named pipe). Lose it? y/N"])
         window.look('x', ['The present game stays.', '1 of 9'])
         window.look('oq', [f'FOLDER/{FOLDER}/old is a named pipe.'])

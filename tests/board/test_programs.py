@@ -62,8 +62,7 @@ def between(front: BoardFront, room: Room, rule: str = BETWEEN) -> Dict[str, str
 
 
 def test_program_killed(front: BoardFront, room: Room) -> None:
-    with front.window(['towers', ID], leave='q') as window:
-        window.look('1', ['1 of 9'])
+    with front.begun('q') as window:
         for pid in window.programs():
             os.kill(pid, signal.SIGKILL)
         window.look('<right>2', ['The program had ended (signal 9). The game is as it was. Try that again.', '1 of 9'])

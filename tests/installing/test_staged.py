@@ -117,8 +117,8 @@ def expect_damage_is_seen(site: Site, where: List[str], place: str) -> None:
 def expect_games(front: str) -> None:
     """The line mode finds its program by itself; the last games go on in one folder."""
     with Room() as room:
-        for refused in REFUSED:
-            BoardFront(front, '', room).refuse(refused)
+        for words, says in REFUSED:
+            BoardFront(front, '', room).refuses(words, says)
     for games in [*([game] for game in GAMES), SAVES]:
         with Room() as room:
             for game in games:

@@ -8,7 +8,7 @@ from typing import Callable, List, Optional, Sequence, Set, Tuple, Union
 
 from playing.naming import Place
 from tests.board.playing import to_and_fro
-from tests.harness import BLANK, ID, RIGHT, TOP, Driver
+from tests.harness import BLANK, ID, RIGHT, TOP
 from tests.page.seen import Seen, at
 
 #: Sizes of windows.

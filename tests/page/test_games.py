@@ -1,52 +1,43 @@
 """Games that are played on the page to their end, by keys, by mouse and with a finger; and what may be done in between."""
 
 import datetime
-from typing import NamedTuple, Tuple
+from typing import List, Tuple
 
 import pytest
 
 from playing.games import stored
 from tests.board.playing import solution
 from tests.conftest import Programs
-from tests.harness import ID, RIGHT, Driver, by_name
+from tests.harness import ID, Driver
 from tests.page.playing import LAPTOP, PHONE, SMALL, TOWERS, UNEQUAL, Player, squares
 from tests.page.seen import at
 
-class Whole(NamedTuple):
-    """A stored puzzle, and how it is played: by keys, by mouse or with a finger; and whether the page comes from a server."""
-
-    game: str
-    size: int
-    how: str
-    window: Tuple[int, int] = LAPTOP
-    is_served: bool = False
-
-    @property
-    def name(self) -> str:
-        return f'{self.game} {self.size} by {self.how}{", served" if self.is_served else ""}'
-
-
-WHOLE = [
-    Whole('towers', 5, 'keys'),
-    Whole('towers', 4, 'mouse', is_served=True),
-    Whole('towers', 4, 'finger', SMALL),
-    Whole('unequal', 5, 'keys', is_served=True),
-    Whole('unequal', 4, 'mouse'),
-    Whole('unequal', 4, 'finger', PHONE),
+#: A stored puzzle, and how it is played: by keys, by mouse or with a finger; and whether the page comes from a server. Two are enough for `make test`.
+WHOLE: List[Tuple[str, int, str, Tuple[int, int], bool]] = [
+    ('towers', 5, 'keys', LAPTOP, False),
+    ('towers', 4, 'mouse', LAPTOP, True),
+    ('towers', 4, 'finger', SMALL, False),
+    ('unequal', 5, 'keys', LAPTOP, True),
+    ('unequal', 4, 'mouse', LAPTOP, False),
+    ('unequal', 4, 'finger', PHONE, False),
 ]
 
 
-@pytest.mark.parametrize('whole', [pytest.param(whole, marks=pytest.mark.always if at in (0, 5) else []) for at, whole in enumerate(WHOLE)], ids=by_name)
-def test_whole_game(driver: Driver, page: object, request: pytest.FixtureRequest, programs: Programs, whole: Whole) -> None:
+@pytest.mark.parametrize(
+    ('game', 'size', 'how', 'window', 'is_served'), [pytest.param(*row, marks=pytest.mark.always if at in (0, 5) else []) for at, row in enumerate(WHOLE)]
+)
+def test_whole_game(  # pylint: disable=too-many-arguments
+    driver: Driver, page: object, request: pytest.FixtureRequest, programs: Programs, game: str, size: int, how: str, window: Tuple[int, int], is_served: bool
+) -> None:
     """To its end, and the kept game has each move; the next day the browser has it still. A driver without a finger has a mouse."""
-    address = request.getfixturevalue('served') if whole.is_served else f'file://{page}'
-    id = stored(whole.game, whole.size, 'x')[0]
-    numbers, givens = solution(programs.objects, whole.game, id)
+    address = request.getfixturevalue('served') if is_served else f'file://{page}'
+    id = stored(game, size, 'x')[0]
+    numbers, givens = solution(programs.objects, game, id)
     wanted = [f'R{x},{y},{number}' for (x, y), number in squares(numbers, givens)]
     with Player(driver, address) as player:
-        player.sit(f'{whole.game}:{id}', whole.window)
+        player.sit(f'{game}:{id}', window)
         for (x, y), number in squares(numbers, givens):
-            player.put(whole.how, x, y, number)
+            player.put(how, x, y, number)
         player.look('', told='Solved', counts='solved')
         assert player.moves() == wanted
         player.look('{load}', told='Solved')

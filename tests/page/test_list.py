@@ -2,8 +2,6 @@
 
 from typing import List
 
-import pytest
-
 from tests.page.playing import LAPTOP, PHONE, TOWERS, UNEQUAL, Player
 
 #: Copies of the game that is kept, each a minute older than the one before, every third of them solved.
