@@ -13,56 +13,38 @@ from tests.harness import ID, TOP, Look, Room, by_name
 #: The desk with a blank board like the game's, with that of another size, and with the puzzle of the game.
 BLANK, PRESENT = 'E<enter>', 'E<left><enter>'
 
-#: What leads from one square to another, and the sign on a side.
-ARROWS: Dict[Place, str] = {(1, 0): '<right>', (-1, 0): '<left>', (0, 1): '<down>', (0, -1): '<up>'}
+#: The sign on a side.
 SIGNS: Dict[Place, str] = {(1, 0): '>', (-1, 0): '<', (0, 1): 'v', (0, -1): '^'}
 
 #: So many keys somebody types in a minute.
 MINUTE = 150
 
 
-class Typing:
-    """The keys that type a printed puzzle in, from the first square on."""
-
-    def __init__(self, size: int) -> None:
-        self._size = size
-        self._at: Place = (0, 0)
-        self.keys: List[str] = []
-
-    def go(self, place: Place) -> None:
-        """From the edge into the grid, along it, and out again; on one edge along that."""
-        last = self._size - 1
-        inside = [(min(max(x, 0), last), min(max(y, 0), last)) for x, y in (self._at, place)]
-        if self._at != inside[0] and any(one == other and one in (-1, self._size) for one, other in zip(self._at, place)):
-            inside = []
-        for x, y in [*inside, place]:
-            while self._at != (x, y):
-                across, down = (x > self._at[0]) - (x < self._at[0]), (y > self._at[1]) - (y < self._at[1])
-                step = (across, 0) if across else (0, down)
-                self.keys.append(ARROWS[step])
-                self._at = (self._at[0] + step[0], self._at[1] + step[1])
-
-    def press(self, place: Place, key: str) -> None:
-        self.go(place)
-        self.keys.append(key)
+def way(size: int, at: Place, to: Place) -> List[str]:
+    """The arrows from one place to another: from the edge into the grid, along it, and out again; on one edge along that."""
+    inside = [(min(max(x, 0), size - 1), min(max(y, 0), size - 1)) for x, y in (at, to)]
+    if at != inside[0] and any(one == other and one in (-1, size) for one, other in zip(at, to)):
+        inside = []
+    keys: List[str] = []
+    for x, y in [*inside, to]:
+        across, down = x - at[0], y - at[1]
+        keys += ['<right>' if across > 0 else '<left>'] * abs(across) + ['<down>' if down > 0 else '<up>'] * abs(down)
+        at = x, y
+    return keys
 
 
 def typed(objects: str, game: str, id: str) -> List[str]:
-    """The keys for all items: around the edge, and then row by row, to and fro."""
+    """The keys for all items, from the first square on: around the edge, and then row by row, to and fro."""
     with Program(objects, game, ['--id', id]) as program:
         board = program.first.board
     assert board
-    size, typing = board.size, Typing(board.size)
+    size = board.size
     edge = [(x, -1) for x in range(size)] + [(size, y) for y in range(size)] + [(x, size) for x in range(size)[::-1]] + [(-1, y) for y in range(size)[::-1]]
-    for place in [place for place in edge if place in board.clues]:
-        typing.press(place, str(board.clues[place].number))
+    items = [(place, str(board.clues[place].number)) for place in edge if place in board.clues]
     for x, y in to_and_fro(size):
-        if (x, y) in board.givens:
-            typing.press((x, y), str(board.numbers[x, y]))
-        for sign in board.signs:
-            if sign.greater == (x, y):
-                typing.press((x, y), SIGNS[sign.less[0] - x, sign.less[1] - y])
-    return typing.keys
+        items += [((x, y), str(board.numbers[x, y]))] if (x, y) in board.givens else []
+        items += [((x, y), SIGNS[sign.less[0] - x, sign.less[1] - y]) for sign in board.signs if sign.greater == (x, y)]
+    return [key for at, (to, press) in zip([(0, 0), *(place for place, _ in items)], items) for key in [*way(size, at, to), press]]
 
 
 @pytest.mark.parametrize('game', ['towers', 'unequal'])

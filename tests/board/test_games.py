@@ -6,7 +6,7 @@ from typing import List
 import pytest
 
 from tests.board.playing import BoardFront, BoardGame, solution, whole_game
-from tests.harness import ID, Look, Room, by_name, made
+from tests.harness import ID, Look, Room, by_name, made, moves_of
 
 GIVEN = '3:///////////,1c3c2'
 
@@ -260,7 +260,7 @@ def test_kept_choice(front: BoardFront, room: Room) -> None:
         window.look('u', ['0 of 9', 'move 1/6', '│ 1   2   3 │ 1   2   3 │'])
         window.look('r', ['1 of 9', 'move 6/6'])
     moves = [b'M', b'P1,0,1', b'P2,0,1', b'P0,1,1', b'P0,2,1', b'R0,0,1']
-    assert re.findall(rb'^MOVE    :.:(.*)$', room.read('state/puzzles/towers.sav') or b'', re.MULTILINE) == moves
+    assert moves_of(room.read('state/puzzles/towers.sav')) == moves
 
 
 def test_no_color(front: BoardFront) -> None:

@@ -8,7 +8,7 @@ import pytest
 
 from tests.board import test_lives as lives
 from tests.board.playing import BoardFront
-from tests.harness import Room
+from tests.harness import Room, moves_of
 
 #: Boards without clues and givens, on which every mark can be set.
 BOARDS = [f'{size}:{"/" * (4 * size - 1)}' for size in (4, 6, 9)]
@@ -66,7 +66,7 @@ def kept(room: Room) -> Played:
     save = room.read(lives.KEPT) or b''
     position = re.search(rb'^STATEPOS:.:(.*)$', save, re.MULTILINE)
     assert position, save
-    return Played(tuple(re.findall(rb'^MOVE    :.:(.*)$', save, re.MULTILINE)), int(position[1]) - 1)
+    return Played(tuple(moves_of(save)), int(position[1]) - 1)
 
 
 def pytest_generate_tests(metafunc: pytest.Metafunc) -> None:

@@ -1,7 +1,6 @@
 """A player's move as lines of the program: all of them or none, one step for undo, and none where nothing changes."""
 
 import os
-import re
 from typing import List, Sequence, Tuple
 
 import pytest
@@ -9,7 +8,7 @@ import pytest
 from playing.beside import Beside, beside_in, content_of
 from playing.moves import Joined, Pair
 from tests.board.playing import BoardFront, BoardGame
-from tests.harness import ID, Look, Room, by_name, save_text
+from tests.harness import ID, Look, Room, by_name, moves_of, save_text
 
 #: Pairs as they were kept, how many states the game has, and those of them that fit it.
 KEPT: List[Tuple[Sequence[Pair], int, List[Pair]]] = [
@@ -109,14 +108,6 @@ def test_order(front: BoardFront, room: Room) -> None:
     with front.window(['towers', '3:///////////,1h'], leave='q') as window:
         window.look('P', ['move 5/5'])
     first = [b'M', b'P1,0,2', b'P0,1,2', b'P2,1,2', b'P1,2,2', b'R1,1,2']
-    assert moves_of(room.read(f'state/puzzles/old/{old(room)}')) == first
+    (old,) = [path for path in room.paths() if '/old/' in path and path.endswith('.sav')]
+    assert moves_of(room.read(old)) == first
     assert moves_of(room.read('state/puzzles/towers.sav')) == [b'M', b'P1,0,1', b'P2,0,1', b'P0,1,1', b'P0,2,1']
-
-
-def old(room: Room) -> str:
-    return next(name for name in os.listdir(os.path.join(room.path, 'state/puzzles/old')) if name.endswith('.sav'))
-
-
-def moves_of(save: object) -> List[bytes]:
-    assert isinstance(save, bytes)
-    return re.findall(rb'^MOVE    :.:(.*)$', save, re.MULTILINE)

@@ -1,12 +1,14 @@
-"""Our saves, opened by the usual program: every kind of move, with later states, solved, restarted, seeded, with kept bytes."""
+"""Our saves, opened by the usual program: every kind of move, with later states, solved, restarted, seeded, with kept bytes; and the IDs of fair games."""
 
+import json
 import re
 from typing import List, Tuple
 
 import pytest
 
+from playing import fair
 from tests.exchange.sides import Sides
-from tests.harness import TOP
+from tests.harness import TOP, run
 
 GAMES = ['towers', 'unequal']
 SIZES = range(3, 10)
@@ -92,3 +94,21 @@ def moves_to(sides: Sides, game: str, size: int, puzzle: str, solution: str) -> 
     moves = [f'move R{at % size},{at // size},{number}' for at, number in enumerate(solution)]
     replies = sides.said(game, [f'--id={puzzle}'], *moves).splitlines()
     return [move for reply, move in zip(replies, moves) if reply == 'ok']
+
+
+#: So many fair games of each size and grade.
+FAIR = 20
+
+CLASSES = [(game, size, letter) for game in fair.OFFERED for size in fair.SIZES for letter in fair.letters(game, size)]
+
+
+@pytest.mark.parametrize(('game', 'size', 'letter'), CLASSES)
+def test_fair(sides: Sides, objects: str, game: str, size: int, letter: str) -> None:
+    """The usual program opens the ID of each as a puzzle of its own, and finds the solution that ours finds."""
+    lines = ''.join(f'{fair.line(size, letter, seed)}\nsolve\n' for seed in range(FAIR))
+    answers = [json.loads(line) for line in run([objects, game], sides.room, input=lines.encode(), seconds=120).output.splitlines()]
+    assert [answer['refused'] for answer in answers] == [None] * 2 * FAIR
+    ids = [answer['session']['id'] for answer in answers[::2]]
+    assert {id.partition(':')[0] for id in ids} == {f'{size}d{letter}'}
+    ours = [(id.partition(':')[2], answer['reply'][0]) for id, answer in zip(ids, answers[1::2])]
+    assert [(records.get('DESC'), records.get('SOLVE')) for records in sides.solves(game, ids)] == ours

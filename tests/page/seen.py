@@ -76,6 +76,14 @@ class Seen:
         """Waits until that stands on a page of text."""
         self.driver.wait_for(f'document.querySelector("#page[open] #page-text")?.textContent.includes({json.dumps(text)})')
 
+    def moved(self, moves: str) -> None:
+        """The last game has these moves."""
+        assert self.moves() == moves.split()
+
+    def chose(self, place: str) -> None:
+        """That square or clue has the focus."""
+        assert self.value('document.activeElement.dataset.place') == place
+
     def games(self, number: str) -> None:
         """So many are kept."""
         assert len(self.kept()) == int(number)

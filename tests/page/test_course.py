@@ -105,8 +105,7 @@ def test_contradiction(player: Player) -> None:
     learn(player)
     for number in range(2, 7):
         player.look('<enter>', counts=f'Card {number} of 6')
-    player.told('Two clues leave a square no number. Why? shows it.')
-    assert player.chosen() == (0, 0)
+    player.look('', told='Two clues leave a square no number. Why? shows it.', chose='0,0')
     player.look('1', told='Not yet. Look at clue 1 above column 1.')
     player.look('{Why?}', is_shown='#walk')
     assert 'r1c1 has no number left' in player.text('#steps')

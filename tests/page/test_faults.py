@@ -42,16 +42,14 @@ def test_trap(failing: Player) -> None:
     """It is said, nothing has changed, and play goes on in a new worker."""
     failing.sit(TOWERS)
     failing.look('1<right>2', told='The program failed at that. It has begun anew, and the game is as it was.')
-    failing.look('3<down>1', 'row 1, column 2, 3', 'row 2, column 2, 1')
-    assert failing.moves() == ['R0,0,1', 'R1,0,3', 'R1,1,1']
+    failing.look('3<down>1', 'row 1, column 2, 3', 'row 2, column 2, 1', moved='R0,0,1 R1,0,3 R1,1,1')
 
 
 def test_stopped(failing: Player) -> None:
     """A search that takes long is said to, the page isn't stopped by it, and its player ends it."""
     failing.sit(TOWERS, PHONE)
     failing.look('1c', told='The program is at work.')
-    failing.press('<right>')
-    assert failing.chosen() == (1, 0)
+    failing.look('<right>', chose='1,0')
     failing.look('{#offer}', told='Stopped. Nothing has changed.')
     failing.look('3', 'row 1, column 2, 3')
 

@@ -33,15 +33,13 @@ def test_whole_game(  # pylint: disable=too-many-arguments
     address = request.getfixturevalue('served') if is_served else f'file://{page}'
     id = stored(game, size, 'x')[0]
     numbers, givens = solution(programs.objects, game, id)
-    wanted = [f'R{x},{y},{number}' for (x, y), number in squares(numbers, givens)]
+    wanted = ' '.join(f'R{x},{y},{number}' for (x, y), number in squares(numbers, givens))
     with Player(driver, address) as player:
         player.sit(f'{game}:{id}', window)
         for (x, y), number in squares(numbers, givens):
             player.put(how, x, y, number)
-        player.look('', told='Solved', counts='solved')
-        assert player.moves() == wanted
-        player.look('{load}', told='Solved')
-        assert player.moves() == wanted
+        player.look('', told='Solved', counts='solved', moved=wanted)
+        player.look('{load}', told='Solved', moved=wanted)
 
 
 @pytest.mark.always
@@ -70,8 +68,7 @@ def test_long_press(player: Player) -> None:
     player.look('{2}', 'row 1, column 2, empty, marks 2')
     player.look('{hold 0,0}', told='Numbers are put in now.')
     player.look('{hold 1}', 'row 1, column 1, empty, marks 1')
-    player.look('{1}', 'row 1, column 1, 1')
-    assert player.moves() == ['P1,0,2', 'P0,0,1', 'R0,0,1']
+    player.look('{1}', 'row 1, column 1, 1', moved='P1,0,2 P0,0,1 R0,0,1')
 
 
 def test_mouse(player: Player) -> None:
@@ -176,8 +173,7 @@ def test_no_move(player: Player) -> None:
     """All marks where all are, and the solution where it is there, are no moves: what could be redone stays."""
     player.sit(TOWERS)
     player.look('m1um', told='Nothing changes: the board has that already.')
-    player.look('r', 'row 1, column 1, 1')
-    assert player.moves() == ['M', 'R0,0,1']
+    player.look('r', 'row 1, column 1, 1', moved='M R0,0,1')
     player.look('S{Yes}', told='Filled in by the program.')
     player.look('S', told='The board is solved.')
 

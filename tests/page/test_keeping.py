@@ -64,8 +64,7 @@ def test_two_tabs(player: Player) -> None:
         player.is_called('row 1, column 1, 1..')
         player.look('<right>2', 'row 1, column 2, 2')
         player.driver.turn_to(other)
-        player.is_called('row 1, column 2, 2..')
-        assert player.moves() == ['R0,0,1', 'R1,0,2']
+        player.look('', 'row 1, column 2, 2..', moved='R0,0,1 R1,0,2')
     finally:
         player.driver.turn_to(other)
         player.leave_tab()
@@ -84,8 +83,7 @@ def test_behind(player: Player) -> None:
         ' document.activeElement.dispatchEvent(new KeyboardEvent("keydown", {key: "3", bubbles: true})); return true; })'
         '(Object.keys(localStorage).find((name) => name.startsWith("puzzles:game:")))'
     )
-    player.look('', 'row 1, column 3, 3', told='Another tab has made a move in between')
-    assert player.moves() == ['R0,0,1', 'R1,0,2', 'R2,0,3']
+    player.look('', 'row 1, column 3, 3', told='Another tab has made a move in between', moved='R0,0,1 R1,0,2 R2,0,3')
 
 
 #: Notes whether the page asks for its store first, or its worker answers.

@@ -181,8 +181,7 @@ def test_tab(piped: Player) -> None:
     # On a button keys are the button's.
     piped.look('3<enter>', told='Numbers are pencil marks now.')
     piped.value('(document.querySelector("[data-do=menu]").focus(), true)')
-    piped.press('<tab>')
-    assert piped.chosen() == (0, 1)
+    piped.look('<tab>', chose='0,1')
 
 
 def test_announced(piped: Player) -> None:

@@ -68,7 +68,7 @@ def test_pressed_at_once(player: Player) -> None:
     presses = 'for (let left = 3; left; left--) node.dispatchEvent(new MouseEvent("click", {bubbles: true}))'
     player.value(f'((node) => {{ {presses}; return true; }})(document.querySelector({json.dumps(at(1, 1))}))')
     player.keeps([3])
-    assert player.moves() == ['R1,1,2', 'R1,1,0', 'R1,1,2']
+    player.moved('R1,1,2 R1,1,0 R1,1,2')
 
 
 def test_number_first_otherwise(player: Player) -> None:
@@ -94,8 +94,7 @@ def test_number_first_by_finger(piped: Player) -> None:
     piped.look(SWITCH + '{tap 2}', told='Each square that you press gets 2.')
     piped.look('{tap 0,0}{tap 1,1}', 'row 2, column 2, 2')
     piped.look('{hold 2,2}', 'row 3, column 3, empty, marks 2')
-    piped.look('{tap 2}', told='Pressing a square no longer')
-    assert piped.moves() == ['R0,0,2', 'R1,1,2', 'P2,2,2']
+    piped.look('{tap 2}', told='Pressing a square no longer', moved='R0,0,2 R1,1,2 P2,2,2')
 
 
 def test_number_first_given(player: Player) -> None:
