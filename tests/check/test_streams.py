@@ -27,13 +27,6 @@ def test_words(checker: Checker, words: List[str]) -> None:
     assert (ended.status, ended.output) == (2, b'') and ended.error.decode().endswith(TIP)
 
 
-def test_help(checker: Checker) -> None:
-    for word in ('--help', '-h'):
-        ended = checker.run([word])
-        assert (ended.status, ended.error) == (0, b'') and ended.output.startswith(b'usage: puzzles-check [')
-    assert checker.run(['--version']).output.startswith(b'puzzles ')
-
-
 def test_files(checker: Checker, room: Room) -> None:
     """What can't be read is named, and the others are."""
     room.make_folder('folder').close()

@@ -62,20 +62,15 @@ def sheets(paper: str) -> Iterator[Sheet]:
     yield Sheet(['--answers', 'only', '--steps', '--large'], nines()[2:6], 0, 1, 5)
 
 
-@pytest.mark.parametrize('size', PAPERS)
-def test_pages(paper: Browser, maker: Maker, room: Room, size: str) -> None:
-    for sheet in sheets(size):
-        expect_sheet(paper, room, maker, sheet, size)
-
-
-def expect_sheet(browser: Browser, room: Room, maker: Maker, sheet: Sheet, paper: str) -> None:
-    ended = maker.run(['--ids', '-', '--paper', paper, *sheet.words], content(sheet.puzzles))
+@pytest.mark.parametrize(('size', 'sheet'), [(size, sheet) for size in PAPERS for sheet in sheets(size)])
+def test_pages(paper: Browser, maker: Maker, room: Room, size: str, sheet: Sheet) -> None:
+    ended = maker.run(['--ids', '-', '--paper', size, *sheet.words], content(sheet.puzzles))
     assert ended.status == 0, ended.error
-    found = printed(browser, room, ended.output.decode())
+    found = printed(paper, room, ended.output.decode())
     answers = sheet.pages + sheet.answers
     total = answers + sheet.steps
     assert [len(found.texts), len(found.sticks_out)] == [total, total], sheet.words
-    assert (round(found.paper[0]), round(found.paper[1])) == PAPERS[paper]
+    assert (round(found.paper[0]), round(found.paper[1])) == PAPERS[size]
     assert not any(map(any, found.sticks_out)), sheet.words
     assert found.is_free, sheet.words
     code = re.search(r'Sheet ([0-9A-F]{4})\b', found.texts[0])
@@ -171,17 +166,13 @@ NO_PDF = [
 @pytest.mark.parametrize(('words', 'told'), NO_PDF)
 def test_no_pdf(maker: Maker, room: Room, words: List[str], told: str) -> None:
     """It is told what is lacking, and nothing is written."""
-    env = {} if words else {'PATH': here_alone(room)}
+    # A folder for commands that has the Python of the tests alone.
+    env = {} if words else {'PATH': room.lay('commands')}
+    if env:
+        room.link('commands/python3', sys.executable)
     room.put('a-firefox', FIREFOX, 0o755)
     maker.refuses(['towers', '--count', '1', '--pdf', 'sheet.pdf', *words], 1, f'puzzles-sheet: {told}\n', env=env)
     assert 'sheet.pdf' not in room.names()
-
-
-def here_alone(room: Room) -> str:
-    """A folder for commands that has the Python of the tests alone."""
-    room.make_folder('commands').close()
-    room.link('commands/python3', sys.executable)
-    return os.path.join(room.path, 'commands')
 
 
 #: Titles and captions that want to be more than text.

@@ -49,14 +49,6 @@ def test_wrong(maker: Maker, words: Sequence[str], told: str) -> None:
     assert ended.error.decode().replace("'", '') == f'puzzles-sheet: {told}\n{TIP}'.replace("'", '')
 
 
-def test_help(maker: Maker) -> None:
-    for word in ('--help', '-h'):
-        ended = maker.run([word])
-        assert (ended.status, ended.error) == (0, b'')
-        assert ended.output.startswith(b'usage: puzzles-sheet GAME ')
-    assert maker.run(['--version']).output.startswith(b'puzzles ')
-
-
 LIST = content([ID])
 
 
