@@ -54,17 +54,13 @@ class Player(Seen):
             names = [f'Arrow{arrow.title()}' if arrow else name.title() or character for arrow, name, character in KEY.findall(others)]
             self.driver.press(*(control or names), control=bool(control))
 
-    def target(self, what: str) -> str:
+    def _target(self, what: str) -> str:
         """The selector of a place, a number of the pad, or a button by its text; or that selector itself."""
         if re.fullmatch(r'-?\d,-?\d', what):
             return f'[data-place="{what}"]'
-        return f'[data-number="{what}"]' if what.isdigit() else what if what[0] in '#.[' else self.button(what)
+        return f'[data-number="{what}"]' if what.isdigit() else what if what[0] in '#.[' else self._button(what)
 
-    def click(self, text: str) -> None:
-        """A button that is seen, by its text."""
-        self.driver.click(self.button(text))
-
-    def button(self, text: str) -> str:
+    def _button(self, text: str) -> str:
         """The selector of a button with that text, among those that are seen."""
         found = self.value(
             f'((nodes) => {{ const node = nodes.find((one) => one.textContent.trim() === {json.dumps(text)} && one.getClientRects().length);'
@@ -105,7 +101,7 @@ class Player(Seen):
         self.driver.go(BLANK)
 
     def look(self, does: str, *names: str, **waits: str) -> None:
-        """Does something, and waits until squares have these names, and for more by the methods below, as `told='Right.'`.
+        """Does something, and waits until squares have these names, and for more by `waits`, as `told='Right.'`.
 
         Keys are those of `press`. What is clicked stands in braces: a square or clue by its place `{1,0}`, a number of the pad `{2}`, a button by its text
         `{Hint}`, or anything by its selector `{#offer}`; touched or held with `tap` or `hold` ahead, or clicked by the other button with `right`.
@@ -119,13 +115,13 @@ class Player(Seen):
             elif ' = ' in what:
                 self.write(*what.split(' = '))
             elif how == 'right':
-                self.driver.click(self.target(what), RIGHT)
+                self.driver.click(self._target(what), RIGHT)
             else:
-                getattr(self.driver, how or 'click')(self.target(what))
+                getattr(self.driver, how or 'click')(self._target(what))
         for name in names:
             self.is_called(name)
-        for method, text in waits.items():
-            getattr(self, method)(text)
+        for what, text in waits.items():
+            self.waits(what, text)
 
     def sit(self, link: str = '', size: Optional[Tuple[int, int]] = None) -> None:
         """Opens the page with what stands after its #, in a browser that keeps nothing of it yet."""
@@ -153,17 +149,12 @@ class Player(Seen):
     def menu(self, text: str) -> None:
         """A button of the menu."""
         self.look('{Menu}', is_shown='#menu')
-        self.click(text)
+        self.look(f'{{{text}}}')
 
     def switch(self, text: str) -> None:
         """A setting of the menu, which is left then."""
         self.menu(text)
         self.leaves('#menu')
-
-    def opens(self, key: str, selector: str) -> None:
-        """A key that opens a dialog."""
-        self.press(key)
-        self.is_shown(selector)
 
     def leaves(self, selector: str) -> None:
         """Leaves a dialog."""
@@ -172,7 +163,7 @@ class Player(Seen):
 
     def begin(self, title: str, **values: str) -> None:
         """A new game, by what is chosen and written; and waits until it has this title."""
-        self.opens('n', '#fresh')
+        self.look('n', is_shown='#fresh')
         for name, value in values.items():
             self.write(f'#fresh-{name}', value)
         self.look('{Begin}', closes='#fresh', called=title)
@@ -201,7 +192,7 @@ class Player(Seen):
     def answer_once(self, text: str) -> None:
         """The same, where another dialog comes after it."""
         self.is_shown('#ask')
-        self.click(text)
+        self.look(f'{{{text}}}')
         self.is_gone('#ask')
 
     def closes(self, selector: str) -> None:

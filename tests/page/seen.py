@@ -23,6 +23,17 @@ def place_of(name: str) -> str:
     return at(int(found.get('column', 0)) - 1, int(found.get('row', 0)) - 1)
 
 
+#: What is waited for: that a text is said, stands below the title, is the title, stands on a page of text, is the desk's verdict, or is among its grounds.
+WAITS = {
+    'told': ('#told', '.includes({})'),
+    'counts': ('#count', '.includes({})'),
+    'called': ('#title', ' === {}'),
+    'reads': ('#page[open] #page-text', '.includes({})'),
+    'ruled': ('#ruling', ' === {}'),
+    'grounds': ('#grounds', '.includes({})'),
+}
+
+
 class Seen:
     """What is seen of one page in one browser, and what that browser keeps."""
 
@@ -49,17 +60,13 @@ class Seen:
         x, y = self.value('document.activeElement.dataset.place').split(',')
         return int(x), int(y)
 
-    def told(self, text: str) -> None:
-        """Waits until that is said."""
-        self.driver.wait_for(f'document.querySelector("#told").textContent.includes({json.dumps(text)})')
-
-    def counts(self, text: str) -> None:
-        """Waits until that stands below the title."""
-        self.driver.wait_for(f'document.querySelector("#count").textContent.includes({json.dumps(text)})')
-
-    def called(self, title: str) -> None:
-        """Waits until the game has this title."""
-        self.driver.wait_for(f'document.querySelector("#title").textContent === {json.dumps(title)}')
+    def waits(self, what: str, text: str) -> None:
+        """By a word of `WAITS`, or a method below."""
+        if what in WAITS:
+            selector, holds = WAITS[what]
+            self.driver.wait_for(f'document.querySelector({json.dumps(selector)})?.textContent{holds.format(json.dumps(text))}')
+        else:
+            getattr(self, what)(text)
 
     def is_called(self, name: str) -> None:
         """Waits until the square or clue that a name tells of is called so; or, with `..` at the end, until what it is called begins so."""
@@ -72,10 +79,6 @@ class Seen:
         self.settles()
         assert self.name(name).startswith(name[:-2]) if name.endswith('..') else self.name(name) == name
 
-    def reads(self, text: str) -> None:
-        """Waits until that stands on a page of text."""
-        self.driver.wait_for(f'document.querySelector("#page[open] #page-text")?.textContent.includes({json.dumps(text)})')
-
     def moved(self, moves: str) -> None:
         """The last game has these moves."""
         assert self.moves() == moves.split()
@@ -87,14 +90,6 @@ class Seen:
     def games(self, number: str) -> None:
         """So many are kept."""
         assert len(self.kept()) == int(number)
-
-    def ruled(self, verdict: str) -> None:
-        """Waits until that is the verdict of the desk."""
-        self.driver.wait_for(f'document.querySelector("#ruling").textContent === {json.dumps(verdict)}')
-
-    def grounds(self, text: str) -> None:
-        """Waits until that is among its grounds."""
-        self.driver.wait_for(f'document.querySelector("#grounds").textContent.includes({json.dumps(text)})')
 
     def has(self, number: int, selector: str) -> None:
         """Waits until there are so many elements."""

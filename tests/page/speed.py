@@ -71,9 +71,9 @@ def verdicts(player: Player) -> Iterator[float]:
         game, size = head.split()
         kind = 'clue' if game == 'towers' else 'sign'
         player.write('#desk-game', game)
-        player.counts(kind)
+        player.look('', counts=kind)
         player.write('#desk-size', size)
-        player.counts(f'0 {kind}s · 0 given')
+        player.look('', counts=f'0 {kind}s · 0 given')
         player.driver.wait_for(f'document.querySelectorAll(".square").length === {int(size) ** 2} && document.querySelector("#ruling").textContent')
         for change in changes.split():
             yield from taps(player, int(size), [int(word) for word in change.split(',')])

@@ -17,7 +17,7 @@ SEVENS = '((left) => { Math.random = () => (left-- > 0 ? 7.5e-8 : 0.123456789); 
 def solved(player: Player, link: str) -> None:
     player.load(link)
     solve_by_hints(player)
-    player.told('Solved')
+    player.look('', told='Solved')
 
 
 def test_solved_by_chance(player: Player) -> None:
@@ -30,7 +30,7 @@ def test_solved_by_chance(player: Player) -> None:
     solved(player, 'towers-3-easy-7')
     player.value(f'{SEVENS}(1000)')
     player.begin('Towers 3×3', game='towers', size='3', grade='e')
-    player.counts('0 of 9')
+    player.look('', counts='0 of 9')
     assert player.kept()[0]['fair']['number'] == '7'
 
 
@@ -114,5 +114,5 @@ def test_fault_of_the_page(piped: Player, browser: Browser) -> None:
     """What nobody expected is said."""
     piped.sit(TOWERS)
     piped.value('(Promise.reject(new Error("unexpected")), true)')
-    piped.told('Something failed on this page.')
+    piped.look('', told='Something failed on this page.')
     browser.complaints.clear()

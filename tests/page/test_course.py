@@ -32,12 +32,12 @@ def solve_card(player: Player, how: str, shows: Shows) -> None:
     """Puts the number in, and goes on."""
     if shows.square:
         row, column = shows.square
-        player.told('Put the number that follows into the framed square.')
+        player.look('', told='Put the number that follows into the framed square.')
         assert player.chosen() == (column - 1, row - 1)
         player.put(how, column - 1, row - 1, int(shows.number or 0))
         player.look('', f'row {row}, column {column}, {shows.number}..', told='Right.')
     else:
-        player.told('Why? shows it.')
+        player.look('', told='Why? shows it.')
     if how == 'keys':
         player.press('<enter>')
     else:
@@ -54,8 +54,7 @@ def test_whole_course(player: Player, game: str, how: str, window: Any) -> None:
     player.sit(PLAYED[game], window)
     kept = learn(player)
     for number, (card, shows) in enumerate(zip(CARDS[game], SHOWS[game]), 1):
-        player.counts(f'Card {number} of {len(SHOWS[game])}')
-        player.told(card.text.replace("'", '’'))
+        player.look('', counts=f'Card {number} of {len(SHOWS[game])}', told=card.text.replace("'", '’'))
         solve_card(player, how, shows)
     player.look('', 'row 1, column 1, 2..', counts='1 of')
     assert without_time(player.kept()) == without_time(kept)
@@ -87,7 +86,7 @@ def test_back_and_forth(player: Player) -> None:
     learn(player)
     for selector, card in [(NEXT, 2), (NEXT, 3), (BACK, 2)]:
         player.driver.click(selector)
-        player.counts(f'Card {card} of 7')
+        player.look('', counts=f'Card {card} of 7')
     player.look('bb', counts='1 of')
     for leave in (f'{{{END}}}', 'q', '{load}', '{#games-list button}'):
         player.look('{menu Learn}', counts='Card 1 of 7', games='1')
@@ -134,7 +133,7 @@ def test_number_first(player: Player) -> None:
 def test_offered_once(player: Player) -> None:
     """Whoever comes for the first time is offered the course in a line that goes away with the first move; it is offered to nobody again."""
     player.sit(size=PHONE)
-    player.told('Choose a square, then a number.')
+    player.look('', told='Choose a square, then a number.')
     assert player.text('#offer') == 'Learn'
     player.look('{#offer}', counts='Card 1 of 6', is_gone='#offer')
     player.look(f'{{{END}}}', counts='easy · 0 of 2')
@@ -144,6 +143,6 @@ def test_offered_once(player: Player) -> None:
     player.look('{load towers-5-easy-8}', told='Towers, easy 5, number 8.', is_gone='#offer')
     player.forget()
     player.load(UNEQUAL)
-    player.told('Choose a square, then a number.')
+    player.look('', told='Choose a square, then a number.')
     player.look('{#offer}', counts='Card 1 of 7')
     assert json.loads(player.value('localStorage["puzzles:settings"]'))['turn'] > 0

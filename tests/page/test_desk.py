@@ -63,7 +63,7 @@ def test_typed(player: Player, programs: Programs, game: str, how: str, window: 
         else:
             player.touch(how, at(x, y))
             player.touch(how, f'#signs [data-do={WAYS[way][1]}]')
-    player.ruled(ONE)
+    player.look('', ruled=ONE)
     plain = id[0] + id[id.index(':') :]
     assert draft(player, game)['ids'][-1] == plain
     player.look('{Play}', called=f'{game.capitalize()} 5×5')
@@ -87,14 +87,14 @@ def test_verdicts(player: Player) -> None:
     """Several, none and one, with their grounds; the chain of steps on the board; and each change is undone."""
     sit(player, TOWERS)
     player.go_to(0, 0)
-    player.grounds('Two of them differ in ')
+    player.look('', grounds='Two of them differ in ')
     # Only the largest towers next to two clues 1 of one side.
     player.look('<up>1<right>1', ruled=NONE, grounds='Without any one of the 2 in circles there is a solution.')
     # Readers of screens are told so.
     player.driver.wait_for(f'document.querySelector("#said").textContent.includes({json.dumps(NONE)})')
     assert player.name('clue above column 1') == 'clue 1 above column 1, may be the mistake'
     assert player.name('clue above column 3') == 'no clue above column 3'
-    player.opens('h', '#steps')
+    player.look('h', is_shown='#steps')
     assert 'Clue 1 above column 1' in player.text('#steps')
     player.look('<right><escape>', is_gone='#steps')
     player.look('1', ruled=SEVERAL)
@@ -102,7 +102,7 @@ def test_verdicts(player: Player) -> None:
     player.look('uu', counts='0 clues')
     player.look('r', counts='1 clue ·')
     player.look('{My game}', ruled=ONE, grounds='for that grade')
-    player.click('Solution')
+    player.look('{Solution}')
     player.driver.wait_for('document.querySelectorAll(".over .left").length > 0')
 
 

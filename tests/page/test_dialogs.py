@@ -23,7 +23,7 @@ REFUSED: List[Tuple[Dict[str, str], str, str]] = [
 def test_rules_begin(player: Player) -> None:
     """A text that is longer than the window is shown from its beginning, where the focus is, and Tab goes on to its button."""
     player.sit(TOWERS, SMALL)
-    player.opens('?', '#rules')
+    player.look('?', is_shown='#rules')
     top, length, height = player.value('((node) => [node.scrollTop, node.scrollHeight, node.clientHeight])(document.querySelector("#rules"))')
     assert top == 0 and length > height
     player.press('<tab>')
@@ -37,18 +37,18 @@ FIELDS = ['game', 'size', 'grade', 'number', 'id']
 def test_new_stays(player: Player, written: Dict[str, str], field: str, said: str) -> None:
     """What is wrong is said at its field, and all that was chosen stays; once it is right, the game begins."""
     player.sit(TOWERS, PHONE)
-    player.opens('n', '#fresh')
+    player.look('n', is_shown='#fresh')
     chosen = {'game': 'unequal', 'size': '4', 'grade': 'k', 'number': '', 'id': '', **written}
     for name in FIELDS:
         player.write(f'#fresh-{name}', chosen[name])
-    player.click('Begin')
+    player.look('{Begin}')
     player.driver.wait_for(f'document.querySelector("#fresh[open] #fresh-{field}:invalid")?.validationMessage.startsWith("{said}")')
     assert {name: player.value(f'document.querySelector("#fresh-{name}").value') for name in FIELDS} == chosen
     assert player.value('document.activeElement.id') == f'fresh-{field}'
     assert said not in player.text('#told')
     player.write('#fresh-id', '')
     player.look('{#fresh-number = 7}{Begin}', closes='#fresh', told='Unequal, tricky 4, number 7.')
-    player.opens('n', '#fresh')
+    player.look('n', is_shown='#fresh')
     assert player.value('[...document.querySelectorAll("#fresh input")].map((node) => [node.value, node.validity.valid])')[:2] == [['', True], ['', True]]
 
 
@@ -75,7 +75,7 @@ def test_stands_still(timed: Player) -> None:
     timed.sit(TOWERS, PHONE)
     assert after(timed, 5) == '0:05'
     for key, dialog in [('n', '#fresh'), ('o', '#games'), ('t', '#daily'), ('?', '#rules'), ('i', '#page'), ('S', '#ask')]:
-        timed.opens(key, dialog)
+        timed.look(key, is_shown=dialog)
         assert after(timed, 5) == '0:05', dialog
         timed.leaves(dialog)
     timed.look('{menu Pause}', is_shown='#pause')

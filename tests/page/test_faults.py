@@ -81,11 +81,11 @@ def test_names_are_text(player: Player) -> None:
     """Whatever a save or a file of games has in it, stands on the page as text."""
     player.sit(TOWERS, PHONE)
     player.drop(save_text(2).replace(b'NSTATES', b'AUXINFO :13:<img onerror>\nNSTATES', 1), is_called='row 1, column 2, 2')
-    player.opens(':', '#ask')
+    player.look(':', is_shown='#ask')
     player.look('save<enter>', reads='<img onerror>')
     assert player.text('#page-title') == 'save'
     player.leaves('#page')
-    player.opens(':', '#ask')
+    player.look(':', is_shown='#ask')
     player.driver.type('<img src=x onerror=alert(1)>')
     player.look('<enter>', told='There is no such command.')
     assert player.value('document.images.length') == 0 and player.value('document.title') == 'Towers 3×3'
@@ -110,7 +110,7 @@ def test_spoiled(player: Player) -> None:
     for name, text in SPOILED:
         player.value(f'(localStorage[{json.dumps(name)}] = {json.dumps(text)}, true)')
         player.look('{load}{menu Statistics}', is_shown='#statistics', leaves='#statistics')
-        player.opens('o', '#games')
+        player.look('o', is_shown='#games')
         assert player.value('document.images.length') == 0
         player.leaves('#games')
     player.begin('Unequal 3×3', id=UNEQUAL)

@@ -30,7 +30,7 @@ def test_bytes(player: Player, programs: Programs, room: Room, seed: bytes) -> N
 
 def export(player: Player) -> Dict[str, Any]:
     """All games, as the page writes them."""
-    player.opens('o', '#games')
+    player.look('o', is_shown='#games')
     player.catch_files()
     player.look('{Export all to one file}', closes='#games')
     told: Dict[str, Any] = json.loads(player.caught())
@@ -46,7 +46,7 @@ def test_broken_text(player: Player) -> None:
     text = '{"key": "b", "sav'
     player.sit(TOWERS, PHONE)
     player.value(f'(localStorage["puzzles:game:b"] = {json.dumps(text)}, true)')
-    player.opens('o', '#games')
+    player.look('o', is_shown='#games')
     assert player.text('#games-unread').startswith('1 game more can’t be read.')
     player.leaves('#games')
     file = export(player)
@@ -78,7 +78,7 @@ def test_bounds(player: Player) -> None:
     file = export(player)
     for change, said in BOUNDS:
         bring_in(player, {**file, 'games': [{**file['games'][0], **change, 'key': 'other', 'save': save_text(3, 2).decode()}]}, said)
-    player.opens('o', '#games')
+    player.look('o', is_shown='#games')
     player.look('{#games-list [data-key=other]}', 'row 1, column 2, empty', closes='#games')
     player.look('r', 'row 1, column 2, 2..')
     solved = {'kind': 'towers-5-easy', 'number': '', 'when': 1, 'hints': 0}

@@ -57,7 +57,7 @@ def test_keys(player: Player) -> None:
     player.look('uc', told='can still be completed')
     player.look('i', reads=ID, leaves='#page')
     player.look('?', is_shown='#rules', leaves='#rules')
-    player.opens(':', '#ask')
+    player.look(':', is_shown='#ask')
     player.look('status<enter>', told='playing ')
 
 
@@ -213,8 +213,8 @@ def test_new_games(player: Player) -> None:
     """By size and grade, by a number, by an ID or a link."""
     player.sit(TOWERS, PHONE)
     player.begin('Unequal 6×6', game='unequal', size='6', grade='k')
-    player.counts('tricky')
-    player.opens('n', '#fresh')
+    player.look('', counts='tricky')
+    player.look('n', is_shown='#fresh')
     player.look('{Today’s game}', told=f'Unequal, tricky 6, number {datetime.date.today():%Y%m%d}.', closes='#fresh')
     player.begin('Towers 5×5', game='towers', size='5', grade='e', number='020261126')
     for text in ('number 20261126.', '#towers-5-easy-20261126'):

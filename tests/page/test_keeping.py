@@ -28,12 +28,12 @@ def test_each_game_is_kept(player: Player) -> None:
     player.begin('Unequal 3×3', id=UNEQUAL)
     player.begin('Towers 9×9', id='towers-9-hard-20261127')
     assert [game['id'].split(':')[0] for game in player.kept()] == ['9dh', '3', '3']
-    player.opens('o', '#games')
+    player.look('o', is_shown='#games')
     listed = player.value('[...document.querySelectorAll("#games-list .pictured")].map((node) => node.textContent)')
     assert 'number 20261127' in listed[0] and 'Unequal 3×3 · 0 of 9' in listed[1] and 'Towers 3×3 · 1 of 9' in listed[2]
     player.driver.wait_for('[...document.querySelectorAll(".small-board")].map((node) => node.querySelectorAll("text").length).join().endsWith(",0,1")')
     player.look('{#games-list li:nth-child(3) .pictured}', 'row 1, column 1, 1..')
-    player.opens('o', '#games')
+    player.look('o', is_shown='#games')
     player.look('{#games-list li:nth-child(2) [data-gone]}', answer_once='No', games='3', is_shown='#games')
     player.look('{#games-list li:nth-child(2) [data-gone]}', answer_once='Yes')
     player.has(2, '#games-list li')
@@ -47,7 +47,7 @@ def test_link_keeps_the_present_game(player: Player) -> None:
     player.look(f'{{load {UNEQUAL}}}', called='Unequal 3×3')
     assert player.value('location.hash') == ''
     player.value('(location.hash = "#towers-4-easy-5", true)')
-    player.called('Towers 4×4')
+    player.look('', called='Towers 4×4')
     # A reload goes on with the last game, and not with that of the link.
     player.look('{load}', called='Towers 4×4')
     player.look(f'{{load {TOWERS}}}', 'row 1, column 1, 1..', told='You have begun this game before.', games='3')
@@ -114,7 +114,7 @@ def test_nothing_is_kept(scripted: Scripted, script: str, said: str) -> None:
     """It is said, and play goes on."""
     player = scripted(script)
     player.load(TOWERS)
-    player.told(said)
+    player.look('', told=said)
     player.look('1<right>2u', 'row 1, column 1, 1', 'row 1, column 2, empty', told=said)
     player.begin('Unequal 3×3', id=UNEQUAL)
     player.press('o')
@@ -124,13 +124,13 @@ def test_nothing_is_kept(scripted: Scripted, script: str, said: str) -> None:
 def test_solved_days(player: Player) -> None:
     """Today's game, once solved, has its day in the calendar; its time is in the statistics, where that isn't switched off."""
     player.sit('unequal-3-trivial-5', PHONE)
-    player.opens('t', '#daily')
+    player.look('t', is_shown='#daily')
     player.look('{#daily-size = 3}{Today’s game}', called='Towers 3×3')
     today = datetime.date.today()
     player.look('i', reads=f'number {today:%Y%m%d}.', leaves='#page')
     solve_by_hints(player)
-    player.told('Solved')
-    player.opens('t', '#daily')
+    player.look('', told='Solved')
+    player.look('t', is_shown='#daily')
     assert player.value('document.querySelector("#daily-days .solved").ariaLabel').endswith(', solved')
     assert player.value('document.querySelector("#daily-days .solved").textContent') == str(today.day)
     player.leaves('#daily')

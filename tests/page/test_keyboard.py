@@ -77,7 +77,7 @@ def test_focus_of_a_hint(player: Player) -> None:
         enter(player, f'[data-do={last}]')
         player.look('', closes='#walk', counts=count)
     # By a key of the board the board keeps it.
-    player.opens('H', '#walk')
+    player.look('H', is_shown='#walk')
     assert player.value('Boolean(document.activeElement.dataset.place)')
 
 

@@ -107,12 +107,12 @@ class Rounds:
             player.is_called('row 1, column 1, 2')
             self.see('', MOVES)
         else:
-            player.called('Towers 3×3')
+            player.look('', called='Towers 3×3')
 
     def new_game(self, player: Player, chance: random.Random) -> None:
         number = self.asked = str(chance.randrange(10**8))
         player.value(f'(location.hash = "#towers-5-hard-{number}", true)')
-        player.told(f'number {number}.')
+        player.look('', told=f'number {number}.')
         player.driver.click(at(*player.value('document.querySelector("[aria-label$=empty]").dataset.place').split(',')))
         self.see(number, 0)
 

@@ -55,7 +55,7 @@ def test_name(player: Player) -> None:
         player.closes('#menu')
         player.begin('Unequal 4×4', id='unequal-4-easy-7')
         player.begin(name.split(',', maxsplit=1)[0], id=text)
-        player.told('You have begun this game before.')
+        player.look('', told='You have begun this game before.')
         player.forget()
 
 
@@ -79,13 +79,13 @@ def test_result(player: Player) -> None:
     player.value(f'(localStorage["puzzles:solved"] = {json.dumps(json.dumps(solved))}, true)')
     player.look(f'{{load towers-3-easy-{days[0]}}}', is_gone='#share')
     solve_by_hints(player)
-    player.told('3 days in a row.')
+    player.look('', told='3 days in a row.')
     clipboard(player, NOTED)
     player.look('{Copy result}', told='The result is copied.')
     text = copied(player)
     assert text.startswith(f'Towers 3×3, easy, {today.day} {today:%B %Y}: solved ')
     assert text.endswith(f'! 3 days in a row. #towers-3-easy-{days[0]}')
-    player.opens('t', '#daily')
+    player.look('t', is_shown='#daily')
     for size, streak in [('3', '3 days in a row.'), ('4', '')]:
         player.write('#daily-size', size)
         assert player.text('#daily-streak') == streak
@@ -99,8 +99,8 @@ def test_result_of_a_server(online: Player) -> None:
     online.sit('towers-3-easy-7', LAPTOP)
     online.switch('Time and statistics')
     solve_by_hints(online)
-    online.told('Solved')
+    online.look('', told='Solved')
     hints = online.kept()[0]['hints']
     clipboard(online, NOTED)
-    online.click('Copy result')
+    online.look('{Copy result}')
     assert copied(online) == f'Towers 3×3, easy, number 7: solved with {hints} hint{"s" if hints > 1 else ""}! {online.address}#towers-3-easy-7'

@@ -81,7 +81,7 @@ def test_delete_present(player: Player) -> None:
     """Another game of its kind begins, and the list shows it."""
     player.sit(UNEQUAL)
     player.begin('Towers 4×4', id='towers-4-easy-5')
-    player.opens('o', '#games')
+    player.look('o', is_shown='#games')
     for _ in range(2):
         first = player.value(KEYS)[0]
         player.look('{#games-list li:first-child [data-gone]}', answer_once='Yes')

@@ -1,6 +1,6 @@
 """How the page looks and what it is to a person who doesn't see it: checks of our own, since none come with Debian, and pictures.
 
-The checks are of names and roles, one tab stop in the board, the order of Tab, what is announced, sizes of what is pressed, contrast in both lights, and
+The checks are of names and roles, one tab stop in the board, the order of Tab, what is announced, sizes of what is pressed, and
 that nothing has to be scrolled sideways. They don't try real readers of screens. All windows are tried with --browsers=all, otherwise a phone's alone.
 """
 
@@ -9,7 +9,7 @@ import json
 import os
 import re
 from pathlib import Path
-from typing import Any, Callable, Dict, List, NamedTuple, Sequence, Tuple
+from typing import Any, Callable, Dict, List, NamedTuple, Tuple
 
 import pytest
 
@@ -51,22 +51,6 @@ CHECKS: Dict[str, str] = {
 #: The windows in which they are made: a large one, a small one, one at which twice as much is seen in a small one, and others.
 WINDOWS = [LAPTOP, PHONE, SMALL, (320, 480), (683, 384), (844, 390), (768, 1024), (3840, 2160)]
 
-#: Colours of what is read on a ground, and of what else has to be seen beside another, with the contrast that is owed.
-CONTRASTS: List[Tuple[float, str, Sequence[str]]] = [
-    (4.5, 'ink', ['paper', 'square', 'given', 'lane', 'given-lane', 'same', 'rests', 'struck', 'button']),
-    (4.5, 'own', ['square', 'lane', 'same', 'rests', 'struck', 'button']),
-    (4.5, 'left', ['square', 'rests', 'struck']),
-    (4.5, 'soft', ['paper', 'square', 'lane', 'button']),
-    (4.5, 'wrong', ['paper', 'wrong-tint']),
-    (4.5, 'on-main', ['main']),
-    (3.0, 'line', ['paper', 'square']),
-    (3.0, 'frame', ['paper', 'square']),
-    (3.0, 'chosen', ['paper', 'square', 'given', 'lane', 'same', 'rests', 'struck']),
-    (3.0, 'hint', ['paper', 'square', 'given', 'rests']),
-    (3.0, 'wrong', ['struck']),
-]
-
-
 def pytest_generate_tests(metafunc: pytest.Metafunc) -> None:
     if 'window' in metafunc.fixturenames:
         is_all = metafunc.config.getoption('--browsers') == ALL
@@ -79,20 +63,20 @@ def test_checks(piped: Player, game: str, window: Tuple[int, int]) -> None:
     piped.sit(f'{game}-9-easy-7', window)
     for size in SIZES:
         piped.value(f'(location.hash = "#{game}-{size}-easy-7", true)')
-        piped.called(f'{game.title()} {size}×{size}')
+        piped.look('', called=f'{game.title()} {size}×{size}')
         assert wrong(piped) == [], size
     piped.look('mH', is_shown='#walk')
     assert wrong(piped) == []
     piped.press('<escape>')
     for key, dialog in [('n', '#fresh'), ('o', '#games'), ('t', '#daily'), ('?', '#rules'), ('i', '#page'), (':', '#ask'), ('S', '#ask')]:
-        piped.opens(key, dialog)
+        piped.look(key, is_shown=dialog)
         assert wrong(piped) == [], dialog
         piped.leaves(dialog)
     piped.look('{Menu}', is_shown='#menu')
     assert wrong(piped) == []
-    piped.click('Learn')
+    piped.look('{Learn}')
     for number, _ in enumerate(CARDS[game], 1):
-        piped.counts(f'Card {number} of')
+        piped.look('', counts=f'Card {number} of')
         assert wrong(piped) == [], number
         piped.press('<enter>')
 
@@ -100,57 +84,6 @@ def test_checks(piped: Player, game: str, window: Tuple[int, int]) -> None:
 def wrong(player: Player) -> List[Any]:
     checks = ', '.join(f'[{json.dumps(name)}, {script}]' for name, script in CHECKS.items())
     return [(name, found) for name, found in player.value(f'[{checks}]') if found]
-
-
-@pytest.mark.always
-@pytest.mark.parametrize('scheme', ['light', 'dark'])
-def test_contrast(piped: Player, browser: Browser, scheme: str) -> None:
-    piped.sit(TOWERS)
-    browser.media(features={'prefers-color-scheme': scheme})
-    names = sorted({name for _, colour, grounds in CONTRASTS for name in (colour, *grounds)})
-    values = piped.value(f'{json.dumps(names)}.map(name => getComputedStyle(document.documentElement).getPropertyValue("--" + name).trim())')
-    light = {name: luminance(value) for name, value in zip(names, values)}
-    assert light['paper'] > 0.8 if scheme == 'light' else light['paper'] < 0.1
-    found = [(colour, ground, contrast(light[colour], light[ground]), owed) for owed, colour, grounds in CONTRASTS for ground in grounds]
-    assert [row for row in found if row[2] < row[3]] == []
-
-
-#: Where the system forces its colours: an element with its colour, and its ground.
-FORCED = [
-    ('.square.wrong .number', 'fill', '.square.wrong rect', 'fill'),
-    ('.clue.wrong text', 'fill', '.clue.wrong rect', 'fill'),
-    ('[data-do=marks]', 'color', '[data-do=marks]', 'backgroundColor'),
-    ('[data-do=undo]', 'color', '[data-do=undo]', 'backgroundColor'),
-]
-
-
-@pytest.mark.parametrize('scheme', ['light', 'dark'])
-def test_forced_colours(piped: Player, browser: Browser, scheme: str) -> None:
-    """What is wrong is read on its mark, and a pressed button is another than the others."""
-    piped.sit(TOWERS)
-    browser.media(features={'forced-colors': 'active', 'prefers-color-scheme': scheme})
-    piped.press('2<right>2p')
-    piped.driver.wait_for('document.querySelector(".clue.wrong") && document.querySelector(".square.wrong") && document.querySelector("[data-do=marks]").ariaPressed === "true"')
-    for one, colour, other, ground in FORCED:
-        values = piped.value(f'[["{one}", "{colour}"], ["{other}", "{ground}"]].map(([what, name]) => getComputedStyle(document.querySelector(what))[name])')
-        assert contrast(*map(luminance, values)) >= 4.5, (one, values)
-    pressed, usual = piped.value('["marks", "undo"].map((name) => getComputedStyle(document.querySelector(`[data-do=${name}]`)).backgroundColor)')
-    assert contrast(luminance(pressed), luminance(usual)) >= 3
-
-
-def luminance(colour: str) -> float:
-    """As the rules for the web define it, of a colour as a style sheet has it, or as a browser tells it."""
-    if colour.startswith('rgb'):
-        colour = ''.join(f'{int(part):02x}' for part in colour[colour.index('(') + 1 : -1].split(',')[:3])
-    digits = colour.lstrip('#')
-    digits = ''.join(2 * digit for digit in digits) if len(digits) == 3 else digits
-    parts = [int(digits[at : at + 2], 16) / 255 for at in (0, 2, 4)]
-    light: List[float] = [part / 12.92 if part <= 0.04045 else pow((part + 0.055) / 1.055, 2.4) for part in parts]
-    return sum(weight * part for weight, part in zip((0.2126, 0.7152, 0.0722), light))
-
-
-def contrast(one: float, other: float) -> float:
-    return (max(one, other) + 0.05) / (min(one, other) + 0.05)
 
 
 @pytest.mark.always
@@ -231,7 +164,7 @@ def play(keys: str) -> Callable[[Player], object]:
 def paper(player: Player) -> None:
     """As a browser tells of it before it prints: with a hint open, of which nothing is seen then."""
     play('m1h')(player)
-    player.told('Look at')
+    player.look('', told='Look at')
     player.value('dispatchEvent(new Event("beforeprint"))')
 
 
@@ -273,9 +206,9 @@ ALL_PICTURES: List[Picture] = [
     Picture('hint-look', 'towers:5!7', PHONE, play('h')),
     Picture('hint-reason', 'towers:5!7', LAPTOP, play('hh')),
     Picture('why-phone', 'unequal:5!7', PHONE, play('H<down>')),
-    Picture('new-game', TOWERS, SMALL, lambda player: player.opens('n', '#fresh')),
-    Picture('menu', UNEQUAL, PHONE, lambda player: player.click('Menu')),
-    Picture('rules', TOWERS, PHONE, lambda player: player.opens('?', '#rules')),
+    Picture('new-game', TOWERS, SMALL, lambda player: player.look('n', is_shown='#fresh')),
+    Picture('menu', UNEQUAL, PHONE, lambda player: player.look('{Menu}')),
+    Picture('rules', TOWERS, PHONE, lambda player: player.look('?', is_shown='#rules')),
     Picture('filled-in-zoomed', puzzle('towers', 6), (683, 384), lambda player: player.look('S', answer='Yes', told='Filled in')),
     Picture('number-first', 'unequal-5-easy-7', PHONE, number_first),
     Picture('course', UNEQUAL, SMALL, learn('1')),

@@ -1,6 +1,7 @@
-"""Very small windows, colours that the system forces, and paper."""
+"""Very small windows, contrast in both lights, colours that the system forces, and paper."""
 
-from typing import Tuple
+import json
+from typing import List, Sequence, Tuple
 
 import pytest
 
@@ -69,3 +70,70 @@ def test_paper(piped: Player, browser: Browser, room: Room) -> None:
     paper = said('pdftotext', f'{room.path}/board.pdf', '-')
     assert f'{before.rpartition(" ")[0]} #towers-5-easy-7' in paper and '0:0' not in paper
     assert piped.value('document.querySelectorAll(".square .left").length') > 0
+
+
+#: Colours of what is read on a ground, and of what else has to be seen beside another, with the contrast that is owed.
+CONTRASTS: List[Tuple[float, str, Sequence[str]]] = [
+    (4.5, 'ink', ['paper', 'square', 'given', 'lane', 'given-lane', 'same', 'rests', 'struck', 'button']),
+    (4.5, 'own', ['square', 'lane', 'same', 'rests', 'struck', 'button']),
+    (4.5, 'left', ['square', 'rests', 'struck']),
+    (4.5, 'soft', ['paper', 'square', 'lane', 'button']),
+    (4.5, 'wrong', ['paper', 'wrong-tint']),
+    (4.5, 'on-main', ['main']),
+    (3.0, 'line', ['paper', 'square']),
+    (3.0, 'frame', ['paper', 'square']),
+    (3.0, 'chosen', ['paper', 'square', 'given', 'lane', 'same', 'rests', 'struck']),
+    (3.0, 'hint', ['paper', 'square', 'given', 'rests']),
+    (3.0, 'wrong', ['struck']),
+]
+
+
+@pytest.mark.always
+@pytest.mark.parametrize('scheme', ['light', 'dark'])
+def test_contrast(piped: Player, browser: Browser, scheme: str) -> None:
+    piped.sit(TOWERS)
+    browser.media(features={'prefers-color-scheme': scheme})
+    names = sorted({name for _, colour, grounds in CONTRASTS for name in (colour, *grounds)})
+    values = piped.value(f'{json.dumps(names)}.map(name => getComputedStyle(document.documentElement).getPropertyValue("--" + name).trim())')
+    light = {name: luminance(value) for name, value in zip(names, values)}
+    assert light['paper'] > 0.8 if scheme == 'light' else light['paper'] < 0.1
+    found = [(colour, ground, contrast(light[colour], light[ground]), owed) for owed, colour, grounds in CONTRASTS for ground in grounds]
+    assert [row for row in found if row[2] < row[3]] == []
+
+
+#: Where the system forces its colours: an element with its colour, and its ground.
+FORCED = [
+    ('.square.wrong .number', 'fill', '.square.wrong rect', 'fill'),
+    ('.clue.wrong text', 'fill', '.clue.wrong rect', 'fill'),
+    ('[data-do=marks]', 'color', '[data-do=marks]', 'backgroundColor'),
+    ('[data-do=undo]', 'color', '[data-do=undo]', 'backgroundColor'),
+]
+
+
+@pytest.mark.parametrize('scheme', ['light', 'dark'])
+def test_forced_colours(piped: Player, browser: Browser, scheme: str) -> None:
+    """What is wrong is read on its mark, and a pressed button is another than the others."""
+    piped.sit(TOWERS)
+    browser.media(features={'forced-colors': 'active', 'prefers-color-scheme': scheme})
+    piped.press('2<right>2p')
+    piped.driver.wait_for('document.querySelector(".clue.wrong") && document.querySelector(".square.wrong") && document.querySelector("[data-do=marks]").ariaPressed === "true"')
+    for one, colour, other, ground in FORCED:
+        values = piped.value(f'[["{one}", "{colour}"], ["{other}", "{ground}"]].map(([what, name]) => getComputedStyle(document.querySelector(what))[name])')
+        assert contrast(*map(luminance, values)) >= 4.5, (one, values)
+    pressed, usual = piped.value('["marks", "undo"].map((name) => getComputedStyle(document.querySelector(`[data-do=${name}]`)).backgroundColor)')
+    assert contrast(luminance(pressed), luminance(usual)) >= 3
+
+
+def luminance(colour: str) -> float:
+    """As the rules for the web define it, of a colour as a style sheet has it, or as a browser tells it."""
+    if colour.startswith('rgb'):
+        colour = ''.join(f'{int(part):02x}' for part in colour[colour.index('(') + 1 : -1].split(',')[:3])
+    digits = colour.lstrip('#')
+    digits = ''.join(2 * digit for digit in digits) if len(digits) == 3 else digits
+    parts = [int(digits[at : at + 2], 16) / 255 for at in (0, 2, 4)]
+    light: List[float] = [part / 12.92 if part <= 0.04045 else pow((part + 0.055) / 1.055, 2.4) for part in parts]
+    return sum(weight * part for weight, part in zip((0.2126, 0.7152, 0.0722), light))
+
+
+def contrast(one: float, other: float) -> float:
+    return (max(one, other) + 0.05) / (min(one, other) + 0.05)
