@@ -11,9 +11,7 @@ import pytest
 
 from arm_build.program import KIT_C
 from building.kit import command
-from tests.harness import Room, run
-from tests.harness.builds import TOP
-from tests.harness.room import Skip
+from tests.harness import TOP, Room, Skip, run
 
 #: What is wrong, the right code, and the code that does so.
 ROWS = [

@@ -1,4 +1,4 @@
 """The board in a terminal, and its line mode: games that are played, windows that are closed, files that can't be read, programs that end.
 
-`front` plays on the board, `playing` in the line mode; `pictures/` has the board at each size.
+`playing` plays on the board and in the line mode; `pictures/` has the board at each size.
 """

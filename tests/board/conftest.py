@@ -1,21 +1,11 @@
 """The board that is played on."""
 
-from __future__ import annotations
-
 import pytest
 
-from tests.board.front import BoardFront
-from tests.harness import Room
-from tests.harness.builds import TOP
-
-PATH = str(TOP / 'board' / 'puzzles-play')
+from tests.board.playing import BoardFront
+from tests.harness import TOP, Room
 
 
 @pytest.fixture
 def front(objects: str, room: Room) -> BoardFront:
-    return BoardFront(PATH, objects, room)
-
-
-@pytest.fixture
-def front_path() -> str:
-    return PATH
+    return BoardFront(str(TOP / 'board' / 'puzzles-play'), objects, room)

@@ -1,16 +1,18 @@
-"""New games by words of the command line, IDs that are printed, and what is remembered of either."""
-
-from __future__ import annotations
+"""New games by words of the command line, IDs that are printed, and what is remembered of either; and the stored puzzles, of the grades that have no fair
+games: each has one solution, by the program's own solver."""
 
 import os
 import re
 import time
-from typing import List, NamedTuple, Sequence, Tuple
+from pathlib import Path
+from typing import List, Tuple
 
 import pytest
 
-from tests.board.front import BoardFront
-from tests.harness import Room, by_name, run
+from playing import fair as fair_games
+from playing.games import GRADES, SIZES, bank_path, letters, stored
+from tests.board.playing import BoardFront
+from tests.harness import Room, by_words, run
 from tests.second_implementation.fair import fair
 
 TODAY = time.strftime('%Y%m%d')
@@ -37,36 +39,22 @@ def test_ids(front: BoardFront, room: Room, words: List[str], pattern: str, coun
     assert room.paths() == []
 
 
-class Numbered(NamedTuple):
-    """Words, and which fair games' IDs they print, from a number on."""
-
-    words: Sequence[str]
-    game: str
-    size: int
-    letter: str
-    number: int
-    many: int = 1
-
-    @property
-    def name(self) -> str:
-        return ' '.join(self.words)
-
-
-NUMBERED = [
-    Numbered(['towers', '6', 'hard', 'number', '20261126', '3'], 'towers', 6, 'h', 20261126, 3),
-    Numbered(['number', '0', 'unequal', 'trivial', '7'], 'unequal', 7, 't', 0),
-    Numbered(['unequal', '4', 'number', '18446744073709551615', '2'], 'unequal', 4, 'e', 2**64 - 1, 2),
-    Numbered(['towers', 'today'], 'towers', 5, 'e', int(TODAY)),
-    Numbered(['unequal', 'TODAY', '6', 'Tricky'], 'unequal', 6, 'k', int(TODAY)),
+#: Words, and which fair games' IDs they print, from a number on.
+NUMBERED: List[Tuple[List[str], str, int, str, int, int]] = [
+    (['towers', '6', 'hard', 'number', '20261126', '3'], 'towers', 6, 'h', 20261126, 3),
+    (['number', '0', 'unequal', 'trivial', '7'], 'unequal', 7, 't', 0, 1),
+    (['unequal', '4', 'number', '18446744073709551615', '2'], 'unequal', 4, 'e', 2**64 - 1, 2),
+    (['towers', 'today'], 'towers', 5, 'e', int(TODAY), 1),
+    (['unequal', 'TODAY', '6', 'Tricky'], 'unequal', 6, 'k', int(TODAY), 1),
 ]
 
 
-@pytest.mark.parametrize('row', NUMBERED, ids=by_name)
-def test_numbers(front: BoardFront, room: Room, row: Numbered) -> None:
+@pytest.mark.parametrize(('words', 'game', 'size', 'letter', 'number', 'many'), by_words(NUMBERED))
+def test_numbers(front: BoardFront, room: Room, words: List[str], game: str, size: int, letter: str, number: int, many: int) -> None:
     """The same number gives the same game, as the second implementation makes it; after the last one comes 0."""
-    ended = run([front.path, '--ids', *sorted(row.words, key=lambda word: word != row.game)], room, env=front.env())
-    made = [fair(row.game, row.size, row.letter, (row.number + at) % 2**64).description() for at in range(row.many)]
-    assert ended.output.decode().splitlines() == [f'{row.size}d{row.letter}:{description}' for description in made]
+    ended = run([front.path, '--ids', *sorted(words, key=lambda word: word != game)], room, env=front.env())
+    made = [fair(game, size, letter, (number + at) % 2**64).description() for at in range(many)]
+    assert ended.output.decode().splitlines() == [f'{size}d{letter}:{description}' for description in made]
 
 
 def test_few(front: BoardFront, room: Room) -> None:
@@ -85,61 +73,72 @@ def test_words(front: BoardFront, room: Room) -> None:
         (['7'], ['Towers 7x7', 'hard', '0 of ']),
         (['towers', 'today'], ['Towers 7x7', f'Hard 7, number {TODAY}. That number is always this game.']),
     ]:
-        with front.window(words) as window:
-            window.look('', shows)
-            window.leave('q')
-    with front.window([]) as window:
+        front.shows(words, *shows)
+    with front.window([], leave='q') as window:
         window.look('n', ['[Towers]', '[7]', '[hard]', '[random]'])
         window.look('<up><up><right>', ['[Unequal]', '[6]', '[extreme]', '200 puzzles, 199 of them new to you'])
         window.look('q', ['Towers 7x7'], ['A new game'])
-        window.leave('q')
     for path in [path for path in room.paths() if path.endswith('.sav')]:
         room.remove(path)
     for words, shows in [(['unequal'], ['Unequal 6x6', 'extreme']), (['towers'], ['Towers 7x7', 'hard', 'Hard 7, number '])]:
-        with front.window(words) as window:
-            window.look('', [*shows, 'A new game. Arrows move, 1-9 put a number in. h: a hint, ?: all keys.'])
-            window.leave('q')
+        front.shows(words, *shows, 'A new game. Arrows move, 1-9 put a number in. h: a hint, ?: all keys.')
 
 
 def test_first(front: BoardFront) -> None:
     """On a machine where nothing was played yet."""
-    with front.window([]) as window:
-        window.look('', ['Towers 5x5', 'easy', 'Easy 5, number ', 'A new game. Arrows move, 1-9 put a number in. h: a hint, ?: all keys.'])
-        window.leave('q')
+    front.shows([], 'Towers 5x5', 'easy', 'Easy 5, number ', 'A new game. Arrows move, 1-9 put a number in. h: a hint, ?: all keys.')
 
 
 def test_words_in_lines(front: BoardFront, room: Room) -> None:
-    with front.window(['--lines', 'unequal', '4', 'trivial']) as window:
+    with front.window(['--lines', 'unequal', '4', 'trivial'], leave='q<enter>') as window:
         window.look('', ['To play it again:', 'new 4 trivial number ', 'unequal 1/1>'])
         window.look('id<enter>', ['4dt:'])
         window.look('new 3<enter>', ['To play it again:', 'new 3 trivial number '])
         window.look('new today<enter>', [f'new 3 trivial number {TODAY}'])
         window.look('new 9 recursive<enter>', ['Of size 9 there are puzzles of the grades trivial, easy, tricky and extreme.'])
         window.look('new 8<enter>', ['new 8 trivial number '])
-        window.leave('q<enter>')
-    with front.window(['unequal', '9', 'hard'], (24, 120)) as window:
-        window.look('', ["Unequal has no grade 'hard': trivial, easy, tricky, extreme or recursive."])
-        assert window.status() == 2, 'the status of a grade of the other game'
+    front.shows(['unequal', '9', 'hard'], "Unequal has no grade 'hard': trivial, easy, tricky, extreme or recursive.", size=(24, 120), leave='', status=2)
 
 
 def test_a_file_first(front: BoardFront, room: Room) -> None:
     """A word that is the name of a file is the file."""
     room.put('6', b'no save')
-    with front.window(['towers', '6']) as window:
-        window.look('', ["This is not a save file of the collection"])
-        assert window.status() == 3, 'the status'
-    os.remove(os.path.join(room.path, '6'))
-    with front.window(['towers', '6']) as window:
-        window.look('', ['Towers 6x6', 'easy'])
+    front.shows(['towers', '6'], "This is not a save file of the collection", leave='', status=3)
+    room.remove('6')
+    front.shows(['towers', '6'], 'Towers 6x6', 'easy')
 
 
 def test_no_place_for_choices(front: BoardFront, room: Room) -> None:
     """What is in the place of the choices stays, and they hold until the board is left."""
-    os.makedirs(os.path.join(room.path, 'state', 'puzzles', 'choices'))
-    with front.window(['towers', '4', 'hard']) as window:
+    choices = room.lay('state/puzzles/choices')
+    with front.window(['towers', '4', 'hard'], leave='qq') as window:
         window.look('', ['Towers 4x4', 'hard'])
         window.look('M', ['From now on, marks go when'])
         window.look('M', ['From now on, marks stay'])
         window.look('n', ['[4]', '[hard]'])
-        window.leave('qq')
-    assert os.listdir(os.path.join(room.path, 'state', 'puzzles', 'choices')) == [], 'what was there'
+    assert os.listdir(choices) == [], 'what was there'
+
+
+#: One run takes so many.
+PIECE = 200
+
+
+@pytest.mark.parametrize('game', list(GRADES))
+def test_bank(program: str, room: Room, game: str) -> None:
+    ids = Path(bank_path(game)).read_text(encoding='ascii').splitlines()
+    for first in range(0, len(ids), PIECE):
+        piece = ids[first : first + PIECE]
+        text = ''.join(f'new {id}\nlist 2\n' for id in piece)
+        replies = run([program, game], room, input=text.encode(), seconds=120).output.decode().split('ok\n')[1:]
+        assert len(replies) == len(piece)
+        assert [(id, reply) for id, reply in zip(piece, replies) if len(reply.split()) != 1 or not reply.strip().isdigit()] == []
+
+
+@pytest.mark.parametrize('game', list(GRADES))
+def test_grades(game: str) -> None:
+    """Of each size there are such of the greater grades, but of the last one none of size 9, and of no grade that has fair games."""
+    above = [letter for letter in GRADES[game] if letter not in fair_games.OFFERED[game]]
+    for size in SIZES:
+        there = [letter for letter in GRADES[game] if stored(game, size, letter)]
+        assert there == (above if size < 9 else above[:1])
+        assert letters(game, size) == [*fair_games.letters(game, size), *there]

@@ -1,7 +1,5 @@
 """The course in a terminal: each card is still of its kind, and is played by keys and by lines; nothing that is kept is changed by it."""
 
-from __future__ import annotations
-
 import os
 from dataclasses import replace
 from typing import Dict, Iterator, List, Tuple
@@ -11,13 +9,9 @@ import pytest
 from playing.cards import CARDS, Card
 from playing.naming import name
 from playing.program import Program
-from tests.board.conftest import PATH
-from tests.board.front import BoardFront, BoardGame
-from tests.board.playing import Game, LineFront, Refused, Step
-from tests.harness import Room, by_name, run
-from tests.harness.bytecode import bytecode
+from tests.board.playing import BoardFront, BoardGame, Game, Step
+from tests.harness import Look, Room, by_name, run
 from tests.harness.cards import SHOWS, Shows
-from tests.harness.terminal import Look
 from tests.second_implementation.puzzles import Puzzle
 from tests.second_implementation.solving import solution_count
 from tests.second_implementation.towers import read_towers
@@ -81,41 +75,32 @@ def test_keys(front: BoardFront, room: Room, game: str) -> None:
 
 
 GAMES = [
-    BoardGame(
-        'another number is not put in, and hints, marks and undo are as in a game',
-        ['learn', 'towers'],
-        [
-            Look('1', ['Not yet. Look at clue 1 above', 'move 0/0']),
-            Look('<left>3', ['Not yet.', 'move 0/0']),
-            Look('<right>p1', ['PENCIL', 'move 1/1']),
-            Look('u', ['move 0/1', 'Card 1/6.']),
-            Look('h', ['Look at clue 1 above column 3.']),
-            Look('h', ['the nearest tower']),
-            Look('<right>', ['So r1c3 is 3', 'Enter puts it in']),
-            Look('<enter>', ['Right.', 'move 1/1']),
-            Look('<left>', ['Right. Enter: the next card.']),
-        ],
-        last='q',
-    ),
-    BoardGame(
-        'cards back and forth, and what is for games alone',
-        ['unequal', 'learn'],
-        [
-            Look('n', ['Card 2/7.']),
-            Look('n', ['Card 3/7.']),
-            Look('b', ['Card 2/7.']),
-            Look('bb', ['This is the first card.']),
-            Look('o', ['That is for games: q leaves']),
-            Look(':', ['That is for games: q leaves']),
-            Look('?', ['Keys of the course, and the rules of Unequal', 'n the next card']),
-            Look(' ', ['Card 1/7.']),
-            Look('nnnnnn', ['Card 7/7.', 'A sign leaves', 'h shows it.']),
-            Look('1', ['Not yet. Look at the sign']),
-            Look('h', ['Not even the board at the']),
-            Look('h', ['R1c3 is less than r1c4']),
-            Look('<right>', ['r1c3 has no number left']),
-        ],
-    ),
+    BoardGame('another number is not put in, and hints, marks and undo are as in a game', ['learn', 'towers'], [
+        Look('1', ['Not yet. Look at clue 1 above', 'move 0/0']),
+        Look('<left>3', ['Not yet.', 'move 0/0']),
+        Look('<right>p1', ['PENCIL', 'move 1/1']),
+        Look('u', ['move 0/1', 'Card 1/6.']),
+        Look('h', ['Look at clue 1 above column 3.']),
+        Look('h', ['the nearest tower']),
+        Look('<right>', ['So r1c3 is 3', 'Enter puts it in']),
+        Look('<enter>', ['Right.', 'move 1/1']),
+        Look('<left>', ['Right. Enter: the next card.']),
+    ], last='q'),
+    BoardGame('cards back and forth, and what is for games alone', ['unequal', 'learn'], [
+        Look('n', ['Card 2/7.']),
+        Look('n', ['Card 3/7.']),
+        Look('b', ['Card 2/7.']),
+        Look('bb', ['This is the first card.']),
+        Look('o', ['That is for games: q leaves']),
+        Look(':', ['That is for games: q leaves']),
+        Look('?', ['Keys of the course, and the rules of Unequal', 'n the next card']),
+        Look(' ', ['Card 1/7.']),
+        Look('nnnnnn', ['Card 7/7.', 'A sign leaves', 'h shows it.']),
+        Look('1', ['Not yet. Look at the sign']),
+        Look('h', ['Not even the board at the']),
+        Look('h', ['R1c3 is less than r1c4']),
+        Look('<right>', ['r1c3 has no number left']),
+    ]),
     BoardGame(
         'a small window',
         ['learn', 'unequal'],
@@ -132,47 +117,37 @@ def test_board(front: BoardFront, game: BoardGame) -> None:
 
 
 LINES = [
-    Game(
-        'by lines',
-        ['--lines', 'learn', 'unequal'],
-        [
-            Step([''], ['unequal 1/7> '], hides=['unequal 2/7']),
-            Step(['r1c1 1'], ['Not yet. Look at r2c1: one number is left there']),
-            Step(['r2c1 2'], ['r2c1 is 2', 'Right. Enter: the next card.']),
-            Step(['r1c1 1'], ['Right. Enter: the next card.', 'unequal 1/7> '], hides=['r1c1 is 1']),
-            Step([''], ['Which number follows in r2c1?', 'unequal 2/7> ']),
-            Step(['next'], ['unequal 3/7> ']),
-            Step(['back'], ['unequal 2/7> ']),
-            Step(['n', 'why'], ['1. R2c3 is less than r2c2: r2c3 is not 3.']),
-            Step(['hint'], ['So r2c3 is 2', 'Right.']),
-            Step(['open'], ['That is for games']),
-            Step(['load x'], ['That is for games']),
-            Step(['new 5!7'], ['That is for games', 'unequal 3/7> ']),
-            Step(['fair 5 e 7'], ['That is for games']),
-            Step(['help'], ['next, back             the next card']),
-            Step(['n', 'n', 'n', 'n'], ["'why' shows it.", 'unequal 7/7> ']),
-            Step(['why'], ['r1c3 has no number left']),
-            Step(['b'], ['unequal 6/7> ']),
-        ],
-        first=['All other numbers stand in its row or column. Which number follows in r2c1? Type r2c1 and it.'],
-    ),
+    Game('by lines', ['--lines', 'learn', 'unequal'], [
+        Step([''], ['unequal 1/7> '], hides=['unequal 2/7']),
+        Step(['r1c1 1'], ['Not yet. Look at r2c1: one number is left there']),
+        Step(['r2c1 2'], ['r2c1 is 2', 'Right. Enter: the next card.']),
+        Step(['r1c1 1'], ['Right. Enter: the next card.', 'unequal 1/7> '], hides=['r1c1 is 1']),
+        Step([''], ['Which number follows in r2c1?', 'unequal 2/7> ']),
+        Step(['next'], ['unequal 3/7> ']),
+        Step(['back'], ['unequal 2/7> ']),
+        Step(['n', 'why'], ['1. R2c3 is less than r2c2: r2c3 is not 3.']),
+        Step(['hint'], ['So r2c3 is 2', 'Right.']),
+        Step(['open'], ['That is for games']),
+        Step(['load x'], ['That is for games']),
+        Step(['new 5!7'], ['That is for games', 'unequal 3/7> ']),
+        Step(['fair 5 e 7'], ['That is for games']),
+        Step(['help'], ['next, back             the next card']),
+        Step(['n', 'n', 'n', 'n'], ["'why' shows it.", 'unequal 7/7> ']),
+        Step(['why'], ['r1c3 has no number left']),
+        Step(['b'], ['unequal 6/7> ']),
+    ], first=['All other numbers stand in its row or column. Which number follows in r2c1? Type r2c1 and it.']),
     Game('at the last card', ['--lines', 'learn'], [Step(['n', 'n', 'n', 'n', 'n'], ['towers 6/6> '])], last='n'),
 ]
 
 
 @pytest.mark.parametrize('game', LINES, ids=by_name)
-def test_lines(objects: str, room: Room, game: Game) -> None:
-    LineFront(PATH, room, objects).play(game)
+def test_lines(front: BoardFront, game: Game) -> None:
+    front.play_in_lines(game)
 
 
-NOTHING_ELSE = "'learn' takes the name of a game and --lines, and nothing else"
-
-REFUSED = [Refused(words, words.split(), 2, NOTHING_ELSE) for words in ('learn chess', 'learn 5', '--ids learn', 'towers 5 learn')]
-
-
-@pytest.mark.parametrize('refused', REFUSED, ids=by_name)
-def test_refused(objects: str, room: Room, refused: Refused) -> None:
-    LineFront(PATH, room, objects).refuse(refused)
+@pytest.mark.parametrize('words', ['learn chess', 'learn 5', '--ids learn', 'towers 5 learn'])
+def test_refused(front: BoardFront, words: str) -> None:
+    front.refuses(words.split(), "'learn' takes the name of a game and --lines, and nothing else")
 
 
 def files_in(folder: str) -> Dict[str, Tuple[bytes, float]]:
@@ -186,28 +161,23 @@ def files_in(folder: str) -> Dict[str, Tuple[bytes, float]]:
 
 def test_kept(front: BoardFront, room: Room) -> None:
     """The game before goes on afterwards, and each file is as it was; the last game's course comes where none is named."""
-    with front.window(['unequal', '3:0,0L,0L,0U,0,0,0U,0,0,']) as window:
+    with front.window(['unequal', '3:0,0L,0L,0U,0,0,0U,0,0,'], leave='q') as window:
         window.look('M2', ['move 1/1'])
-        window.leave('q')
     before = files_in(room.path)
     assert before
-    with front.window(['learn']) as window:
+    with front.window(['learn'], leave='q') as window:
         window.look('2<enter>M', ['From now on, marks go'])
-        window.leave('q')
     assert files_in(room.path) == before
-    with front.window([]) as window:
-        window.look('', ['Unequal 3x3', 'move 1/1'])
-        window.leave('q')
+    front.shows([], 'Unequal 3x3', 'move 1/1')
 
 
-def test_pipe(objects: str, room: Room) -> None:
+def test_pipe(front: BoardFront, room: Room) -> None:
     """All cards of a game by their numbers."""
     lines: List[str] = []
     for shows in SHOWS['towers']:
         lines += [f'{name((shows.square[1] - 1, shows.square[0] - 1))} {shows.number}'] if shows.square else []
         lines.append('')
-    env = {'PATH': os.environ['PATH'], 'PUZZLES_JSON': objects, 'HOME': room.path, 'LC_ALL': 'C', **bytecode()}
-    ended = run([PATH, '--lines', 'learn', 'towers'], room, env=env, input='\n'.join([*lines, '']).encode())
+    ended = run([front.path, '--lines', 'learn', 'towers'], room, env=front.env(), input='\n'.join([*lines, '']).encode())
     output = ended.output.decode()
     assert (ended.status, ended.error, output.count('Right. Enter: the next card.')) == (0, b'', 5)
     assert output.endswith("That was the course. 'puzzles-play' begins a game.\n")

@@ -1,8 +1,5 @@
 """The setter's desk: its drafts, how it is left and comes back, what takes long, and the desk in the line mode."""
 
-from __future__ import annotations
-
-import os
 import re
 import signal
 from typing import List, Optional, Sequence, Tuple
@@ -10,12 +7,8 @@ from typing import List, Optional, Sequence, Tuple
 import pytest
 
 from playing.desk import MOST, Draft, draft_in
-from tests.board.front import BoardFront
-from tests.harness import Room, run
-from tests.harness.builds import TOP
-from tests.harness.game import ID, save_text
-from tests.harness.mounts import fill, small_disk
-from tests.harness.room import Folder
+from tests.board.playing import BoardFront
+from tests.harness import ID, Folder, Room, fill, run, save_text, small_disk
 
 UNEQUAL = '3:0,0L,0L,0U,0,0,0U,0,0,'
 DRAFT = 'state/puzzles/towers-draft.ids'
@@ -54,13 +47,11 @@ def test_draft() -> None:
 
 def test_kept(front: BoardFront, room: Room) -> None:
     """It is there at the next start, with what can be undone; so is the other game's. The game is as it was, and its file has nothing of the desk."""
-    with front.window(['towers', ID]) as window:
-        window.look('1', ['move 1/1'])
+    with front.begun('q') as window:
         window.look('E<enter><up>1<down>1', ['change 2/2', '1 clue, 1 given'])
         window.look('n<up><up><right><down><down><enter>', ['Unequal 3x3', '0 signs, 0 given', 'change 0/0'])
         window.look('3', ['0 signs, 1 given', 'change 1/1'])
         window.look('q', ['1 of 9', 'move 1/1'])
-        window.leave('q')
     assert room.read(DRAFT) == KEPT.content
     assert room.read('state/puzzles/unequal-draft.ids') == Draft(('3:0,0,0,0,0,0,0,0,0,', '3:3,0,0,0,0,0,0,0,0,'), 1).content
     assert room.read('state/puzzles/towers.sav') == save_text(1)
@@ -78,35 +69,31 @@ def test_kept(front: BoardFront, room: Room) -> None:
 @pytest.mark.parametrize('content', [UNREAD[2], b'draft 1, puzzle 1\n3:/x\n'], ids=['another version', 'no puzzle'])
 def test_set_aside(front: BoardFront, room: Room, content: bytes) -> None:
     """A draft that can't be read stays and is named; the next one is kept beside it, and goes on later."""
-    os.makedirs(os.path.join(room.path, 'state/puzzles'))
+    room.lay('state/puzzles')
     room.put(DRAFT, content)
-    with front.window(['towers', ID]) as window:
+    with front.window(['towers', ID], leave='qq') as window:
         window.look('E', ['Check or set a puzzle', "towers-draft.ids can't be read as a draft, and stays as it is."])
         window.look('<escape>1', ['0 clues, 1 given'])
-        window.leave('qq')
     assert (room.read(DRAFT), room.read('state/puzzles/towers-draft-2.ids')) == (content, Draft((PUZZLES[0], '3:///////////,1h'), 1).content)
-    with front.window([]) as window:
+    with front.window([], leave='qq') as window:
         window.look('E', ['This is your draft', 'change 1/1'])
-        window.leave('qq')
 
 
 def test_windows(front: BoardFront, room: Room) -> None:
     """Another window keeps a draft of its own."""
-    with front.window(['towers', ID]) as window, front.window(['towers', '5!7']) as other:
+    with front.window(['towers', ID], leave='qq') as window, front.window(['towers', '5!7']) as other:
         window.look('E<enter>1', ['change 1/1'])
         other.look('E', ['Another window has the last draft; this one is kept in towers-draft-2.ids.'])
         other.look('<escape>2', ['change 1/1'])
         other.leave('qq')
         window.look('u', ['change 0/1'])
-        window.leave('qq')
     assert room.read(DRAFT) == Draft((PUZZLES[0], '3:///////////,1h'), 0).content
 
 
 def test_full_disk(front: BoardFront, room: Room) -> None:
     """What can't be kept is told, and each key tries again; leaving asks."""
-    os.mkdir(os.path.join(room.path, 'state'))
-    with small_disk(os.path.join(room.path, 'state'), 1 << 16), Folder('state', room) as disk:
-        with front.window(['towers', ID]) as window:
+    with small_disk(room.lay('state'), 1 << 16), Folder('state', room) as disk:
+        with front.window(['towers', ID], leave='qq') as window:
             window.look('E<enter>1', ['change 1/1'])
             fill(disk)
             window.look('2', ['change 2/2', 'The draft is not kept: No space left on device.'])
@@ -115,49 +102,6 @@ def test_full_disk(front: BoardFront, room: Room) -> None:
             disk.remove('filler')
             window.look('<right>', ['change 2/2'], ['is not kept'])
             assert (disk.read('puzzles/towers-draft.ids') or b'').startswith(b'draft 1, puzzle 3\n')
-            window.leave('qq')
-
-
-def slow() -> str:
-    """The ID of a puzzle whose items take minutes."""
-    lines = (TOP / 'bench' / 'hard_families.txt').read_text(encoding='ascii').splitlines()
-    return next(line.split()[2] for line in lines if line.startswith('unequal climbed'))
-
-
-def test_long(front: BoardFront) -> None:
-    """An answer that takes long says so; the next key ends that, and does its work."""
-    with front.window(['unequal', slow()]) as window:
-        window.look('E<left><enter>', ['89 signs, 0 given', 'Looking for solutions. The next key ends that.'])
-        window.look('<right><right>3', ['89 signs, 1 given', 'No solution. h shows it in ', 'Looking for solutions.'])
-        window.look('h', ['1 of ', 'arrows walk'], ['Looking'])
-        window.look('<escape>', ['Looking for solutions.'])
-        window.look('uu', ['0 signs, 0 given', 'Several solutions.'], ['Looking'])
-        window.leave('qq')
-
-
-def test_long_lines(front: BoardFront) -> None:
-    """In the line mode Ctrl-C ends it."""
-    with front.window(['--lines', 'unequal', slow()]) as window:
-        window.look('desk<enter>', ['0 signs, 0 given; several solutions', 'unequal desk 0/0>'])
-        window.look('game<enter>', ['89 signs, 0 given; no solution', 'unequal desk 1/1>'])
-        window.look('check<enter>', ['unequal desk 1/1> check The program is at work: Ctrl-C stops it.'])
-        window.look('<ctrl-c>', ['No solution. No chain of steps shows it; all ways were tried.', 'Stopped. Nothing has changed.', 'unequal desk 1/1>'])
-        window.leave('q<enter>q<enter>')
-
-
-def test_lines_and_back(front: BoardFront) -> None:
-    """T goes to the line mode at the desk, and comes back to it."""
-    with front.window(['towers', ID]) as window:
-        window.look('E<enter>1', ['0 clues, 1 given'])
-        window.look('T', ['0 clues, 1 given; several solutions', 'towers desk 1/1>'])
-        window.look('clue above 1 3<enter>', ['clue 3 above column 1; several solutions', 'towers desk 2/2>'])
-        window.look('T<enter>', ['1 clue, 1 given', 'change 2/2', 'This is your draft'])
-        window.look('T', ['towers desk 2/2>'])
-        window.look('E<enter>', ['towers 1/1>'])
-        window.look('E<enter>', ['towers desk 2/2>'])
-        window.look('game<enter>', ['2 clues, 0 given; exactly one solution', 'towers desk 3/3>'])
-        window.look('p<enter>', ['towers 1/1>'])
-        window.leave('q<enter>')
 
 
 #: What is typed to the desk of a game, and what is answered.

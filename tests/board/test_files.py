@@ -1,7 +1,5 @@
 """Games that are begun, put away, opened and saved on the board, and the stored puzzles."""
 
-from __future__ import annotations
-
 import os
 import re
 import time
@@ -10,9 +8,8 @@ from typing import List, Set, Tuple
 
 from playing import games
 from playing.state import SOLVED_GAMES, State
-from tests.board.front import BoardFront
-from tests.harness import Room
-from tests.harness.game import ID, save_text
+from tests.board.playing import BoardFront
+from tests.harness import ID, Room, save_text
 from tests.second_implementation.fair import fair
 
 SAVE = save_text(2)
@@ -38,8 +35,7 @@ SAVES: List[Tuple[bytes, bytes, str]] = [
 
 def test_put_away(front: BoardFront, room: Room) -> None:
     """The present game is put away, and comes back from there."""
-    with front.window(['towers', ID]) as window:
-        window.look('1', ['1 of 9'])
+    with front.begun('qq') as window:
         window.look('n', ['A new game', '[easy]', '[random]'])
         window.look('<right>', ['[extreme]', '50 puzzles, 50 of them new to you'], ['random'])
         window.look('<enter>', ['0 of ', 'Towers 3x3   extreme'])
@@ -49,13 +45,12 @@ def test_put_away(front: BoardFront, room: Room) -> None:
         window.look('o', ['0 Towers 3x3, ID 3:3//////3/////, 1 of 9, ', 'a file ..'])
         window.look('0', ['Towers 3x3', '1 of 9', 'move 1/1'])
         window.look('o', ['0 a file ..'])
-        window.leave('qq')
     assert room.read('state/puzzles/towers.sav') == save_text(1), 'it is the present one'
 
 
 def test_number(front: BoardFront, room: Room) -> None:
     """A fair game tells its number, by which it is played again: typed in the menu, or after the name of the command."""
-    with front.window(['unequal', '3!7']) as window:
+    with front.window(['unequal', '3!7'], leave='xq') as window:
         window.look('n', ['[trivial]', '[random]'])
         window.look('<right>6<enter>', ['Unequal 6x6   easy', 'Easy 6, number ', 'That number is always this game.'])
         told = re.search(r'number (\d+)\.', ' '.join(window.screen.text()))
@@ -69,50 +64,20 @@ def test_number(front: BoardFront, room: Room) -> None:
         window.look('<enter>', ['0 of'], ['A new game'])
         window.look('i', ['The ID of this puzzle', 'any key goes back'])
         assert window.reads(first), 'the same puzzle'
-        window.leave('xq')
     id = ''.join(line.strip() for line in first[1 : first.index('')])
     assert id == f'6de:{fair("unequal", 6, "e", int(told[1])).description()}'
-    with front.window(['unequal']) as window:
+    with front.window(['unequal'], leave='xq') as window:
         window.look('i', ['The ID of this puzzle', 'any key goes back'])
         assert window.reads(first), 'it goes on, and its number is known'
-        window.leave('xq')
-    with front.window(['unequal', 'number', told[1]]) as window:
+    with front.window(['unequal', 'number', told[1]], leave='xq') as window:
         window.look('i', ['The ID of this puzzle', 'any key goes back'])
         assert window.reads(first), 'the same puzzle'
-        window.leave('xq')
-
-
-def test_menu(front: BoardFront) -> None:
-    """The game on the board is offered, and not what was chosen last; what is refused stays in the menu, with a sentence."""
-    with front.window(['towers', '6', 'hard']) as window:
-        window.look(':new 4de:////2///////////2,c2b4i<enter>', ['Towers 4x4'])
-        window.look('n', ['[Towers]', '[4]', '[easy]', '[random]'])
-        window.look('<down><right><right><enter>', ['A new game', 'Type the number: digits.'])
-        window.look('99999999999999999999', ['[typed: 9999999999999999999]', 'A number goes from 0 to 18446744073709551615'])
-        window.look('<up><right><right><right><right><enter>', ['ID, or a number as the seed:'])
-        window.look('7#7<enter>', ['A new game', "There, copy the game ID, which has ':'."])
-        window.look('<up><right>', ['[5]'], ['copy the game ID'])
-        window.look('q', ['Towers 4x4', '0 of 14'])
-        window.leave('q')
-
-
-def test_typed_line(front: BoardFront) -> None:
-    """The program's own line begins a game, too, and what it refuses is told."""
-    with front.window(['towers', ID]) as window:
-        window.look('1', ['1 of 9'])
-        window.look(':fair 5 e 7<enter>', ['Towers 5x5   easy', '0 of '])
-        window.look('i', ['puzzles-play towers 5 easy number 7'])
-        window.look('x', ['Towers 5x5'])
-        window.look('o', ['Towers 3x3, ID 3:3//////3/////, 1 of 9'])
-        window.look('q:fair 3 h 7<enter>', ["The grades of such games are 'e' and 'h', 'h' from size 4 on."])
-        window.look(':fair<enter>', ["'fair 5 e 20261126' begins a game"])
-        window.leave('q')
 
 
 def test_saved(front: BoardFront, room: Room) -> None:
     """A file that is no save is written over only after a question, and no other file is left."""
     room.put('notes.txt', b'not a save\n')
-    with front.window(['towers', ID]) as window:
+    with front.window(['towers', ID], leave='q') as window:
         window.look('1<right>2', ['2 of 9'])
         window.look('wFOLDER/notes.txt<enter>', ['notes.txt exists, and is not a save. Overwrite it? y/N'])
         window.look('<enter>', ['Nothing was saved.'])
@@ -123,9 +88,7 @@ def test_saved(front: BoardFront, room: Room) -> None:
         assert room.read('a game.sav') == save_text(3), 'the save again'
         window.look('wFOLDER/notes.txt<enter>y', ['Saved in FOLDER/notes.txt'])
         window.look('wFOLDER/nothing/game.sav<enter>', ["There is no folder 'FOLDER/nothing'."])
-        window.leave('q')
-    with front.window([os.path.join(room.path, 'a game.sav')]) as window:
-        window.look('', ['3 of 9', 'move 3/3'])
+    front.shows([os.path.join(room.path, 'a game.sav')], '3 of 9', 'move 3/3')
     assert [path for path in room.paths() if not path.startswith('state/')] == ['a game.sav', 'notes.txt'], 'what lies there'
 
 
@@ -137,11 +100,9 @@ def test_listed(front: BoardFront, room: Room) -> None:
     for at, name in enumerate(('other.sav', 'bad.sav')):
         os.utime(os.path.join(room.path, name), (1e9 - at, 1e9 - at))
     room.put('notes.txt', b'not a save')
-    with front.window(['unequal', '3!7']) as window:
+    with front.window(['unequal', '3!7'], leave='q') as window:
         window.look('1', ['1 of 7'])
-        window.leave('q')
-    with front.window(['towers', ID]) as window:
-        window.look('1', ['1 of 9'])
+    with front.begun('<escape>q') as window:
         shows = ['0 Unequal 3x3, ID 3:', ', 1 of 7, in play, ', '1 a file ..', 'mine.sav: Towers 3x3, ID 3:3//////3/////, 3 of 9']
         shows += ['other.sav: Keen, not played here', "bad.sav: save, can't be read"]
         window.look('o', shows, ['notes.txt'])
@@ -151,16 +112,14 @@ def test_listed(front: BoardFront, room: Room) -> None:
         window.look('o', ['0', 'Towers 3x3, ID 3:3//////3/////, 1 of 9, in play', 'mine.sav'])
         window.look('<down><down><enter>', ['Towers 3x3', '3 of 9'], ['Go on'])
         window.look('<right>w', ['save as: mine.sav'])
-        window.leave('<escape>q')
 
 
 def test_names(front: BoardFront, room: Room) -> None:
     """Tab completes the name of a file, and `w` offers one that is free."""
-    os.mkdir(os.path.join(room.path, 'saves'))
+    room.lay('saves')
     for name in ('saves/one.sav', 'saves/one more.sav', 'towers-3.sav'):
         room.put(name, SAVE)
-    with front.window(['towers', ID]) as window:
-        window.look('1', ['1 of 9'])
+    with front.begun('<escape>q') as window:
         window.look('w', ['save as: towers-3-2.sav'])
         window.look('<enter>', ['Saved in towers-3-2.sav'])
         assert room.read('towers-3-2.sav') == save_text(1), 'the save'
@@ -168,18 +127,15 @@ def test_names(front: BoardFront, room: Room) -> None:
         window.look('<tab>', ['one more.sav  one.sav', 'open the file: saves/one'])
         window.look('.<tab><enter>', ['2 of 9'])
         window.look('wsaves/<tab>', ['save as: saves/one'])
-        window.leave('<escape>q')
-    with front.window(['--lines', 'towers', ID]) as window:
+    with front.window(['--lines', 'towers', ID], leave='q<enter>') as window:
         window.look('', ['towers 1/1>'])
         window.look('load sa<tab><tab>', ['load saves/one'])
         window.look(' m<tab><enter>', ['load saves/one more.sav', 'towers 3/3>'])
         window.look('x<tab><enter>', ['There is no such command'])
-        window.leave('q<enter>')
 
 
 def test_refused_saves(front: BoardFront, room: Room) -> None:
-    with front.window(['towers', ID]) as window:
-        window.look('1', ['1 of 9'])
+    with front.begun() as window:
         for old, new, sentence in SAVES:
             room.put('edited.sav', SAVE.replace(old, new, 1))
             window.look('o0FOLDER/edited.sav<enter>', [sentence, '1 of 9'])
@@ -204,7 +160,7 @@ def test_kept(front: BoardFront, room: Room) -> None:
 
 def test_unfinished_stays(front: BoardFront, room: Room) -> None:
     """Five moves in a large game outlast eleven small games, solved or not, and the list has them all, no two lines alike."""
-    with front.window(['towers', '9', 'hard', 'number', '1']) as window:
+    with front.window(['towers', '9', 'hard', 'number', '1'], leave='xq') as window:
         window.look('m1u', ['move 1/2'])
         for seed in range(11):
             window.look(f':fair 3 e {seed}<enter>', ['Towers 3x3'])
@@ -216,16 +172,14 @@ def test_unfinished_stays(front: BoardFront, room: Room) -> None:
         window.look('<up><up>', ['a file'])
         window.look('<enter>', ['Towers 9x9', 'move 1/2'])
         window.look('i', ['puzzles-play towers 9 hard number 1'])
-        window.leave('xq')
 
 
 def test_deleted(front: BoardFront, room: Room) -> None:
     """A game of the list is deleted after a question, with what is kept beside it; a file of the player's isn't."""
     room.put('mine.sav', SAVE)
-    with front.window(['unequal', '3!7']) as window:
+    with front.window(['unequal', '3!7'], leave='q') as window:
         window.look('1', ['1 of 7'])
-        window.leave('q')
-    with front.window(['towers', '3', 'number', '7']) as window:
+    with front.window(['towers', '3', 'number', '7'], leave='qq') as window:
         window.look('m', ['move 1/1'])
         window.look(f':new {ID}<enter>', ['0 of 9'])
         window.look('o', ['0 Unequal 3x3', '1 Towers 3x3 easy, number 7', 'x deletes'])
@@ -234,14 +188,13 @@ def test_deleted(front: BoardFront, room: Room) -> None:
         window.look('xy', ['It is deleted.', '1 a file ..'], ['number 7'])
         window.look('<down>x', ['mine.sav is a file of yours'])
         window.look('<up><up>xy', ['It is deleted.', '0 a file ..'], ['Unequal'])
-        window.leave('qq')
     assert room.paths() == ['mine.sav', *(f'state/puzzles/{name}' for name in LEFT)], 'what lies there'
 
 
 def test_stored(front: BoardFront, room: Room) -> None:
     """None is offered again until all were."""
     state = State(front.env())
-    os.makedirs(os.path.join(room.path, 'state', 'puzzles'))
+    room.lay('state/puzzles')
     for game in games.GRADES:
         ids = games.stored(game, 9, 'x')
         taken: Set[str] = {str(games.take(state, game, 9, 'x')) for _ in ids}

@@ -1,20 +1,13 @@
 """A disk that is full, and has room again: nothing is lost, whatever ends the board then."""
 
-from __future__ import annotations
-
 import contextlib
-import os
-import signal
 from typing import Callable, Iterator, List, NamedTuple, Sequence, Tuple
 
 import pytest
 
-from tests.board.front import BoardFront
-from tests.harness import Room, by_name
-from tests.harness.game import ID, left_files, save_text
-from tests.harness.mounts import fill, small_disk
-from tests.harness.room import Folder
-from tests.harness.terminal import Terminal
+from tests.board.playing import BoardFront
+from tests.board.test_lives import ENDS as ENDS_OF_ALL
+from tests.harness import ID, Folder, Room, Terminal, by_name, fill, left_files, save_text, small_disk
 
 KEPT = 'puzzles/towers.sav'
 NOT_KEPT = 'The game is not kept: No space left on device'
@@ -36,15 +29,7 @@ def keys(text: str) -> Callable[[Terminal], None]:
     return lambda window: window.press(text)
 
 
-def by_signal(number: signal.Signals) -> Callable[[Terminal], None]:
-    return lambda window: window.signal(number)
-
-
-def close(window: Terminal) -> None:
-    window.close()
-
-
-SIGNALS: List[Tuple[Callable[[Terminal], None], int]] = [(by_signal(signal.SIGHUP), 129), (by_signal(signal.SIGTERM), 143), (close, 129)]
+SIGNALS: List[Tuple[Callable[[Terminal], None], int]] = [end[1:] for end in ENDS_OF_ALL if end[0] != 'the front is killed']
 FACES = [
     Face('the board', [], '1', '<right>2', ('1 of 9', '2 of 9'), ('?', 'any key goes back'), [(keys('q'), 0), (keys('<ctrl-c>'), 0), *SIGNALS]),
     Face(
@@ -58,8 +43,7 @@ ENDS = [(face, *end) for face in FACES for end in face.ends]
 @contextlib.contextmanager
 def full_disk(front: BoardFront, room: Room, face: Face) -> Iterator[Tuple[Terminal, Folder]]:
     """A move was made after the disk was full; the file has the game as it was before."""
-    os.mkdir(os.path.join(room.path, 'state'))
-    with small_disk(os.path.join(room.path, 'state'), 1 << 16), Folder('state', room) as disk:
+    with small_disk(room.lay('state'), 1 << 16), Folder('state', room) as disk:
         with front.window([*face.words, 'towers', ID]) as window:
             window.look(face.one, [face.shows[0]])
             fill(disk)
@@ -113,11 +97,10 @@ def test_no_room(front: BoardFront, room: Room) -> None:
 def test_late_folder(front: BoardFront, room: Room, face: Face) -> None:
     """A game that had no file gets one as soon as it can, and takes no other game's place."""
     room.link('state', 'later')
-    with front.window([*face.words, 'towers', ID]) as window:
+    with front.window([*face.words, 'towers', ID], leave='q' if face is FACES[0] else 'q<enter>') as window:
         window.look('', ['The game is not kept: nothing can be written to'])
-        os.makedirs(os.path.join(room.path, 'later', 'puzzles'))
+        room.lay('later/puzzles')
         room.put(f'later/{KEPT}', save_text(3))
         window.look(face.one, [face.shows[0]], ['not kept'] if face is FACES[0] else [])
-        window.leave('q' if face is FACES[0] else 'q<enter>')
     assert room.read(f'later/{KEPT}') == save_text(3), 'the other game'
     assert room.read('later/puzzles/towers-2.sav') == save_text(1), 'this one'

@@ -1,35 +1,26 @@
 """The board is killed at random moments of steady play: nothing that was on its screen is gone. `--kills 60` says how often, each time by another seed."""
 
-from __future__ import annotations
-
 import random
 import re
-import signal
-from typing import Callable, List, NamedTuple, Tuple
+from typing import NamedTuple, Tuple
 
 import pytest
 
-from tests.board.front import BoardFront
-from tests.harness import Room
-from tests.harness.terminal import Terminal
+from tests.board import test_lives as lives
+from tests.board.playing import BoardFront
+from tests.harness import Room, moves_of
 
 #: Boards without clues and givens, on which every mark can be set.
 BOARDS = [f'{size}:{"/" * (4 * size - 1)}' for size in (4, 6, 9)]
 
-#: How the board ends.
-ENDS: List[Tuple[str, Callable[[Terminal], None]]] = [
-    ('kill -9', lambda window: window.signal(signal.SIGKILL)),
-    ('a closed window', lambda window: window.close()),
-    ('a hangup', lambda window: window.signal(signal.SIGHUP)),
-]
+#: How the board ends: what ends it, and what can't be heard of.
+ENDS = [end[:2] for end in lives.ENDS if end[0] != 'TERM']
 
 #: How many keys are waited for, and how many more are pressed at once; and for how many seconds these are at work when the board is killed.
 WAITED, MORE, AT_WORK = (5, 40), (0, 6), 0.08
 
 #: How often it is killed, if `--kills` doesn't say.
 KILLS = 9
-
-KEPT = 'state/puzzles/towers.sav'
 
 
 class Played(NamedTuple):
@@ -72,10 +63,10 @@ class Player:
 
 def kept(room: Room) -> Played:
     """What a save has."""
-    save = room.read(KEPT) or b''
+    save = room.read(lives.KEPT) or b''
     position = re.search(rb'^STATEPOS:.:(.*)$', save, re.MULTILINE)
     assert position, save
-    return Played(tuple(re.findall(rb'^MOVE    :.:(.*)$', save, re.MULTILINE)), int(position[1]) - 1)
+    return Played(tuple(moves_of(save)), int(position[1]) - 1)
 
 
 def pytest_generate_tests(metafunc: pytest.Metafunc) -> None:
@@ -102,6 +93,4 @@ def test_killed(front: BoardFront, room: Room, seed: int) -> None:
     found = kept(room)
     print(f'{seed}: {name}: {len(may_be[0].moves)} moves seen, {len(may_be) - 1} on the way, of which {may_be.index(found) if found in may_be else "?"} kept')
     assert found in may_be, f'{name}: {may_be[0].told} was seen, {found.told} is kept'
-    with front.window([]) as window:
-        window.look('', [found.told])
-        window.leave('q')
+    front.shows([], found.told)

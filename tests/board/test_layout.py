@@ -1,8 +1,6 @@
 """Where the board and its texts are in windows of many sizes; no terminal is needed for that."""
 
-from __future__ import annotations
-
-from typing import List, NamedTuple, Optional, Tuple
+from typing import Optional, Tuple
 
 import pytest
 
@@ -10,46 +8,31 @@ from board.layout import fit
 from board.picture import KEYS_ASIDE, KEYS_BELOW, Look, picture
 from playing.naming import Place
 from playing.program import Program
-from tests.harness import by_name
-from tests.harness.puzzles import made
+from tests.harness import made
 
 #: Two lines of 78 columns.
 MESSAGE = 'Here only one number is left: the deductions rule out all others, and a hint once more tells which one it is.'
 
 
-class Window(NamedTuple):
-    """The easy puzzle of a game in a window of so many lines and columns: the lines of a square, and where the message begins, by line and column."""
-
-    game: str
-    size: int
-    window: Tuple[int, int]
-    deep: int
-    message: Tuple[int, int]
-
-    @property
-    def name(self) -> str:
-        lines, columns = self.window
-        return f'{self.game} {self.size} in {columns}x{lines}'
-
-
-WINDOWS: List[Window] = [
-    Window('towers', 3, (24, 80), 5, (6, 45)),
-    Window('towers', 4, (24, 80), 3, (6, 41)),
-    Window('unequal', 4, (24, 80), 3, (6, 35)),
-    Window('towers', 5, (24, 80), 3, (6, 49)),
-    Window('unequal', 6, (24, 80), 1, (6, 51)),
-    Window('towers', 7, (24, 80), 1, (19, 1)),
-    Window('unequal', 7, (24, 80), 1, (17, 1)),
-    Window('towers', 8, (24, 80), 1, (21, 1)),
-    Window('unequal', 8, (24, 80), 1, (19, 1)),
-    Window('towers', 9, (24, 80), 1, (22, 1)),
-    Window('unequal', 9, (24, 80), 1, (21, 1)),
-    Window('unequal', 5, (43, 132), 7, (6, 83)),
-    Window('towers', 9, (43, 132), 3, (6, 81)),
-    Window('towers', 9, (60, 200), 5, (6, 117)),
-    Window('towers', 3, (60, 200), 7, (6, 57)),
-    Window('unequal', 4, (20, 40), 1, (11, 1)),
-    Window('unequal', 4, (22, 40), 3, (18, 1)),
+#: The easy puzzle of a game in a window of so many lines and columns: the lines of a square, and where the message begins, by line and column.
+WINDOWS = [
+    ('towers', 3, (24, 80), 5, (6, 45)),
+    ('towers', 4, (24, 80), 3, (6, 41)),
+    ('unequal', 4, (24, 80), 3, (6, 35)),
+    ('towers', 5, (24, 80), 3, (6, 49)),
+    ('unequal', 6, (24, 80), 1, (6, 51)),
+    ('towers', 7, (24, 80), 1, (19, 1)),
+    ('unequal', 7, (24, 80), 1, (17, 1)),
+    ('towers', 8, (24, 80), 1, (21, 1)),
+    ('unequal', 8, (24, 80), 1, (19, 1)),
+    ('towers', 9, (24, 80), 1, (22, 1)),
+    ('unequal', 9, (24, 80), 1, (21, 1)),
+    ('unequal', 5, (43, 132), 7, (6, 83)),
+    ('towers', 9, (43, 132), 3, (6, 81)),
+    ('towers', 9, (60, 200), 5, (6, 117)),
+    ('towers', 3, (60, 200), 7, (6, 57)),
+    ('unequal', 4, (20, 40), 1, (11, 1)),
+    ('unequal', 4, (22, 40), 3, (18, 1)),
 ]
 
 
@@ -73,18 +56,17 @@ def test_click(line: int, column: int, place: Optional[Place]) -> None:
     assert layout and layout.place_at(line, column) == place
 
 
-@pytest.mark.parametrize('window', WINDOWS, ids=by_name)
-def test_window(objects: str, window: Window) -> None:
+@pytest.mark.parametrize(('game', 'size', 'window', 'deep', 'message'), WINDOWS)
+def test_window(objects: str, game: str, size: int, window: Tuple[int, int], deep: int, message: Tuple[int, int]) -> None:
     """The message is beside the board, or right below it, and the keys are shown whatever it says."""
-    program = Program(objects, window.game, ['--id', made(window.game, window.size, 'e')[0]])
-    program.stop()
-    board = program.first.board
-    layout = fit(window.size, window.game == 'towers', *window.window)
+    with Program(objects, game, ['--id', made(game, size, 'e')[0]]) as program:
+        board = program.first.board
+    layout = fit(size, game == 'towers', *window)
     assert board and layout
     pieces = picture(board, layout, Look(message=MESSAGE))
     words = [piece for piece in pieces if piece.text.strip() and piece.text in MESSAGE and len(piece.text) > 2]
     shown = [piece.text for piece in pieces if piece.text in (*KEYS_ASIDE, *KEYS_BELOW)]
-    assert (layout.deep, words[0][:2]) == (window.deep, window.message)
+    assert (layout.deep, words[0][:2]) == (deep, message)
     assert ' '.join(piece.text for piece in words) == MESSAGE
     assert shown == KEYS_ASIDE if layout.side else len(shown) == 1
     assert len({piece.line for piece in words} | {piece.line for piece in pieces if piece.text in shown}) == len(words) + len(shown), 'no two on one line'

@@ -1,35 +1,28 @@
 """The line mode: what is typed to it, and what has to be seen then."""
 
-from __future__ import annotations
+from typing import List
 
 import pytest
 
-from tests.board.front import BoardFront
+from tests.board.playing import BoardFront, Game
 from tests.board.line_games import BOARD, GAMES, PIPED, REFUSED, SAVES
-from tests.board.playing import Game, LineFront, Refused
-from tests.harness import Room, by_name, run
-from tests.harness.game import ID, save_text
+from tests.harness import ID, Room, by_name, run, save_text
 
 
-@pytest.fixture
-def lines(front_path: str, room: Room, objects: str) -> LineFront:
-    return LineFront(front_path, room, objects)
-
-
-@pytest.mark.parametrize('refused', REFUSED, ids=by_name)
-def test_refused(lines: LineFront, refused: Refused) -> None:
-    lines.refuse(refused)
+@pytest.mark.parametrize(('words', 'says'), REFUSED)
+def test_refused(front: BoardFront, words: List[str], says: str) -> None:
+    front.refuses(words, says)
 
 
 @pytest.mark.parametrize('game', GAMES, ids=by_name)
-def test_game(lines: LineFront, game: Game) -> None:
-    lines.play(game)
+def test_game(front: BoardFront, game: Game) -> None:
+    front.play_in_lines(game)
 
 
-def test_saves(lines: LineFront) -> None:
+def test_saves(front: BoardFront) -> None:
     """Games in one folder: the others load what the first one saved."""
     for game in SAVES:
-        lines.play(game)
+        front.play_in_lines(game)
 
 
 @pytest.mark.parametrize(('lines', 'wanted'), PIPED)

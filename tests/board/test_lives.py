@@ -1,7 +1,5 @@
 """Terminals that are closed, resized and stopped, programs that are killed: and how the game goes on then."""
 
-from __future__ import annotations
-
 import os
 import signal
 import time
@@ -10,16 +8,14 @@ from typing import Callable, List, Tuple
 import pytest
 
 from board import manual
-from tests.board.front import BoardFront
-from tests.harness import SLOWNESS, Room, run
-from tests.harness.game import ID, save_text
-from tests.harness.terminal import Terminal
+from tests.board.playing import BoardFront
+from tests.harness import ID, SLOWNESS, Room, Terminal, run, save_text
 
 KEPT = 'state/puzzles/towers.sav'
 
 #: Whatever ends the front, and how the front ends then.
 ENDS: List[Tuple[str, Callable[[Terminal], None], int]] = [
-    ('the window is closed', lambda window: window.close(), 129),
+    ('the window is closed', Terminal.close, 129),
     ('HUP', lambda window: window.signal(signal.SIGHUP), 129),
     ('TERM', lambda window: window.signal(signal.SIGTERM), 143),
     ('the front is killed', lambda window: window.signal(signal.SIGKILL), -9),
@@ -65,9 +61,7 @@ def test_ended(front: BoardFront, room: Room, end: Callable[[Terminal], None], s
     others = [path for path in room.paths() if not path.startswith('state/puzzles/')]
     assert others == [], 'nothing lies elsewhere'
     assert all(is_gone(pid) for pid in programs), programs
-    with front.window([]) as window:
-        window.look('', ['Towers 3x3', '1 of 9', 'move 1/2'])
-        window.leave('q')
+    front.shows([], 'Towers 3x3', '1 of 9', 'move 1/2')
 
 
 def is_gone(pid: int) -> bool:
@@ -111,59 +105,51 @@ def test_stopped(front: BoardFront, room: Room) -> None:
 def test_without_home(front: BoardFront, room: Room) -> None:
     env = front.env()
     del env['HOME'], env['XDG_STATE_HOME']
-    with front.window(['towers', ID], env=env) as window:
+    with front.window(['towers', ID], env=env, leave='qy') as window:
         window.look('1', ['The game is not kept: neither XDG_STATE_HOME nor HOME names a folder.', '1 of 9'])
         window.look('q', ['Quit and lose it? y/N'])
         window.look('x', ['1 of 9'], ['y/N'])
         window.look('n<enter>', ["The present game can't be put away", 'Lose it? y/N'])
         window.look('x', ['The present game stays.', '1 of 9'])
-        window.leave('qy')
 
 
 def test_no_folder(front: BoardFront, room: Room) -> None:
     """Where games should be kept there is a file."""
     room.put('state', b'')
-    with front.window(['towers', ID]) as window:
+    with front.window(['towers', ID], leave='qy') as window:
         window.look('1', ['The game is not kept: nothing can be written to', '1 of 9'])
-        window.leave('qy')
 
 
 def test_damaged(front: BoardFront, room: Room) -> None:
     """What is kept and can't be read isn't lost either."""
-    os.makedirs(os.path.join(room.path, 'state', 'puzzles'))
+    room.lay('state/puzzles')
     room.put(KEPT, save_text(2)[:150])
-    with front.window(['towers'], (30, 100)) as window:
+    with front.window(['towers'], (30, 100), leave='qq') as window:
         window.look('', ["can't be read: That save is damaged (Missing)", 'Towers 5x5'])
         window.look('o', ["0 ", "towers, can't be read", 'a file ..'])
-        window.leave('qq')
     old = [path for path in room.paths() if path.startswith('state/puzzles/old/')]
     assert [room.read(path) for path in old] == [save_text(2)[:150]], 'it is put away'
 
 
 def test_two_windows(front: BoardFront, room: Room) -> None:
-    with front.window(['towers', ID]) as first:
+    with front.window(['towers', ID], leave='q') as first:
         first.look('1', ['1 of 9'])
-        with front.window(['towers', ID]) as second:
+        with front.window(['towers', ID], leave='q') as second:
             second.look('', ['Another window has the last game; this one is kept in towers-2.sav.'])
             second.look('1<right>2', ['2 of 9'], ['Another window'])
-            second.leave('q')
-        first.leave('q')
     assert [room.read(KEPT), room.read('state/puzzles/towers-2.sav')] == [save_text(1), save_text(2)], 'both games'
 
 
 def test_place_taken(front: BoardFront, room: Room) -> None:
     """A folder or a pipe that takes the place of the kept file while one plays stays, and the game is kept beside it."""
-    with front.window(['towers', ID]) as window:
-        window.look('1', ['1 of 9'])
+    with front.begun('q') as window:
         for at, make in enumerate((os.mkdir, os.mkfifo), 2):
             kept = KEPT if at == 2 else f'state/puzzles/towers-{at - 1}.sav'
             os.remove(os.path.join(room.path, kept))
             make(os.path.join(room.path, kept))
             window.look(f'<right>{at}', [f"a file that can't be read stays as it is, and this game is kept in towers-{at}.sav.", f'{at} of 9'])
             assert room.read(f'state/puzzles/towers-{at}.sav') == save_text(at), 'what is kept'
-        window.leave('q')
-    with front.window([]) as window:
-        window.look('', ['3 of 9'])
+    front.shows([], '3 of 9')
 
 
 def test_mouse(front: BoardFront, room: Room) -> None:
@@ -192,7 +178,7 @@ def test_unknown_keys(front: BoardFront, room: Room) -> None:
 
 def test_without_modules(front: BoardFront, room: Room) -> None:
     """Without `curses` it is the line mode, and without `readline` it is one, too."""
-    os.mkdir(os.path.join(room.path, 'modules'))
+    room.lay('modules')
     for module in ('curses', 'readline'):
         room.put(f'modules/{module}.py', b'raise ImportError\n')
     env = {**front.env(), 'PYTHONPATH': os.path.join(room.path, 'modules')}

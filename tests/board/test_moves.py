@@ -1,19 +1,14 @@
 """A player's move as lines of the program: all of them or none, one step for undo, and none where nothing changes."""
 
-from __future__ import annotations
-
 import os
-import re
 from typing import List, Sequence, Tuple
 
 import pytest
 
 from playing.beside import Beside, beside_in, content_of
 from playing.moves import Joined, Pair
-from tests.board.front import BoardFront, BoardGame
-from tests.harness import Room, by_name
-from tests.harness.game import ID, save_text
-from tests.harness.terminal import Look
+from tests.board.playing import BoardFront, BoardGame
+from tests.harness import ID, Look, Room, by_name, moves_of, save_text
 
 #: Pairs as they were kept, how many states the game has, and those of them that fit it.
 KEPT: List[Tuple[Sequence[Pair], int, List[Pair]]] = [
@@ -60,41 +55,32 @@ def test_joined() -> None:
 @pytest.mark.parametrize(('before', 'keys', 'shows'), SAME)
 def test_same(front: BoardFront, before: str, keys: str, shows: str) -> None:
     """What changes nothing is no move, and what could be redone stays."""
-    with front.window(['towers', ID]) as window:
+    with front.window(['towers', ID], leave='q') as window:
         window.look(before, [shows])
         window.look(keys, ['Nothing changes: the board has that already.', shows])
-        window.leave('q')
 
 
 GAMES = [
-    BoardGame(
-        'a number that is refused takes no marks with it',
-        ['towers', '3:///////////,1c3c2'],
-        [
-            Look('mM', ['marks go when their number']),
-            Look('3', ['was given with the puzzle', 'move 1/1', '│ 1   2   3 │']),
-            Look('<right>3', ['│     1     │     3!    │', 'move 4/4']),
-            Look('3', ['Nothing changes', 'move 4/4']),
-            Look('u', ['move 1/4']),
-        ],
-    ),
+    BoardGame('a number that is refused takes no marks with it', ['towers', '3:///////////,1c3c2'], [
+        Look('mM', ['marks go when their number']),
+        Look('3', ['was given with the puzzle', 'move 1/1', '│ 1   2   3 │']),
+        Look('<right>3', ['│     1     │     3!    │', 'move 4/4']),
+        Look('3', ['Nothing changes', 'move 4/4']),
+        Look('u', ['move 1/4']),
+    ]),
     BoardGame(
         'a solved board is not solved again',
         ['towers', ID],
         [Look('Sy', ['Filled in by the program.', 'move 1/1']), Look('S', ['The board is solved.', 'move 1/1'])],
     ),
-    BoardGame(
-        'possible marks are one move, by the shortest way',
-        ['towers', ID],
-        [
-            Look('1P', ['move 6/6', '│           │     2   3 │     2   3 │']),
-            Look('<right>p2', ['move 7/7', '│           │         3 │     2   3 │']),
-            Look('P', ['move 8/8', '│           │     2   3 │     2   3 │']),
-            Look('u', ['move 7/8']),
-            Look('uu', ['move 1/8']),
-            Look('r', ['move 6/8']),
-        ],
-    ),
+    BoardGame('possible marks are one move, by the shortest way', ['towers', ID], [
+        Look('1P', ['move 6/6', '│           │     2   3 │     2   3 │']),
+        Look('<right>p2', ['move 7/7', '│           │         3 │     2   3 │']),
+        Look('P', ['move 8/8', '│           │     2   3 │     2   3 │']),
+        Look('u', ['move 7/8']),
+        Look('uu', ['move 1/8']),
+        Look('r', ['move 6/8']),
+    ]),
 ]
 
 
@@ -108,31 +94,20 @@ def test_all_or_none(front: BoardFront, room: Room) -> None:
     moves = [b'M', *[b'P2,2,1'] * 99_997, b'R2,2,2']
     head = save_text(0).replace(b'NSTATES :1:1\nSTATEPOS:1:1\n', b'NSTATES :6:100000\nSTATEPOS:5:99999\n')
     room.put('long.sav', head + b''.join(b'MOVE    :%d:%s\n' % (len(move), move) for move in moves))
-    with front.window(['towers', os.path.join(room.path, 'long.sav')]) as window:
+    with front.window(['towers', os.path.join(room.path, 'long.sav')], leave='q') as window:
         window.look('M', ['move 99998/99999', 'marks go'])
         window.look('1', ['A game has at most 100,000 states. Undo some moves first.', 'move 99998/99999', '│ 1   2   3 │ 1   2   3 │'])
         window.look('r', ['move 99999/99999', '│     2     │'])
-        window.leave('q')
 
 
 def test_order(front: BoardFront, room: Room) -> None:
     """Marks that go with a number go before it, in reading order; possible marks begin with all marks where that is shorter."""
-    with front.window(['towers', ID]) as window:
+    with front.window(['towers', ID], leave='q') as window:
         window.look('Mm<right><down>2', ['1 of 9'])
         window.look('P', ['1 of 9'])
-        window.leave('q')
-    with front.window(['towers', '3:///////////,1h']) as window:
+    with front.window(['towers', '3:///////////,1h'], leave='q') as window:
         window.look('P', ['move 5/5'])
-        window.leave('q')
     first = [b'M', b'P1,0,2', b'P0,1,2', b'P2,1,2', b'P1,2,2', b'R1,1,2']
-    assert moves_of(room.read(f'state/puzzles/old/{old(room)}')) == first
+    (old,) = [path for path in room.paths() if '/old/' in path and path.endswith('.sav')]
+    assert moves_of(room.read(old)) == first
     assert moves_of(room.read('state/puzzles/towers.sav')) == [b'M', b'P1,0,1', b'P2,0,1', b'P0,1,1', b'P0,2,1']
-
-
-def old(room: Room) -> str:
-    return next(name for name in os.listdir(os.path.join(room.path, 'state/puzzles/old')) if name.endswith('.sav'))
-
-
-def moves_of(save: object) -> List[bytes]:
-    assert isinstance(save, bytes)
-    return re.findall(rb'^MOVE    :.:(.*)$', save, re.MULTILINE)

@@ -1,6 +1,5 @@
-"""What the commands in Python do where nothing can be written to standard output, or where the program isn't there or ends: a line on standard error."""
-
-from __future__ import annotations
+"""What the commands in Python do where nothing can be written to standard output, or where the program isn't there or ends: a line on standard error. And
+their help."""
 
 import os
 import subprocess
@@ -8,9 +7,8 @@ from typing import Dict, List, Sequence, Tuple
 
 import pytest
 
-from tests.board.front import BoardFront
-from tests.harness.builds import TOP
-from tests.harness.game import ID
+from tests.board.playing import BoardFront
+from tests.harness import ID, TOP, run
 
 #: The commands, by their folders and the status that says so.
 COMMANDS: Dict[str, Tuple[str, int]] = {'puzzles-play': ('board', 1), 'puzzles-sheet': ('sheet', 1), 'puzzles-check': ('check', 3)}
@@ -65,3 +63,10 @@ def test_program(front: BoardFront, program: str, begins: str, name: str, words:
     status, error = told(front, name, words, '"$0" "$@" > output', PUZZLES_JSON=program)
     assert (status, error[: len(begins)]) == (0, begins)
     assert (front.room.read('output'), front.room.names()) == (b'', ['list', 'output'])
+
+
+@pytest.mark.parametrize(('name', 'usage'), [('puzzles-sheet', b'usage: puzzles-sheet GAME '), ('puzzles-check', b'usage: puzzles-check [')])
+def test_help(front: BoardFront, name: str, usage: bytes) -> None:
+    for word, begins in (('--help', usage), ('-h', usage), ('--version', b'puzzles ')):
+        ended = run([str(TOP / COMMANDS[name][0] / name), word], front.room, env=front.env())
+        assert (ended.status, ended.error, ended.output[: len(begins)]) == (0, b'', begins)

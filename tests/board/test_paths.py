@@ -1,7 +1,5 @@
 """Folders for games that can't be used, what is no file where a player opens or saves one, and kept files that vanish."""
 
-from __future__ import annotations
-
 import os
 import shutil
 import signal
@@ -10,11 +8,9 @@ from typing import Callable, List, Tuple
 
 import pytest
 
-from tests.board.front import BoardFront
+from tests.board.playing import BoardFront
 from tests.board.test_beside import FOLDER, KEPT, LINES, LOW, SCREEN, THINGS, known, link_to, own_folder
-from tests.harness import Room, run
-from tests.harness.game import ID, left_files, save_text
-from tests.harness.users import ANNA, CARL, need_root
+from tests.harness import ANNA, CARL, ID, Room, left_files, need_root, run, save_text
 
 #: What is in the place of the folder for games, and what is said of it.
 FOLDERS: List[Tuple[Callable[[str], None], str]] = [
@@ -29,33 +25,29 @@ NO_FILES = [(make, why) for make, why in THINGS if why.startswith('is a ') and w
 
 @pytest.mark.parametrize(('make', 'why'), FOLDERS)
 def test_no_folder(front: BoardFront, room: Room, make: Callable[[str], None], why: str) -> None:
-    os.mkdir(os.path.join(room.path, 'state'))
-    make(os.path.join(room.path, FOLDER))
+    room.lay(FOLDER, make)
     before = known(room, FOLDER)
     for face in (SCREEN, LINES):
-        with front.window([*face.words, 'towers', ID], LOW) as window:
+        with front.window([*face.words, 'towers', ID], LOW, leave='y' if face is SCREEN else 'y<enter>') as window:
             told = f'The game is not kept: nothing can be written to FOLDER/{FOLDER} ({why}).'
             window.look('', [told])
             window.look(face.leave, ['Quit and lose it? y/N'])
-            window.leave('y' if face is SCREEN else 'y<enter>')
     assert known(room, FOLDER) == before, 'what was there'
 
 
 def test_linked_folder(front: BoardFront, room: Room) -> None:
     """A link to a folder is as good as one."""
-    os.mkdir(os.path.join(room.path, 'elsewhere'))
-    os.mkdir(os.path.join(room.path, 'state'))
+    room.lay('elsewhere')
+    room.lay('state')
     room.link(FOLDER, '../elsewhere')
-    with front.window(['towers', ID]) as window:
+    with front.window(['towers', ID], leave='q') as window:
         window.look('1', ['1 of 9'], ['not kept'])
-        window.leave('q')
     assert room.read('elsewhere/towers.sav') == save_text(1), 'what is kept'
 
 
 def test_vanished(front: BoardFront, room: Room) -> None:
     """A kept file that is gone is made again; without its folder it is told, and the game can be saved elsewhere."""
-    with front.window(['towers', ID]) as window:
-        window.look('1', ['1 of 9'])
+    with front.begun('y') as window:
         room.remove(KEPT)
         window.look('<right>2', ['2 of 9'], ['not kept'])
         assert room.read(KEPT) == save_text(2), 'what is kept'
@@ -63,14 +55,13 @@ def test_vanished(front: BoardFront, room: Room) -> None:
         window.look('<right>3', ['3 of 9', 'The game is not kept: No such file or directory.'])
         window.look('wFOLDER/game.sav<enter>', ['Saved in FOLDER/game.sav'])
         window.look('q', ['Quit and lose it? y/N'])
-        window.leave('y')
     assert room.read('game.sav') == save_text(3), 'the save'
 
 
 def test_opened(front: BoardFront, room: Room) -> None:
     """Opening what is no file: a sentence, at once, and the game goes on."""
     for at, (make, _) in enumerate(NO_FILES):
-        make(os.path.join(room.path, str(at)))
+        room.lay(str(at), make)
     with front.window(['towers', ID], LOW) as window, front.window(['--lines', 'towers', ID], LOW) as lines:
         window.look('1', ['1 of 9'])
         lines.look('1 1 1<enter>', ['towers 2/2>'])
@@ -81,15 +72,13 @@ def test_opened(front: BoardFront, room: Room) -> None:
         lines.press('q<enter>')
         assert (window.status(), lines.status()) == (0, 0), 'the states'
     for words in (['towers', '1'], ['1'], ['--lines', '1']):
-        with front.window(words) as window:
-            window.look('', ['1 is a named pipe.'])
-            assert window.status() == 3, f'{words}: the status'
+        front.shows(words, '1 is a named pipe.', leave='', status=3)
 
 
 def test_saved(front: BoardFront, room: Room) -> None:
     """Saving to what is no file: a sentence, at once, and no question; a link to nothing is one to the new file."""
     for at, (make, _) in enumerate(NO_FILES):
-        make(os.path.join(room.path, str(at)))
+        room.lay(str(at), make)
     room.link('link.sav', 'new.sav')
     before = [known(room, str(at)) for at in range(len(NO_FILES))]
     with front.window(['towers', ID], LOW) as window, front.window(['--lines', 'towers', ID], LOW) as lines:
@@ -111,59 +100,47 @@ def test_saved(front: BoardFront, room: Room) -> None:
 def test_old_games(front: BoardFront, room: Room) -> None:
     """What can't be read among the last ten is told so, and stays."""
     old = f'{FOLDER}/old/20260102-030405-000-towers.sav'
-    os.makedirs(os.path.join(room.path, FOLDER, 'old'))
-    os.mkfifo(os.path.join(room.path, old))
+    room.lay(old, os.mkfifo)
     before = known(room, old)
-    with front.window(['towers', ID], LOW) as window:
+    with front.window(['towers', ID], LOW, leave='q') as window:
         window.look('o', ["towers, can't be read", '1 a file ..'])
         window.look('0', [f'FOLDER/{old} is a named pipe.', '0 of 9'])
-        window.leave('q')
-    with front.window(['--lines', 'towers'], LOW) as window:
+    with front.window(['--lines', 'towers'], LOW, leave='q<enter>') as window:
         window.look('open<enter>', ["towers, can't be read", "'open 0' opens number 0, 'delete 0' deletes it."])
         window.look('open 0<enter>', [f'FOLDER/{old} is a named pipe.'])
-        window.leave('q<enter>')
     assert known(room, old) == before, 'what was there'
 
 
 def test_no_old_folder(front: BoardFront, room: Room) -> None:
     """Where games should be put away there is a pipe: nothing is lost without a question."""
-    os.makedirs(os.path.join(room.path, FOLDER))
-    os.mkfifo(os.path.join(room.path, FOLDER, 'old'))
-    with front.window(['towers', ID], LOW) as window:
-        window.look('1', ['1 of 9'])
+    room.lay(f'{FOLDER}/old', os.mkfifo)
+    with front.begun('q', size=LOW) as window:
         window.look('n<enter>', [f"The present game can't be put away (FOLDER/{FOLDER}/old is a named pipe). Lose it? y/N"])
         window.look('x', ['The present game stays.', '1 of 9'])
         window.look('oq', [f'FOLDER/{FOLDER}/old is a named pipe.'])
-        window.leave('q')
     assert room.read(KEPT) == save_text(1), 'what is kept'
-    with front.window(['--lines'], LOW) as window:
+    with front.window(['--lines'], LOW, leave='q<enter>') as window:
         window.look('open<enter>', [f'FOLDER/{FOLDER}/old is a named pipe.'])
-        window.leave('q<enter>')
 
 
 def test_marks(front: BoardFront, room: Room) -> None:
     """What says which puzzles were played, and can't be read, is told and stays."""
     path = f'{FOLDER}/towers.played'
-    os.makedirs(os.path.join(room.path, FOLDER))
-    os.mkfifo(os.path.join(room.path, path))
+    room.lay(path, os.mkfifo)
     before = known(room, path)
     told = f'FOLDER/{path} is a named pipe: puzzles that you have played may come again.'
-    with front.window(['towers', ID], LOW) as window:
+    with front.window(['towers', ID], LOW, leave='q') as window:
         window.look('n<right>', ['A new game', '[extreme]', told])
         window.look('<enter>', [told, '0 of '])
-        window.leave('q')
-    with front.window(['--lines', 'towers', ID], LOW) as window:
+    with front.window(['--lines', 'towers', ID], LOW, leave='q<enter>') as window:
         window.look('new 4 extreme<enter>', ['new 4d', told])
-        window.leave('q<enter>')
     assert known(room, path) == before, 'what was there'
     assert left_files(room) == [], 'no other file'
 
 
 def test_closed_window(front: BoardFront, room: Room) -> None:
     """A pipe among the kept files, and the window is closed, in both faces."""
-    os.makedirs(os.path.join(room.path, FOLDER))
-    os.mkfifo(os.path.join(room.path, KEPT))
-    os.utime(os.path.join(room.path, KEPT), (2e9, 2e9))
+    os.utime(room.lay(KEPT, os.mkfifo), (2e9, 2e9))
     for face in (SCREEN, LINES):
         with front.window([*face.words, 'towers', ID], LOW) as window:
             window.look('', ['is a named pipe'])
@@ -177,10 +154,9 @@ def test_no_bank(front: BoardFront, room: Room) -> None:
     bank = os.path.join(room.path, 'playing', 'bank', 'towers.txt')
     os.remove(bank)
     os.mkfifo(bank)
-    with copied.window(['towers'], LOW) as window:
+    with copied.window(['towers'], LOW, leave='qq') as window:
         window.look('', ['Towers 5x5'])
         window.look('n', ['[easy] hard  by an ID', f'{bank} is a named pipe.'])
-        window.leave('qq')
 
 
 def test_closed_folder(front: BoardFront, room: Room) -> None:
@@ -189,14 +165,12 @@ def test_closed_folder(front: BoardFront, room: Room) -> None:
     front = front.of(ANNA)
     room.make_folder('state', 0o755, ANNA.owner).close()
     for owner, mode in ((CARL.owner, 0o700), (ANNA.owner, 0o500)):
-        os.mkdir(os.path.join(room.path, FOLDER), mode)
-        os.chown(os.path.join(room.path, FOLDER), *owner)
+        room.make_folder(FOLDER, mode, owner).close()
         for face in (SCREEN, LINES):
-            with front.window([*face.words, 'towers', ID], LOW) as window:
+            with front.window([*face.words, 'towers', ID], LOW, leave='y' if face is SCREEN else 'y<enter>') as window:
                 told = f'The game is not kept: nothing can be written to FOLDER/{FOLDER} (Permission denied).'
                 window.look('', [told])
                 window.look(face.leave, ['Quit and lose it? y/N'])
-                window.leave('y' if face is SCREEN else 'y<enter>')
         assert os.listdir(os.path.join(room.path, FOLDER)) == [], f'{oct(mode)}: what was there'
         os.rmdir(os.path.join(room.path, FOLDER))
 
@@ -209,10 +183,9 @@ def test_closed_kept(front: BoardFront, room: Room) -> None:
     for path, content in ((KEPT, save_text(2)), (f'{FOLDER}/towers.lock', b'')):
         room.put(path, content, 0o600, ANNA.owner)
     os.chmod(os.path.join(room.path, FOLDER), 0o500)
-    with front.window([], LOW) as window:
+    with front.window([], LOW, leave='qy') as window:
         window.look('', ['2 of 9', 'The game is not kept: Permission denied.'])
         window.look('u', ['1 of 9'])
-        window.leave('qy')
     assert room.read(KEPT) == save_text(2), 'what is kept'
 
 
@@ -224,15 +197,12 @@ def test_closed_files(front: BoardFront, room: Room) -> None:
     room.put('game.sav', save_text(2), 0o600, CARL.owner)
     room.make_folder(f'{FOLDER}/old', stat.S_IWUSR | stat.S_IXUSR, ANNA.owner).close()
     why = "can't be read (Permission denied; it is user 60003's)."
-    with front.window(['towers', ID], LOW) as window:
+    with front.window(['towers', ID], LOW, leave='q') as window:
         window.look('o0FOLDER/game.sav<enter>', [f'FOLDER/game.sav {why}', '0 of 9'])
         window.look('wFOLDER/game.sav<enter>', ["game.sav exists, and can't be read. Overwrite it? y/N"])
         window.look('x', ['Nothing was saved.'])
         window.look('oq', [f"FOLDER/{FOLDER}/old can't be read (Permission denied)."])
-        window.leave('q')
-    with front.window(['--lines', os.path.join(room.path, 'game.sav')], LOW) as window:
-        window.look('', [f'FOLDER/game.sav {why}'])
-        assert window.status() == 3, 'in lines: the status'
+    front.shows(['--lines', os.path.join(room.path, 'game.sav')], f'FOLDER/game.sav {why}', size=LOW, leave='', status=3)
 
 
 def test_closed_program(front: BoardFront, room: Room) -> None:

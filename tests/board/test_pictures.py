@@ -1,16 +1,13 @@
 """Pictures of the board with squares of each depth, as text files for a person to look at, which a terminal has to show. Other sizes are in `test_layout`."""
 
-from __future__ import annotations
-
 import os
 from pathlib import Path
 from typing import List, NamedTuple, Tuple
 
 import pytest
 
-from tests.board.front import USUAL, BoardFront
-from tests.harness import by_name
-from tests.harness.puzzles import made
+from tests.board.playing import USUAL, BoardFront
+from tests.harness import by_name, made
 from tests.harness.screen import Screen
 
 PICTURES = Path(__file__).resolve().parent / 'pictures'

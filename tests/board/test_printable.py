@@ -1,15 +1,12 @@
 """Text from outside doesn't steer the terminal."""
 
-from __future__ import annotations
-
 import os
 
 import pytest
 
 from playing.printable import printable
-from tests.board.front import BoardFront
-from tests.harness import Room, run
-from tests.harness.game import ID
+from tests.board.playing import BoardFront
+from tests.harness import ID, Room, run
 
 #: Sets the title of a window where a terminal obeys it.
 STEERING = 'x\x1b]0;steered\x07y'
@@ -23,8 +20,7 @@ def test_printable(text: str, wanted: str) -> None:
 def test_faces(front: BoardFront, room: Room) -> None:
     """Words, names that are typed, and the name of the folder for games, in both faces and on standard error."""
     folder = os.path.join(room.path, f'st{STEERING}te')
-    os.makedirs(os.path.join(folder, 'puzzles'))
-    os.mkfifo(os.path.join(folder, 'puzzles', 'towers.sav'))
+    room.lay(f'{folder}/puzzles/towers.sav', os.mkfifo)
     env = {**front.env(), 'XDG_STATE_HOME': folder}
     with front.window(['towers', STEERING], (24, 200), env) as window:
         window.look('', ["There is no file 'x?]0;steered?y'"])

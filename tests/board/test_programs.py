@@ -1,19 +1,15 @@
 """Programs below the board that end, take long, or lack memory: and how the game goes on then."""
 
-from __future__ import annotations
-
 import os
 import signal
 import time
 from pathlib import Path
 from typing import Dict
 
-from tests.board.front import BoardFront
+from tests.board.playing import BoardFront
 from tests.board.test_lives import is_gone
-from tests.harness import SLOWNESS, Room
+from tests.harness import ID, SLOWNESS, Room, Terminal, save_text
 from tests.harness.between import put_between
-from tests.harness.game import ID, save_text
-from tests.harness.terminal import Terminal
 
 KEPT = 'state/puzzles/towers.sav'
 
@@ -66,19 +62,17 @@ def between(front: BoardFront, room: Room, rule: str = BETWEEN) -> Dict[str, str
 
 
 def test_program_killed(front: BoardFront, room: Room) -> None:
-    with front.window(['towers', ID]) as window:
-        window.look('1', ['1 of 9'])
+    with front.begun('q') as window:
         for pid in window.programs():
             os.kill(pid, signal.SIGKILL)
         window.look('<right>2', ['The program had ended (signal 9). The game is as it was. Try that again.', '1 of 9'])
         window.look('2', ['2 of 9', 'move 2/2'])
-        window.leave('q')
     assert room.read(KEPT) == save_text(2), 'what is kept'
 
 
 def test_long_work(front: BoardFront, room: Room) -> None:
     """Something moves meanwhile, a key stops it, and the game goes on; in lines it is said once."""
-    with front.window(['towers', ID], env=between(front, room)) as window:
+    with front.window(['towers', ID], env=between(front, room), leave='q') as window:
         window.look('', ['move 0/0'])
         window.look('1', ['1 of 9'])
         window.look('c', ['The program is at work. Any key stops it.'])
@@ -86,28 +80,23 @@ def test_long_work(front: BoardFront, room: Room) -> None:
         assert window.wait_until(lambda screen: screen.text() != before), 'nothing moves'
         window.look('x', ['Stopped. Nothing has changed.', '1 of 9'])
         window.look('2', ['│     2     │', 'move 2/2'])
-        window.leave('q')
-    with front.window(['--lines', 'towers', ID], env=between(front, room)) as window:
+    with front.window(['--lines', 'towers', ID], env=between(front, room), leave='q<enter>') as window:
         window.look('', ['towers 1/1>'])
         window.look('check<enter>', ['towers 1/1> check The program is at work: Ctrl-C stops it.'])
         window.look('<ctrl-c>', ['Stopped. Nothing has changed.', 'towers 1/1>'])
         assert window.shown.partition('check')[2].count('is at work') == 1
-        window.leave('q<enter>')
 
 
 def test_no_game(front: BoardFront, room: Room) -> None:
     """Where a number by chance has no game the next one is taken; where it was typed that is told, and the game before stays."""
     env = between(front, room, WITHOUT_GAMES)
-    with front.window([], env=env) as window:
+    with front.window([], env=env, leave='q') as window:
         window.look('', ['Towers 5x5', 'easy', 'move 0/0'])
         window.look('m', ['move 1/1'])
         window.look('n<down>7<enter>', ['A new game', 'That number gives no such game. Try another one.', '[typed: 7]'])
         window.look('q', ['move 1/1'])
         window.look('n<enter>', ['move 0/0', 'That number is always this game.'])
-        window.leave('q')
-    with front.window(['--lines', 'towers', '5', 'number', '7'], env=env) as window:
-        window.look('', ['That number gives no such game. Try another one.'])
-        assert window.status() == 3, 'the status'
+    front.shows(['--lines', 'towers', '5', 'number', '7'], 'That number gives no such game. Try another one.', env=env, leave='', status=3)
 
 
 def test_no_answer(front: BoardFront, room: Room) -> None:
@@ -160,11 +149,8 @@ def test_other_names(front: BoardFront, room: Room) -> None:
         room.put(file, content, 0o755)
     for words, shown in ((['towers'], 'move 0/0'), (['--lines', 'towers'], 'towers 1/1>')):
         env = {**front.env(), 'PUZZLES_JSON': os.path.join(room.path, 'another')}
-        with front.window([*words, ID], env=env) as window:
-            window.look('', [shown])
-        with front.window(words, env={**env, 'PUZZLES_JSON': os.path.join(room.path, 'plain')}) as window:
-            window.look('', ['its answer is not an object: it is not'])
-            assert window.status() == 1, f'the status, {words}'
+        front.shows([*words, ID], shown, env=env, leave='q<enter>' if '--lines' in words else 'q')
+        front.shows(words, 'its answer is not an object: it is not', env={**env, 'PUZZLES_JSON': os.path.join(room.path, 'plain')}, leave='', status=1)
 
 
 def wait_for_program(window: Terminal) -> bool:
@@ -181,37 +167,33 @@ def test_first_save(front: BoardFront, room: Room) -> None:
     """A key that is pressed while a game is saved for the first time stops nothing, and is heard then. A card of the course is waited for, too."""
     room.put('between', SLOW_SAVE.format(program=front.program).encode(), 0o755)
     env = {**front.env(), 'PUZZLES_JSON': os.path.join(room.path, 'between')}
-    with front.window(['learn', 'towers'], env=env) as window:
+    with front.window(['learn', 'towers'], env=env, leave='q') as window:
         window.look('', ['The program is at work ..'])
         window.look('', ['Card 1/6.'])
-        window.leave('q')
-    with front.window(['towers', ID], env=env) as window:
+    with front.window(['towers', ID], env=env, leave='q') as window:
         window.look('', ['move 0/0', 'The program is at work ..'])
         window.look('1', ['1 of 9', 'move 1/1'])
-        window.leave('q')
     assert room.read(KEPT) == save_text(1), 'what is kept'
 
 
 def test_no_memory(front: BoardFront, room: Room) -> None:
     """What was done is shown, whether its reply was lost or not, and is kept."""
-    with front.window(['towers', ID], env=between(front, room)) as window:
+    with front.window(['towers', ID], env=between(front, room), leave='q') as window:
         window.look('', ['move 0/0'])
         window.look('1', ['1 of 9'])
         window.look('<right>2', ['Out of memory. The command may or may not have been carried out: look at the board.', '2 of 9'])
         window.look('<right>3', ['There is no memory left for that. Nothing has changed.', '2 of 9'])
-        window.leave('q')
     assert room.read(KEPT) == save_text(2), 'what is kept'
 
 
 def test_no_save(front: BoardFront, room: Room) -> None:
     """A game that has no save yet is not put away without a question, and each key tries to keep it."""
-    with front.window(['towers', ID], env=between(front, room, WITHOUT_SAVES)) as window:
+    with front.window(['towers', ID], env=between(front, room, WITHOUT_SAVES), leave='q') as window:
         window.look('', ['The game is not kept: There is no memory left for that. Nothing has changed.', '0 of 9'])
         window.look('n<enter>', ["The present game can't be put away", 'Lose it? y/N'])
         window.look('x', ['The present game stays.', 'Towers 3x3'])
         window.look('<right>', ['0 of 9'], ['not kept'])
         assert room.read(KEPT) == save_text(0), 'what is kept'
-        window.leave('q')
 
 
 def test_full_history(front: BoardFront, room: Room) -> None:

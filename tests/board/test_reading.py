@@ -1,7 +1,5 @@
 """Reading and making files, each by itself."""
 
-from __future__ import annotations
-
 import os
 from typing import Callable, List
 from unittest import mock

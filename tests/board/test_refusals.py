@@ -1,12 +1,10 @@
 """Lines of the program that are refused on the board, and the sentences then."""
 
-from __future__ import annotations
-
 from typing import List, Tuple
 
 import pytest
 
-from tests.board.front import BoardFront
+from tests.board.playing import BoardFront
 
 #: A line of the program, and the sentence where it is refused.
 REFUSALS: List[Tuple[str, str]] = [
@@ -50,7 +48,6 @@ UNEQUAL_REFUSALS: List[Tuple[str, str]] = [
 
 @pytest.mark.parametrize(('words', 'refusals'), [(['towers', '3:///////////,1c3c2'], REFUSALS), (['unequal', '3!7'], UNEQUAL_REFUSALS)])
 def test_refusals(front: BoardFront, words: List[str], refusals: List[Tuple[str, str]]) -> None:
-    with front.window(words) as window:
+    with front.window(words, leave='q') as window:
         for line, sentence in refusals:
             window.look(f':{line}<enter>', [sentence])
-        window.leave('q')

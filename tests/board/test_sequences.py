@@ -1,15 +1,12 @@
 """Keys that a terminal sends as several characters, as they come over a slow line."""
 
-from __future__ import annotations
-
 from typing import List, Tuple
 
 import pytest
 
 from board.keys import Key
 from board.sequences import ESCAPE_LASTS, KEY_LASTS, Sequences
-from tests.board.front import BoardFront
-from tests.harness.game import ID
+from tests.board.playing import BoardFront
 
 #: So many seconds between two characters, as over a bad line.
 APART = 0.3
@@ -62,8 +59,7 @@ def test_late(came: str, lasts: float, wanted: str) -> None:
 @pytest.mark.parametrize('term', ['xterm-256color', 'vt100'])
 def test_slow_line(front: BoardFront, term: str) -> None:
     """Home isn't H, which counts a hint, and F3 isn't R, which goes back to the start; arrows move, and an Escape by itself leaves a question."""
-    with front.window(['towers', ID], env=front.env(term)) as window:
-        window.look('1', ['1 of 9', 'move 1/1'])
+    with front.begun('q', env=front.env(term)) as window:
         for sent, shows in (('\x1b[H', 'That key does nothing'), ('\x1bOR', 'That key does nothing'), ('\x1b[C', 'move 1/1'), ('\x1bOB', 'move 1/1')):
             for character in sent:
                 window.send(character)
@@ -73,4 +69,3 @@ def test_slow_line(front: BoardFront, term: str) -> None:
         window.look('<left>', [])
         window.look('S', ['y/N'])
         window.look('<escape>', ['2 of 9'], ['y/N'])
-        window.leave('q')

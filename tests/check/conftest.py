@@ -1,13 +1,10 @@
 """The command that is tried."""
 
-from __future__ import annotations
-
 from typing import Any, Sequence
 
 import pytest
 
-from tests.harness import Ended, Room, run
-from tests.harness.builds import TOP
+from tests.harness import TOP, Ended, Room, run
 
 PATH = str(TOP / 'check' / 'puzzles-check')
 

@@ -1,16 +1,12 @@
 """What is said of puzzles: IDs, pictures and saves, as the second implementation has it, and what can't be read, by its line."""
 
-from __future__ import annotations
-
 import json
-from typing import List, NamedTuple, Sequence
+from typing import List, Sequence
 
 import pytest
 
 from tests.check.conftest import Checker
-from tests.harness import Room, by_name, run
-from tests.harness.game import ID, PICTURE, save_text
-from tests.harness.puzzles import made
+from tests.harness import ID, PICTURE, Room, made, named, run, save_text
 
 #: The one way to fill the first is 1 2 3, 2 3 1, 3 1 2.
 ONE, NONE, SEVERAL = ID, '3:3/3//////////', '3:///////////'
@@ -22,28 +18,21 @@ SIGNS, SIGNS_DRAWN = '3:0,0L,0L,0U,0,0,0U,0,0,', '.<.<.\n^ - -\n. . .\n^ - -\n. 
 ONE_LINE, SIGNS_LINE = f'towers one e 0 {ONE}', f'unequal one e 2 {SIGNS}'
 
 
-class Input(NamedTuple):
-    name: str
-    typed: str
-    status: int
-    lines: Sequence[str]
-    told: Sequence[str] = ()
-
-
+#: What is typed, the status, and what is written.
 INPUTS = [
-    Input('one', f'{ONE}\n', 0, [f'-:1 {ONE_LINE}']),
-    Input('without a line end', ONE, 0, [f'-:1 {ONE_LINE}']),
-    Input('lines of another system', f'\ufeff{ONE}\r\n\r\ntowers {ONE}\r\n', 0, [f'-:1 {ONE_LINE}', f'-:3 {ONE_LINE}']),
-    Input('with a caption', f'{ONE} from the paper\ntowers {ONE} 5!7\n', 0, [f'-:1 {ONE_LINE}', f'-:2 {ONE_LINE}']),
-    Input('none', f'{NONE}\n', 1, [f'-:1 towers none - - {NONE}']),
-    Input('several', f'{ONE}\n{SEVERAL}\n', 1, [f'-:1 {ONE_LINE}', f'-:2 towers several - - {SEVERAL}']),
-    Input('a picture of Towers', ONE_DRAWN, 0, [f'-:1 {ONE_LINE}']),
-    Input('a picture of Unequal', SIGNS_DRAWN, 0, [f'-:1 {SIGNS_LINE}']),
-    Input('both', f'{SIGNS}\n{ONE_DRAWN}\n\n{SIGNS_DRAWN}\n{ONE}\n', 0, [f'-:1 {SIGNS_LINE}', f'-:2 {ONE_LINE}', f'-:9 {SIGNS_LINE}', f'-:15 {ONE_LINE}']),
-    Input('a picture with a margin', ''.join(f'    {line}  \n' for line in ONE_DRAWN.splitlines()), 0, [f'-:1 {ONE_LINE}']),
-    Input('blank', '. . .\n- - -\n. . .\n- - -\n. . .\n', 1, ['-:1 unequal several - - 3:0,0,0,0,0,0,0,0,0,']),
-    Input('two equal givens in a row', '1 . 1\n- - -\n. . .\n- - -\n. . .\n', 1, ['-:1 unequal none - - 3:1,0,1,0,0,0,0,0,0,']),
-    Input('signs that contradict one another', '.>.<.\nv - -\n. . .\n^ - v\n. 1>.\n', 1, ['-:1 unequal none - - 3:0RD,0,0L,0,0,0D,0U,1R,0,']),
+    ('one', f'{ONE}\n', 0, [f'-:1 {ONE_LINE}']),
+    ('without a line end', ONE, 0, [f'-:1 {ONE_LINE}']),
+    ('lines of another system', f'\ufeff{ONE}\r\n\r\ntowers {ONE}\r\n', 0, [f'-:1 {ONE_LINE}', f'-:3 {ONE_LINE}']),
+    ('with a caption', f'{ONE} from the paper\ntowers {ONE} 5!7\n', 0, [f'-:1 {ONE_LINE}', f'-:2 {ONE_LINE}']),
+    ('none', f'{NONE}\n', 1, [f'-:1 towers none - - {NONE}']),
+    ('several', f'{ONE}\n{SEVERAL}\n', 1, [f'-:1 {ONE_LINE}', f'-:2 towers several - - {SEVERAL}']),
+    ('a picture of Towers', ONE_DRAWN, 0, [f'-:1 {ONE_LINE}']),
+    ('a picture of Unequal', SIGNS_DRAWN, 0, [f'-:1 {SIGNS_LINE}']),
+    ('both', f'{SIGNS}\n{ONE_DRAWN}\n\n{SIGNS_DRAWN}\n{ONE}\n', 0, [f'-:1 {SIGNS_LINE}', f'-:2 {ONE_LINE}', f'-:9 {SIGNS_LINE}', f'-:15 {ONE_LINE}']),
+    ('a picture with a margin', ''.join(f'    {line}  \n' for line in ONE_DRAWN.splitlines()), 0, [f'-:1 {ONE_LINE}']),
+    ('blank', '. . .\n- - -\n. . .\n- - -\n. . .\n', 1, ['-:1 unequal several - - 3:0,0,0,0,0,0,0,0,0,']),
+    ('two equal givens in a row', '1 . 1\n- - -\n. . .\n- - -\n. . .\n', 1, ['-:1 unequal none - - 3:1,0,1,0,0,0,0,0,0,']),
+    ('signs that contradict one another', '.>.<.\nv - -\n. . .\n^ - v\n. 1>.\n', 1, ['-:1 unequal none - - 3:0RD,0,0L,0,0,0D,0U,1R,0,']),
 ]
 
 FITS_BOTH = 'it fits both games: write towers or unequal before it'
@@ -76,12 +65,12 @@ UNREAD = [
 ]
 
 
-@pytest.mark.parametrize('row', INPUTS, ids=by_name)
-def test_puzzles(checker: Checker, row: Input) -> None:
-    checker.expect(row.typed, row.status, row.lines, row.told)
+@pytest.mark.parametrize(('typed', 'status', 'lines'), named(INPUTS))
+def test_puzzles(checker: Checker, typed: str, status: int, lines: List[str]) -> None:
+    checker.expect(typed, status, lines)
 
 
-@pytest.mark.parametrize(('typed', 'told'), [row[1:] for row in UNREAD], ids=[row[0] for row in UNREAD])
+@pytest.mark.parametrize(('typed', 'told'), named(UNREAD))
 def test_unread(checker: Checker, typed: str, told: str) -> None:
     lines = typed.rstrip('\n').count('\n') + 3
     checker.expect(f'{typed.rstrip()}\n\n{ONE}\n', 2, [f'-:{lines} {ONE_LINE}'], [told])

@@ -1,7 +1,5 @@
 """How it reads and writes: as it comes, large and odd files, outputs that are closed, signals, and programs that end."""
 
-from __future__ import annotations
-
 import os
 import resource
 import signal
@@ -12,9 +10,7 @@ from typing import List
 import pytest
 
 from tests.check.conftest import PATH, Checker
-from tests.harness import SLOWNESS, Room
-from tests.harness.game import ID, PICTURE
-from tests.harness.terminal import Terminal
+from tests.harness import ID, PICTURE, SLOWNESS, Room, Terminal
 
 #: What is written of the small game where items that could go aren't counted.
 LINE = f'towers one e - {ID}\n'
@@ -29,13 +25,6 @@ MEMORY = 200 << 20
 def test_words(checker: Checker, words: List[str]) -> None:
     ended = checker.run(words)
     assert (ended.status, ended.output) == (2, b'') and ended.error.decode().endswith(TIP)
-
-
-def test_help(checker: Checker) -> None:
-    for word in ('--help', '-h'):
-        ended = checker.run([word])
-        assert (ended.status, ended.error) == (0, b'') and ended.output.startswith(b'usage: puzzles-check [')
-    assert checker.run(['--version']).output.startswith(b'puzzles ')
 
 
 def test_files(checker: Checker, room: Room) -> None:

@@ -7,9 +7,7 @@ import sys
 from pathlib import Path
 from typing import List, Sequence
 
-from tests.harness import need
-from tests.harness.builds import TOP
-from tests.harness.room import Room
+from tests.harness import TOP, Room, need
 
 SETTINGS = TOP / 'tests' / 'code'
 

@@ -1,12 +1,14 @@
-"""Our saves, opened by the usual program: every kind of move, with later states, solved, restarted, seeded, with kept bytes."""
+"""Our saves, opened by the usual program: every kind of move, with later states, solved, restarted, seeded, with kept bytes; and the IDs of fair games."""
 
+import json
 import re
-from typing import List, Sequence, Tuple
+from typing import List, Tuple
 
 import pytest
 
+from playing import fair
 from tests.exchange.sides import Sides
-from tests.harness.builds import TOP
+from tests.harness import TOP, run
 
 GAMES = ['towers', 'unequal']
 SIZES = range(3, 10)
@@ -44,7 +46,10 @@ def test_saves(sides: Sides, game: str, size: int, number: int, puzzle: str) -> 
         return path
 
     moves = moves_to(sides, game, size, puzzle, sides.solution(game, *start))
-    every = ['move M', *marks_and_clears(size), *done_marks(size), *moves]
+    # A pencil mark in each square and each one's clearing, and a done mark at each place of a clue.
+    marks = [f'move P{x},{y},{number}' for y in range(size) for x in range(size) for number in (x + 1, 0)]
+    done = [f'move D{x},{y}' for at in range(size) for x, y in ((at, -1), (at, size), (-1, at), (size, at))]
+    every = ['move M', *marks, *done, *moves]
 
     fresh = save('fresh')
     sides.draws(game, '--game', puzzle, 'id.png')
@@ -84,9 +89,6 @@ def test_seeded(sides: Sides, game: str, seeded: str) -> None:
     sides.look_alike('seeded.sav', 'id.sav')
 
 
-# Moves
-
-
 def moves_to(sides: Sides, game: str, size: int, puzzle: str, solution: str) -> List[str]:
     """The moves that put a solution in, square by square, without those that a given square refuses."""
     moves = [f'move R{at % size},{at // size},{number}' for at, number in enumerate(solution)]
@@ -94,13 +96,19 @@ def moves_to(sides: Sides, game: str, size: int, puzzle: str, solution: str) -> 
     return [move for reply, move in zip(replies, moves) if reply == 'ok']
 
 
-def marks_and_clears(size: int) -> Sequence[str]:
-    """A pencil mark in each square, and each one's clearing."""
-    squares = [(x, y) for y in range(size) for x in range(size)]
-    return [f'move P{x},{y},{number}' for x, y in squares for number in (x + 1, 0)]
+#: So many fair games of each size and grade.
+FAIR = 20
+
+CLASSES = [(game, size, letter) for game in fair.OFFERED for size in fair.SIZES for letter in fair.letters(game, size)]
 
 
-def done_marks(size: int) -> Sequence[str]:
-    """A done mark at each place of a clue."""
-    places = [place for at in range(size) for place in ((at, -1), (at, size), (-1, at), (size, at))]
-    return [f'move D{x},{y}' for x, y in places]
+@pytest.mark.parametrize(('game', 'size', 'letter'), CLASSES)
+def test_fair(sides: Sides, objects: str, game: str, size: int, letter: str) -> None:
+    """The usual program opens the ID of each as a puzzle of its own, and finds the solution that ours finds."""
+    lines = ''.join(f'{fair.line(size, letter, seed)}\nsolve\n' for seed in range(FAIR))
+    answers = [json.loads(line) for line in run([objects, game], sides.room, input=lines.encode(), seconds=120).output.splitlines()]
+    assert [answer['refused'] for answer in answers] == [None] * 2 * FAIR
+    ids = [answer['session']['id'] for answer in answers[::2]]
+    assert {id.partition(':')[0] for id in ids} == {f'{size}d{letter}'}
+    ours = [(id.partition(':')[2], answer['reply'][0]) for id, answer in zip(ids, answers[1::2])]
+    assert [(records.get('DESC'), records.get('SOLVE')) for records in sides.solves(game, ids)] == ours

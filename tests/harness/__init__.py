@@ -9,29 +9,45 @@ browser   a browser without a window, and what it prints; with `driver`, what al
 between   what stands between puzzles-json and who asks it
 builds    where the repository is, and copies of programs
 bytecode  what Python compiles of scripts, kept for a run
-game      a small game, what its saves are, and the new files that saves leave
-puzzles   larger ones, which the usual program made
+game      a small game, what its saves are, and the new files that saves leave; larger puzzles, which the usual program made
 faults    the library tests/faults/faults.c, by which a chosen call of the program fails
 mounts    a file that is mounted alone, and a disk that is soon full
 users     whom a program can be run as
 """
 
-from typing import Protocol
+from operator import attrgetter
+from typing import Any, Iterable, List
 
+import pytest
+
+from tests.harness.browser import Browser
+from tests.harness.builds import TOP
+from tests.harness.bytecode import bytecode
+from tests.harness.driver import BLANK, RIGHT, Driver
 from tests.harness.faults import FaultLibrary, Met
+from tests.harness.game import HEAD, ID, PICTURE, left_files, made, moves_of, save_text
+from tests.harness.mounts import fill, small_disk
 from tests.harness.program import SLOWNESS, Ended, run
 from tests.harness.room import Folder, Room, Skip
 from tests.harness.skips import need
-from tests.harness.users import User, is_root, need_root
+from tests.harness.terminal import Look, Terminal
+from tests.harness.users import ANNA, CARL, User, is_root, need_root
 
-__all__ = ['SLOWNESS', 'Ended', 'FaultLibrary', 'Folder', 'Met', 'Room', 'Skip', 'User', 'by_name', 'is_root', 'need', 'need_root', 'run']
+__all__ = [
+    'ANNA', 'BLANK', 'Browser', 'CARL', 'Driver', 'Ended', 'FaultLibrary', 'Folder', 'HEAD', 'ID', 'Look', 'Met', 'PICTURE', 'RIGHT', 'Room', 'SLOWNESS',
+    'Skip', 'TOP', 'Terminal', 'User', 'by_name', 'by_words', 'bytecode', 'fill', 'is_root', 'left_files', 'made', 'moves_of', 'named', 'need', 'need_root', 'run',
+    'save_text', 'small_disk',
+]
+
+#: What pytest calls the case of a row that has a name.
+by_name = attrgetter('name')
 
 
-class Named(Protocol):
-    @property
-    def name(self) -> str: ...
+def named(rows: Iterable[Any]) -> List[Any]:
+    """Rows as cases of pytest, each called by its first member, which it isn't given."""
+    return [pytest.param(*row[1:], id=row[0]) for row in rows]
 
 
-def by_name(row: Named) -> str:
-    """What pytest calls the case of a row that has a name."""
-    return str(row.name)
+def by_words(rows: Iterable[Any]) -> List[Any]:
+    """The same, where each row begins with the words of a command, which it is given, too."""
+    return [pytest.param(*row, id=' '.join(row[0])) for row in rows]

@@ -1,42 +1,18 @@
-"""A browser without a window: Chromium, told by its own pipe what to do."""
-
-from __future__ import annotations
+"""A browser without a window: Chromium, told what to do by its own protocol."""
 
 import base64
-import contextlib
-import fcntl
 import json
-import os
-import select
-import signal
-import subprocess
-from typing import Any, Dict, List, Mapping, Optional, Tuple
+from typing import Any, Dict, List, Mapping, Optional
 
-from tests.harness.driver import BLANK, LEFT, RIGHT, Driver, PageLeft
+from tests.harness.driver import BLANK, LEFT, RIGHT, PageLeft, Told
 from tests.harness.room import Room
 from tests.harness.skips import need
 
 #: It asks nobody for anything, and takes what memory there is.
-WORDS = ['--headless', '--no-sandbox', '--disable-gpu', '--disable-dev-shm-usage', '--no-first-run', '--remote-debugging-pipe']
-
-#: The descriptors by which it is told something, and by which it answers.
-TOLD, ANSWERS = 3, 4
-
-#: Each message ends with this.
-END = b'\0'
+WORDS = ['--headless', '--no-sandbox', '--disable-gpu', '--disable-dev-shm-usage', '--no-first-run', '--remote-debugging-port=0']
 
 #: How an expression fails whose page goes away before it is worth something.
 LEAVING = ['Inspected target navigated or closed', 'Execution context was destroyed.', 'Cannot find context with specified id']
-
-
-def pipe() -> Tuple[int, int]:
-    """Where one reads and where one writes, with numbers far from those that they get in the browser."""
-    ends = os.pipe()
-    reading, writing = (fcntl.fcntl(end, fcntl.F_DUPFD_CLOEXEC, 100) for end in ends)
-    for end in ends:
-        os.close(end)
-    return reading, writing
-
 
 #: Keys that are no letters: what a page calls them, and their numbers.
 KEYS = {'Enter': 13, 'Escape': 27, 'Backspace': 8, 'Delete': 46, 'Tab': 9, 'ArrowLeft': 37, 'ArrowUp': 38, 'ArrowRight': 39, 'ArrowDown': 40}
@@ -51,54 +27,22 @@ PHONES = 500
 BUTTONS = {LEFT: 'left', RIGHT: 'right'}
 
 
-class Browser(Driver):
+class Browser(Told):
     """One window, and those that are opened from it. Where there is no browser the case is skipped."""
 
     def __init__(self, room: Room, seconds: float = 60) -> None:
-        super().__init__(seconds)
         need('chromium')
-        self._came, self._number = b'', 0
         #: What the pages have complained of: errors of scripts, and what their policies have refused.
         self.complaints: List[str] = []
         #: What the browser has asked for a page, as `beforeunload`. The answer is yes.
         self.questions: List[str] = []
-        told, self._to = pipe()
-        self._from, answers = pipe()
-
-        def begin() -> None:
-            os.dup2(told, TOLD)
-            os.dup2(answers, ANSWERS)
-
-        self._process = subprocess.Popen(
-            ['chromium', *WORDS, f'--user-data-dir={room.path}/profile'],
-            env={**os.environ, 'HOME': room.path},
-            pass_fds=(TOLD, ANSWERS),
-            preexec_fn=begin,
-            stdout=subprocess.DEVNULL,
-            stderr=subprocess.DEVNULL,
-            start_new_session=True,
-        )
-        os.close(told)
-        os.close(answers)
         self._session: Mapping[str, str] = {}
         #: Each window, and how it is asked.
         self._windows: Dict[str, Mapping[str, str]] = {}
-        try:
-            self._window = self.open()
-        except BaseException:
-            self.end()
-            raise
+        super().__init__(room, ['chromium', *WORDS, f'--user-data-dir={room.path}/profile'], seconds)
 
-    def end(self) -> None:
-        self.kill()
-        self._process.wait()
-        os.close(self._to)
-        os.close(self._from)
-
-    def kill(self) -> None:
-        """It and all that it has started, at once."""
-        with contextlib.suppress(ProcessLookupError):
-            os.killpg(self._process.pid, signal.SIGKILL)
+    def _begin(self) -> None:
+        self._window = self.open()
 
     def open(self) -> str:
         window: str = self._ask('Target.createTarget', {}, {'url': BLANK})['targetId']
@@ -190,44 +134,20 @@ class Browser(Driver):
         return self._ask(method, self._session, parameters)
 
     def _ask(self, method: str, session: Mapping[str, str], parameters: Mapping[str, Any]) -> Mapping[str, Any]:
-        number = self._send(method, session, parameters)
-        while True:
-            answer = self._next()
-            self._note(answer)
-            if answer.get('id') == number:
-                if answer.get('error', {}).get('message') in LEAVING:
-                    raise PageLeft(f'{method}: {answer["error"]}')
-                assert 'error' not in answer, f'{method}: {answer["error"]}'
-                result: Mapping[str, Any] = answer['result']
-                return result
-
-    def _send(self, method: str, session: Mapping[str, str], parameters: Mapping[str, Any]) -> int:
-        """The number of the message. Nobody waits for its answer."""
-        self._number += 1
-        message = json.dumps({'id': self._number, 'method': method, 'params': parameters, **session}).encode() + END
-        while message:
-            message = message[os.write(self._to, message) :]
-        return self._number
+        answer = self._answer(self._tell(method, parameters, **session))
+        if answer.get('error', {}).get('message') in LEAVING:
+            raise PageLeft(f'{method}: {answer["error"]}')
+        assert 'error' not in answer, f'{method}: {answer["error"]}'
+        result: Mapping[str, Any] = answer['result']
+        return result
 
     def _note(self, message: Mapping[str, Any]) -> None:
         told = message.get('params', {})
         if message.get('method') == 'Page.javascriptDialogOpening':
             self.questions.append(told['type'])
-            self._send('Page.handleJavaScriptDialog', {'sessionId': message['sessionId']}, {'accept': True})
+            self._tell('Page.handleJavaScriptDialog', {'accept': True}, sessionId=message['sessionId'])
         if message.get('method') == 'Runtime.exceptionThrown':
             details = told['exceptionDetails']
             self.complaints.append(str(details.get('exception', {}).get('description', details['text'])))
         if message.get('method') == 'Log.entryAdded' and told['entry']['level'] == 'error':
             self.complaints.append(f'{told["entry"]["text"]} {told["entry"].get("url", "")}')
-
-    def _next(self) -> Mapping[str, Any]:
-        """The next message, which may tell an event."""
-        pieces = [self._came]
-        while END not in pieces[-1]:
-            assert select.select([self._from], [], [], self._seconds)[0], 'the browser is silent'
-            came = os.read(self._from, 1 << 20)
-            assert came, 'the browser has ended'
-            pieces.append(came)
-        first, _, self._came = b''.join(pieces).partition(END)
-        message: Mapping[str, Any] = json.loads(first)
-        return message

@@ -3,8 +3,6 @@
 A test counts by the second implementation that the numbers are those of the solutions.
 """
 
-from __future__ import annotations
-
 from typing import Dict, List, NamedTuple, Optional, Sequence, Tuple
 
 

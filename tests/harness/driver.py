@@ -1,10 +1,18 @@
 """A browser that plays as a person does, by the actions that WebDriver and its younger kin, BiDi, have in common."""
 
-from __future__ import annotations
-
+import contextlib
 import json
+import os
+import re
+import signal
+import subprocess
 import time
-from typing import Any, Dict, List, Sequence, Tuple, TypeVar
+from pathlib import Path
+from typing import Any, Dict, List, Mapping, Sequence, Tuple, TypeVar
+
+import websocket
+
+from tests.harness.room import Room
 
 Point = Tuple[float, float]
 
@@ -22,6 +30,10 @@ LEFT, RIGHT = 0, 2
 
 #: A long press lasts so many milliseconds: three times as long as it must, since a busy machine begins to count late.
 LONG = 1400
+
+
+#: So many seconds a browser may take to begin, on a machine that has much else to do.
+BEGINS = 240
 
 
 class PageLeft(AssertionError):
@@ -55,9 +67,6 @@ class Driver:
 
     def size(self, width: int, height: int) -> None:
         """What is seen of the page, as far as the browser can be so small."""
-        raise NotImplementedError
-
-    def picture(self) -> bytes:
         raise NotImplementedError
 
     def open(self) -> str:
@@ -150,3 +159,72 @@ class Driver:
             {'type': 'pointerUp', 'button': button},
         ]
         self.perform([{'type': 'pointer', 'id': kind, 'parameters': {'pointerType': kind}, 'actions': actions}])
+
+
+class Told(Driver):
+    """A browser that is told by messages over a port of its own what to do, as Chromium and Firefox are. It begins with some words and variables."""
+
+    #: The way at its address.
+    way = ''
+
+    def __init__(self, room: Room, words: Sequence[str], seconds: float, **env: str) -> None:
+        super().__init__(seconds)
+        self._number = 0
+        said = Path(room.path, 'said')
+        with open(said, 'wb') as file:
+            whole = {**os.environ, 'HOME': room.path, **env}
+            self._process = subprocess.Popen(words, env=whole, stdout=subprocess.DEVNULL, stderr=file, start_new_session=True)
+        try:
+            self._socket = websocket.create_connection(self._address(said) + self.way, BEGINS, suppress_origin=True)
+            self._begin()
+            self._socket.settimeout(seconds)
+        except BaseException:
+            self.end()
+            raise
+
+    def _begin(self) -> None:
+        """Opens the first tab."""
+        raise NotImplementedError
+
+    def _note(self, message: Mapping[str, Any]) -> None:
+        """Each message that comes, which may tell an event."""
+
+    def end(self) -> None:
+        self.kill()
+        self._process.wait()
+
+    def kill(self) -> None:
+        """It and all that it has started, at once."""
+        with contextlib.suppress(ProcessLookupError):
+            os.killpg(self._process.pid, signal.SIGKILL)
+
+    def _address(self, said: Path) -> str:
+        """That at which it says it listens."""
+        end = time.monotonic() + BEGINS
+        while True:
+            text = said.read_text(encoding='utf-8', errors='replace')
+            found = re.search(r' listening on (ws://\S+)\n', text)
+            if found:
+                return found[1]
+            assert self._process.poll() is None and time.monotonic() < end, f'the browser does not begin: {text}'
+            time.sleep(0.02)
+
+    def _tell(self, method: str, parameters: Mapping[str, Any], **more: str) -> int:
+        """The number of the message."""
+        self._number += 1
+        try:
+            self._socket.send(json.dumps({'id': self._number, 'method': method, 'params': parameters, **more}))
+        except websocket.WebSocketException as error:
+            raise ConnectionError(f'{method}: the browser has ended') from error
+        return self._number
+
+    def _answer(self, number: int) -> Mapping[str, Any]:
+        """The answer to a message. Events come before it."""
+        while True:
+            try:
+                came: Mapping[str, Any] = json.loads(self._socket.recv())
+            except (websocket.WebSocketException, ValueError) as error:
+                raise ConnectionError('the browser has ended, or says nothing') from error
+            self._note(came)
+            if came.get('id') == number:
+                return came

@@ -1,9 +1,10 @@
-"""A small game of Towers, what its saves are, and the new files that saves leave."""
+"""A small game of Towers, what its saves are, and the new files that saves leave; and larger puzzles, which the usual program made."""
 
 import os
 import re
 from typing import Iterable, List, Optional
 
+from tests.harness.builds import TOP
 from tests.harness.room import Folder
 
 ID = '3:3//////3/////'
@@ -30,6 +31,11 @@ def save_text(moves: int, position: Optional[int] = None) -> bytes:
     return HEAD + states + b''.join(b'MOVE    :6:%s\n' % move for move in MOVES[:moves])
 
 
+def moves_of(save: Optional[bytes]) -> List[bytes]:
+    """Those of a save, the undone ones among them."""
+    return re.findall(rb'^MOVE    :.:(.*)$', save or b'', re.MULTILINE)
+
+
 def told_left(paths: Iterable[str]) -> str:
     """What is told on standard error of new files that were left at these paths, seen from where the program runs."""
     return ''.join(f'the save is in ./{path}\n' for path in paths)
@@ -38,3 +44,9 @@ def told_left(paths: Iterable[str]) -> str:
 def left_files(folder: Folder) -> List[str]:
     """The paths of new files that a save left here, or in a folder below."""
     return [path for path in folder.paths() if os.path.basename(path).startswith('.puzzles.')]
+
+
+def made(game: str, size: int, letters: str) -> List[str]:
+    """The IDs of all puzzles of bench/puzzles.txt of a size and of these grades."""
+    lines = [line.split() for line in (TOP / 'bench' / 'puzzles.txt').read_text(encoding='ascii').splitlines() if not line.startswith('#')]
+    return [params + id[1:] for of, params, id in lines if of == game and params in [f'{size}d{letter}' for letter in letters]]

@@ -6,7 +6,8 @@ import os
 import shutil
 import stat
 import tempfile
-from typing import BinaryIO, List, Optional, Tuple, Union
+from pathlib import Path
+from typing import BinaryIO, Callable, List, Optional, Tuple, Union
 
 from _pytest.outcomes import Skipped
 
@@ -56,6 +57,13 @@ class Folder:
                 os.fchown(fd, *owner)
             os.fchmod(fd, mode)
             file.write(content)
+
+    def lay(self, path: str, make: Callable[[str], object] = os.mkdir) -> str:
+        """Makes something at a path from here, with the folders above it, and gives its whole path."""
+        whole = os.path.join(self.path, path)
+        os.makedirs(os.path.dirname(whole), exist_ok=True)
+        make(whole)
+        return whole
 
     def link(self, name: Name, text: Name) -> None:
         """Makes a symbolic link with this text."""
@@ -128,18 +136,13 @@ def place_of_rooms() -> str:
 
 def is_fit(place: str) -> bool:
     """Whether rooms can be made there: what lies there can be preloaded, and other users may go there, where the test has some."""
-    may_all_go = os.geteuid() != 0 or all(os.stat(folder).st_mode & stat.S_IXOTH for folder in way_to(place))
+    may_all_go = os.geteuid() != 0 or all(os.stat(folder).st_mode & stat.S_IXOTH for folder in [Path(place), *Path(place).parents])
     return can_preload(place) and may_all_go and os.access(place, os.W_OK)
 
 
 def can_preload(path: str) -> bool:
     """Whether a library there can be preloaded: blanks and colons stand between two of them."""
     return not set(path).intersection(' \t\n:')
-
-
-def way_to(place: str) -> List[str]:
-    """A folder, and all above it."""
-    return [place] if place == '/' else [place, *way_to(os.path.dirname(place))]
 
 
 def remove_tree(path: str) -> None:

@@ -1,7 +1,5 @@
 """In which order cases are run, and by which process: the longest first, each by the one that is free next, so that all processes end together."""
 
-from __future__ import annotations
-
 from typing import Any
 
 from xdist.scheduler import LoadScheduling

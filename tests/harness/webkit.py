@@ -1,8 +1,5 @@
 """WebKitGTK, which is the engine of Safari, told what to do by WebDriver: its own WebKitWebDriver listens on a port."""
 
-from __future__ import annotations
-
-import base64
 import contextlib
 import http.client
 import json
@@ -88,9 +85,6 @@ class WebKit(Driver):
         self._do('window/rect', width=width, height=height)
         inner = self.value('[innerWidth, innerHeight]')
         self._do('window/rect', width=2 * width - inner[0], height=2 * height - inner[1])
-
-    def picture(self) -> bytes:
-        return base64.b64decode(self._ask('GET', 'screenshot'))
 
     def open(self) -> str:
         tab = str(self._do('window/new', type='tab')['handle'])

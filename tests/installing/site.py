@@ -7,8 +7,7 @@ import pytest
 
 from tests.conftest import Programs
 from tests.scripts.place import Place
-from tests.harness import Room
-from tests.harness.program import Ended
+from tests.harness import Ended, Room
 
 
 class Site(Place):

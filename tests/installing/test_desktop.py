@@ -9,8 +9,7 @@ from typing import List
 
 import pytest
 
-from tests.harness import Room, run
-from tests.harness.builds import TOP
+from tests.harness import TOP, Room, run
 
 FOLDER = TOP / 'desktop'
 ENTRIES = sorted(path.name for path in FOLDER.glob('*.desktop'))

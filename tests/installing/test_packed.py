@@ -4,22 +4,12 @@ were unpacked."""
 import os
 
 from tests.board.playing import PROMPT
-from tests.harness import need
-from tests.harness.game import ID
-from tests.harness.program import Ended, run
-from tests.harness.terminal import Terminal
+from tests.harness import ID, Ended, Terminal, need, run
 from tests.installing.site import Site, expect_plays, files
 
 #: Who commits, and when, in the copy.
-WHO = {
-    'GIT_AUTHOR_NAME': 'Anna',
-    'GIT_AUTHOR_EMAIL': 'anna@example.org',
-    'GIT_AUTHOR_DATE': '2026-01-02T03:04:05Z',
-    'GIT_COMMITTER_NAME': 'Anna',
-    'GIT_COMMITTER_EMAIL': 'anna@example.org',
-    'GIT_COMMITTER_DATE': '2026-01-02T03:04:05Z',
-    'GIT_CONFIG_NOSYSTEM': '1',
-}
+ANNA = {'NAME': 'Anna', 'EMAIL': 'anna@example.org', 'DATE': '2026-01-02T03:04:05Z'}
+WHO = {'GIT_CONFIG_NOSYSTEM': '1', **{f'GIT_{who}_{what}': text for who in ('AUTHOR', 'COMMITTER') for what, text in ANNA.items()}}
 
 #: No command `rt` is there.
 NO_KIT = 'RT=/no kit'

@@ -4,9 +4,8 @@ import os
 from typing import List
 
 from tests.board.line_games import GAMES, REFUSED, SAVES
-from tests.board.playing import LineFront
-from tests.harness import Room
-from tests.harness.builds import TOP
+from tests.board.playing import BoardFront
+from tests.harness import TOP, Room
 from tests.installing.site import Site, expect_plays, files, snapshot, words_of
 
 OURS = 'share/verified-puzzles'
@@ -52,13 +51,14 @@ def test_staged(site: Site) -> None:
     site.expect(['make', 'install', *where])
     assert files(place) == wanted(), 'what is there'
     assert os.readlink(os.path.join(place, 'games', 'puzzles-json')) == 'puzzles'
-    expect_modes(site, place)
+    expect_modes(place)
     expect_plays(site, os.path.join(place, 'games'))
     expect_version(site, os.path.join(place, 'games', 'puzzles-play'))
-    expect_bank(site, place)
+    with open(os.path.join(place, OURS, 'playing', 'bank', 'towers.txt'), encoding='utf-8') as file:
+        assert any(line.startswith('9dx') for line in file), 'its puzzles: some of Towers of size 9'
     site.expect(['make', 'installcheck', *where], says='is there and plays')
     expect_completes(site, place)
-    expect_pages(site, place)
+    expect_pages(place)
     expect_damage_is_seen(site, where, place)
     expect_games(os.path.join(place, 'games', 'puzzles-play'))
     site.expect(['make', 'uninstall', *where])
@@ -66,15 +66,11 @@ def test_staged(site: Site) -> None:
     site.expect(['make', 'uninstall', *where])
 
 
-def expect_modes(site: Site, place: str) -> None:
+def expect_modes(place: str) -> None:
     """Others may read each file, and run what is to be run."""
-    odd = [line for line in snapshot(place) if line.rpartition(' ')[2] != ('755' if is_run(place, line) else '644')]
-    assert odd == [], 'modes'
-
-
-def is_run(place: str, line: str) -> bool:
-    path = line.rpartition(' ')[0]
-    return path.startswith('games/') or os.path.isdir(os.path.join(place, path))
+    for line in snapshot(place):
+        path, _, mode = line.rpartition(' ')
+        assert mode == ('755' if path.startswith('games/') or os.path.isdir(os.path.join(place, path)) else '644'), line
 
 
 def expect_version(site: Site, play: str) -> None:
@@ -86,11 +82,6 @@ def expect_version(site: Site, play: str) -> None:
     assert b'not known to be proved' in other.output, 'puzzles-play --version, with another program'
 
 
-def expect_bank(site: Site, place: str) -> None:
-    with open(os.path.join(place, OURS, 'playing', 'bank', 'towers.txt'), encoding='utf-8') as file:
-        assert any(line.startswith('9dx') for line in file), 'its puzzles: some of Towers of size 9'
-
-
 def expect_completes(site: Site, place: str) -> None:
     """The file that bash looks for by the name of a command says how that command is completed."""
     for name in ('puzzles', 'puzzles-json', 'puzzles-play', 'puzzles-page', 'puzzles-sheet', 'puzzles-check'):
@@ -99,7 +90,7 @@ def expect_completes(site: Site, place: str) -> None:
         assert (ended.status, ended.error) == (0, b''), f'completion of {name}'
 
 
-def expect_pages(site: Site, place: str) -> None:
+def expect_pages(place: str) -> None:
     """A manual page that is another one's name leads to one that is there."""
     folder = os.path.join(place, 'share', 'man')
     there = files(folder)
@@ -126,9 +117,9 @@ def expect_damage_is_seen(site: Site, where: List[str], place: str) -> None:
 def expect_games(front: str) -> None:
     """The line mode finds its program by itself; the last games go on in one folder."""
     with Room() as room:
-        for refused in REFUSED:
-            LineFront(front, room).refuse(refused)
+        for words, says in REFUSED:
+            BoardFront(front, '', room).refuses(words, says)
     for games in [*([game] for game in GAMES), SAVES]:
         with Room() as room:
             for game in games:
-                LineFront(front, room).play(game)
+                BoardFront(front, '', room).play_in_lines(game)

@@ -1,7 +1,5 @@
 """A player at a game, in the browsers that are asked for; the page from a disk and from a server."""
 
-from __future__ import annotations
-
 import contextlib
 import functools
 import http.server
@@ -12,12 +10,8 @@ from typing import Callable, Iterator, List
 
 import pytest
 
-from tests.harness import Room
-from tests.harness.browser import Browser
-from tests.harness.builds import TOP
-from tests.harness.driver import BLANK, Driver
+from tests.harness import TOP, Browser, Driver, Room, Skip
 from tests.harness.firefox import firefox
-from tests.harness.room import Skip
 from tests.harness.webkit import webkit
 from tests.page.playing import Player
 
@@ -41,13 +35,13 @@ def pytest_addoption(parser: pytest.Parser) -> None:
 
 
 def pytest_configure(config: pytest.Config) -> None:
-    config.addinivalue_line('markers', 'gate: a case that runs only where browsers are asked for, as the gate does')
+    config.addinivalue_line('markers', 'always: a case that runs where no browsers are asked for, too, as by `make test`')
 
 
 def pytest_collection_modifyitems(config: pytest.Config, items: List[pytest.Item]) -> None:
     """`make test` has some cases of each kind alone: all of them take a minute of a processor."""
     if not config.getoption('--browsers'):
-        later = [item for item in items if item.get_closest_marker('gate')]
+        later = [item for item in items if Path(__file__).parent in item.path.parents and not item.get_closest_marker('always')]
         items[:] = [item for item in items if item not in later]
         config.hook.pytest_deselected(items=later)
 
@@ -81,23 +75,19 @@ def driver(request: pytest.FixtureRequest) -> Iterator[Driver]:
 @pytest.fixture
 def player(driver: Driver, page: Path) -> Iterator[Player]:
     """At the page from a disk, in a browser that keeps nothing."""
-    made = Player(driver, f'file://{page}')
-    yield made
-    made.forget()
+    with Player(driver, f'file://{page}') as made:
+        yield made
     driver.rest()
-    driver.go(BLANK)
 
 
 @pytest.fixture
 def piped(browser: Browser, page: Path) -> Iterator[Player]:
     """The same in Chromium alone, which can do what others can't. Nothing may be complained of in it."""
     browser.plain()
-    made = Player(browser, f'file://{page}')
     browser.complaints.clear()
-    yield made
-    made.forget()
-    browser.plain()
-    browser.go(BLANK)
+    with Player(browser, f'file://{page}') as made:
+        yield made
+        browser.plain()
     assert browser.complaints == []
 
 

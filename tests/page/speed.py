@@ -1,17 +1,14 @@
 """How fast the page is in Chromium: python3 -m tests.page.speed FILE. It prints a line for each kind, with the median, the 95th and the 99th per cent."""
 
-from __future__ import annotations
-
 import itertools
 import statistics
 import sys
 import time
 from typing import Callable, Iterator, List
 
-from tests.harness import Room
-from tests.harness.browser import Browser
-from tests.harness.builds import TOP
-from tests.page.playing import PHONE, Player, at
+from tests.harness import TOP, Browser, Room
+from tests.page.playing import PHONE, Player
+from tests.page.seen import at
 
 #: Set before the page begins: when its first board was painted, counted from the navigation; and how long after a finger was lifted the board had
 #: changed, or the verdict of the setter's desk.
@@ -74,9 +71,9 @@ def verdicts(player: Player) -> Iterator[float]:
         game, size = head.split()
         kind = 'clue' if game == 'towers' else 'sign'
         player.write('#desk-game', game)
-        player.counts(kind)
+        player.look('', counts=kind)
         player.write('#desk-size', size)
-        player.counts(f'0 {kind}s · 0 given')
+        player.look('', counts=f'0 {kind}s · 0 given')
         player.driver.wait_for(f'document.querySelectorAll(".square").length === {int(size) ** 2} && document.querySelector("#ruling").textContent')
         for change in changes.split():
             yield from taps(player, int(size), [int(word) for word in change.split(',')])
@@ -100,7 +97,8 @@ def taps(player: Player, size: int, words: List[int]) -> Iterator[float]:
 def main(page: str) -> None:
     with Room() as room, Browser(room) as browser:
         browser.ask('Page.addScriptToEvaluateOnNewDocument', source=WATCH)
-        player = Player(browser, f'file://{page}').sit('', PHONE)
+        player = Player(browser, f'file://{page}')
+        player.sit('', PHONE)
 
         def load(_: int) -> float:
             player.load('towers-5-easy-7')
@@ -118,7 +116,7 @@ def main(page: str) -> None:
 
         def hint(_: int) -> float:
             taken = float(player.value(HINT))
-            player.press('h', 'h')
+            player.press('hh')
             player.driver.wait_for('!document.querySelector("#told").textContent')
             return taken
 

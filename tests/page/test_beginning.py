@@ -1,16 +1,12 @@
 """Which game begins, and what is said of it: solved boards, refused links, games that can't be read, and browsers that can't run the page."""
 
-from __future__ import annotations
-
 import json
 from typing import Dict, List
 
 import pytest
 
 from tests.conftest import Programs
-from tests.harness import Room
-from tests.harness.browser import Browser
-from tests.harness.program import run
+from tests.harness import BLANK, Browser, Room, run
 from tests.page.playing import NO_JOURNAL, PHONE, TOWERS, Player, Scripted
 from tests.page.test_keeping import solve_by_hints
 
@@ -21,22 +17,20 @@ SEVENS = '((left) => { Math.random = () => (left-- > 0 ? 7.5e-8 : 0.123456789); 
 def solved(player: Player, link: str) -> None:
     player.load(link)
     solve_by_hints(player)
-    player.told('Solved')
+    player.look('', told='Solved')
 
 
-@pytest.mark.gate
 def test_solved_by_chance(player: Player) -> None:
     """A number by chance whose board is solved already counts as one without a game; where there are no others its board begins anew."""
     player.driver.size(*PHONE)
     solved(player, 'towers-3-easy-7')
     player.value(f'{SEVENS}(3)')
-    player.driver.click('#offer')
-    player.counts('0 of 9')
+    player.look('{#offer}', counts='0 of 9')
     assert player.kept()[0]['fair']['number'] == '12345678'
     solved(player, 'towers-3-easy-7')
     player.value(f'{SEVENS}(1000)')
     player.begin('Towers 3×3', game='towers', size='3', grade='e')
-    player.counts('0 of 9')
+    player.look('', counts='0 of 9')
     assert player.kept()[0]['fair']['number'] == '7'
 
 
@@ -52,7 +46,6 @@ def same_board(programs: Programs, room: Room) -> List[int]:
     raise AssertionError('there are none')
 
 
-@pytest.mark.gate
 def test_day_begins_anew(player: Player, programs: Programs, room: Room) -> None:
     """A board that was solved under another number, as one of another day, can be solved once more; under its own number it is there as it was."""
     player.driver.size(*PHONE)
@@ -60,9 +53,7 @@ def test_day_begins_anew(player: Player, programs: Programs, room: Room) -> None
     solved(player, f'towers-3-easy-{before}')
     solved(player, f'towers-3-easy-{day}')
     assert [game['number'] for game in json.loads(player.value('localStorage["puzzles:solved"]'))] == [str(before), str(day)]
-    player.load(f'towers-3-easy-{before}')
-    player.told('Solved')
-    assert len(player.kept()) == 2
+    player.look(f'{{load towers-3-easy-{before}}}', told='Solved', games='2')
 
 
 #: Links that the module refuses, and what is said of each, with another game below it.
@@ -74,20 +65,16 @@ REFUSED = [
 ]
 
 
-@pytest.mark.gate
 def test_refused_link(player: Player) -> None:
     """The reason stands there when the page is ready, and no welcome takes its place."""
     for link, said in REFUSED:
-        player.load(link)
-        player.counts('0 of')
+        player.look(f'{{load {link}}}', counts='0 of')
         player.settles()
         assert player.text('#told').startswith(said), link
     player.forget()
-    player.load()
-    player.told('Choose a square, then a number.')
+    player.look('{load}', told='Choose a square, then a number.')
 
 
-@pytest.mark.gate
 @pytest.mark.parametrize('spoil', ['JSON.stringify({...JSON.parse(text), save: "none"})', 'text.slice(0, 99)'], ids=['save', 'text'])
 def test_damaged(player: Player, spoil: str) -> None:
     """A kept game that can't be read is named, another one begins, and it stays."""
@@ -97,8 +84,7 @@ def test_damaged(player: Player, spoil: str) -> None:
     # The database has nothing better.
     player.value(NO_JOURNAL)
     player.value('(Storage.prototype.setItem = () => undefined, true)')
-    player.load()
-    player.counts('0 of')
+    player.look('{load}', counts='0 of')
     player.settles()
     assert player.text('#told') == 'That kept game can’t be read. It stays as it is.'
     assert player.value(f'localStorage[{json.dumps(name)}]') == text
@@ -113,22 +99,20 @@ WORKERLESS = {
 }
 
 
-@pytest.mark.gate
 @pytest.mark.parametrize('script', WORKERLESS.values(), ids=list(WORKERLESS))
 def test_no_worker(scripted: Scripted, browser: Browser, script: str) -> None:
     """A sentence says so, in the place of an empty page."""
     player = scripted(script)
-    player.driver.go('about:blank')
+    player.driver.go(BLANK)
     player.driver.go(player.address)
     player.driver.wait_for('document.querySelector("#told")?.textContent.startsWith("This browser can’t run the game")')
     # The worker without a module complains of that.
     browser.complaints.clear()
 
 
-@pytest.mark.gate
 def test_fault_of_the_page(piped: Player, browser: Browser) -> None:
     """What nobody expected is said."""
     piped.sit(TOWERS)
     piped.value('(Promise.reject(new Error("unexpected")), true)')
-    piped.told('Something failed on this page.')
+    piped.look('', told='Something failed on this page.')
     browser.complaints.clear()

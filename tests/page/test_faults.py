@@ -1,17 +1,12 @@
 """What may go wrong: the module ends in a trap, works for too long, or has no memory; and links, saves and names from people who mean ill."""
 
-from __future__ import annotations
-
 import json
 from pathlib import Path
 from typing import Iterator, List, Tuple
 
 import pytest
 
-from tests.harness import Room
-from tests.harness.browser import Browser
-from tests.harness.driver import Driver
-from tests.harness.game import save_text
+from tests.harness import Browser, Driver, Room, save_text
 from tests.page.playing import PHONE, TOWERS, UNEQUAL, Player
 
 #: Before and after the text of the worker: some lines fail as the engine fails, and one takes forever.
@@ -38,35 +33,25 @@ def failing(driver: Driver, page: Path, room: Room) -> Iterator[Player]:
     before, _, rest = page.read_text(encoding='utf-8').partition(WORKER)
     worker, _, after = rest.partition('</script>')
     room.put('failing.html', f'{before}{WORKER}{BEFORE}{worker}{AFTER}</script>{after}'.encode())
-    player = Player(driver, f'file://{room.path}/failing.html')
-    yield player
-    player.forget()
-    driver.go('about:blank')
+    with Player(driver, f'file://{room.path}/failing.html') as player:
+        yield player
 
 
+@pytest.mark.always
 def test_trap(failing: Player) -> None:
     """It is said, nothing has changed, and play goes on in a new worker."""
     failing.sit(TOWERS)
-    failing.press('1', 'ArrowRight', '2')
-    failing.told('The program failed at that. It has begun anew, and the game is as it was.')
-    failing.press('3', 'ArrowDown', '1')
-    failing.is_called(1, 0, 'row 1, column 2, 3')
-    failing.is_called(1, 1, 'row 2, column 2, 1')
-    assert failing.moves() == ['R0,0,1', 'R1,0,3', 'R1,1,1']
+    failing.look('1<right>2', told='The program failed at that. It has begun anew, and the game is as it was.')
+    failing.look('3<down>1', 'row 1, column 2, 3', 'row 2, column 2, 1', moved='R0,0,1 R1,0,3 R1,1,1')
 
 
-@pytest.mark.gate
 def test_stopped(failing: Player) -> None:
     """A search that takes long is said to, the page isn't stopped by it, and its player ends it."""
     failing.sit(TOWERS, PHONE)
-    failing.press('1', 'c')
-    failing.told('The program is at work.')
-    failing.press('ArrowRight')
-    assert failing.chosen() == (1, 0)
-    failing.driver.click('#offer')
-    failing.told('Stopped. Nothing has changed.')
-    failing.press('3')
-    failing.is_called(1, 0, 'row 1, column 2, 3')
+    failing.look('1c', told='The program is at work.')
+    failing.look('<right>', chose='1,0')
+    failing.look('{#offer}', told='Stopped. Nothing has changed.')
+    failing.look('3', 'row 1, column 2, 3')
 
 
 #: Links that name no game, or one that is none: the page begins all the same.
@@ -84,32 +69,25 @@ HOSTILE = [
 ]
 
 
-@pytest.mark.gate
 def test_links(player: Player) -> None:
     for link in HOSTILE:
         player.load(link)
         assert player.value('document.images.length + document.scripts.length') == 3, link
     assert len(player.kept()) == 1
-    player.load('what')
-    player.told('This is not a game')
+    player.look('{load what}', told='This is not a game')
 
 
-@pytest.mark.gate
 def test_names_are_text(player: Player) -> None:
     """Whatever a save or a file of games has in it, stands on the page as text."""
     player.sit(TOWERS, PHONE)
-    player.drop(save_text(2).replace(b'NSTATES', b'AUXINFO :13:<img onerror>\nNSTATES', 1))
-    player.is_called(1, 0, 'row 1, column 2, 2')
-    player.opens(':', '#ask')
-    player.driver.type('save')
-    player.press('Enter')
-    player.is_shown('#page')
-    assert '<img onerror>' in player.text('#page-text') and player.text('#page-title') == 'save'
+    player.drop(save_text(2).replace(b'NSTATES', b'AUXINFO :13:<img onerror>\nNSTATES', 1), is_called='row 1, column 2, 2')
+    player.look(':', is_shown='#ask')
+    player.look('save<enter>', reads='<img onerror>')
+    assert player.text('#page-title') == 'save'
     player.leaves('#page')
-    player.opens(':', '#ask')
+    player.look(':', is_shown='#ask')
     player.driver.type('<img src=x onerror=alert(1)>')
-    player.press('Enter')
-    player.told('There is no such command.')
+    player.look('<enter>', told='There is no such command.')
     assert player.value('document.images.length') == 0 and player.value('document.title') == 'Towers 3×3'
 
 
@@ -126,35 +104,28 @@ SPOILED: List[Tuple[str, str]] = [
 ]
 
 
-@pytest.mark.gate
 def test_spoiled(player: Player) -> None:
     """It is passed over, and stays."""
     player.sit(TOWERS, PHONE)
     for name, text in SPOILED:
         player.value(f'(localStorage[{json.dumps(name)}] = {json.dumps(text)}, true)')
-        player.load()
-        player.menu('Statistics')
-        player.is_shown('#statistics')
-        player.leaves('#statistics')
-        player.opens('o', '#games')
+        player.look('{load}{menu Statistics}', is_shown='#statistics', leaves='#statistics')
+        player.look('o', is_shown='#games')
         assert player.value('document.images.length') == 0
         player.leaves('#games')
     player.begin('Unequal 3×3', id=UNEQUAL)
     assert player.value('localStorage["puzzles:game:a"]') == 'no object'
 
 
+@pytest.mark.always
 def test_policy(piped: Player, browser: Browser) -> None:
     """Nothing goes out, no other script runs, and no text becomes markup."""
     piped.sit(TOWERS)
     policy = piped.value('document.querySelector("meta[http-equiv]").content')
     assert policy.startswith("default-src 'none';") and 'unsafe-inline' not in policy and 'connect-src' not in policy
-    tried = {
-        'document.body.innerHTML = "<b>"': 'TypeError',
-        'document.body.insertAdjacentHTML("beforeend", "<b>")': 'TypeError',
-        'document.createElement("script").text = "1"': 'TypeError',
-    }
-    for script, fault in tried.items():
-        assert piped.value(f'(() => {{ try {{ {script}; return "done"; }} catch (fault) {{ return fault.name; }} }})()') == fault, script
+    markup = ['document.body.innerHTML = "<b>"', 'document.body.insertAdjacentHTML("beforeend", "<b>")', 'document.createElement("script").text = "1"']
+    for script in markup:
+        assert piped.value(f'(() => {{ try {{ {script}; return "done"; }} catch (fault) {{ return fault.name; }} }})()') == 'TypeError', script
     assert piped.value('fetch("data:,x").then(() => "came", () => "refused")') == 'refused'
     assert piped.value('performance.getEntriesByType("resource").length') == 0
     browser.complaints.clear()

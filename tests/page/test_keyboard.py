@@ -1,7 +1,5 @@
 """Keyboards of other languages and of Macs; and where the focus is after a button that is gone once it was pressed."""
 
-from __future__ import annotations
-
 import json
 from typing import Any, Dict, List, NamedTuple
 
@@ -50,17 +48,14 @@ PRESSED: List[Pressed] = [
 
 
 @pytest.mark.parametrize('pressed', PRESSED, ids=by_name)
-@pytest.mark.gate
 def test_other_keyboards(player: Player, pressed: Pressed) -> None:
     """A digit counts by the place of its key where the key has another sign; undo and redo have the keys of each system."""
     player.sit(TOWERS, LAPTOP)
-    player.press(*pressed.before)
-    player.is_called(0, 0, EMPTY if 'u' in pressed.before else ONE)
+    player.look(pressed.before, EMPTY if 'u' in pressed.before else ONE)
     send(player, {'key': pressed.key, 'code': pressed.code, **pressed.more})
     # A mark in the next square comes after whatever that key has done.
-    player.press('ArrowRight', 'p', '3')
-    player.is_called(1, 0, 'row 1, column 2, empty, marks 3')
-    assert player.name(0, 0) == pressed.called
+    player.look('<right>p3', 'row 1, column 2, empty, marks 3')
+    assert player.name('row 1, column 1') == pressed.called
 
 
 def send(player: Player, event: Dict[str, Any]) -> None:
@@ -73,7 +68,6 @@ def enter(player: Player, selector: str) -> None:
     player.value(f'((node) => {{ node.focus(); node.click(); return true; }})(document.querySelector("{selector}"))')
 
 
-@pytest.mark.gate
 def test_focus_of_a_hint(player: Player) -> None:
     """Why? gives the focus to the first step, and Close and a number that is put in give it back to the board."""
     player.sit(TOWERS, LAPTOP)
@@ -81,25 +75,18 @@ def test_focus_of_a_hint(player: Player) -> None:
         enter(player, '[data-do=why]')
         player.driver.wait_for('document.activeElement.dataset.step === "0"')
         enter(player, f'[data-do={last}]')
-        player.closes('#walk')
-        player.counts(count)
+        player.look('', closes='#walk', counts=count)
     # By a key of the board the board keeps it.
-    player.opens('H', '#walk')
+    player.look('H', is_shown='#walk')
     assert player.value('Boolean(document.activeElement.dataset.place)')
 
 
-@pytest.mark.gate
 def test_focus_of_an_offer(player: Player) -> None:
     """What is offered beside a sentence is gone once it is done: the board has the focus then, also in the next game."""
     player.sit(UNEQUAL, LAPTOP)
-    player.press('2', 'ArrowDown', 'ArrowRight', '2', 'c')
-    player.told('can’t be completed since the last')
+    player.look('2<down><right>2c', told='can’t be completed since the last')
     enter(player, '#offer')
-    player.told('taken back.')
-    assert player.chosen() == (1, 1)
-    player.press('S')
-    player.answer('Yes')
-    player.told('Filled in')
+    player.look('', told='taken back.', chose='1,1')
+    player.look('S', answer='Yes', told='Filled in')
     enter(player, '#offer')
-    player.counts('0 of')
-    assert player.chosen() == (0, 0)
+    player.look('', counts='0 of', chose='0,0')

@@ -5,8 +5,6 @@ With `--kills N` each case kills so many browsers, one after the other with what
     tests/run PUZZLES PUZZLES_JSON -n0 -s tests/page/test_killed.py --browsers=all --kills 60
 """
 
-from __future__ import annotations
-
 import random
 import threading
 import time
@@ -15,12 +13,11 @@ from typing import Callable, Dict, List, NamedTuple, Union
 
 import pytest
 
-from tests.harness import Room
-from tests.harness.browser import Browser
+from tests.harness import HEAD, Browser, Room
 from tests.harness.firefox import Firefox, firefox
-from tests.harness.game import HEAD
 from tests.page.conftest import chosen
-from tests.page.playing import Player, at
+from tests.page.playing import Player
+from tests.page.seen import at
 
 #: What was seen so many seconds before the end has to last.
 LASTS = 0.5
@@ -55,7 +52,6 @@ def pytest_generate_tests(metafunc: pytest.Metafunc) -> None:
     metafunc.parametrize('name', [name for name in chosen(metafunc.config.getoption('--browsers')) if name in BEGIN])
 
 
-@pytest.mark.gate
 @pytest.mark.parametrize('is_long', [False, True], ids=['short', 'long'])
 def test_killed(name: str, is_long: bool, page: Path, room: Room, request: pytest.FixtureRequest) -> None:
     rounds = Rounds(name, page, room, is_long)
@@ -108,15 +104,15 @@ class Rounds:
         elif not self.seen:
             moves = b''.join(b'MOVE    :6:R0,0,%d\n' % (1 + number % 2) for number in range(MOVES))
             player.drop(HEAD + b'NSTATES :5:%d\nSTATEPOS:5:%d\n' % (MOVES + 1, MOVES + 1) + moves)
-            player.is_called(0, 0, 'row 1, column 1, 2')
+            player.is_called('row 1, column 1, 2')
             self.see('', MOVES)
         else:
-            player.called('Towers 3×3')
+            player.look('', called='Towers 3×3')
 
     def new_game(self, player: Player, chance: random.Random) -> None:
         number = self.asked = str(chance.randrange(10**8))
         player.value(f'(location.hash = "#towers-5-hard-{number}", true)')
-        player.told(f'number {number}.')
+        player.look('', told=f'number {number}.')
         player.driver.click(at(*player.value('document.querySelector("[aria-label$=empty]").dataset.place').split(',')))
         self.see(number, 0)
 

@@ -1,14 +1,12 @@
 """What a player gives to others: the link to a game, the ID, and how it was solved, which shows nothing of the solution."""
 
-from __future__ import annotations
-
 import datetime
 import json
 from typing import Iterator
 
 import pytest
 
-from tests.harness.driver import Driver
+from tests.harness import Driver
 from tests.page.playing import LAPTOP, PHONE, TOWERS, Player
 from tests.page.test_keeping import solve_by_hints
 
@@ -20,10 +18,8 @@ REFUSED = '{writeText: async () => { throw new DOMException("", "NotAllowedError
 @pytest.fixture
 def online(driver: Driver, served: str) -> Iterator[Player]:
     """At the page from a server."""
-    player = Player(driver, served)
-    yield player
-    player.forget()
-    driver.go('about:blank')
+    with Player(driver, served) as player:
+        yield player
 
 
 def clipboard(player: Player, script: str) -> None:
@@ -35,57 +31,45 @@ def copied(player: Player) -> str:
     return str(player.value('window.copied'))
 
 
-@pytest.mark.gate
 def test_link(online: Player) -> None:
     """Of a page on a server it is whole. Where the browser lets no page copy, it stands there to be copied by hand."""
     online.sit('towers-4-easy-20261127')
     clipboard(online, NOTED)
-    online.menu('Copy link')
-    online.told('The link to this game is copied.')
+    online.look('{menu Copy link}', told='The link to this game is copied.')
     assert copied(online) == f'{online.address}#towers-4-easy-20261127'
     clipboard(online, REFUSED)
     online.menu('Copy link')
     online.driver.wait_for(f'document.querySelector("#page[open] #page-text")?.textContent === {json.dumps(copied(online))}')
     online.leaves('#page')
-    online.opens('i', '#page')
-    assert copied(online) in online.text('#page-text')
+    online.look('i', reads=copied(online))
 
 
-@pytest.mark.gate
 def test_name(player: Player) -> None:
     """A page from a disk has no address for others: what is copied says which game it is, and New takes it as a whole."""
     for link, name in [('towers-4-easy-7', 'Towers 4×4, easy, number 7'), (TOWERS, 'Towers 3×3')]:
         player.sit(link)
         clipboard(player, NOTED)
-        player.menu('Copy link')
-        player.told('This page has no address for others, so the name of the game is copied.')
+        player.look('{menu Copy link}', told='This page has no address for others, so the name of the game is copied.')
         text = copied(player)
         assert text.startswith(f'{name}: #')
         player.closes('#menu')
         player.begin('Unequal 4×4', id='unequal-4-easy-7')
         player.begin(name.split(',', maxsplit=1)[0], id=text)
-        player.told('You have begun this game before.')
+        player.look('', told='You have begun this game before.')
         player.forget()
 
 
-@pytest.mark.gate
 def test_grade(player: Player) -> None:
     """A game of an ID has the grade by our steps, and what that is stands below it, unless there is something else to say."""
     # The first time the course is offered in its place.
     player.sit('towers-3-easy-8')
-    player.load(TOWERS)
-    player.counts('easy by our steps')
-    player.told('By our steps: hints of that grade lead to the solution')
-    player.put_first(1)
-    player.load(TOWERS)
-    player.counts('easy by our steps')
-    player.told('You have begun this game before.')
-    player.load('towers-3-easy-7')
-    player.told('Towers, easy 3, number 7.')
+    player.look(f'{{load {TOWERS}}}', counts='easy by our steps', told='By our steps: hints of that grade lead to the solution')
+    player.look('1', 'row 1, column 1, 1')
+    player.look(f'{{load {TOWERS}}}', counts='easy by our steps', told='You have begun this game before.')
+    player.look('{load towers-3-easy-7}', told='Towers, easy 3, number 7.')
     assert 'our steps' not in player.text('#count')
 
 
-@pytest.mark.gate
 def test_result(player: Player) -> None:
     """A solved game of today tells of the days in a row, and the line for others has nothing of the solution."""
     today = datetime.date.today()
@@ -93,34 +77,30 @@ def test_result(player: Player) -> None:
     player.sit(TOWERS, PHONE)
     solved = [{'kind': 'towers-3-easy', 'when': at, 'seconds': 9, 'hints': 0, 'number': day} for at, day in enumerate(days[1:])]
     player.value(f'(localStorage["puzzles:solved"] = {json.dumps(json.dumps(solved))}, true)')
-    player.load(f'towers-3-easy-{days[0]}')
-    player.is_gone('#share')
+    player.look(f'{{load towers-3-easy-{days[0]}}}', is_gone='#share')
     solve_by_hints(player)
-    player.told('3 days in a row.')
+    player.look('', told='3 days in a row.')
     clipboard(player, NOTED)
-    player.click('Copy result')
-    player.told('The result is copied.')
+    player.look('{Copy result}', told='The result is copied.')
     text = copied(player)
     assert text.startswith(f'Towers 3×3, easy, {today.day} {today:%B %Y}: solved ')
     assert text.endswith(f'! 3 days in a row. #towers-3-easy-{days[0]}')
-    player.opens('t', '#daily')
-    player.write('#daily-size', '3')
-    assert player.text('#daily-streak') == '3 days in a row.'
-    player.write('#daily-size', '4')
-    assert player.text('#daily-streak') == ''
+    player.look('t', is_shown='#daily')
+    for size, streak in [('3', '3 days in a row.'), ('4', '')]:
+        player.write('#daily-size', size)
+        assert player.text('#daily-streak') == streak
     player.leaves('#daily')
     player.begin('Towers 4×4', game='towers', size='4', grade='e')
     player.is_gone('#share')
 
 
-@pytest.mark.gate
 def test_result_of_a_server(online: Player) -> None:
     """The whole link is in it, and no time where that is switched off."""
     online.sit('towers-3-easy-7', LAPTOP)
     online.switch('Time and statistics')
     solve_by_hints(online)
-    online.told('Solved')
+    online.look('', told='Solved')
     hints = online.kept()[0]['hints']
     clipboard(online, NOTED)
-    online.click('Copy result')
+    online.look('{Copy result}')
     assert copied(online) == f'Towers 3×3, easy, number 7: solved with {hints} hint{"s" if hints > 1 else ""}! {online.address}#towers-3-easy-7'

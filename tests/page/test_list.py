@@ -1,10 +1,6 @@
 """The list of all games: its order, its place, and a thousand of them."""
 
-from __future__ import annotations
-
 from typing import List
-
-import pytest
 
 from tests.page.playing import LAPTOP, PHONE, TOWERS, UNEQUAL, Player
 
@@ -33,8 +29,7 @@ def full(player: Player, count: int, link: str = TOWERS) -> None:
     """Opens the list of so many games, besides the present one."""
     player.load(link)
     player.value(COPIES.replace('COUNT', str(count)))
-    player.load()
-    player.opens('o', '#games')
+    player.look('{load}o', is_shown='#games')
 
 
 def keys(player: Player) -> List[str]:
@@ -42,11 +37,6 @@ def keys(player: Player) -> List[str]:
     return [key for key in player.value(KEYS) if key.startswith('copy')]
 
 
-def count(player: Player, number: int) -> None:
-    player.driver.wait_for(f'document.querySelectorAll("#games-list li").length === {number}')
-
-
-@pytest.mark.gate
 def test_order(player: Player) -> None:
     """Games that are to be finished come first, and of each kind the last one that was played."""
     player.driver.size(*LAPTOP)
@@ -55,7 +45,6 @@ def test_order(player: Player) -> None:
     player.driver.wait_for('document.querySelectorAll("#games-list .small-board rect").length > 14')
 
 
-@pytest.mark.gate
 def test_place(player: Player) -> None:
     """After Delete, and after No, the list is where it was; the focus is at the next game, or at the same."""
     player.driver.size(*PHONE)
@@ -65,58 +54,48 @@ def test_place(player: Player) -> None:
     place = player.value(PLACE)
     assert 200 < place < 600
     for answer, focused in [('No', 'copy16'), ('Yes', 'copy17'), ('Yes', 'copy19')]:
-        player.driver.click(f'[data-gone={player.value(FOCUSED)}]')
-        player.answer_once(answer)
+        player.look(f'{{[data-gone={player.value(FOCUSED)}]}}', answer_once=answer)
         player.driver.wait_for(f'{FOCUSED} === "{focused}"')
         player.settles()
         assert abs(player.value(PLACE) - place) < 8, focused
-    count(player, 29)
+    player.has(29, '#games-list li')
     assert not {'copy16', 'copy17'} & set(keys(player))
 
 
-@pytest.mark.gate
 def test_delete_finished(player: Player) -> None:
     """After one question, for all; what was solved stays in the statistics. Where none is finished there is nothing to delete."""
     player.driver.size(*LAPTOP)
     full(player, 7)
-    player.click('Delete all solved')
-    player.is_shown('#ask')
+    player.look('{Delete all solved}', is_shown='#ask')
     assert player.text('#ask-text') == 'Delete 2 games, solved or filled in, for good? Statistics and calendar stay.'
     player.answer_once('No')
     assert len(keys(player)) == 7
-    player.click('Delete all solved')
-    player.answer_once('Yes')
-    count(player, 6)
+    player.look('{Delete all solved}', answer_once='Yes')
+    player.has(6, '#games-list li')
     assert keys(player) == [f'copy{at}' for at in (1, 2, 4, 5, 7)]
-    player.is_gone('#games-finished')
-    assert len(player.kept()) == 6
+    player.look('', is_gone='#games-finished', games='6')
     assert player.value('document.activeElement.textContent') == 'Close'
 
 
-@pytest.mark.gate
 def test_delete_present(player: Player) -> None:
     """Another game of its kind begins, and the list shows it."""
     player.sit(UNEQUAL)
     player.begin('Towers 4×4', id='towers-4-easy-5')
-    player.opens('o', '#games')
+    player.look('o', is_shown='#games')
     for _ in range(2):
         first = player.value(KEYS)[0]
-        player.driver.click('#games-list li:first-child [data-gone]')
-        player.answer_once('Yes')
+        player.look('{#games-list li:first-child [data-gone]}', answer_once='Yes')
         player.driver.wait_for(f'!document.querySelector("[data-key={first}]") && document.querySelectorAll("#games-list li").length === 2')
         assert first not in [game['key'] for game in player.kept()]
     assert player.value('document.querySelector("#games-none").hidden') and len(player.kept()) == 2
-    player.leaves('#games')
-    player.called('Towers 4×4')
-    player.counts('0 of 1')
+    player.look('<escape>', closes='#games', called='Towers 4×4', counts='0 of 1')
 
 
-@pytest.mark.gate
 def test_thousand(player: Player) -> None:
     """Only pictures that are seen are drawn: that of a large board has a hundred elements."""
     player.driver.size(*PHONE)
     full(player, 1000, 'towers-9-hard-5')
-    count(player, 1001)
+    player.has(1001, '#games-list li')
     drawn = 'Boolean(document.querySelector("[data-key=KEY] .ground"))'
     for near, far in [('copy1', 'copy500'), ('copy500', 'copy998')]:
         player.value(f'(document.querySelector("[data-key={near}]").scrollIntoView(), true)')

@@ -1,23 +1,21 @@
 """How the page looks and what it is to a person who doesn't see it: checks of our own, since none come with Debian, and pictures.
 
-The checks are of names and roles, one tab stop in the board, the order of Tab, what is announced, sizes of what is pressed, contrast in both lights, and
+The checks are of names and roles, one tab stop in the board, the order of Tab, what is announced, sizes of what is pressed, and
 that nothing has to be scrolled sideways. They don't try real readers of screens. All windows are tried with --browsers=all, otherwise a phone's alone.
 """
-
-from __future__ import annotations
 
 import base64
 import json
 import os
+import re
 from pathlib import Path
-from typing import Any, Callable, Dict, List, NamedTuple, Sequence, Tuple
+from typing import Any, Callable, Dict, List, NamedTuple, Tuple
 
 import pytest
 
 from playing.cards import CARDS
 from playing.games import SIZES, stored
-from tests.harness import by_name
-from tests.harness.browser import Browser
+from tests.harness import BLANK, Browser, by_name
 from tests.page.conftest import ALL
 from tests.page.playing import LAPTOP, PHONE, SMALL, TOWERS, UNEQUAL, Player
 
@@ -53,53 +51,34 @@ CHECKS: Dict[str, str] = {
 #: The windows in which they are made: a large one, a small one, one at which twice as much is seen in a small one, and others.
 WINDOWS = [LAPTOP, PHONE, SMALL, (320, 480), (683, 384), (844, 390), (768, 1024), (3840, 2160)]
 
-#: Colours of what is read on a ground, and of what else has to be seen beside another, with the contrast that is owed.
-CONTRASTS: List[Tuple[float, str, Sequence[str]]] = [
-    (4.5, 'ink', ['paper', 'square', 'given', 'lane', 'given-lane', 'same', 'rests', 'struck', 'button']),
-    (4.5, 'own', ['square', 'lane', 'same', 'rests', 'struck', 'button']),
-    (4.5, 'left', ['square', 'rests', 'struck']),
-    (4.5, 'soft', ['paper', 'square', 'lane', 'button']),
-    (4.5, 'wrong', ['paper', 'wrong-tint']),
-    (4.5, 'on-main', ['main']),
-    (3.0, 'line', ['paper', 'square']),
-    (3.0, 'frame', ['paper', 'square']),
-    (3.0, 'chosen', ['paper', 'square', 'given', 'lane', 'same', 'rests', 'struck']),
-    (3.0, 'hint', ['paper', 'square', 'given', 'rests']),
-    (3.0, 'wrong', ['struck']),
-]
-
-
 def pytest_generate_tests(metafunc: pytest.Metafunc) -> None:
     if 'window' in metafunc.fixturenames:
         is_all = metafunc.config.getoption('--browsers') == ALL
         metafunc.parametrize('window', WINDOWS if is_all else [PHONE], ids=str)
 
 
-@pytest.mark.gate
 @pytest.mark.parametrize('game', ['towers', 'unequal'])
 def test_checks(piped: Player, game: str, window: Tuple[int, int]) -> None:
     """On the board, at all sizes, and over it in each dialog."""
     piped.sit(f'{game}-9-easy-7', window)
     for size in SIZES:
         piped.value(f'(location.hash = "#{game}-{size}-easy-7", true)')
-        piped.called(f'{game.title()} {size}×{size}')
+        piped.look('', called=f'{game.title()} {size}×{size}')
         assert wrong(piped) == [], size
-    piped.press('m', 'H')
-    piped.is_shown('#walk')
+    piped.look('mH', is_shown='#walk')
     assert wrong(piped) == []
-    piped.press('Escape')
+    piped.press('<escape>')
     for key, dialog in [('n', '#fresh'), ('o', '#games'), ('t', '#daily'), ('?', '#rules'), ('i', '#page'), (':', '#ask'), ('S', '#ask')]:
-        piped.opens(key, dialog)
+        piped.look(key, is_shown=dialog)
         assert wrong(piped) == [], dialog
         piped.leaves(dialog)
-    piped.click('Menu')
-    piped.is_shown('#menu')
+    piped.look('{Menu}', is_shown='#menu')
     assert wrong(piped) == []
-    piped.click('Learn')
+    piped.look('{Learn}')
     for number, _ in enumerate(CARDS[game], 1):
-        piped.counts(f'Card {number} of')
+        piped.look('', counts=f'Card {number} of')
         assert wrong(piped) == [], number
-        piped.press('Enter')
+        piped.press('<enter>')
 
 
 def wrong(player: Player) -> List[Any]:
@@ -107,62 +86,11 @@ def wrong(player: Player) -> List[Any]:
     return [(name, found) for name, found in player.value(f'[{checks}]') if found]
 
 
-@pytest.mark.parametrize('scheme', ['light', 'dark'])
-def test_contrast(piped: Player, browser: Browser, scheme: str) -> None:
-    piped.sit(TOWERS)
-    browser.media(features={'prefers-color-scheme': scheme})
-    names = sorted({name for _, colour, grounds in CONTRASTS for name in (colour, *grounds)})
-    values = piped.value(f'{json.dumps(names)}.map(name => getComputedStyle(document.documentElement).getPropertyValue("--" + name).trim())')
-    light = {name: luminance(value) for name, value in zip(names, values)}
-    assert light['paper'] > 0.8 if scheme == 'light' else light['paper'] < 0.1
-    found = [(colour, ground, contrast(light[colour], light[ground]), owed) for owed, colour, grounds in CONTRASTS for ground in grounds]
-    assert [row for row in found if row[2] < row[3]] == []
-
-
-#: Where the system forces its colours: an element with its colour, and its ground.
-FORCED = [
-    ('.square.wrong .number', 'fill', '.square.wrong rect', 'fill'),
-    ('.clue.wrong text', 'fill', '.clue.wrong rect', 'fill'),
-    ('[data-do=marks]', 'color', '[data-do=marks]', 'backgroundColor'),
-    ('[data-do=undo]', 'color', '[data-do=undo]', 'backgroundColor'),
-]
-
-
-@pytest.mark.gate
-@pytest.mark.parametrize('scheme', ['light', 'dark'])
-def test_forced_colours(piped: Player, browser: Browser, scheme: str) -> None:
-    """What is wrong is read on its mark, and a pressed button is another than the others."""
-    piped.sit(TOWERS)
-    browser.media(features={'forced-colors': 'active', 'prefers-color-scheme': scheme})
-    piped.press('2', 'ArrowRight', '2', 'p')
-    piped.driver.wait_for('document.querySelector(".clue.wrong") && document.querySelector(".square.wrong") && document.querySelector("[data-do=marks]").ariaPressed === "true"')
-    for one, colour, other, ground in FORCED:
-        values = piped.value(f'[["{one}", "{colour}"], ["{other}", "{ground}"]].map(([what, name]) => getComputedStyle(document.querySelector(what))[name])')
-        assert contrast(*map(luminance, values)) >= 4.5, (one, values)
-    pressed, usual = piped.value('["marks", "undo"].map((name) => getComputedStyle(document.querySelector(`[data-do=${name}]`)).backgroundColor)')
-    assert contrast(luminance(pressed), luminance(usual)) >= 3
-
-
-def luminance(colour: str) -> float:
-    """As the rules for the web define it, of a colour as a style sheet has it, or as a browser tells it."""
-    if colour.startswith('rgb'):
-        colour = ''.join(f'{int(part):02x}' for part in colour[colour.index('(') + 1 : -1].split(',')[:3])
-    digits = colour.lstrip('#')
-    digits = ''.join(2 * digit for digit in digits) if len(digits) == 3 else digits
-    parts = [int(digits[at : at + 2], 16) / 255 for at in (0, 2, 4)]
-    light: List[float] = [part / 12.92 if part <= 0.04045 else pow((part + 0.055) / 1.055, 2.4) for part in parts]
-    return sum(weight * part for weight, part in zip((0.2126, 0.7152, 0.0722), light))
-
-
-def contrast(one: float, other: float) -> float:
-    return (max(one, other) + 0.05) / (min(one, other) + 0.05)
-
-
+@pytest.mark.always
 def test_tree(piped: Player, browser: Browser) -> None:
     """What the browser tells a reader of screens."""
     piped.sit(TOWERS)
-    piped.press('p', '1', '3', 'ArrowUp', 'd')
-    piped.is_called(0, -1, 'clue 3 above column 1, done')
+    piped.look('p13<up>d', 'clue 3 above column 1, done')
     browser.ask('Accessibility.enable')
     nodes = browser.ask('Accessibility.getFullAXTree')['nodes']
     named = [(node['role']['value'], node.get('name', {}).get('value', '')) for node in nodes if not node['ignored']]
@@ -174,25 +102,21 @@ def test_tree(piped: Player, browser: Browser) -> None:
     assert [role for role, _ in named].count('status') == 2
 
 
-@pytest.mark.gate
 def test_tab(piped: Player) -> None:
     """The head, the board, the numbers, the buttons; and an arrow leaves the one tab stop of the board where it goes."""
     piped.sit('unequal:4!7', LAPTOP)
     # The second time nothing is offered between the two.
     piped.load('unequal:4!7')
-    piped.press('ArrowDown', 'Tab')
+    piped.press('<down><tab>')
     assert piped.value('document.activeElement.dataset.number') == '1'
-    piped.press(*['Tab'] * 4)
+    piped.press('<tab>' * 4)
     assert piped.value('document.activeElement.textContent') == 'Marks'
     # On a button keys are the button's.
-    piped.press('3', 'Enter')
-    piped.told('Numbers are pencil marks now.')
+    piped.look('3<enter>', told='Numbers are pencil marks now.')
     piped.value('(document.querySelector("[data-do=menu]").focus(), true)')
-    piped.press('Tab')
-    assert piped.chosen() == (0, 1)
+    piped.look('<tab>', chose='0,1')
 
 
-@pytest.mark.gate
 def test_announced(piped: Player) -> None:
     """In the shortest form."""
     piped.sit('unequal:3:0,0L,0,0U,0,0,0U,0,0,')
@@ -202,14 +126,12 @@ def test_announced(piped: Player) -> None:
         piped.driver.wait_for(f'document.querySelector("#said").textContent === {json.dumps(said)}')
 
 
-@pytest.mark.gate
 def test_messages_cover_nothing(piped: Player) -> None:
     """A sentence stands beside the buttons, fades, and a long one moves none of them."""
     piped.sit('towers:5!7', PHONE)
     tops = '[...document.querySelectorAll("#play button")].map((node) => node.getBoundingClientRect().top)'
     before = piped.value(tops)
-    piped.press('h', 'h')
-    piped.told('Clue 4 left of row 2')
+    piped.look('hh', told='Clue 4 left of row 2')
     assert piped.value(tops) == before
     low, high = piped.value('[document.querySelector("#message").getBoundingClientRect().bottom, document.querySelector("#pad").getBoundingClientRect().top]')
     assert low <= high
@@ -228,81 +150,66 @@ class Picture(NamedTuple):
     kind: str = ''
 
 
-def play(*pressed: str) -> Callable[[Player], object]:
+def play(keys: str) -> Callable[[Player], object]:
     """Presses keys, a moment after each other."""
 
     def act(player: Player) -> None:
-        for key in pressed:
+        for key in re.findall('<[a-z]+>|.', keys):
             player.press(key)
             player.settles()
 
     return act
 
 
-def solve(player: Player) -> None:
-    player.press('S')
-    player.answer('Yes')
-    player.told('Filled in')
-
-
 def paper(player: Player) -> None:
     """As a browser tells of it before it prints: with a hint open, of which nothing is seen then."""
-    play('m', '1', 'h')(player)
-    player.told('Look at')
+    play('m1h')(player)
+    player.look('', told='Look at')
     player.value('dispatchEvent(new Event("beforeprint"))')
 
 
-def learn(*pressed: str) -> Callable[[Player], object]:
+def learn(keys: str = '') -> Callable[[Player], object]:
     """Begins the course, and presses keys there."""
 
     def act(player: Player) -> None:
-        player.press('m', 'u')
-        player.is_gone('#offer')
-        player.menu('Learn')
-        player.counts('Card 1 of')
-        play(*pressed)(player)
+        player.look('mu', is_gone='#offer')
+        player.look('{menu Learn}', counts='Card 1 of')
+        play(keys)(player)
 
     return act
 
 
 def setting(player: Player) -> None:
     """At the setter's desk, with two clues that contradict each other."""
-    player.menu('Check or set a puzzle')
-    player.counts('0 clues')
-    player.press('ArrowUp', '1', 'ArrowRight', '1')
-    player.driver.wait_for('document.querySelectorAll(".blamed").length === 2')
+    player.look('{menu Check or set a puzzle}', counts='0 clues')
+    player.press('<up>1<right>1')
+    player.has(2, '.blamed')
 
 
 def number_first(player: Player) -> None:
-    player.switch('Number first, then squares')
-    player.press('m')
-    player.driver.click('[data-number="2"]')
-    player.driver.click('[data-place="0,0"]')
-    player.begins(0, 0, 'row 1, column 1, 2')
+    player.look('{switch Number first, then squares}m{2}{0,0}', 'row 1, column 1, 2..')
 
 
 def puzzle(game: str, size: int) -> str:
     return f'{game}:{stored(game, size, "x")[0]}'
 
 
-DOWN, RIGHT, LEFT = 'ArrowDown', 'ArrowRight', 'ArrowLeft'
-
 DARK, FORCED_COLOURS = {'prefers-color-scheme': 'dark'}, {'forced-colors': 'active'}
 
 ALL_PICTURES: List[Picture] = [
-    Picture('towers-5', puzzle('towers', 5), LAPTOP, play('m', '1', RIGHT, '1', DOWN, 'p', '1', '2', 'p', LEFT, LEFT, 'd', RIGHT)),
-    Picture('unequal-6-dark', puzzle('unequal', 6), LAPTOP, play(*['m', '3', RIGHT, '1', RIGHT, RIGHT, '6', DOWN, '6']), DARK),
-    Picture('towers-9-phone', puzzle('towers', 9), PHONE, play('m', '3')),
-    Picture('unequal-9-phone-dark', puzzle('unequal', 9), PHONE, play('m', '3', DOWN), DARK),
-    Picture('towers-4-small', puzzle('towers', 4), SMALL, play('4', DOWN, '4')),
-    Picture('forced-colours', UNEQUAL, (800, 480), play('3', RIGHT, '3', 'p'), FORCED_COLOURS),
+    Picture('towers-5', puzzle('towers', 5), LAPTOP, play('m1<right>1<down>p12p<left><left>d<right>')),
+    Picture('unequal-6-dark', puzzle('unequal', 6), LAPTOP, play('m3<right>1<right><right>6<down>6'), DARK),
+    Picture('towers-9-phone', puzzle('towers', 9), PHONE, play('m3')),
+    Picture('unequal-9-phone-dark', puzzle('unequal', 9), PHONE, play('m3<down>'), DARK),
+    Picture('towers-4-small', puzzle('towers', 4), SMALL, play('4<down>4')),
+    Picture('forced-colours', UNEQUAL, (800, 480), play('3<right>3p'), FORCED_COLOURS),
     Picture('hint-look', 'towers:5!7', PHONE, play('h')),
-    Picture('hint-reason', 'towers:5!7', LAPTOP, play('h', 'h')),
-    Picture('why-phone', 'unequal:5!7', PHONE, play('H', DOWN)),
-    Picture('new-game', TOWERS, SMALL, lambda player: player.opens('n', '#fresh')),
-    Picture('menu', UNEQUAL, PHONE, lambda player: player.click('Menu')),
-    Picture('rules', TOWERS, PHONE, lambda player: player.opens('?', '#rules')),
-    Picture('filled-in-zoomed', puzzle('towers', 6), (683, 384), solve),
+    Picture('hint-reason', 'towers:5!7', LAPTOP, play('hh')),
+    Picture('why-phone', 'unequal:5!7', PHONE, play('H<down>')),
+    Picture('new-game', TOWERS, SMALL, lambda player: player.look('n', is_shown='#fresh')),
+    Picture('menu', UNEQUAL, PHONE, lambda player: player.look('{Menu}')),
+    Picture('rules', TOWERS, PHONE, lambda player: player.look('?', is_shown='#rules')),
+    Picture('filled-in-zoomed', puzzle('towers', 6), (683, 384), lambda player: player.look('S', answer='Yes', told='Filled in')),
     Picture('number-first', 'unequal-5-easy-7', PHONE, number_first),
     Picture('course', UNEQUAL, SMALL, learn('1')),
     Picture('desk', TOWERS, PHONE, setting),
@@ -332,7 +239,6 @@ COMPARE = """
 """
 
 
-@pytest.mark.gate
 @pytest.mark.parametrize('picture', ALL_PICTURES, ids=by_name)
 def test_picture(piped: Player, browser: Browser, picture: Picture) -> None:
     """With PICTURES=new in the environment they are stored anew."""
@@ -346,7 +252,7 @@ def test_picture(piped: Player, browser: Browser, picture: Picture) -> None:
     path = PICTURES / f'{picture.name}.png'
     if os.environ.get('PICTURES') == 'new':
         path.write_bytes(shown)
-    browser.go('about:blank')
+    browser.go(BLANK)
     data = [json.dumps(base64.b64encode(content).decode()) for content in (shown, path.read_bytes())]
     assert browser.value(COMPARE.replace('ONE', data[0]).replace('OTHER', data[1])) < MOST_OTHER
     piped.load()

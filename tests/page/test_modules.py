@@ -1,7 +1,5 @@
 """The modules of the page by themselves: their types, their own tests, their lengths, and where their sentences stand."""
 
-from __future__ import annotations
-
 import json
 import re
 import shutil
@@ -12,9 +10,7 @@ from typing import Dict, Iterator, List, Tuple
 import pytest
 
 from board import keys
-from tests.harness import Room
-from tests.harness.builds import TOP
-from tests.harness.room import Skip
+from tests.harness import TOP, Room, Skip
 
 PAGE = TOP / 'page'
 
@@ -46,13 +42,13 @@ def modules() -> List[Path]:
     return sorted(PAGE.glob('*.js'))
 
 
-@pytest.mark.gate
 def test_types(room: Room) -> None:
     room.put('tsconfig.json', json.dumps({'compilerOptions': OPTIONS, 'files': [str(path) for path in modules()]}).encode())
     ended = subprocess.run([found('tsc'), '-p', room.path], capture_output=True, check=False, timeout=120)
     assert (ended.stdout.decode(), ended.returncode) == ('', 0)
 
 
+@pytest.mark.always
 def test_units() -> None:
     """By node's own runner."""
     names = sorted(str(path) for path in UNITS.glob('*.mjs'))
@@ -62,6 +58,7 @@ def test_units() -> None:
     assert re.search(r'^# fail 0$', told, re.MULTILINE) and not re.search(r'^# pass 0$', told, re.MULTILINE)
 
 
+@pytest.mark.always
 def test_lengths() -> None:
     """Modules and functions that a reader takes in at one sitting, each module with a line that says what it is for."""
     long = {path.name: count for path in modules() if (count := len(path.read_text(encoding='utf-8').splitlines())) > MODULE_LINES}
@@ -80,6 +77,7 @@ def functions(path: Path) -> Iterator[Tuple[str, str, int]]:
             yield path.name, line.strip(), rest.index(True) + 1
 
 
+@pytest.mark.always
 def test_all_keys() -> None:
     """No key of the board in a terminal does nothing on the page, or something else."""
     own = words_of('KEYS', 'input.js')
@@ -97,6 +95,7 @@ def words_of(name: str, module: str, entry: str = r"(?:'([^']+)'|\b(\w+)): '(\w+
     return {''.join(groups[:-1]): groups[-1] for groups in re.findall(entry, table, re.MULTILINE)}
 
 
+@pytest.mark.always
 def test_sentences_stand_together() -> None:
     """A sentence has a capital letter, some words, and an end. Faults of the page itself, which no player sees, stand where they are."""
     others = [path for path in modules() if path.name not in ('texts.js', 'desk_texts.js', 'shared_texts.js', 'rules_texts.js', 'module.js', 'worker.js', 'turns.js')]

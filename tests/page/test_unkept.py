@@ -1,15 +1,13 @@
 """Nothing is lost of what the store has no room for, nor of what it loses; and the player knows."""
 
-from __future__ import annotations
-
 import json
 from typing import List
 
 import pytest
 
-from tests.harness.browser import Browser
-from tests.harness.game import HEAD
-from tests.page.playing import PHONE, TOWERS, UNEQUAL, Player, Scripted, at
+from tests.harness import HEAD, Browser
+from tests.page.playing import PHONE, TOWERS, UNEQUAL, Player, Scripted
+from tests.page.seen import at
 from tests.page.test_keeping import FULL, REFUSED
 
 #: A game that takes much room.
@@ -31,10 +29,8 @@ NO_ROOM = 'has no room left'
 
 def from_list(player: Player, title: str) -> None:
     """Goes on with the first game of the list that has this title."""
-    player.opens('o', '#games')
-    player.driver.click(item(player, title, '.pictured'))
-    player.closes('#games')
-    player.called(title)
+    player.look('o', is_shown='#games')
+    player.look(f'{{{item(player, title, ".pictured")}}}', closes='#games', called=title)
 
 
 def item(player: Player, title: str, button: str) -> str:
@@ -43,46 +39,41 @@ def item(player: Player, title: str, button: str) -> str:
     return f'#games-list li:nth-child({number + 1}) {button}'
 
 
-@pytest.mark.gate
 def test_room_again(player: Player) -> None:
     """Moves that had no room are kept as soon as there is some, though another game is played by then; until then it is said."""
     player.sit('towers-4-easy-5', PHONE)
     player.load(UNEQUAL)
     player.drop(LARGE)
-    player.called('Towers 3×3')
+    player.look('', called='Towers 3×3')
     player.value(f'{FILL}(0)')
     from_list(player, 'Towers 4×4')
     player.driver.click(at(*player.value('document.querySelector("[aria-label$=empty]").dataset.place').split(',')))
-    player.press('1', '2', '3')
-    player.told(NO_ROOM)
+    player.look('123', told=NO_ROOM)
     from_list(player, 'Unequal 3×3')
-    player.told(NO_ROOM)
-    player.opens('o', '#games')
-    player.driver.click(item(player, 'Towers 3×3', '[data-gone]'))
-    player.answer_once('Yes')
+    player.look('', told=NO_ROOM)
+    player.look('o', is_shown='#games')
+    player.look(f'{{{item(player, "Towers 3×3", "[data-gone]")}}}', answer_once='Yes')
     player.driver.wait_for(f'!document.querySelector("#told").textContent.includes({json.dumps(NO_ROOM)})')
     found = [game['save'].count('\nMOVE ') for game in player.kept() if game['id'].startswith('4')]
     assert found == [3]
 
 
-@pytest.mark.gate
 def test_full_at_once(player: Player) -> None:
     """A game that begins without room for it says so, and not with its first move."""
     player.sit(TOWERS, PHONE)
     player.value(f'{FILL}(200)')
     player.begin('Unequal 3×3', id=UNEQUAL)
-    player.told(NO_ROOM)
+    player.look('', told=NO_ROOM)
     player.begin('Towers 4×4', game='towers', size='4', grade='e')
-    player.told(NO_ROOM)
+    player.look('', told=NO_ROOM)
 
 
-@pytest.mark.gate
 @pytest.mark.parametrize('script, asked', [('', []), (REFUSED, ['beforeunload']), (FULL, ['beforeunload'])], ids=['kept', 'refused', 'full'])
 def test_asks_before_it_closes(scripted: Scripted, browser: Browser, script: str, asked: List[str]) -> None:
     """While something isn't kept, and never otherwise."""
     player = scripted(script)
     player.load(TOWERS)
-    player.put_first(1)
+    player.look('1', 'row 1, column 1, 1')
     browser.questions.clear()
     player.load()
     assert browser.questions == asked
@@ -97,25 +88,19 @@ JOURNAL = """new Promise((done) => {
 })"""
 
 
-@pytest.mark.gate
 def test_lost_by_the_store(player: Player) -> None:
     """What the store has lost, as after a kill, is in the database: moves, a game, what was shown last, and settings."""
     player.sit(TOWERS, PHONE)
     player.value('(window.before = {...localStorage}, true)')
-    player.press('1', 'ArrowRight', '2', 'M')
-    player.told('From now on, marks go')
+    player.look('1<right>2M', told='From now on, marks go')
     player.begin('Unequal 3×3', id=UNEQUAL)
-    player.press('1')
-    player.begins(0, 0, 'row 1, column 1, 1')
+    player.look('1', 'row 1, column 1, 1..')
     player.driver.wait_for(f'{JOURNAL}.then((texts) => texts.some((text) => text.includes("Unequal") && text.includes("R0,0,1")))')
     player.value('(localStorage.clear(), sessionStorage.clear(), Object.assign(localStorage, window.before), Storage.prototype.setItem = () => undefined, true)')
-    player.load()
-    player.called('Unequal 3×3')
-    player.begins(0, 0, 'row 1, column 1, 1')
+    player.look('{load}', 'row 1, column 1, 1..', called='Unequal 3×3')
     from_list(player, 'Towers 3×3')
-    player.begins(1, 0, 'row 1, column 2, 2')
-    player.click('Menu')
-    player.is_shown('#menu')
+    player.is_called('row 1, column 2, 2..')
+    player.look('{Menu}', is_shown='#menu')
     assert player.value('document.querySelector("[data-set=tidy]").ariaPressed') == 'true'
 
 
@@ -132,13 +117,11 @@ IDBDatabase.prototype.transaction = function (...words) {
 """
 
 
-@pytest.mark.gate
 def test_strictly(scripted: Scripted) -> None:
     """Each change is written to the disk at once, and the browser is asked once to clear nothing by itself."""
     player = scripted(NOTING)
     player.load(TOWERS)
     player.value('(window.asked === 0) || document.body.remove()')
-    player.press('1', 'ArrowRight', '2')
-    player.is_called(1, 0, 'row 1, column 2, 2')
+    player.look('1<right>2', 'row 1, column 2, 2')
     assert player.value('window.asked') == 1
     assert set(player.value('window.durabilities')) == {'strict'}

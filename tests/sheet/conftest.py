@@ -1,11 +1,8 @@
 """The command that is tried, and a browser for paper."""
 
-from __future__ import annotations
-
 import pytest
 
-from tests.harness import Room
-from tests.harness.browser import Browser
+from tests.harness import Browser, Room
 from tests.sheet.making import Maker
 
 

@@ -1,12 +1,8 @@
 """The command puzzles-sheet, run in a room."""
 
-from __future__ import annotations
-
 from typing import Any, List, Mapping, Optional, Sequence
 
-from tests.harness import Ended, Folder, Room, run
-from tests.harness.builds import TOP
-from tests.harness.puzzles import made
+from tests.harness import TOP, Ended, Folder, Room, made, run
 
 PATH = str(TOP / 'sheet' / 'puzzles-sheet')
 
@@ -23,6 +19,11 @@ class Maker:
 
     def run(self, words: Sequence[str], input: bytes = b'', folder: Optional[Folder] = None, **how: Any) -> Ended:
         return run([PATH, *words], folder or self.room, input=input, env={**self._env, **how.pop('env', {})}, **how)
+
+    def refuses(self, words: Sequence[str], status: int, told: str, input: bytes = b'', **how: Any) -> None:
+        """With this status, and this alone is told."""
+        ended = self.run(words, input, **how)
+        assert (ended.status, ended.output, ended.error.decode()) == (status, b'', told)
 
     def page(self, words: Sequence[str], input: bytes = b'', told: str = '') -> str:
         """The page that is made, and all that is told beside it."""

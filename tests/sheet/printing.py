@@ -1,15 +1,12 @@
 """A page on paper: printed by a browser, and looked at by the tools of poppler."""
 
-from __future__ import annotations
-
 import os
 import re
 import shutil
 import subprocess
 from typing import List, NamedTuple, Sequence, Tuple
 
-from tests.harness import Room, Skip
-from tests.harness.browser import Browser
+from tests.harness import Browser, Room, Skip
 
 TOOLS = ['pdfinfo', 'pdftotext', 'pdftoppm']
 

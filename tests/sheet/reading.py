@@ -1,7 +1,5 @@
 """Reads a drawn picture back to a puzzle, by the places of its lines and digits alone."""
 
-from __future__ import annotations
-
 import re
 from typing import Dict, Iterator, List, NamedTuple, Sequence, Tuple
 from xml.etree import ElementTree

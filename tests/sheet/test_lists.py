@@ -1,7 +1,5 @@
 """Lists of IDs and save files: what is taken, and what is told of each line that isn't. Nothing is written then."""
 
-from __future__ import annotations
-
 import itertools
 import re
 import resource
@@ -10,8 +8,7 @@ from typing import Iterator, List, NamedTuple
 
 import pytest
 
-from tests.harness import SLOWNESS, Room, by_name
-from tests.harness.game import ID, save_text
+from tests.harness import ID, SLOWNESS, Room, by_name, named, save_text
 from tests.second_implementation.seeded import generate
 from tests.sheet.making import Maker, content, stored
 from tests.sheet.reading import pictures
@@ -64,32 +61,26 @@ def test_good(maker: Maker, row: Good) -> None:
     assert row.has in page
 
 
-class Wrong(NamedTuple):
-    name: str
-    list: bytes
-    told: str
-
-
+#: A list, and what is told of it.
 WRONG = [
-    Wrong('several solutions', content([TOWERS] * 6 + [SEVERAL]), 'line 7: several solutions\n'),
-    Wrong('each line is told', content([SEVERAL, TOWERS, NONE, SHORT, 'x']), f'line 1: several solutions\nline 3: no solution\nline 4: {FEW}\nline 5: {SIZE}\n'),
-    Wrong('a seed that fits both', b'3!7', 'line 1: it fits both games: write towers or unequal before it\n'),
-    Wrong('of the game that is named', f'towers {UNEQUAL}'.encode(), f'line 1: {FEW}\n'),
-    Wrong('a long line', b'3:' + b'/' * 5000, 'line 1: A line has 1,024 bytes at most.\n'),
-    Wrong('a line of zeros', b'3:\x00', "line 1: Too few parts: a description has one for each square, separated by ','.\n"),
-    Wrong('a folder', b'/tmp', 'line 1: /tmp is a folder\n'),
-    Wrong('no save', b'/etc/passwd', "line 1: This is not a save file of the collection: one begins with 'SAVEFILE:41:'.\n"),
-    Wrong('empty', b'', 'standard input has no puzzles\n'),
-    Wrong('empty lines', b'\n\r\n \n', 'standard input has no puzzles\n'),
-    Wrong('too many', content([TOWERS] * 201), 'There are more than 200 puzzles, and a sheet has 200 at most: --count 200 takes the first ones.\n'),
-    Wrong('letters for the terminal', b'\x1b[31m', f'line 1: {SIZE}\n'),
+    ('several solutions', content([TOWERS] * 6 + [SEVERAL]), 'line 7: several solutions\n'),
+    ('each line is told', content([SEVERAL, TOWERS, NONE, SHORT, 'x']), f'line 1: several solutions\nline 3: no solution\nline 4: {FEW}\nline 5: {SIZE}\n'),
+    ('a seed that fits both', b'3!7', 'line 1: it fits both games: write towers or unequal before it\n'),
+    ('of the game that is named', f'towers {UNEQUAL}'.encode(), f'line 1: {FEW}\n'),
+    ('a long line', b'3:' + b'/' * 5000, 'line 1: A line has 1,024 bytes at most.\n'),
+    ('a line of zeros', b'3:\x00', "line 1: Too few parts: a description has one for each square, separated by ','.\n"),
+    ('a folder', b'/tmp', 'line 1: /tmp is a folder\n'),
+    ('no save', b'/etc/passwd', "line 1: This is not a save file of the collection: one begins with 'SAVEFILE:41:'.\n"),
+    ('empty', b'', 'standard input has no puzzles\n'),
+    ('empty lines', b'\n\r\n \n', 'standard input has no puzzles\n'),
+    ('too many', content([TOWERS] * 201), 'There are more than 200 puzzles, and a sheet has 200 at most: --count 200 takes the first ones.\n'),
+    ('letters for the terminal', b'\x1b[31m', f'line 1: {SIZE}\n'),
 ]
 
 
-@pytest.mark.parametrize('row', WRONG, ids=by_name)
-def test_wrong(maker: Maker, room: Room, row: Wrong) -> None:
-    ended = maker.run(['--ids', '-', '--output', 'page.html'], row.list)
-    assert (ended.status, ended.output, ended.error.decode()) == (3, b'', row.told)
+@pytest.mark.parametrize(('listed', 'told'), named(WRONG))
+def test_wrong(maker: Maker, room: Room, listed: bytes, told: str) -> None:
+    maker.refuses(['--ids', '-', '--output', 'page.html'], 3, told, listed)
     assert room.names() == []
 
 
@@ -102,9 +93,8 @@ def test_saves(maker: Maker, room: Room) -> None:
     assert [puzzle.id for puzzle in pictures(maker.page(['--ids', '-'], b'a game.sav\n'))] == [ID, ID]
     assert 'of Anna</p>' in maker.page(['--ids', '-'], b'game.sav of Anna')
     assert [sum(puzzle.numbers) for puzzle in pictures(maker.page(['--ids', 'game.sav']))] == [0, 18]
-    ended = maker.run(['--ids', '-'], b'damaged.sav\nthird.sav\n')
-    assert (ended.status, ended.output) == (3, b'')
-    assert ended.error.decode() == 'line 1: That save is damaged (Missing).\nline 2: That is a save of Mines, which is not played here.\n'
+    told = 'line 1: That save is damaged (Missing).\nline 2: That is a save of Mines, which is not played here.\n'
+    maker.refuses(['--ids', '-'], 3, told, b'damaged.sav\nthird.sav\n')
 
 
 def test_large(maker: Maker, room: Room) -> None:
@@ -112,16 +102,14 @@ def test_large(maker: Maker, room: Room) -> None:
     room.put('large')
     with open(f'{room.path}/large', 'wb') as file:
         file.truncate(1 << 30)
-    for name, called in (('large', 'large'), ('/dev/zero', '/dev/zero')):
-        ended = maker.run(['--ids', name])
-        assert (ended.status, ended.error.decode()) == (3, f'{called} has more than 16,777,216 bytes\n')
+    for name in ('large', '/dev/zero'):
+        maker.refuses(['--ids', name], 3, f'{name} has more than 16,777,216 bytes\n')
 
 
 def test_long(maker: Maker, room: Room) -> None:
     """A list is read as it comes: one of line ends alone is refused soon, and of a long one no more is read than is asked for."""
     before = time.monotonic()
-    ended = maker.run(['--ids', '-'], b'\n' * 16_777_216, limits={resource.RLIMIT_AS: 400 << 20})
-    assert (ended.status, ended.error) == (3, b'standard input has no puzzles\n')
+    maker.refuses(['--ids', '-'], 3, 'standard input has no puzzles\n', b'\n' * 16_777_216, limits={resource.RLIMIT_AS: 400 << 20})
     lines = stored('towers', 5, 20)
     ended = maker.run(['--ids', '-', '--count', '5', '--answers', 'none'], content(lines * 5000), limits={resource.RLIMIT_AS: 400 << 20})
     assert (ended.status, ended.error) == (0, b'')
@@ -133,8 +121,7 @@ def test_long(maker: Maker, room: Room) -> None:
 
 def test_unread(maker: Maker) -> None:
     for name, why in (('lacks', 'No such file or directory'), ('.', 'Is a directory')):
-        ended = maker.run(['--ids', name])
-        assert (ended.status, ended.error.decode()) == (3, f"{name} can't be read ({why})\n")
+        maker.refuses(['--ids', name], 3, f"{name} can't be read ({why})\n")
 
 
 def test_long_list(maker: Maker) -> None:

@@ -1,7 +1,5 @@
 """The page in a browser, and what it prints: so many pages, nothing cut, nothing over another thing, all IDs whole."""
 
-from __future__ import annotations
-
 import os
 import re
 import shutil
@@ -11,8 +9,7 @@ from typing import Iterator, List, NamedTuple, Sequence, Tuple
 import pytest
 
 from sheet.pdf import BROWSERS, OTHERWISE
-from tests.harness import Room, Skip, by_name
-from tests.harness.browser import Browser
+from tests.harness import Browser, Room, Skip, by_words
 from tests.second_implementation.seeded import full_puzzle
 from tests.sheet.making import Maker, content, stored
 from tests.sheet.printing import MEASURE, need_tools, printed, said, shown
@@ -65,20 +62,15 @@ def sheets(paper: str) -> Iterator[Sheet]:
     yield Sheet(['--answers', 'only', '--steps', '--large'], nines()[2:6], 0, 1, 5)
 
 
-@pytest.mark.parametrize('size', PAPERS)
-def test_pages(paper: Browser, maker: Maker, room: Room, size: str) -> None:
-    for sheet in sheets(size):
-        expect_sheet(paper, room, maker, sheet, size)
-
-
-def expect_sheet(browser: Browser, room: Room, maker: Maker, sheet: Sheet, paper: str) -> None:
-    ended = maker.run(['--ids', '-', '--paper', paper, *sheet.words], content(sheet.puzzles))
+@pytest.mark.parametrize(('size', 'sheet'), [(size, sheet) for size in PAPERS for sheet in sheets(size)])
+def test_pages(paper: Browser, maker: Maker, room: Room, size: str, sheet: Sheet) -> None:
+    ended = maker.run(['--ids', '-', '--paper', size, *sheet.words], content(sheet.puzzles))
     assert ended.status == 0, ended.error
-    found = printed(browser, room, ended.output.decode())
+    found = printed(paper, room, ended.output.decode())
     answers = sheet.pages + sheet.answers
     total = answers + sheet.steps
     assert [len(found.texts), len(found.sticks_out)] == [total, total], sheet.words
-    assert (round(found.paper[0]), round(found.paper[1])) == PAPERS[paper]
+    assert (round(found.paper[0]), round(found.paper[1])) == PAPERS[size]
     assert not any(map(any, found.sticks_out)), sheet.words
     assert found.is_free, sheet.words
     code = re.search(r'Sheet ([0-9A-F]{4})\b', found.texts[0])
@@ -97,40 +89,28 @@ def expect_sheet(browser: Browser, room: Room, maker: Maker, sheet: Sheet, paper
         assert set(pages) <= set(of_number) and len(of_number) >= (1 if sheet.pages else 0), line
 
 
-class Answers(NamedTuple):
-    """The words of a sheet of Towers, how many pages its answers take, and the side of their squares in mm: at least and at most, reckoned by hand."""
-
-    words: Sequence[str]
-    size: int
-    pages: int
-    sides: Tuple[float, float]
-
-    @property
-    def name(self) -> str:
-        return ' '.join(self.words)
-
-
+#: Words of a sheet of Towers, its size, how many pages the answers take, and the side of their squares in mm: at least and at most, reckoned by hand.
 ANSWERS = [
     # Four rows of 65 mm, of which a number and what is free take 10.
-    Answers(['--count', '12'], 5, 1, (8.8, 9.4)),
+    (['--count', '12'], 5, 1, (8.8, 9.4)),
     # Six rows of 43 mm, with four each.
-    Answers(['--size', '6', '--count', '24'], 6, 1, (4.8, 5.2)),
+    (['--size', '6', '--count', '24'], 6, 1, (4.8, 5.2)),
     # Larger ones than those of 12 mm look childish.
-    Answers(['--size', '4', '--count', '4'], 4, 1, (11.8, 12.3)),
+    (['--size', '4', '--count', '4'], 4, 1, (11.8, 12.3)),
     # Three rows of 84 mm, of which 16 are no board.
-    Answers(['--count', '6', '--large'], 5, 1, (11, 11.5)),
+    (['--count', '6', '--large'], 5, 1, (11, 11.5)),
     # No page has room for 16 with squares of 4.4 mm. On two there are three columns of 59 mm.
-    Answers(['--size', '9', '--count', '16', '--seed', '7'], 9, 2, (5.7, 5.95)),
+    (['--size', '9', '--count', '16', '--seed', '7'], 9, 2, (5.7, 5.95)),
 ]
 
 
-@pytest.mark.parametrize('row', ANSWERS, ids=by_name)
-def test_answers(maker: Maker, row: Answers) -> None:
+@pytest.mark.parametrize(('words', 'size', 'pages', 'sides'), by_words(ANSWERS))
+def test_answers(maker: Maker, words: List[str], size: int, pages: int, sides: Tuple[float, float]) -> None:
     """They are as large as their pages have room for, and all alike."""
-    page = maker.page(['towers', *row.words, '--answers', 'only'])
-    assert page.count('<h1 dir="auto">Answers: ') == row.pages
+    page = maker.page(['towers', *words, '--answers', 'only'])
+    assert page.count('<h1 dir="auto">Answers: ') == pages
     (width,) = set(re.findall(r'<svg role="img" width="([0-9.]+)mm"', page))
-    assert row.sides[0] <= float(width) / (row.size + 1.04) <= row.sides[1]
+    assert sides[0] <= float(width) / (size + 1.04) <= sides[1]
 
 
 #: Words, and how many of the puzzles come onto a page whose squares aren't smaller than 7 mm: reckoned by hand for A4, of which 186 by 250 mm are free.
@@ -148,9 +128,8 @@ TOO_MANY = [
 def test_too_many(maker: Maker, room: Room, words: List[str], number: int) -> None:
     """More than have room are refused, with the number that has; so many are printed."""
     asked = words[words.index('--per-page') + 1]
-    ended = maker.run([*words, '--output', 'page.html'])
     told = f'puzzles-sheet: --per-page {asked}: the squares would be smaller than 7 mm; {number} on a page have room\n'
-    assert (ended.status, ended.output, ended.error.decode()) == (2, b'', told)
+    maker.refuses([*words, '--output', 'page.html'], 2, told)
     assert room.names() == []
     page = maker.page([word if word != asked else str(number) for word in words])
     first = re.split('<section>', page)[1]
@@ -187,18 +166,13 @@ NO_PDF = [
 @pytest.mark.parametrize(('words', 'told'), NO_PDF)
 def test_no_pdf(maker: Maker, room: Room, words: List[str], told: str) -> None:
     """It is told what is lacking, and nothing is written."""
-    env = {} if words else {'PATH': here_alone(room)}
+    # A folder for commands that has the Python of the tests alone.
+    env = {} if words else {'PATH': room.lay('commands')}
+    if env:
+        room.link('commands/python3', sys.executable)
     room.put('a-firefox', FIREFOX, 0o755)
-    ended = maker.run(['towers', '--count', '1', '--pdf', 'sheet.pdf', *words], env=env)
-    assert (ended.status, ended.output, ended.error.decode()) == (1, b'', f'puzzles-sheet: {told}\n')
+    maker.refuses(['towers', '--count', '1', '--pdf', 'sheet.pdf', *words], 1, f'puzzles-sheet: {told}\n', env=env)
     assert 'sheet.pdf' not in room.names()
-
-
-def here_alone(room: Room) -> str:
-    """A folder for commands that has the Python of the tests alone."""
-    room.make_folder('commands').close()
-    room.link('commands/python3', sys.executable)
-    return os.path.join(room.path, 'commands')
 
 
 #: Titles and captions that want to be more than text.
@@ -265,6 +239,5 @@ LONG = [
 @pytest.mark.parametrize(('words', 'letters', 'lines', 'most'), LONG)
 def test_long_title(maker: Maker, words: List[str], letters: int, lines: int, most: int) -> None:
     """It is refused, and nothing is made."""
-    ended = maker.run([*words, '--title', 'A' * letters])
     told = f'puzzles-sheet: --title: it is too long: it may take {lines} lines, and {most} have room\n'
-    assert (ended.status, ended.output, ended.error.decode()) == (2, b'', told)
+    maker.refuses([*words, '--title', 'A' * letters], 2, told)

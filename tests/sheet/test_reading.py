@@ -1,7 +1,5 @@
 """What is drawn is the puzzle that its ID names, and its only answer: read back from the places of lines and digits."""
 
-from __future__ import annotations
-
 import re
 from typing import List, Sequence
 
@@ -58,15 +56,12 @@ def digits(answer: Picture) -> str:
 
 
 def board_after(program: str, game: str, id: str, moves: Sequence[str]) -> Board:
-    run_of_it = Program(program, game, ['--id', id])
-    try:
+    with Program(program, game, ['--id', id]) as asked:
         for move in moves:
-            assert run_of_it.ask(f'move {move}').refused is None
-        board = run_of_it.ask('board').board
-        assert board is not None
-        return board
-    finally:
-        run_of_it.stop()
+            assert asked.ask(f'move {move}').refused is None
+        board = asked.ask('board').board
+    assert board is not None
+    return board
 
 
 def test_in_play(objects: str) -> None:

@@ -1,17 +1,14 @@
 """Fair games by size, grade and seed: which ones come onto a sheet, as a second implementation makes and grades them, and what is told where there are none."""
 
-from __future__ import annotations
-
 import re
 from html import unescape
-from typing import List, NamedTuple, Sequence
+from typing import List
 
 import pytest
 
-from playing.board import Board
 from playing.games import GRADES
 from playing.program import Program
-from tests.harness import Room, by_name
+from tests.harness import Room, by_words
 from tests.harness.between import put_between
 from tests.second_implementation.fair import fair
 from tests.second_implementation.grades import LETTERS, follows
@@ -37,51 +34,42 @@ def graded(picture: Picture) -> str:
     return f'{picture.puzzle.size} {GRADES[picture.game][found[0]].title() if found else ""}'.strip()
 
 
-class Sheet(NamedTuple):
-    """The words, and what each puzzle's caption is to have."""
-
-    words: Sequence[str]
-    captions: List[str]
-    told: str = ''
-
-    @property
-    def name(self) -> str:
-        return ' '.join(self.words)
-
-
+#: The words, what each puzzle's caption is to have, and what is told.
 SHEETS = [
-    Sheet(['towers'], ['5 Easy'] * 12),
-    Sheet(['unequal', '--count', '3', '--seed', '0'], ['5 Easy'] * 3),
-    Sheet(
+    (['towers'], ['5 Easy'] * 12, ''),
+    (['unequal', '--count', '3', '--seed', '0'], ['5 Easy'] * 3, ''),
+    (
         ['towers', '--size', '4-6', '--count', '4'],
         ['4 Easy', '4 Easy', '5 Easy', '6 Easy'],
         '4 puzzles of 3 kinds: 2 of size 4 easy, 1 of size 5 easy, 1 of size 6 easy',
     ),
-    Sheet(
+    (
         ['unequal', '--size', '4-5', '--grade', 'easy,tricky', '--count', '3'],
         ['4 Easy', '4 Tricky', '5 Easy'],
         '3 puzzles of 4 kinds: 1 of size 4 easy, 1 of size 4 tricky, 1 of size 5 easy, 0 of size 5 tricky',
     ),
-    Sheet(
+    (
         ['towers', '--size', '5-7', '--grade', 'easy,hard', '--seed', '20261126'],
         [f'{size} {grade}' for size in (5, 6, 7) for grade in ('Easy', 'Easy', 'Hard', 'Hard')],
+        '',
     ),
-    Sheet(
+    (
         ['unequal', '--size', '5,4', '--grade', 'easy,trivial', '--count', '8'],
         ['4 Trivial', '4 Trivial', '4 Easy', '4 Easy', '5 Trivial', '5 Trivial', '5 Easy', '5 Easy'],
+        '',
     ),
-    Sheet(['unequal', '--size', '7', '--grade', 'tricky', '--count', '4'], ['7 Tricky'] * 4),
-    Sheet(['towers', '--size', '3-9', '--count', '7', '--per-page', '4'], [f'{size} Easy' for size in range(3, 10)]),
-    Sheet(['unequal', '--size', '8-9', '--grade', 'trivial,tricky', '--count', '4', '--per-page', '2'], ['8 Trivial', '8 Tricky', '9 Trivial', '9 Tricky']),
+    (['unequal', '--size', '7', '--grade', 'tricky', '--count', '4'], ['7 Tricky'] * 4, ''),
+    (['towers', '--size', '3-9', '--count', '7', '--per-page', '4'], [f'{size} Easy' for size in range(3, 10)], ''),
+    (['unequal', '--size', '8-9', '--grade', 'trivial,tricky', '--count', '4', '--per-page', '2'], ['8 Trivial', '8 Tricky', '9 Trivial', '9 Tricky'], ''),
 ]
 
 
-@pytest.mark.parametrize('row', SHEETS, ids=by_name)
-def test_sheet(maker: Maker, row: Sheet) -> None:
+@pytest.mark.parametrize(('words', 'wanted', 'told'), by_words(SHEETS))
+def test_sheet(maker: Maker, words: List[str], wanted: List[str], told: str) -> None:
     """They rise by size, and then by grade, with as many of one kind as of another, or it is told; each has the grade that was asked for."""
-    page = maker.page([*row.words, '--answers', 'none', '--show-grades', 'all'], told=f'{row.told}\n' if row.told else '')
-    assert captions(page) == row.captions
-    assert [graded(picture) for picture in pictures(page)] == row.captions
+    page = maker.page([*words, '--answers', 'none', '--show-grades', 'all'], told=f'{told}\n' if told else '')
+    assert captions(page) == wanted
+    assert [graded(picture) for picture in pictures(page)] == wanted
 
 
 def made(game: str, size: int, letter: str, seed: int) -> str:
@@ -129,25 +117,15 @@ def test_few(maker: Maker) -> None:
     assert len(set(ids(ended.output.decode()))) == 9
 
 
-class Refused(NamedTuple):
-    words: Sequence[str]
-    told: str
-
-    @property
-    def name(self) -> str:
-        return ' '.join(self.words)
-
-
 REFUSED = [
-    Refused(['towers', '--size', '3', '--grade', 'hard'], 'Towers of size 3 has no hard puzzles: --ids prints the puzzles of a list.\n'),
-    Refused(['unequal', '--size', '3-9', '--grade', 'easy,tricky'], 'Unequal of size 3 has no tricky puzzles: --ids prints the puzzles of a list.\n'),
+    (['towers', '--size', '3', '--grade', 'hard'], 'Towers of size 3 has no hard puzzles: --ids prints the puzzles of a list.\n'),
+    (['unequal', '--size', '3-9', '--grade', 'easy,tricky'], 'Unequal of size 3 has no tricky puzzles: --ids prints the puzzles of a list.\n'),
 ]
 
 
-@pytest.mark.parametrize('row', REFUSED, ids=by_name)
-def test_refused(maker: Maker, room: Room, row: Refused) -> None:
-    ended = maker.run([*row.words, '--output', 'page.html'])
-    assert (ended.status, ended.output, ended.error.decode()) == (3, b'', row.told)
+@pytest.mark.parametrize(('words', 'told'), by_words(REFUSED))
+def test_refused(maker: Maker, room: Room, words: List[str], told: str) -> None:
+    maker.refuses([*words, '--output', 'page.html'], 3, told)
     assert room.names() == []
 
 
@@ -169,43 +147,28 @@ def test_passed_over(maker: Maker, room: Room, objects: str) -> None:
     assert ids(page) == [made('unequal', 4, 'k', 1186)]
     page = before(room, objects, 'seed in (2, 3, 5)').page(['towers', '--count', '4', '--answers', 'none'])
     assert ids(page) == [made('towers', 5, 'e', seed) for seed in (1, 4, 6, 7)]
-    ended = before(room, objects, '8 < seed < 2**64').run(['towers', '--seed', '7', '--output', 'page.html'])
-    assert (ended.status, ended.output) == (3, b'')
-    assert ended.error.decode() == 'No easy puzzle of Towers of size 5 was found with the 100 seeds from 9 to 108.\n'
+    told = 'No easy puzzle of Towers of size 5 was found with the 100 seeds from 9 to 108.\n'
+    before(room, objects, '8 < seed < 2**64').refuses(['towers', '--seed', '7', '--output', 'page.html'], 3, told)
     assert room.names() == ['between']
-
-
-class Graded(NamedTuple):
-    """A line of a list, and the caption."""
-
-    line: str
-    caption: str
 
 
 def test_grade(maker: Maker, objects: str) -> None:
     """The grade of a caption is the program's; where the program finds none, that of the ID's letter."""
-    description = board_of(objects, TOWERS).session.id[2:]
-    rows = [
-        Graded('3:3//////3/////', '3 Easy'),
-        Graded('3dh:3//////3/////', '3 Easy'),
-        Graded('unequal 5!36', '5 Trivial'),
-        Graded('unequal 5!25', '5 Tricky'),
-        Graded('towers 5!2', '5 Hard'),
-        Graded(TOWERS, '6'),
-        Graded(UNEQUAL, '5'),
-        Graded(f'6dx:{description}', '6 Extreme'),
-    ]
-    ended = maker.run(['--ids', '-', '--answers', 'none', '--show-grades', 'all'], content([row.line for row in rows]))
-    page = ended.output.decode()
-    assert captions(page) == [row.caption for row in rows]
-    assert [graded(picture) for picture in pictures(page)][:-1] == [row.caption for row in rows][:-1]
-
-
-def board_of(objects: str, line: str) -> Board:
-    """The board of a game and an ID."""
-    game, id = line.split()
-    program = Program(objects, game, ['--id', id])
-    board = program.first.board
-    program.stop()
+    with Program(objects, 'towers', ['--id', TOWERS.split()[1]]) as program:
+        board = program.first.board
     assert board is not None
-    return board
+    description = board.session.id[2:]
+    rows = [
+        ('3:3//////3/////', '3 Easy'),
+        ('3dh:3//////3/////', '3 Easy'),
+        ('unequal 5!36', '5 Trivial'),
+        ('unequal 5!25', '5 Tricky'),
+        ('towers 5!2', '5 Hard'),
+        (TOWERS, '6'),
+        (UNEQUAL, '5'),
+        (f'6dx:{description}', '6 Extreme'),
+    ]
+    ended = maker.run(['--ids', '-', '--answers', 'none', '--show-grades', 'all'], content([line for line, _ in rows]))
+    page = ended.output.decode()
+    assert captions(page) == [caption for _, caption in rows]
+    assert [graded(picture) for picture in pictures(page)][:-1] == [caption for _, caption in rows][:-1]

@@ -1,17 +1,15 @@
 """The steps of the answers, and the example: which moves are told, in the sentences of the program's hints, and that no text is torn."""
 
-from __future__ import annotations
-
 import re
 from html import unescape
-from typing import List, NamedTuple
+from typing import List
 
 import pytest
 
 from playing.cards import CARDS
 from playing.program import Program
 from playing.steps import sentences
-from tests.harness import by_name
+from tests.harness import by_words
 from tests.harness.cards import SHOWS
 from tests.second_implementation.puzzles import Puzzle
 from tests.sheet.making import Maker, content
@@ -30,9 +28,8 @@ def paragraphs(text: str) -> List[str]:
 def hinted(objects: str, puzzle: Puzzle, id: str) -> List[str]:
     """The sentences of the first hint of a puzzle; a step that is the only one has no number."""
     game = 'unequal' if '/' not in id else 'towers'
-    program = Program(objects, game, ['--id', id])
-    hint = program.ask('hint').hint
-    program.stop()
+    with Program(objects, game, ['--id', id]) as program:
+        hint = program.ask('hint').hint
     assert hint and hint.grade and hint.text
     found = sentences(hint.text)
     return found if any(text.startswith('2. ') for text in found) else [re.sub('^1[.] ', '', text) for text in found]
@@ -62,34 +59,24 @@ def test_numbers(maker: Maker) -> None:
         assert re.findall(r'<p><b>Move \d+(?:, the hardest)?</b></p><p>1[.] ', page), 'some have several steps'
 
 
-class Listing(NamedTuple):
-    """The words of a sheet with steps, and whether each puzzle is to be shorter than a column."""
-
-    words: List[str]
-    is_short: bool = True
-
-    @property
-    def name(self) -> str:
-        return ' '.join(self.words)
-
-
+#: The words of a sheet with steps, and whether each puzzle is to be shorter than a column.
 LISTINGS = [
-    Listing(['towers', '--size', '6', '--grade', 'hard']),
-    Listing(['unequal', '--size', '6', '--grade', 'tricky', '--paper', 'letter']),
-    Listing(['towers', '--size', '5', '--large', '--count', '4']),
-    Listing(['towers', '--size', '9', '--grade', 'hard', '--large', '--count', '2'], is_short=False),
+    (['towers', '--size', '6', '--grade', 'hard'], True),
+    (['unequal', '--size', '6', '--grade', 'tricky', '--paper', 'letter'], True),
+    (['towers', '--size', '5', '--large', '--count', '4'], True),
+    (['towers', '--size', '9', '--grade', 'hard', '--large', '--count', '2'], False),
 ]
 
 
-@pytest.mark.parametrize('row', LISTINGS, ids=by_name)
-def test_whole(maker: Maker, row: Listing) -> None:
+@pytest.mark.parametrize(('words', 'is_short'), by_words(LISTINGS))
+def test_whole(maker: Maker, words: List[str], is_short: bool) -> None:
     """It is said which moves are told; no puzzle goes on in the next column, unless it is longer than one, and never a move."""
-    page = maker.page([*row.words, '--steps', '--answers', 'only'])
+    page = maker.page([*words, '--steps', '--answers', 'only'])
     assert page.count('The others are left out, since they are found in the same ways.') == 1
     columns = re.findall(r'<div class="steps" [^>]*>(.*?)</div>', page, re.DOTALL)
     assert len(columns) > 1
     for column in columns[1:]:
-        begins = '<p class="first">' if row.is_short else '(<p class="first">|<p><b>Move )'
+        begins = '<p class="first">' if is_short else '(<p class="first">|<p><b>Move )'
         assert re.match(begins, column), column[:200]
 
 

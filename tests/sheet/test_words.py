@@ -1,74 +1,52 @@
 """The words of the command line, where the page goes, and that nothing is left where that comes to nothing."""
 
-from __future__ import annotations
-
 import os
 import signal
 import time
-from typing import Callable, NamedTuple, Sequence
+from typing import Callable, List, Sequence, Tuple
 
 import pytest
 
-from tests.harness import SLOWNESS, Folder, Room, by_name
-from tests.harness.game import ID
-from tests.harness.mounts import fill, small_disk
-from tests.harness.terminal import Terminal
+from tests.harness import ID, SLOWNESS, Folder, Room, Terminal, by_words, fill, small_disk
 from tests.sheet.making import PATH, Maker, content
 
 TIP = "'puzzles-sheet --help' lists all options.\n"
 
 
-class Wrong(NamedTuple):
-    words: Sequence[str]
-    told: str
-
-    @property
-    def name(self) -> str:
-        return ' '.join(self.words)
-
-
-WRONG = [
-    Wrong([], 'GAME is towers or unequal'),
-    Wrong(['mines'], 'GAME is towers or unequal'),
-    Wrong(['towers', '--output', ''], 'argument --output: the name of a file'),
-    Wrong(['--ids', ''], 'argument --ids: the name of a file'),
-    Wrong(['towers', 'unequal'], 'GAME is towers or unequal'),
-    Wrong(['--ids', 'list', 'mines'], 'GAME is towers or unequal'),
-    Wrong(['towers', '--size', '2'], 'argument --size: 3 to 9, several as 5-7 or 3,5'),
-    Wrong(['towers', '--size', '10'], 'argument --size: 3 to 9, several as 5-7 or 3,5'),
-    Wrong(['towers', '--size', '6-4'], 'argument --size: 3 to 9, several as 5-7 or 3,5'),
-    Wrong(['towers', '--size', '5,'], 'argument --size: 3 to 9, several as 5-7 or 3,5'),
-    Wrong(['towers', '--grade', 'tricky'], 'argument --grade: towers from seeds are easy or hard, not tricky: --ids prints others'),
-    Wrong(['towers', '--grade', 'easy,unreasonable'], 'argument --grade: towers from seeds are easy or hard, not unreasonable: --ids prints others'),
-    Wrong(['unequal', '--grade', 'recursive'], 'argument --grade: unequal from seeds are trivial, easy or tricky, not recursive: --ids prints others'),
-    Wrong(['unequal', '--grade', 'easy,,'], 'argument --grade: unequal from seeds are trivial, easy or tricky, not : --ids prints others'),
-    Wrong(['towers', '--seed=-1'], 'argument --seed: a number from 0 to 18446744073709551615'),
-    Wrong(['towers', '--seed', '007'], 'argument --seed: a number from 0 to 18446744073709551615'),
-    Wrong(['towers', '--seed', '18446744073709551616'], 'argument --seed: a number from 0 to 18446744073709551615'),
-    Wrong(['towers', '--count', '201'], 'argument --count: a number from 1 to 200'),
-    Wrong(['towers', '--per-page', '13'], 'argument --per-page: a number from 1 to 12'),
-    Wrong(['towers', '--paper', 'a5'], "argument --paper: invalid choice: 'a5' (choose from 'a4', 'letter')"),
-    Wrong(['towers', '--steps', '--answers', 'none'], '--steps goes with answers'),
-    Wrong(['--ids', 'list', '--seed', '1'], '--ids takes no --size, --grade or --seed, since the list has the puzzles'),
-    Wrong(['towers', '--tit', 'x'], 'unrecognized arguments: --tit x'),
-    Wrong(['towers', '--\x1b[31m'], 'unrecognized arguments: --?[31m'),
+WRONG: List[Tuple[List[str], str]] = [
+    ([], 'GAME is towers or unequal'),
+    (['mines'], 'GAME is towers or unequal'),
+    (['towers', '--output', ''], 'argument --output: the name of a file'),
+    (['--ids', ''], 'argument --ids: the name of a file'),
+    (['towers', 'unequal'], 'GAME is towers or unequal'),
+    (['--ids', 'list', 'mines'], 'GAME is towers or unequal'),
+    (['towers', '--size', '2'], 'argument --size: 3 to 9, several as 5-7 or 3,5'),
+    (['towers', '--size', '10'], 'argument --size: 3 to 9, several as 5-7 or 3,5'),
+    (['towers', '--size', '6-4'], 'argument --size: 3 to 9, several as 5-7 or 3,5'),
+    (['towers', '--size', '5,'], 'argument --size: 3 to 9, several as 5-7 or 3,5'),
+    (['towers', '--grade', 'tricky'], 'argument --grade: towers from seeds are easy or hard, not tricky: --ids prints others'),
+    (['towers', '--grade', 'easy,unreasonable'], 'argument --grade: towers from seeds are easy or hard, not unreasonable: --ids prints others'),
+    (['unequal', '--grade', 'recursive'], 'argument --grade: unequal from seeds are trivial, easy or tricky, not recursive: --ids prints others'),
+    (['unequal', '--grade', 'easy,,'], 'argument --grade: unequal from seeds are trivial, easy or tricky, not : --ids prints others'),
+    (['towers', '--seed=-1'], 'argument --seed: a number from 0 to 18446744073709551615'),
+    (['towers', '--seed', '007'], 'argument --seed: a number from 0 to 18446744073709551615'),
+    (['towers', '--seed', '18446744073709551616'], 'argument --seed: a number from 0 to 18446744073709551615'),
+    (['towers', '--count', '201'], 'argument --count: a number from 1 to 200'),
+    (['towers', '--per-page', '13'], 'argument --per-page: a number from 1 to 12'),
+    (['towers', '--paper', 'a5'], "argument --paper: invalid choice: 'a5' (choose from 'a4', 'letter')"),
+    (['towers', '--steps', '--answers', 'none'], '--steps goes with answers'),
+    (['--ids', 'list', '--seed', '1'], '--ids takes no --size, --grade or --seed, since the list has the puzzles'),
+    (['towers', '--tit', 'x'], 'unrecognized arguments: --tit x'),
+    (['towers', '--\x1b[31m'], 'unrecognized arguments: --?[31m'),
 ]
 
 
-@pytest.mark.parametrize('row', WRONG, ids=by_name)
-def test_wrong(maker: Maker, row: Wrong) -> None:
+@pytest.mark.parametrize(('words', 'told'), by_words(WRONG))
+def test_wrong(maker: Maker, words: Sequence[str], told: str) -> None:
     """Nothing is made, and a line says why. How it lists choices depends on the Python."""
-    ended = maker.run(row.words)
+    ended = maker.run(words)
     assert (ended.status, ended.output) == (2, b'')
-    assert ended.error.decode().replace("'", '') == f'puzzles-sheet: {row.told}\n{TIP}'.replace("'", '')
-
-
-def test_help(maker: Maker) -> None:
-    for word in ('--help', '-h'):
-        ended = maker.run([word])
-        assert (ended.status, ended.error) == (0, b'')
-        assert ended.output.startswith(b'usage: puzzles-sheet GAME ')
-    assert maker.run(['--version']).output.startswith(b'puzzles ')
+    assert ended.error.decode().replace("'", '') == f'puzzles-sheet: {told}\n{TIP}'.replace("'", '')
 
 
 LIST = content([ID])
@@ -92,19 +70,16 @@ def test_unwritten(maker: Maker, room: Room) -> None:
     """A folder, a folder that isn't there, a device that is full: told, and nothing is left."""
     room.make_folder('folder').close()
     for name, why in (('folder', 'Is a directory'), ('none/page', 'No such file or directory'), ('/dev/full', 'No space left on device')):
-        ended = maker.run(['--ids', '-', '--output', name], LIST)
-        assert (ended.status, ended.output, ended.error.decode()) == (1, b'', f'puzzles-sheet: {name}: {why}\n')
+        maker.refuses(['--ids', '-', '--output', name], 1, f'puzzles-sheet: {name}: {why}\n', LIST)
     assert room.names() == ['folder']
 
 
 def test_full_disk(maker: Maker, room: Room) -> None:
     """What was there is there as before."""
-    room.make_folder('disk').close()
-    with small_disk(f'{room.path}/disk', 1 << 16), Folder('disk', room) as disk:
+    with small_disk(room.lay('disk'), 1 << 16), Folder('disk', room) as disk:
         disk.put('page.html', b'before')
         fill(disk)
-        ended = maker.run(['--ids', '-', '--output', 'disk/page.html'], content([ID] * 9))
-        assert (ended.status, ended.error) == (1, b'puzzles-sheet: disk/page.html: No space left on device\n')
+        maker.refuses(['--ids', '-', '--output', 'disk/page.html'], 1, 'puzzles-sheet: disk/page.html: No space left on device\n', content([ID] * 9))
         assert (disk.read('page.html'), disk.names()) == (b'before', ['filler', 'page.html'])
 
 

@@ -6,12 +6,10 @@ as much.
 
 import resource
 from pathlib import Path
-from typing import NamedTuple
 
 import pytest
 
-from tests.harness import Room, by_name, run
-from tests.harness.bytecode import bytecode
+from tests.harness import Room, bytecode, named, run
 from tests.lines.runs import Player, Run
 from tests.second_implementation.grades import LETTERS
 
@@ -34,19 +32,12 @@ FURTHER = b'board\ncompletable\nhint\ngrade\nsolutions\nspare\n'
 DESK = b'thin\nspare\nspare e\nthin e\nitem 0,0,1\nspare\nthin\nblank 9\nsolutions\nspare\n'
 
 
-class Board(NamedTuple):
-    """A puzzle of size 9 by its game and ID."""
-
-    name: str
-    game: str
-    id: str
-
-
+#: Puzzles of size 9 by their games and IDs.
 BOARDS = [
-    Board('an empty board of Towers', 'towers', '9:' + '/' * 35),
-    Board('an empty board of Unequal', 'unequal', '9:' + '0,' * 81),
-    Board('few clues', 'towers', '9:2/3///3//4/3//4/2///1/2/2//2//3///2//5/2/3////2/2////'),
-    Board(
+    ('an empty board of Towers', 'towers', '9:' + '/' * 35),
+    ('an empty board of Unequal', 'unequal', '9:' + '0,' * 81),
+    ('few clues', 'towers', '9:2/3///3//4/3//4/2///1/2/2//2//3///2//5/2/3////2/2////'),
+    (
         'few signs',
         'unequal',
         '9:0,0,0D,0,0,0,0,0,0,0,0,0,0,0,0,0,0,0,0U,0RL,0,0,0,0,0,0,0,0,0,0,0,0,0,0,0,0,0D,0,0D,0,0,0,0,0,0,0,0,0,0,0,0,0,0,0,0D,0'
@@ -55,18 +46,18 @@ BOARDS = [
 ]
 
 
-@pytest.mark.parametrize('board', BOARDS, ids=by_name)
-def test_puzzles(program: str, room: Room, board: Board) -> None:
+@pytest.mark.parametrize(('game', 'id'), named(BOARDS))
+def test_puzzles(program: str, room: Room, game: str, id: str) -> None:
     player = Player(program, room)
-    row = Run(board.name, [board.game, '--id', board.id, '--save', 'deep.sav'], COMMANDS, output=None, made=['deep.sav'])
+    row = Run('deep', [game, '--id', id, '--save', 'deep.sav'], COMMANDS, output=None, made=['deep.sav'])
     wanted = player.play(row)
     saved = room.read('deep.sav') or b''
     player.play(row._replace(output=wanted, holds={'deep.sav': saved}), limits={resource.RLIMIT_STACK: STACK})
 
 
-@pytest.mark.parametrize('board', BOARDS, ids=by_name)
-def test_objects(objects: str, room: Room, board: Board) -> None:
-    words, script = [objects, board.game, '--id', board.id], FURTHER + COMMANDS + FURTHER + DESK
+@pytest.mark.parametrize(('game', 'id'), named(BOARDS))
+def test_objects(objects: str, room: Room, game: str, id: str) -> None:
+    words, script = [objects, game, '--id', id], FURTHER + COMMANDS + FURTHER + DESK
     wanted = run(words, room, input=script, seconds=SECONDS)
     assert run(words, room, input=script, limits={resource.RLIMIT_STACK: STACK}, seconds=SECONDS) == wanted
     assert wanted.status == 0

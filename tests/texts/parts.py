@@ -3,7 +3,7 @@
 import re
 from typing import List
 
-from tests.harness.builds import TOP
+from tests.harness import TOP
 
 #: The top of the repository.
 ROOT = TOP

@@ -29,16 +29,12 @@ def files() -> Set[str]:
 
 def declared(crate: str) -> Set[str]:
     """The names that a crate declares, with its wrong bodies and the words of its texts."""
-    names = wrong_bodies(crate)
+    names = {body.name for body in bodies_in(ROOT / 'crates' / crate)}
     for folder in ('src', 'specs', 'proofs'):
         for path in (ROOT / 'crates' / crate / folder).rglob('*.*'):
             text = path.read_text(encoding='utf-8')
             names.update([path.stem], *(found(pattern, text) for pattern in DECLARATIONS.get(path.suffix, [])))
     return names
-
-
-def wrong_bodies(crate: str) -> Set[str]:
-    return {body.name for body in bodies_in(ROOT / 'crates' / crate)}
 
 
 def specs(crate: str, files: str) -> str:

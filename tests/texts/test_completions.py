@@ -4,73 +4,66 @@ That of bash is run. Those of zsh and fish are read by their shells where these 
 """
 
 import shutil
-from typing import Callable, Dict, List, NamedTuple, Sequence
+from typing import Callable, Dict, List
 
 import pytest
 
-from tests.harness import Room, by_name, run
+from tests.harness import Room, named, run
 from tests.texts.parts import ROOT, found, part, read
 from tests.texts.test_users import said
 
 GAMES = ['towers', 'unequal']
 
 
-class Line(NamedTuple):
-    """The words of a line as bash cuts them, and what the last of them can become. There is a file old.sav."""
-
-    name: str
-    words: Sequence[str]
-    wanted: str
-
-
+#: The words of a line as bash cuts them, and what the last of them can become. There is a file old.sav.
 LINES = [
-    Line('all', ['puzzles', ''], 'towers unequal --id --load --save --help --version'),
-    Line('games', ['puzzles', 't'], 'towers'),
-    Line('options', ['puzzles', 'towers', '--'], '--id --load --save --help --version'),
-    Line('one game', ['puzzles', 'towers', ''], '--id --load --save --help --version'),
-    Line('a file', ['puzzles', 'towers', '--load', 'o'], 'old.sav'),
-    Line('a file after =', ['puzzles', 'towers', '--load', '=', 'o'], 'old.sav'),
-    Line('a file after = with nothing typed', ['puzzles', 'towers', '--save', '='], 'old.sav'),
-    Line('a file after = in one word', ['puzzles', 'towers', '--save=o'], '--save=old.sav'),
-    Line('no file for an ID', ['puzzles', 'towers', '--id', ''], ''),
-    Line('an ID was named', ['puzzles', 'towers', '--id', '5!7', '--'], '--save --help --version'),
-    Line('a file was named', ['puzzles', 'towers', '--load', '=', 'old.sav', '--'], '--save --help --version'),
-    Line('all was named', ['puzzles', 'towers', '--load=a', '--save', 'b', '-h', '-V', ''], ''),
-    Line('a file called as a game', ['puzzles', '--save', 'towers', 't'], 'towers'),
-    Line('puzzles-json', ['puzzles-json', 'u'], 'unequal'),
-    Line('the options of puzzles-json', ['puzzles-json', 'towers', '--s'], '--save'),
-    Line('the board', ['puzzles-play', ''], 'towers unequal learn --lines --ids --help --version old.sav'),
-    Line('the board, a game', ['puzzles-play', 'u'], 'unequal'),
-    Line('the board, a file', ['puzzles-play', '--lines', 'towers', 'o'], 'old.sav'),
-    Line('the board, an option once', ['puzzles-play', '--lines', '-'], '--help --version'),
-    Line('the board, grades', ['puzzles-play', 'unequal', 't'], 'trivial tricky today'),
-    Line('the board, grades of the other game', ['puzzles-play', '--ids', 'towers', '6', ''], 'easy hard extreme unreasonable number today --help --version old.sav'),
-    Line('the board, a grade was named', ['puzzles-play', 'towers', 'hard', ''], '3 4 5 6 7 8 9 number today --lines --ids --help --version old.sav'),
-    Line('the board, a number was named', ['puzzles-play', 'towers', 'number', '7', ''], '3 4 5 6 7 8 9 easy hard --lines --ids --help --version old.sav'),
-    Line('the board, all was named', ['puzzles-play', 'unequal', '4', 'today', 'easy', ''], '--lines --ids --help --version old.sav'),
-    Line('the board, grades of size 3', ['puzzles-play', 'towers', '3', 'today', ''], 'easy --lines --ids --help --version old.sav'),
-    Line('the board, grades of size 9', ['puzzles-play', 'unequal', '9', ''], 'trivial easy tricky extreme number today --lines --ids --help --version old.sav'),
-    Line('the board, nothing for a number', ['puzzles-play', 'towers', 'number', ''], ''),
-    Line('the board, the course', ['puzzles-play', 'learn', ''], 'towers unequal --lines --help --version'),
-    Line('the board, the course of a game', ['puzzles-play', 'learn', 'towers', ''], '--lines --help --version'),
-    Line('the board, its word', ['puzzles-play', '--lines', 'le'], 'learn'),
-    Line('the page', ['puzzles-page', ''], '--path --help --version'),
-    Line('the page, an option', ['puzzles-page', '--p'], '--path'),
-    Line('the page, all was named', ['puzzles-page', '--path', ''], ''),
-    Line('a sheet', ['puzzles-sheet', 'towers', '--s'], '--size --seed --show-grades --steps'),
-    Line('a sheet, where grades stand', ['puzzles-sheet', 'towers', '--show-grades', ''], 'answers all none'),
-    Line('a sheet, where a PDF goes', ['puzzles-sheet', 'towers', '--pdf', 'o'], 'old.sav'),
-    Line('a sheet, its game', ['puzzles-sheet', '--size', '5', 'u'], 'unequal'),
-    Line('a sheet, a word of an option', ['puzzles-sheet', 'towers', '--paper', ''], 'a4 letter'),
-    Line('a sheet, a word after =', ['puzzles-sheet', 'towers', '--answers', '=', 'o'], 'only'),
-    Line('a sheet, grades of Towers', ['puzzles-sheet', 'towers', '--grade', ''], 'easy hard'),
-    Line('a sheet, grades of Unequal', ['puzzles-sheet', 'unequal', '--grade', ''], 'trivial easy tricky'),
-    Line('a sheet, sizes', ['puzzles-sheet', '--size', ''], '3 4 5 6 7 8 9'),
-    Line('a sheet, a list', ['puzzles-sheet', '--ids', 'o'], 'old.sav'),
-    Line('a check', ['puzzles-check', ''], '--json --solutions --quick --help --version old.sav'),
-    Line('a check, an option', ['puzzles-check', 'old.sav', '--json', '--'], '--solutions --quick --help --version'),
-    Line('a check, one file more', ['puzzles-check', 'new.sav', 'o'], 'old.sav'),
-    Line('a sheet, nothing for a title', ['puzzles-sheet', '--title', ''], ''),
+    ('all', ['puzzles', ''], 'towers unequal --id --load --save --help --version'),
+    ('games', ['puzzles', 't'], 'towers'),
+    ('options', ['puzzles', 'towers', '--'], '--id --load --save --help --version'),
+    ('one game', ['puzzles', 'towers', ''], '--id --load --save --help --version'),
+    ('a file', ['puzzles', 'towers', '--load', 'o'], 'old.sav'),
+    ('a file after =', ['puzzles', 'towers', '--load', '=', 'o'], 'old.sav'),
+    ('a file after = with nothing typed', ['puzzles', 'towers', '--save', '='], 'old.sav'),
+    ('a file after = in one word', ['puzzles', 'towers', '--save=o'], '--save=old.sav'),
+    ('no file for an ID', ['puzzles', 'towers', '--id', ''], ''),
+    ('an ID was named', ['puzzles', 'towers', '--id', '5!7', '--'], '--save --help --version'),
+    ('a file was named', ['puzzles', 'towers', '--load', '=', 'old.sav', '--'], '--save --help --version'),
+    ('all was named', ['puzzles', 'towers', '--load=a', '--save', 'b', '-h', '-V', ''], ''),
+    ('a file called as a game', ['puzzles', '--save', 'towers', 't'], 'towers'),
+    ('puzzles-json', ['puzzles-json', 'u'], 'unequal'),
+    ('the options of puzzles-json', ['puzzles-json', 'towers', '--s'], '--save'),
+    ('the board', ['puzzles-play', ''], 'towers unequal learn --lines --ids --help --version old.sav'),
+    ('the board, a game', ['puzzles-play', 'u'], 'unequal'),
+    ('the board, a file', ['puzzles-play', '--lines', 'towers', 'o'], 'old.sav'),
+    ('the board, an option once', ['puzzles-play', '--lines', '-'], '--help --version'),
+    ('the board, grades', ['puzzles-play', 'unequal', 't'], 'trivial tricky today'),
+    ('the board, grades of the other game', ['puzzles-play', '--ids', 'towers', '6', ''], 'easy hard extreme unreasonable number today --help --version old.sav'),
+    ('the board, a grade was named', ['puzzles-play', 'towers', 'hard', ''], '3 4 5 6 7 8 9 number today --lines --ids --help --version old.sav'),
+    ('the board, a number was named', ['puzzles-play', 'towers', 'number', '7', ''], '3 4 5 6 7 8 9 easy hard --lines --ids --help --version old.sav'),
+    ('the board, all was named', ['puzzles-play', 'unequal', '4', 'today', 'easy', ''], '--lines --ids --help --version old.sav'),
+    ('the board, grades of size 3', ['puzzles-play', 'towers', '3', 'today', ''], 'easy --lines --ids --help --version old.sav'),
+    ('the board, grades of size 9', ['puzzles-play', 'unequal', '9', ''], 'trivial easy tricky extreme number today --lines --ids --help --version old.sav'),
+    ('the board, nothing for a number', ['puzzles-play', 'towers', 'number', ''], ''),
+    ('the board, the course', ['puzzles-play', 'learn', ''], 'towers unequal --lines --help --version'),
+    ('the board, the course of a game', ['puzzles-play', 'learn', 'towers', ''], '--lines --help --version'),
+    ('the board, its word', ['puzzles-play', '--lines', 'le'], 'learn'),
+    ('the page', ['puzzles-page', ''], '--path --help --version'),
+    ('the page, an option', ['puzzles-page', '--p'], '--path'),
+    ('the page, all was named', ['puzzles-page', '--path', ''], ''),
+    ('a sheet', ['puzzles-sheet', 'towers', '--s'], '--size --seed --show-grades --steps'),
+    ('a sheet, where grades stand', ['puzzles-sheet', 'towers', '--show-grades', ''], 'answers all none'),
+    ('a sheet, where a PDF goes', ['puzzles-sheet', 'towers', '--pdf', 'o'], 'old.sav'),
+    ('a sheet, its game', ['puzzles-sheet', '--size', '5', 'u'], 'unequal'),
+    ('a sheet, a word of an option', ['puzzles-sheet', 'towers', '--paper', ''], 'a4 letter'),
+    ('a sheet, a word after =', ['puzzles-sheet', 'towers', '--answers', '=', 'o'], 'only'),
+    ('a sheet, grades of Towers', ['puzzles-sheet', 'towers', '--grade', ''], 'easy hard'),
+    ('a sheet, grades of Unequal', ['puzzles-sheet', 'unequal', '--grade', ''], 'trivial easy tricky'),
+    ('a sheet, sizes', ['puzzles-sheet', '--size', ''], '3 4 5 6 7 8 9'),
+    ('a sheet, a list', ['puzzles-sheet', '--ids', 'o'], 'old.sav'),
+    ('a check', ['puzzles-check', ''], '--json --solutions --quick --help --version old.sav'),
+    ('a check, an option', ['puzzles-check', 'old.sav', '--json', '--'], '--solutions --quick --help --version'),
+    ('a check, one file more', ['puzzles-check', 'new.sav', 'o'], 'old.sav'),
+    ('a sheet, nothing for a title', ['puzzles-sheet', '--title', ''], ''),
 ]
 
 #: Completes the words after the first, which names the file of the completion, by the function that it gives the command.
@@ -109,11 +102,11 @@ def front_options(room: Room, name: str) -> List[str]:
     return found(r'--([a-z-]+)', ended.output.decode())
 
 
-@pytest.mark.parametrize('line', LINES, ids=by_name)
-def test_bash(room: Room, line: Line) -> None:
+@pytest.mark.parametrize(('words', 'wanted'), named(LINES))
+def test_bash(room: Room, words: List[str], wanted: str) -> None:
     room.put('old.sav')
-    ended = run(['bash', '-c', COMPLETE, 'bash', str(ROOT / 'board/completion.bash'), *line.words], room)
-    assert (ended.output.decode(), ended.error) == (line.wanted, b'')
+    ended = run(['bash', '-c', COMPLETE, 'bash', str(ROOT / 'board/completion.bash'), *words], room)
+    assert (ended.output.decode(), ended.error) == (wanted, b'')
 
 
 @pytest.mark.parametrize(('shell', 'offered'), [('zsh', zsh_options), ('fish', fish_options)])

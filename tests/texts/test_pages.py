@@ -1,17 +1,16 @@
 """The manual pages name what the programs have, and can be read: without a warning, and in 80 columns."""
 
 import re
-from typing import Dict, Iterator, List, NamedTuple, Sequence
+from typing import Dict, Iterable, List
 
 import pytest
 
-from tests.harness import Room, Skip, by_name, need, run
+from tests.harness import Room, Skip, named, need, run
 from tests.objects import schema
-from tests.objects.reading import ALL_OWN
 from tests.texts import sources
 from tests.texts.parts import ROOT, found, part, read
 from tests.texts.test_completions import FRONTS, front_options
-from tests.texts.test_users import wanted
+from tests.texts.test_users import OWN, wanted
 
 #: The types of faults of which no number is in the definitions.
 ONE_FAULT = {'OutOfMemory': {'1': 'OutOfMemory'}, 'DeviceFault': {'1': 'DeviceFault'}}
@@ -20,18 +19,11 @@ ONE_FAULT = {'OutOfMemory': {'1': 'OutOfMemory'}, 'DeviceFault': {'1': 'DeviceFa
 COLUMNS = 80
 
 
-class Reader(NamedTuple):
-    """A reader of manual pages: how it tells what is wrong with one, and how it shows one."""
-
-    name: str
-    checks: Sequence[str]
-    shows: Sequence[str]
-
-
+#: Readers of manual pages: how each tells what is wrong with one, and how it shows one.
 READERS = [
-    Reader('mandoc', ['mandoc', '-T', 'lint', '-W', 'style'], ['mandoc', '-T', 'ascii']),
-    Reader('groff', ['groff', '-ww', '-mandoc', '-T', 'utf8', '-z'], ['groff', '-mandoc', '-T', 'ascii', '-P', '-c']),
-    Reader('man', ['man', '--warnings', '-E', 'UTF-8', '-Tutf8', '-Z', '-l'], ['man', '-E', 'ascii', '-l']),
+    (['mandoc', '-T', 'lint', '-W', 'style'], ['mandoc', '-T', 'ascii']),
+    (['groff', '-ww', '-mandoc', '-T', 'utf8', '-z'], ['groff', '-mandoc', '-T', 'ascii', '-P', '-c']),
+    (['man', '--warnings', '-E', 'UTF-8', '-Tutf8', '-Z', '-l'], ['man', '-E', 'ascii', '-l']),
 ]
 
 #: The pages that are documents.
@@ -57,10 +49,6 @@ def named_options(page: str) -> List[str]:
     return found(r'Fl -([\w-]+)', '\n'.join(found(r'^\.It (.*)$', part(page, '.Ss Options', r'^\.S[hs]'))))
 
 
-def too_wide(shown: str) -> Iterator[str]:
-    return (line for line in re.sub(STRUCK_TWICE, '', shown).splitlines() if len(line) > COLUMNS)
-
-
 def test_made(room: Room) -> None:
     """The pages that are documents are those that tools/manual --write makes."""
     need('pandoc')
@@ -79,38 +67,35 @@ def test_document(room: Room, page: str, document: str) -> None:
     assert sorted(set(re.findall(r'\w+', document.casefold())).difference(re.findall(r'\w+', shown.casefold()))) == []
 
 
-def test_commands() -> None:
-    listed = words(part(read('man/puzzles.5'), '.SH COMMANDS AND REPLIES', r'^\.SH'), '[a-z]+')
-    assert not set(wanted()[0]) - set(listed)
+FORMATS, OBJECTS = read('man/puzzles.5'), read('man/puzzles-json.6')
+
+#: What a page is to name, and what it names; and whether that is all.
+NAMED = [
+    ('commands', wanted()[0], words(part(FORMATS, '.SH COMMANDS AND REPLIES', r'^\.SH'), '[a-z]+'), False),
+    ('moves', wanted()[3], words(part(FORMATS, '.SH MOVE TEXTS', r'^\.SH'), '^[A-Z]'), True),
+    (
+        'records', found(r'`([A-Z]{2,})`', '\n'.join(found(r'^\| (.*?) \|', part(read('docs/FORMATS.md'), '### What is written', '^#')))),
+        words(part(FORMATS, '.SS What is written', r'^\.SS'), '[A-Z]{2,}'), True,
+    ),
+    ('options of puzzles-json', wanted()[1], named_options(OBJECTS), True),
+    ('lines of puzzles-json', OWN, found(r'^\.It Cm (\w+)', OBJECTS), False),
+    ('members', schema.names(), found(r'\w+', OBJECTS), False),
+    (
+        'the line mode', set(found(r'^    \'  ([a-z]{4,})\b', part(read('board/manual.py'), 'LINES', 'and the program'))) - {'pencil'},
+        found(r'\w+', part(read('man/puzzles-play.6'), '.Ss The line mode', r'^\.Sh')), False,
+    ),
+]
 
 
-def test_moves() -> None:
-    """Those of docs/FORMATS.md."""
-    told = words(part(read('man/puzzles.5'), '.SH MOVE TEXTS', r'^\.SH'), '^[A-Z]')
-    assert set(told) == set(wanted()[3]) != set()
-
-
-def test_records() -> None:
-    table = part(read('docs/FORMATS.md'), '### What is written', '^#')
-    records = found(r'`([A-Z]{2,})`', '\n'.join(found(r'^\| (.*?) \|', table)))
-    assert set(words(part(read('man/puzzles.5'), '.SS What is written', r'^\.SS'), '[A-Z]{2,}')) == set(records) != set()
-
-
-def test_objects() -> None:
-    page = read('man/puzzles-json.6')
-    assert set(named_options(page)) == set(wanted()[1]) != set(), 'options'
-    assert not {line.decode() for line in ALL_OWN} - set(found(r'^\.It Cm (\w+)', page)), 'lines'
-    assert not schema.names() - set(re.findall(r'\w+', page)), 'members'
+@pytest.mark.parametrize(('owed', 'told', 'is_all'), named(NAMED))
+def test_named(owed: Iterable[str], told: List[str], is_all: bool) -> None:
+    assert not set(owed) - set(told)
+    assert not is_all or set(told) == set(owed) != set()
 
 
 @pytest.mark.parametrize('name', FRONTS)
 def test_options(room: Room, name: str) -> None:
     assert set(named_options(read(f'man/{name}.6'))) == set(front_options(room, name)) != set()
-
-
-def test_line_mode() -> None:
-    own = set(found(r'^    \'  ([a-z]{4,})\b', part(read('board/manual.py'), 'LINES', 'and the program'))) - {'pencil'}
-    assert not own - set(re.findall(r'\w+', part(read('man/puzzles-play.6'), '.Ss The line mode', r'^\.Sh')))
 
 
 @pytest.mark.parametrize(('kind', 'names'), {**sources.faults(), **ONE_FAULT}.items())
@@ -130,14 +115,15 @@ def test_source(page: str) -> None:
     assert not set(others) - set(re.findall(r'^\.(?:Xr|BR) (\S+) \(?(\d)', text, re.MULTILINE))
 
 
-@pytest.mark.parametrize('reader', READERS, ids=by_name)
+@pytest.mark.parametrize(('checks', 'shows'), READERS, ids=['mandoc', 'groff', 'man'])
 @pytest.mark.parametrize('page', pages())
-def test_reader(room: Room, reader: Reader, page: str) -> None:
+def test_reader(room: Room, checks: List[str], shows: List[str], page: str) -> None:
     """Each reader finds faults that the others pass over."""
-    need(reader.name)
+    need(checks[0])
     path = str(ROOT / page)
-    told = run([*reader.checks, path], room)
-    warnings = (told.output + told.error).decode(errors='replace') if reader.name == 'mandoc' else told.error.decode(errors='replace')
+    ended = run([*checks, path], room)
+    warnings = ended.said if checks[0] == 'mandoc' else ended.error.decode(errors='replace')
     assert [line for line in warnings.splitlines() if not re.search(OF_OTHERS, line)] == []
-    shown = run([*reader.shows, path], room, env={'MANWIDTH': str(COLUMNS)})
-    assert list(too_wide(shown.output.decode(errors='replace'))) == []
+    shown = run([*shows, path], room, env={'MANWIDTH': str(COLUMNS)})
+    told = re.sub(STRUCK_TWICE, '', shown.output.decode(errors='replace'))
+    assert [line for line in told.splitlines() if len(line) > COLUMNS] == []

@@ -52,13 +52,9 @@ def test_clauses(rust: Rust) -> None:
 def test_comments() -> None:
     """A reader of the shortest list meets no name in it that isn't there, in a comment neither."""
     one = listed('solve')
-    told = {word for part in one.parts for word in re.findall(r'\w+', without_comments(part.text))}
+    told = {word for part in one.parts for word in re.findall(r'\w+', re.sub(r'(--|//).*', '', part.text))}
     named = {name for part in one.parts for name in re.findall(r'`(\w+)`', part.text)}
     assert not named - told
-
-
-def without_comments(text: str) -> str:
-    return re.sub(r'(--|//).*', '', text)
 
 
 @pytest.mark.parametrize('trait, functions', DEVICES.items(), ids=DEVICES)

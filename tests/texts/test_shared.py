@@ -1,7 +1,5 @@
 """What the board and the page both say stands in one table, as the cards of the course do, and is made of these."""
 
-from __future__ import annotations
-
 import re
 from typing import Iterator, List
 

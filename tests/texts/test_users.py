@@ -1,14 +1,16 @@
-"""The texts for users name the same commands, options, statuses, moves and refusals.
+"""The texts for users name the same commands, options, statuses, moves and refusals, and those on puzzles-json its members, its own lines, and the rest.
 
 Commands and refusals are those of the definitions in `specs/`, the rest is what docs/FORMATS.md says.
 """
 
 import re
-from typing import List
+from typing import Iterable, List
 
 import pytest
 
-from tests.harness import Room, run
+from tests.harness import Room, named, run
+from tests.objects import schema
+from tests.objects.reading import ALL_OWN
 from tests.texts import sources
 from tests.texts.parts import found, part, read
 
@@ -72,14 +74,35 @@ def test_faults(kind: str) -> None:
     assert set(told) == set(sources.faults()[kind].items()) != set()
 
 
-def test_line_mode() -> None:
-    """Its help has a line for each command."""
-    lines = ' '.join(found(r"^    '  (\S.*?)  ", read('board/manual.py'))).split()
-    assert not set(sources.commands()) - set(lines)
+#: The lines that are puzzles-json's own.
+OWN = [line.decode() for line in ALL_OWN]
+
+#: What is to be named, by the definitions and the objects, and what is: a line of help for each command, a sentence for each refusal.
+NAMED = [
+    ('the line mode', sources.commands(), ' '.join(found(r"^    '  (\S.*?)  ", read('board/manual.py'))).split()),
+    (
+        'sentences', {name for kind in REFUSALS for name in sources.faults()[kind].values()} - UNEXPLAINED,
+        found(r"'(\w+)':? ?", read('playing/texts.py') + read('playing/shared_texts.py')),
+    ),
+    ('members', schema.names(), found(r'`(\w+)`', read('docs/JSON.md'))),
+    ('own lines', OWN, found(r'\w+', ' '.join(found(r'^### (.*)', read('docs/JSON.md'))))),
+    ('members in the manual', [*schema.COMMON, *schema.ANSWERS], found(r'^\.It Li (\w+)', part(read('man/puzzles-json.6'), '.Ss Objects', r'^\.Ss'))),
+]
 
 
-def test_sentences() -> None:
-    """Each refusal has one."""
-    faults = sources.faults()
-    names = {name for kind in REFUSALS for name in faults[kind].values()} - UNEXPLAINED
-    assert not names - set(found(r"'(\w+)':? ?", read('playing/texts.py') + read('playing/shared_texts.py')))
+@pytest.mark.parametrize(('owed', 'told'), named(NAMED))
+def test_named(owed: Iterable[str], told: List[str]) -> None:
+    assert not set(owed) - set(told)
+
+
+def test_own_help(program: str, objects: str, room: Room) -> None:
+    """It has the options and statuses of the plain program, and the lines and members that are its own."""
+    told = []
+    for path in (program, objects):
+        ended = run([path, '--help'], room)
+        assert ended.status == 0
+        told.append(ended.output.decode())
+    plain, own = (dict(zip(KINDS, said('help', text))) for text in told)
+    for kind in ('options', 'statuses'):
+        assert set(own[kind]) == set(plain[kind]) != set(), kind
+    assert not {*OWN, *schema.COMMON} - set(found(r'^  ([a-z]+) ', told[1]))
