@@ -5,7 +5,6 @@
 //! |---|---|
 //! | `load FILE` | what becomes of a save: the refusal's name; or the status, the game ID, and `respelled` where the session is written otherwise |
 //! | `damage FILE` | for each kind of damage how many texts were made of the save, a digest of the answers to them in order, and how often each answer came |
-//! | `each FILE` | the answer to each of these texts, for where a digest isn't the wanted one |
 //! | `square SIZE SEED` | the numbers of a seed's square |
 //! | `towers SIZE SEED`, `unequal SIZE SEED` | the ID of a seed's game |
 //! | `fair GAME SIZE LETTER SEED` | the ID of a seed's fair game, or the refusal's name |
@@ -26,7 +25,7 @@ mod saves;
 mod seeded;
 
 use crate::requests::fair::fair_answer;
-use crate::requests::saves::{Detail, print_damaged, print_loaded};
+use crate::requests::saves::{print_damaged, print_loaded};
 use crate::requests::seeded::seeded_answer;
 use clue_rules::{Game, Towers, Unequal};
 use std::io::Write;
@@ -37,7 +36,7 @@ use std::{fs, io};
 #[derive(Clone, Copy)]
 enum Request {
     Load,
-    Damage(Detail),
+    Damage,
 }
 
 fn answer_save<P: Game>(
@@ -48,7 +47,7 @@ fn answer_save<P: Game>(
     let text = fs::read(rt, name)?;
     match request {
         Request::Load => print_loaded::<P>(rt, name, &text),
-        Request::Damage(detail) => print_damaged::<P>(rt, detail, &text),
+        Request::Damage => print_damaged::<P>(rt, &text),
     }
 }
 
@@ -68,10 +67,9 @@ fn answer_file(
 fn answer(rt: &(impl Files + Print + AllocGlobal), line: &str) -> io::Result<()> {
     match line.split_once(' ') {
         Some(("load", name)) => answer_file(rt, Request::Load, name),
-        Some(("each", name)) => answer_file(rt, Request::Damage(Detail::Each), name),
         Some(("damage", name)) => {
             println!(rt; "{line}")?;
-            answer_file(rt, Request::Damage(Detail::Counts), name)
+            answer_file(rt, Request::Damage, name)
         }
         Some(("fair", words)) => {
             let answer = fair_answer(rt.alloc(), words)?;

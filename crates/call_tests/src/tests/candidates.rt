@@ -27,7 +27,7 @@ fn trail_of_width_3(rt: HostRuntime) {
     let mark = candidates.mark();
     let marked = mark.len();
     candidates.remove(0, 1);
-    candidates.remove(0, 2);
+    candidates.remove_all(0, candidates.values(0).difference(NumberSet::one(3)));
     let removed = told_of_3(&candidates);
     candidates.give_back(mark);
     let given_back = told_of_3(&candidates);
@@ -42,31 +42,6 @@ fn trail_of_width_3(rt: HostRuntime) {
     );
     assert!(rt; marked == 1 && candidates.size() == size);
     assert!(rt; candidates.may(0, 2) && !candidates.may(0, 1));
-}
-
-#[test]
-fn values_struck_together(rt: HostRuntime) {
-    let size = Size::new(3).expect(&rt, "a size");
-    let mut first = Candidates::all(size);
-    first.remove(0, 1);
-    let mut candidates = Candidates::all(size);
-    candidates.remove_all(0, candidates.values(0).difference(NumberSet::one(3)));
-    let struck = told_of_3(&candidates);
-    let is_of_size = candidates.size() == size;
-    // Back to a mark between the two: the lesser one stays struck.
-    let mark = first.mark();
-    assert!(rt; mark.len() <= candidates.trail_len());
-    candidates.give_back(mark);
-    let given_back = told_of_3(&candidates);
-    check(
-        &rt,
-        rt.alloc(),
-        &[
-            Same(struck, (2, 0b1000, Some(3))),
-            Same(given_back, (1, 0b1100, None)),
-        ],
-    );
-    assert!(rt; is_of_size);
 }
 
 const RISING: &str = "3//////3/////";
