@@ -1,7 +1,5 @@
-//! The subjects, from sets and texts up to whole runs; the tables (`rows`); and what tests of both games share (`worked`).
+//! The subjects, and their tables (`rows`).
 
-mod boards;
-mod candidates;
 mod devices;
 mod faults;
 mod games;
@@ -9,11 +7,5 @@ mod narrowing;
 mod rows;
 mod runs;
 mod saving;
-mod sets_of_numbers;
-mod texts;
 mod third_game;
-mod towers_lines;
-mod towers_puzzles;
-mod unequal_puzzles;
 mod words;
-mod worked;
