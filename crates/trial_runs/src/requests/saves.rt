@@ -83,7 +83,12 @@ fn print_kind<P: Game>(
             block.take(&Answer::of::<P>(rt.alloc(), &text)?);
         }
     }
-    print!(rt; "{}; {}; {:016x}", damage.name(), block.texts(), block.digest())?;
+    print!(rt;
+        "{}; {}; {:016x}",
+        damage.name(),
+        block.texts(),
+        block.digest()
+    )?;
     print_counts(rt, block.counts())
 }
 

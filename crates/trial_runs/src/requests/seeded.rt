@@ -87,7 +87,9 @@ pub(crate) fn seeded_answer(alloc: Global, line: &str) -> io::Result<Vec<u8>> {
         Some(("square", size, None, seed)) => square_text(alloc, size, seed),
         Some(("towers", size, None, seed)) => game_text::<Towers>(alloc, size, seed),
         Some(("unequal", size, None, seed)) => game_text::<Unequal>(alloc, size, seed),
-        Some(("towers", size, Some(letter), seed)) => fair_text::<Towers>(alloc, size, letter, seed),
+        Some(("towers", size, Some(letter), seed)) => fair_text::<Towers>(
+            alloc, size, letter, seed,
+        ),
         Some(("unequal", size, Some(letter), seed)) => {
             fair_text::<Unequal>(alloc, size, letter, seed)
         }

@@ -195,7 +195,11 @@ fn write_all(sink: &mut impl Sink, bytes: &[u8]) -> Result<(), DeviceFault> {
 }
 
 // Reads pieces until none comes, at most so many, and writes each.
-fn copy_all(source: &mut impl Source, sink: &mut impl Sink, most: usize) -> Result<(), DeviceFault> {
+fn copy_all(
+    source: &mut impl Source,
+    sink: &mut impl Sink,
+    most: usize,
+) -> Result<(), DeviceFault> {
     let mut buffer = [0u8; 4_999];
     for _ in 0..most {
         let count = source.read(&mut buffer)?;
