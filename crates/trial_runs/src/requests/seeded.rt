@@ -83,16 +83,15 @@ fn read_line(line: &str) -> Option<(&str, Size, Option<u8>, u64)> {
 
 /// The answer to a line: a square's numbers in reading order, or a game's ID; a question mark where nothing is asked.
 pub(crate) fn seeded_answer(alloc: Global, line: &str) -> io::Result<Vec<u8>> {
-    match read_line(line) {
-        Some(("square", size, None, seed)) => square_text(alloc, size, seed),
-        Some(("towers", size, None, seed)) => game_text::<Towers>(alloc, size, seed),
-        Some(("unequal", size, None, seed)) => game_text::<Unequal>(alloc, size, seed),
-        Some(("towers", size, Some(letter), seed)) => fair_text::<Towers>(
-            alloc, size, letter, seed,
-        ),
-        Some(("unequal", size, Some(letter), seed)) => {
-            fair_text::<Unequal>(alloc, size, letter, seed)
-        }
+    let Some((kind, size, letter, seed)) = read_line(line) else {
+        return Ok(b"?".to_vec(alloc)?);
+    };
+    match (kind, letter) {
+        ("square", None) => square_text(alloc, size, seed),
+        ("towers", None) => game_text::<Towers>(alloc, size, seed),
+        ("unequal", None) => game_text::<Unequal>(alloc, size, seed),
+        ("towers", Some(letter)) => fair_text::<Towers>(alloc, size, letter, seed),
+        ("unequal", Some(letter)) => fair_text::<Unequal>(alloc, size, letter, seed),
         _ => Ok(b"?".to_vec(alloc)?),
     }
 }
