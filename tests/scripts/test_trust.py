@@ -1,5 +1,7 @@
-"""What a list has of a function's contract, and that a word that nothing declares is a failure. That the lists of the promises lack nothing, docs/TRUST.md shows by
-their lines, which the gate counts again (tests/texts)."""
+"""What a list has of a function's contract, and that a word that nothing declares is a failure.
+
+That the lists of the promises lack nothing is shown by their lines in docs/TRUST.md, which the gate counts again (tests/texts).
+"""
 
 from typing import NamedTuple
 
