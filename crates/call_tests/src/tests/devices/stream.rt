@@ -203,7 +203,9 @@ fn copy_all(
     let mut buffer = [0u8; 4_999];
     for _ in 0..most {
         let count = source.read(&mut buffer)?;
-        write_all(sink, &buffer[..count])?;
+        if let Some(piece) = buffer.get(..count) {
+            write_all(sink, piece)?;
+        }
     }
     Ok(())
 }
