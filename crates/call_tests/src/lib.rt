@@ -1,5 +1,4 @@
-//! Tests of the lower crates, where no clause says all: devices, printed texts, and calls that may find memory refused, in games that no program plays.
-//! Files are named for what they call.
+//! Tests of the lower crates: each public call with ample memory, at worked values. Files are named for what they call.
 //!
 //! They stand apart from the crates, since a crate that has tests is proved twice: once by itself, and once with them.
 #![tactic(auto)]

@@ -9,18 +9,6 @@ use puzzle_cli::{CommandFault, End, LineFault, StartFault};
 use puzzle_gen::GenFault;
 use std::alloc::Global;
 
-fn is_said(alloc: Global) -> bool {
-    match OutOfMemory.to_string(alloc) {
-        Ok(text) => text.as_str() == "out of memory",
-        Err(_) => false,
-    }
-}
-
-#[test]
-fn a_fault_is_said(rt: HostRuntime) {
-    assert!(rt; is_said(rt.alloc()));
-}
-
 // What a fault answers of its number and its name, and what is wanted.
 #[derive(Clone, Copy)]
 struct Named(u8, &'static str, u8, &'static str);

@@ -1,14 +1,8 @@
 //! Narrowing and solving, in both games, at worked puzzles.
 
-use clue_rules::{Game, IdFault, Towers, Unequal};
-use latin_board::Size;
+use super::worked::puzzle;
+use clue_rules::{Game, Towers, Unequal};
 use trail_solver::{Answer, Candidates, Rules, solve};
-
-// The puzzle of a width that a text describes.
-fn puzzle<P: Game>(width: u8, text: &str) -> Result<P, IdFault> {
-    let size = Size::new(width).ok_or(IdFault::BadSize)?;
-    P::read_desc(size, text.as_bytes())
-}
 
 // All candidates, narrowed so many times, or none where narrowing refutes the puzzle.
 fn narrowed<P: Rules>(puzzle: &P, times: usize) -> Option<Candidates> {

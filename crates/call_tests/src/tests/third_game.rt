@@ -6,13 +6,13 @@ mod runs;
 
 use crate::tests::third_game::calls::{
     answered, begun, begun_by_words, changed, compared, copied, described, facts, first_record,
-    generated, id_read, kept, listed, made, moved, nothing_said, params_written, reloaded, rounded,
-    saved, solved,
+    generated, id_read, kept, listed, made, moved, nothing_said, params_written, reloaded, saved,
+    solved,
 };
 use crate::tests::third_game::runs::{ran, ran_in_memory, ran_over_std};
 use client::Latin;
 use clue_rules::Game;
-use play_midend::{Session, laws, move_list_laws};
+use play_midend::Session;
 use puzzle_cli::{done_text, marks_text, picture, status_text};
 use std::alloc::Global;
 
@@ -59,8 +59,6 @@ enum Call {
     Save,
     /// `save`, and `load` of that, which takes the place of the session.
     Reload,
-    /// `saved_and_loaded`, which takes the place of the session.
-    Round,
     /// `next_record`.
     Record(&'static str),
     /// `solutions`, of which all are listed.
@@ -89,7 +87,6 @@ fn answer(alloc: Global, session: &mut Session<Latin>, call: Call) -> Said<Vec<u
         Call::Words(words) => *session = begun_by_words(alloc, words)?,
         Call::Keep(seed) => *session = kept(alloc, session, seed)?,
         Call::Reload => *session = reloaded(alloc, session)?,
-        Call::Round => *session = rounded(alloc, session)?,
         Call::Undo => return nothing_said(alloc, session.undo()),
         Call::Redo => return nothing_said(alloc, session.redo()),
         Call::Restart => return nothing_said(alloc, session.restart()),
@@ -213,7 +210,6 @@ const STEPS: &[Step] = &[
     Step(Call::Keep("12"), Ok("")),
     Step(Call::Move("R1,1,3"), Ok("R1,1,3")),
     Step(Call::Reload, Ok("")),
-    Step(Call::Round, Ok("")),
     Step(Call::Save, Ok(SAVED)),
     Step(Call::Facts, Ok("Latin|en|3dn|3dn|12|")),
     Step(
@@ -268,8 +264,6 @@ MOVE    :6:R1,1,3
 
 #[test]
 fn a_session_of_the_third_game(rt: HostRuntime) {
-    laws::<Latin>();
-    move_list_laws::<Latin>();
     let mut session = begun(rt.alloc(), "3:000000000").expect(&rt, "a session");
     let mut place = 0usize;
     for step in STEPS {

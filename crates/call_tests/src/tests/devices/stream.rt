@@ -59,6 +59,21 @@ fn reads_from_memory(rt: HostRuntime) {
     assert!(rt; source.read(&mut buffer) == Ok(0));
 }
 
+fn writes_to_memory(alloc: Global) -> bool {
+    let mut written = Vec::new(alloc);
+    let mut sink = ToWrite::new(&mut written);
+    let is_taken = sink.write(b"abc") == Ok(3)
+        && sink.flush() == Ok(())
+        && sink.write(b"") == Ok(0)
+        && sink.write(b"de") == Ok(2);
+    is_taken && written.as_slice() == b"abcde".as_slice()
+}
+
+#[test]
+fn a_vector_takes_all(rt: HostRuntime) {
+    assert!(rt; writes_to_memory(rt.alloc()));
+}
+
 #[test]
 fn takes_no_more_than_room_at_a_full_slice(rt: HostRuntime) {
     let mut room = [0u8; 3];
@@ -194,44 +209,99 @@ fn write_all(sink: &mut impl Sink, bytes: &[u8]) -> Result<(), DeviceFault> {
     sink.flush()
 }
 
-// Reads pieces until none comes, at most so many, and writes each.
-fn copy_all(
-    source: &mut impl Source,
-    sink: &mut impl Sink,
-    most: usize,
-) -> Result<(), DeviceFault> {
-    let mut buffer = [0u8; 4_999];
-    for _ in 0..most {
-        let count = source.read(&mut buffer)?;
-        if let Some(piece) = buffer.get(..count) {
-            write_all(sink, piece)?;
-        }
-    }
-    Ok(())
-}
-
-// The pieces in which 20,000 bytes come in order, without any failure.
+// The pieces in which 5,000 bytes come in order.
 struct InOrder(usize);
 
 impl Row for InOrder {
     fn holds(&self, alloc: Global) -> bool {
-        let Ok(bytes) = many_bytes(alloc, 20_000) else {
+        let Ok(bytes) = many_bytes(alloc, 5_000) else {
             return false;
         };
-        let mut reader = bytes.as_slice();
         let mut taken = Vec::new(alloc);
-        let mut source = FromRead::new(&mut reader);
         let mut sink = ToWrite::new(Pieces {
             taken: &mut taken,
             piece: self.0,
         });
-        let is_copied = copy_all(&mut source, &mut sink, 6).is_ok();
-        is_copied && taken.as_slice() == bytes.as_slice()
+        let is_written = write_all(&mut sink, bytes.as_slice()).is_ok();
+        is_written && taken.as_slice() == bytes.as_slice()
     }
 }
 
 #[test]
-fn all_bytes_come_in_order(rt: HostRuntime) {
-    const ROWS: &[InOrder] = &[InOrder(1), InOrder(4_096), InOrder(20_000)];
+fn more_bytes_than_a_buffer_come_in_order(rt: HostRuntime) {
+    const ROWS: &[InOrder] = &[
+        InOrder(1),
+        InOrder(7),
+        InOrder(1_024),
+        InOrder(4_096),
+        InOrder(4_999),
+        InOrder(5_000),
+        InOrder(10_000),
+    ];
+    check(&rt, rt.alloc(), ROWS);
+}
+
+// How many bytes std answers at most, and never an error.
+struct Unfailing(usize);
+
+fn reads_and_writes(
+    source: &mut impl Source,
+    sink: &mut impl Sink,
+    buffer: &mut [u8],
+    most: usize,
+) -> bool {
+    let wanted = Ok(most.min(buffer.len()));
+    source.read(buffer) == wanted && sink.write(buffer) == wanted && sink.flush() == Ok(())
+}
+
+// 3,000 reads, writes and flushes, of 0 to 5,000 bytes.
+fn never_fail(source: &mut impl Source, sink: &mut impl Sink, most: usize) -> bool {
+    let mut buffer = [0u8; 5_000];
+    for i in 0..3_000usize {
+        let length = match i % 4 {
+            0 => 0,
+            1 => 1,
+            2 => 5,
+            _ => 5_000,
+        };
+        if !reads_and_writes(source, sink, &mut buffer[..length], most) {
+            return false;
+        }
+    }
+    true
+}
+
+fn answers_of(alloc: Global, most: usize) -> Result<Vec<Option<usize>>, AllocError> {
+    vec![in alloc; Some(most); 6_000]
+}
+
+impl Row for Unfailing {
+    fn holds(&self, alloc: Global) -> bool {
+        let Ok(answers) = answers_of(alloc, self.0) else {
+            return false;
+        };
+        let mut source = FromRead::new(Scripted {
+            answers: answers.as_slice(),
+            error: ErrorKind::Other,
+            calls: 0,
+        });
+        let mut sink = ToWrite::new(Scripted {
+            answers: answers.as_slice(),
+            error: ErrorKind::Other,
+            calls: 0,
+        });
+        never_fail(&mut source, &mut sink, self.0)
+    }
+}
+
+// However many calls there were, and however long they are: where std answers each by a success, so does the device.
+#[test]
+fn a_device_fails_by_itself_never(rt: HostRuntime) {
+    const ROWS: &[Unfailing] = &[
+        Unfailing(1),
+        Unfailing(3),
+        Unfailing(4_096),
+        Unfailing(10_000),
+    ];
     check(&rt, rt.alloc(), ROWS);
 }

@@ -52,6 +52,11 @@ fn an_input_without_end_is_a_fault(rt: HostRuntime) {
 }
 
 #[test]
+fn the_last_byte_that_is_read_is_a_fault(rt: HostRuntime) {
+    assert!(rt; is_answered(rt.alloc(), MOST, End::ReadFault, b"", MOST));
+}
+
+#[test]
 fn one_byte_less_finishes(rt: HostRuntime) {
     let letters = MOST - 1;
     assert!(rt;

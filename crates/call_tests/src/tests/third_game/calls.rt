@@ -5,7 +5,7 @@ use client::Latin;
 use clue_rules::{Game, GameId, Params, read_id};
 use latin_board::{Grid, Size};
 use play_midend::{Extras, Move, PlayFault, Session, change_of, read_move, write_move};
-use play_save::{load, next_record, save, saved_and_loaded};
+use play_save::{load, next_record, save};
 use puzzle_cli::{Draw, begin, read_words};
 use puzzle_gen::{generate, square};
 use std::alloc::Global;
@@ -95,13 +95,6 @@ pub(crate) fn saved(alloc: Global, session: &Session<Latin>) -> Said<Vec<u8>> {
 pub(crate) fn reloaded(alloc: Global, session: &Session<Latin>) -> Said<Session<Latin>> {
     let text = saved(alloc, session)?;
     match load::<Latin>(alloc, &text) {
-        Ok(session) => Ok(session),
-        Err(fault) => Err(fault.name()),
-    }
-}
-
-pub(crate) fn rounded(alloc: Global, session: &Session<Latin>) -> Said<Session<Latin>> {
-    match saved_and_loaded(alloc, session) {
         Ok(session) => Ok(session),
         Err(fault) => Err(fault.name()),
     }
