@@ -134,8 +134,7 @@ test-bodies:
 	@RT='$(RT)' tools/test_bodies $(CRATES)
 
 test-faults:
-	@cd crates/trial_runs && '$(RT)' run -- calls < /dev/null > /dev/null
-	@$(TESTS) --calls=crates/trial_runs/out/trial_runs tests/faults
+	@$(TESTS) tests/faults
 
 trust:
 	@tools/trust $(PROMISE)

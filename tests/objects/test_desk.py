@@ -15,10 +15,11 @@ from tests.harness import Room, run
 from tests.objects.boards import puzzle_of
 from tests.objects.reading import Object, read_answers
 from tests.objects.solutions import expect_solutions
-from tests.second_implementation.desk import MOST_PERMUTED, begun, blank, count, puzzle_after, spare
+from tests.second_implementation.desk import begun, blank, puzzle_after, spare
 from tests.second_implementation.grades import LETTERS
 from tests.second_implementation.puzzles import Puzzle
 from tests.second_implementation.seeded import full_puzzle, square
+from tests.second_implementation.solving import solution_count
 from tests.second_implementation.towers import TowersPuzzle
 from tests.second_implementation.unequal import UnequalPuzzle
 from tests.second_implementation.words import Refused
@@ -30,7 +31,7 @@ EACH = 5
 
 #: Of this size on grades are asked of fewer puzzles, and of a larger one on most squares are given, so that the second implementation has the
 #: solutions soon.
-LARGE, DENSE = 6, MOST_PERMUTED + 1
+LARGE, DENSE = 6, 8
 
 #: Lines that begin as these do, and are no commands.
 OTHER = [
@@ -190,7 +191,7 @@ def expect_desk(game: str, lines: List[str], found: List[Object]) -> None:
             assert answer['spare'] == spare(game, puzzle, line[6:].encode()), id_of(puzzle)
         if line == 'solutions':
             expect_solutions(puzzle, numbers, answer['solutions'])
-            assert len(answer['solutions']) == count(replace(puzzle, givens=numbers)), id_of(puzzle)
+            assert len(answer['solutions']) == solution_count(replace(puzzle, givens=numbers)), id_of(puzzle)
 
 
 @pytest.mark.parametrize('game', LETTERS)

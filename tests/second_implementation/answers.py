@@ -38,8 +38,6 @@ def answers(request: str, data: Path) -> Iterator[str]:
     elif task == 'damage':
         yield request
         yield from damaged(argument, data)
-    elif task == 'each':
-        yield from each_damaged(argument, data)
     elif task == 'fair':
         yield f'{request} {fair_game(argument)}'
     else:
@@ -48,7 +46,7 @@ def answers(request: str, data: Path) -> Iterator[str]:
 
 
 def lines_of(request: str) -> int:
-    """How many lines answer a line of the input, but one that asks for each damaged text."""
+    """How many lines answer a line of the input."""
     return 1 + len(KINDS) if request.startswith('damage ') else 1
 
 
@@ -92,16 +90,6 @@ def damaged(name: str, data: Path) -> Iterator[str]:
             came[found] = came.get(found, 0) + 1
         counts = ''.join(f'; {found} {came[found]}' for found in NAMES if found in came)
         yield f'{kind}; {sum(came.values())}; {digest:016x}{counts}'
-
-
-def each_damaged(name: str, data: Path) -> Iterator[str]:
-    """The answer to each damaged text, by its kind and number. Of a session that loads it tells the digest."""
-    game, text = save_file(name, data)
-    for kind, texts_of in KINDS.items():
-        for at, damaged_text in enumerate(texts_of(text)):
-            found, in_full = answer(game, damaged_text)
-            digest = digest_onto(FNV_START, in_full)
-            yield f'{kind} {at}; {found}; {digest:016x}'
 
 
 def seeded(task: str, size: int, seed: int) -> str:

@@ -4,11 +4,10 @@ from __future__ import annotations
 
 import re
 from dataclasses import replace
-from itertools import islice
-from typing import Any, Callable, Dict, Iterator, List, NamedTuple, Optional, Tuple
+from typing import Any, Callable, Dict, List, NamedTuple, Optional, Tuple
 
 from tests.second_implementation.grades import LETTERS, follows
-from tests.second_implementation.puzzles import Numbers, Puzzle
+from tests.second_implementation.puzzles import Puzzle
 from tests.second_implementation.seeded import without_item
 from tests.second_implementation.solving import solution_count
 from tests.second_implementation.towers import TowersPuzzle, edge_place
@@ -19,9 +18,6 @@ from tests.second_implementation.words import Refused, number
 COORDINATE, SAID = rb'(-1|\d|[1-9]\d|1[01]\d|12[0-7])', rb'(\d|[1-9]\d|1\d\d|2[0-4]\d|25[0-5])'
 PLACE = re.compile(b'item %s,%s,%s' % (COORDINATE, COORDINATE, SAID))
 SIGN = re.compile(b'item %s,%s,%s,%s,%s' % (COORDINATE, COORDINATE, COORDINATE, COORDINATE, SAID))
-
-#: Up to this size a line has few enough permutations.
-MOST_PERMUTED = 7
 
 Object = Dict[str, Any]
 
@@ -93,58 +89,6 @@ def with_sign(puzzle: Puzzle, first: Optional[int], second: Optional[int], n: in
     return replace(puzzle, signs=puzzle.signs - {(first, second), (second, first)} | ({(first, second)} if n else frozenset()))
 
 
-def solutions(puzzle: Puzzle, numbers: Numbers) -> Iterator[Numbers]:
-    """The solutions that keep some numbers, square by square: the next square is always one of those for which the fewest numbers are left."""
-    size = puzzle.size
-    open_cells = [cell for cell, n in enumerate(numbers) if not n]
-    if not open_cells:
-        if puzzle.solved_by(numbers):
-            yield numbers
-        return
-    left = {cell: [n for n in range(1, size + 1) if may_be(puzzle, numbers, cell, n)] for cell in open_cells}
-    cell = min(open_cells, key=lambda cell: len(left[cell]))
-    for n in left[cell]:
-        yield from solutions(puzzle, put(numbers, cell, n))
-
-
-def may_be(puzzle: Puzzle, numbers: Numbers, cell: int, n: int) -> bool:
-    """Whether a number in an empty square breaks no row or column, no given, and no sign or clue whose squares are filled then."""
-    size = puzzle.size
-    x, y = cell % size, cell // size
-    if puzzle.givens[cell] not in (0, n) or any(n in (numbers[y * size + at], numbers[at * size + x]) for at in range(size)):
-        return False
-    if isinstance(puzzle, UnequalPuzzle):
-        return all(
-            (numbers[less] or 1) < n if greater == cell else n < (numbers[greater] or size)
-            for greater, less in puzzle.signs if cell in (greater, less)
-        )
-    tried = put(numbers, cell, n)
-    return all(keeps_line(puzzle, tried, line) for line in (range(y * size, y * size + size), range(x, size * size, size)))
-
-
-def keeps_line(puzzle: Puzzle, numbers: Numbers, line: range) -> bool:
-    """Whether a full line shows what its clues say."""
-    heights = [numbers[cell] for cell in line]
-    if not isinstance(puzzle, TowersPuzzle) or 0 in heights:
-        return True
-    size = puzzle.size
-    front, end = (2 * size + line[0] // size, 3 * size + line[0] // size) if line.step == 1 else (line[0], size + line[0])
-    return all(puzzle.clues[place] in (0, shown) for place, shown in ((front, towers(heights)), (end, towers(heights[::-1]))))
-
-
-def towers(heights: List[int]) -> int:
-    return sum(height > max(heights[:at], default=0) for at, height in enumerate(heights))
-
-
-def count(puzzle: Puzzle) -> int:
-    """How many solutions there are; 2 stands for more, too. Puzzles of large sizes have few empty squares."""
-    if puzzle.size <= MOST_PERMUTED:
-        return solution_count(puzzle)
-    numbers = puzzle.givens
-    fit = all(may_be(puzzle, put(numbers, cell, 0), cell, n) for cell, n in enumerate(numbers) if n)
-    return len(list(islice(solutions(puzzle, numbers), 2))) if fit else 0
-
-
 def items(puzzle: Puzzle) -> List[int]:
     """The numbers of the items that a puzzle has, as `without_item` counts them."""
     if isinstance(puzzle, TowersPuzzle):
@@ -166,7 +110,7 @@ def test_of(game: str, puzzle: Puzzle, word: bytes) -> Optional[Test]:
             raise Refused('BadLetter')
         grade = LETTERS[game][letter]
         return lambda less: follows(less, grade)
-    return [lambda less: count(less) > 0, lambda less: count(less) == 1, None][count(puzzle)]
+    return [lambda less: solution_count(less) > 0, lambda less: solution_count(less) == 1, None][solution_count(puzzle)]
 
 
 def spare(game: str, puzzle: Puzzle, word: bytes) -> Object:

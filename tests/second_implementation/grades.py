@@ -6,8 +6,7 @@ from functools import lru_cache
 from itertools import combinations
 from typing import Dict, FrozenSet, Iterable, Iterator, List, Optional
 
-from tests.second_implementation.puzzles import Numbers, Puzzle
-from tests.second_implementation.solving import cells_of
+from tests.second_implementation.puzzles import Numbers, Puzzle, cells_of
 from tests.second_implementation.steps import NONE, Left, Reason, each, in_view, struck
 from tests.second_implementation.towers import TowersPuzzle
 from tests.second_implementation.unequal import UnequalPuzzle

@@ -1,6 +1,7 @@
 """What both games have in common: squares, and the rule of a Latin square (docs/RULES.md, sections 1 and 4)."""
 
 from dataclasses import dataclass
+from functools import lru_cache
 from typing import List, Sequence, Tuple
 
 #: The numbers of a grid in reading order, 0 for none.
@@ -41,6 +42,12 @@ def row(size: int, numbers: Sequence[int], y: int) -> List[int]:
 
 def column(size: int, numbers: Sequence[int], x: int) -> List[int]:
     return [numbers[y * size + x] for y in range(size)]
+
+
+@lru_cache(maxsize=None)
+def cells_of(size: int, line: int) -> Sequence[int]:
+    """The cells of a line: the rows come first, then the columns."""
+    return [line * size + at if line < size else at * size + line - size for at in range(size)]
 
 
 def is_latin(size: int, numbers: Sequence[int]) -> bool:

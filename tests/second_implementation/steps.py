@@ -5,8 +5,7 @@ from __future__ import annotations
 from functools import lru_cache
 from typing import Dict, FrozenSet, NamedTuple, Optional, Sequence, Tuple
 
-from tests.second_implementation.puzzles import Numbers, Puzzle
-from tests.second_implementation.solving import cells_of
+from tests.second_implementation.puzzles import Numbers, Puzzle, cells_of
 from tests.second_implementation.towers import TowersPuzzle, counts_in_fillings, edge_line, in_fillings
 from tests.second_implementation.unequal import Sign, UnequalPuzzle
 

@@ -12,8 +12,8 @@ from tests.texts import sources
 from tests.texts.parts import ROOT, documents, found, items, part, read, without_samples
 from trusting.page import PARTS, all_listed, listed, outdated
 
-#: Words in backquotes of the language and its library, and of what `rt plant` and `puzzles-play` print.
-OTHER_WORDS = {'mod', 'Vec', 'Unit', 'flat_map', 'proves', 'unknown'}
+#: Words in backquotes of the language and its library, of the system, and of what `rt plant` and `puzzles-play` print.
+OTHER_WORDS = {'make', 'mod', 'Vec', 'Unit', 'flat_map', 'proves', 'unknown'}
 
 #: A path with a place for any name, or of what is made.
 NOT_THERE = r'NAME|^build/|^out/'

@@ -7,7 +7,7 @@ from typing import Dict, Iterable, List, NamedTuple, Optional, Sequence
 
 from bodies.edits import Edit
 from bodies.kept import Kept
-from bodies.trial import Answer, Trial, halves
+from bodies.trial import Answer, Trial
 
 
 class Kind(Enum):
@@ -38,23 +38,21 @@ class Verdict(NamedTuple):
 
 
 def verdicts(trial: Trial, bodies: Sequence[Edit]) -> Dict[str, Verdict]:
-    """What comes of each, all in one check. One that this check leaves in doubt is tried again with fewer others, and at last alone."""
-    if not bodies:
-        return {}
+    """What comes of each, all in one check. One that this check leaves in doubt is tried again alone."""
     answer = trial.check(bodies)
-    if len(bodies) == 1:
-        return {bodies[0].name: alone(trial, bodies[0], answer)}
-    shown = {body.name: at_goal(trial, body, answer) for body in bodies} if answer.is_refused else {}
-    found = {name: verdict for name, verdict in shown.items() if verdict.is_good}
-    doubtful = [body for body in bodies if body.name not in found]
-    parts: Sequence[Sequence[Edit]] = [doubtful] if found else halves(doubtful)
-    for part in parts:
-        found.update(verdicts(trial, part))
+    found = {body.name: verdict(trial, body, answer) for body in bodies}
+    for body in bodies if len(bodies) > 1 else ():
+        if not found[body.name].is_good:
+            found[body.name] = verdict(trial, body, trial.check([body]))
     return found
 
 
-def at_goal(trial: Trial, body: Edit, answer: Answer) -> Verdict:
-    """Whether a goal is open in the function that it makes wrong, the one with values before all."""
+def verdict(trial: Trial, body: Edit, answer: Answer) -> Verdict:
+    """What a check says of a wrong body: whether a goal is open in the function that it makes wrong, the one with values before all."""
+    if answer.is_proved:
+        return Verdict(Kind.NOT, 'what it stands in is proved with it')
+    if not answer.is_refused:
+        return Verdict(Kind.NOT, f'the check stopped before its end: {answer.why}')
     goals = [goal for goal in trial.own(body, answer.goals) if goal.is_open]
     for kind, some in ((Kind.VALUES, [goal for goal in goals if goal.has_values]), (Kind.GOAL, goals)):
         if some:
@@ -62,39 +60,15 @@ def at_goal(trial: Trial, body: Edit, answer: Answer) -> Verdict:
     return Verdict(Kind.ELSEWHERE, answer.why)
 
 
-def alone(trial: Trial, body: Edit, answer: Answer) -> Verdict:
-    """What a check of nothing but this body says of it."""
-    if answer.is_proved:
-        return Verdict(Kind.NOT, 'what it stands in is proved with it')
-    if not answer.is_refused:
-        return Verdict(Kind.NOT, f'the check stopped before its end: {answer.why}')
-    return at_goal(trial, body, answer)
-
-
 def refused_twins(trial: Trial, twins: Sequence[Edit]) -> Dict[str, str]:
-    """The twins that aren't proved, each with what the prover said of it."""
-    if not twins:
-        return {}
+    """The twins that aren't proved, each with what the prover said of it. Where they aren't all together, each is tried alone."""
     answer = trial.check(twins)
     if answer.is_proved:
         return {}
-    found = blamed(trial, twins, answer)
-    if found:
-        found.update(refused_twins(trial, [twin for twin in twins if twin.name not in found]))
-        return found
-    for part in halves(twins):
-        found.update(refused_twins(trial, part))
-    if not found:
-        found.update((twin.name, f'each part of these twins is proved, but not all together: {answer.why}') for twin in twins)
-    return found
-
-
-def blamed(trial: Trial, twins: Sequence[Edit], answer: Answer) -> Dict[str, str]:
-    """The twins in whose functions something is wrong, each with that; of one twin alone all is its own."""
     if len(twins) == 1:
         return {twins[0].name: answer.why}
-    told = {twin.name: trial.own(twin, answer.goals) for twin in twins}
-    return {name: str(goals[0]) for name, goals in told.items() if goals}
+    alone = {name: why for twin in twins for name, why in refused_twins(trial, [twin]).items()}
+    return alone or {twin.name: f'each of these twins is proved, but not all together: {answer.why}' for twin in twins}
 
 
 class Outcome(NamedTuple):
@@ -143,8 +117,8 @@ def name_of_twin(edit: Edit) -> str:
     return f'{edit.name}, the twin'
 
 
-def as_verdict(words: Optional[List[str]]) -> Optional[Verdict]:
+def as_verdict(words: List[str]) -> Optional[Verdict]:
     """A verdict that was kept; only good ones are."""
-    if words and len(words) == 2 and words[0] in [kind.name for kind in GOOD]:
+    if len(words) == 2 and words[0] in [kind.name for kind in GOOD]:
         return Verdict(Kind[words[0]], words[1])
     return None

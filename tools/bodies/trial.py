@@ -140,8 +140,3 @@ class Trial:
             found.append(taken)
             left = [edit for edit in left if edit not in taken]
         return found
-
-
-def halves(edits: Sequence[Edit]) -> List[Sequence[Edit]]:
-    middle = len(edits) // 2
-    return [edits[:middle], edits[middle:]]

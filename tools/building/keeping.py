@@ -10,6 +10,7 @@ from building.kit import command, kit_of
 from building.listing import sum_of
 from building.record import AMD, ARM, BUILT, LINKS, NAMES, Programs, sum_of_sources
 from building.run import make
+from gating.counts import compared
 from web_build.scripts import Unfit
 
 #: What is to be done where the programs in the tree aren't those of the sources.
@@ -44,7 +45,7 @@ def store() -> int:
 def compare(built: str) -> int:
     """Compares a program that was built from nothing with that in the tree. Gives the status to end with."""
     rt = command()
-    return compared(AMD, 'kit', kit_of(rt) if rt else 'none', lambda: built)
+    return as_in_tree(AMD, 'kit', kit_of(rt) if rt else 'none', lambda: built)
 
 
 def compare_arm() -> int:
@@ -52,26 +53,21 @@ def compare_arm() -> int:
     from arm_build.program import build, makers
 
     try:
-        return compared(ARM, 'arm makers', makers(), build)
+        return as_in_tree(ARM, 'arm makers', makers(), build)
     except Unfit as unfit:
-        return compared(ARM, 'arm makers', str(unfit), build)
+        return as_in_tree(ARM, 'arm makers', str(unfit), build)
 
 
-def compared(tree: Programs, makers: str, here: str, build: Callable[[], str]) -> int:
+def as_in_tree(tree: Programs, makers: str, here: str, build: Callable[[], str]) -> int:
     """Says how many cases have passed, which are the record, the program and its other names, and gives the status to end with."""
     fault = tree.fault(sum_of_sources())
     faults = [f'{fault}: {ADVICE}'] if fault else []
-    passed = 0 if fault else 1
     if tree.text() and tree.fact(makers) != here:
         print(f"the programs in {tree.folder} were built by '{tree.fact(makers)}', and the kit here is '{here}': so nothing is compared")
-    else:
-        unlike = [*difference(tree, build), *others(tree)]
-        passed += len(NAMES) - len(unlike)
-        faults += unlike
-    for text in faults:
-        print(f'FAILED: {text}')
-    print(f'{passed} passed, {len(faults)} failed')
-    return 1 if faults else 0
+        return compared(1, faults)
+    sums = tree.sums()
+    others = (f'{tree.folder}/{name} is not {program}: {ADVICE}' for name, program in LINKS.items() if sums.get(name) != sums.get(program))
+    return compared(1 + len(NAMES), [*faults, *difference(tree, build), *others])
 
 
 def difference(tree: Programs, build: Callable[[], str]) -> Iterator[str]:
@@ -85,10 +81,3 @@ def difference(tree: Programs, build: Callable[[], str]) -> Iterator[str]:
         yield f'{error.filename}: {error.strerror}: {ADVICE}'
     except Unfit as unfit:
         yield f'{tree.folder}: {unfit}'
-
-
-def others(tree: Programs) -> Iterator[str]:
-    """The other names of the program in the tree that are not the same bytes."""
-    for name, program in LINKS.items():
-        if tree.sums().get(name) != tree.sums().get(program):
-            yield f'{tree.folder}/{name} is not {program}: {ADVICE}'

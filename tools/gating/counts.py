@@ -4,7 +4,7 @@ from __future__ import annotations
 
 import os
 import re
-from typing import NamedTuple, Tuple
+from typing import NamedTuple, Sequence, Tuple
 
 #: The variable by which a skip is a failure, 1, or isn't, 0.
 SKIPS_FAIL = 'SKIPS_FAIL'
@@ -41,6 +41,14 @@ class Tally:
     def skip(self, name: str, reason: str) -> None:
         self.counts = self.counts.plus(Counts(skipped=1))
         print(f'skipped: {name}: {reason}', flush=True)
+
+
+def compared(cases: int, faults: Sequence[str]) -> int:
+    """Says what differs of so many cases, and how many are as they have to be. Gives the status to end with."""
+    for text in faults:
+        print(f'FAILED: {text}')
+    print(f'{cases - len(faults)} passed, {len(faults)} failed')
+    return 1 if faults else 0
 
 
 def skips_fail(by_itself: bool = True) -> bool:

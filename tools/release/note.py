@@ -9,10 +9,7 @@ from typing import Dict, List, NamedTuple, Optional
 from building.ready import NotReady, ready
 from building.record import BUILT, NAMES, Programs, sum_of_sources
 from release.places import TOP, version
-
-
-class Unfit(Exception):
-    """What is there can't be packed or installed. The text says why."""
+from web_build.scripts import Unfit
 
 
 class Ready(NamedTuple):

@@ -14,13 +14,9 @@ from trusting.definitions import ROOT, Part
 from trusting.kit import Kit, folder, lines_of
 from trusting.names import Source
 from trusting.parts import called, parts
-from trusting.promises import PROMISES, Promise, functions_of, promise
+from trusting.promises import ON_PAGE, PAGE, PROMISES, Promise, functions_of, promise
 
-PAGE = ROOT / 'docs' / 'TRUST.md'
 README = ROOT / 'README.md'
-
-#: What the script makes stands between these lines of the page.
-BEGIN, END = '<!-- from here on made by tools/trust -->', '<!-- made by tools/trust up to here -->'
 
 #: The width of the page.
 COLUMNS = 110
@@ -28,9 +24,6 @@ COLUMNS = 110
 #: Where README tells a number: that of this promise.
 COUNT = re.compile(r'\*\*[\d,]+ lines\*\*')
 TOLD = ('solve', 'program')
-
-#: Where the page tells how many lines of the kit stand behind a list.
-OF_KIT = re.compile(r'^- \*\*(\w+)\*\*, [\d,]+ lines and ([\d,]+) of\s+the kit:', re.MULTILINE)
 
 #: What is read of the parts that no sentence of README speaks of.
 PARTS = 'parts'
@@ -104,46 +97,24 @@ def all_listed() -> Dict[str, Listed]:
     return {one.name: listed(one.name, rust) for one in PROMISES}
 
 
-def items(made: Dict[str, Listed], page: str) -> Iterator[str]:
-    """The list of the page: each promise with its lines, its contracts, and the word that prints its list. Without a kit its lines are those of the page."""
-    counted = dict(OF_KIT.findall(page))
-    for one in PROMISES:
-        said = f'See {contracts(one)}.' if one.contracts else f'See {", ".join(one.made_of)}.'
-        behind = made[one.name].of_kit()
-        beside = f'{lines_of(behind):,}' if behind is not None else counted.get(one.name, '0')
-        yield from wrapped(f'**{one.name}**, {made[one.name].lines:,} lines and {beside} of the kit: {one.sentence}. {said}')
-
-
-def contracts(promise: Promise) -> str:
-    """The contracts of a promise: the functions of each crate, with a link to the file, and the clauses that say it where not all do."""
-    return '; '.join(f'{", ".join(map(told, names))} of [{where.split("/")[0]}](../crates/{where})' for where, names in promise.contracts)
-
-
-def told(words: str) -> str:
-    name, _, clauses = words.partition(': ')
-    return f'`{name}`' + (f' ({", ".join(f"`{clause}`" for clause in clauses.split())})' if clauses else '')
-
-
-def wrapped(text: str) -> List[str]:
-    """An item of a list in lines of the page, in which no name is cut."""
-    shown = re.sub(r'`[^`]*`', lambda name: name[0].replace(' ', '\0'), text)
-    lines = textwrap.wrap(shown, COLUMNS, initial_indent='- ', subsequent_indent='  ', break_long_words=False, break_on_hyphens=False)
-    return [line.replace('\0', ' ') for line in lines]
-
-
 def pages(made: Dict[str, Listed]) -> Dict[Path, str]:
-    """The page and README, as they have to be."""
+    """The page and README, as they have to be. Without a kit the lines of the kit are those that the page has."""
     page, readme = (path.read_text(encoding='utf-8') for path in (PAGE, README))
-    head, begin, rest = page.partition(BEGIN)
-    _, end, tail = rest.partition(END)
-    if not (begin and end):
-        raise ValueError(f'{PAGE} lacks the lines between which the table stands')
-    lines = '\n'.join(items(made, page))
-    counts = iter(TOLD)
+    promises, counts = iter(PROMISES), iter(TOLD)
     return {
-        PAGE: f'{head}{BEGIN}\n\n{lines}\n\n{END}{tail}',
+        PAGE: ON_PAGE.sub(lambda _: item(next(promises), made), page),
         README: around(COUNT.sub(lambda _: f'**{made[next(counts)].lines:,} lines**', readme, count=len(TOLD))),
     }
+
+
+def item(one: Promise, made: Dict[str, Listed]) -> str:
+    """The item of a promise, with its lines, in which no name is cut."""
+    behind = made[one.name].of_kit()
+    beside = f'{lines_of(behind):,}' if behind is not None else one.of_kit
+    text = f'**{one.name}**, {made[one.name].lines:,} lines and {beside} of the kit: {one.sentence}. See {one.says}.'
+    shown = re.sub(r'`[^`]*`', lambda name: name[0].replace(' ', '\0'), text)
+    lines = textwrap.fill(shown, COLUMNS, initial_indent='- ', subsequent_indent='  ', break_long_words=False, break_on_hyphens=False)
+    return lines.replace('\0', ' ')
 
 
 def outdated(made: Dict[str, Listed]) -> List[str]:

@@ -9,11 +9,12 @@
 from __future__ import annotations
 
 import sys
-from typing import Dict, List, NamedTuple, TextIO
+from typing import Dict, TextIO
 
 from building.kit import command, kit_of
 from building.listing import TOP, sum_of
 from building.record import PAGE, TREE, put, sum_of_sources
+from gating.counts import compared
 from web_build.page import packed, packed_in, page_of, unpacked
 from web_build.scripts import Unfit
 
@@ -32,35 +33,20 @@ ADVICE = 'make web, and commit'
 RUN = 'run make web, which proves and builds it: that needs the kit, and may take an hour'
 
 
-class Makers(NamedTuple):
-    """What a module was made with, and from what."""
-
-    kit: str
-    binaryen: str
-    sources: str
+#: What the record says that a module was made with, and from what.
+MAKERS = ('kit', 'binaryen', 'sources')
 
 
-class Note(NamedTuple):
-    """What the record says: the makers of the module, and the sums of both files."""
-
-    makers: Makers
-    sums: Dict[str, str]
+def noted(name: str) -> str:
+    """What the record says of the page by this name; nothing where it doesn't."""
+    return TREE.fact(f'page {name}')
 
 
-def noted() -> Note:
-    """Empty texts stand for what it doesn't say."""
-    lines = TREE.of_page().splitlines()
-    facts = dict(line[len(PAGE) :].split(': ', 1) for line in lines if line.startswith(PAGE) and ': ' in line)
-    sums = dict(line.split('  ', 1)[::-1] for line in lines if '  ' in line and not line.startswith('#'))
-    return Note(Makers(*(facts.get(name, '') for name in Makers._fields)), {f'programs/{path}': told for path, told in sums.items()})
-
-
-def write(note: Note) -> bool:
-    """Writes it below what the record says of the programs. Says whether it wasn't there yet."""
-    above = read(TREE.record).decode(errors='replace').partition(PAGE)[0]
-    facts = ''.join(f'{PAGE}{name}: {said}\n' for name, said in note.makers._asdict().items())
-    sums = ''.join(f'{told}  {path.partition("/")[2]}\n' for path, told in sorted(note.sums.items()))
-    return put(f'{TOP}/{TREE.record}', (above + facts + sums).encode(), 0o644)
+def write(makers: Dict[str, str]) -> bool:
+    """Writes the makers of the module, and the sums of both files, below what the record says of the programs. Says whether that wasn't there yet."""
+    facts = ''.join(f'{PAGE}{name}: {makers[name]}\n' for name in MAKERS)
+    sums = ''.join(f'{sum_of(f"{TOP}/{path}")}  {path.partition("/")[2]}\n' for path in (PAGE_FILE, MODULE_FILE))
+    return put(f'{TOP}/{TREE.record}', (TREE.text().partition(PAGE)[0] + facts + sums).encode(), 0o644)
 
 
 def sources() -> str:
@@ -70,17 +56,16 @@ def sources() -> str:
 
 def module_fault() -> str:
     """Why the module in the tree is not one of the sources that are here; nothing where it is."""
-    note = noted()
-    if not note.makers.sources:
+    if not noted('sources'):
         return f'{TREE.record} says nothing of the page'
-    if note.makers.sources != sources():
+    if noted('sources') != sources():
         return f'{MODULE_FILE} is of other sources than those that are here'
-    return sum_fault(note, MODULE_FILE)
+    return sum_fault(MODULE_FILE)
 
 
 def page_fault() -> str:
     """Why the page in the tree is not the one that the record names, or not one of that module and of the sources that are here; nothing where it is."""
-    return sum_fault(noted(), PAGE_FILE) or made_fault()
+    return sum_fault(PAGE_FILE) or made_fault()
 
 
 def made_fault() -> str:
@@ -95,9 +80,9 @@ def made_fault() -> str:
     return '' if page_of(as_packed) == found else f'{PAGE_FILE} is of other sources than those that are here'
 
 
-def sum_fault(note: Note, path: str) -> str:
+def sum_fault(path: str) -> str:
     try:
-        is_same = sum_of(f'{TOP}/{path}') == note.sums.get(path)
+        is_same = f'{sum_of(f"{TOP}/{path}")}  {path.partition("/")[2]}' in TREE.of_page().splitlines()
     except OSError as error:
         return f'{path}: {error.strerror}'
     return '' if is_same else f'{path} is not the file that {TREE.record} names'
@@ -115,15 +100,19 @@ def where() -> None:
 
 def store(said: TextIO = sys.stdout) -> None:
     """Builds the module where that in the tree isn't of these sources, makes the page, and stores both with their lines. Raises Unfit."""
-    makers, wrong = noted().makers, module_fault()
+    makers, wrong = {name: noted(name) for name in MAKERS}, module_fault()
     if wrong:
+        # Mostly the module is there, and then none of this need be read.
+        from building.run import make
+
         print(f'{wrong}: it is proved and built', file=sys.stderr)
-        makers, content = made_now()
-        tell(put(f'{TOP}/{MODULE_FILE}', content, 0o644), MODULE_FILE, said)
+        if make():
+            raise Unfit('the programs are not built, and so neither is the page')
+        makers = makers_here()
+        tell(put(f'{TOP}/{MODULE_FILE}', built_by(makers), 0o644), MODULE_FILE, said)
     if wrong or page_fault():
         tell(put(f'{TOP}/{PAGE_FILE}', page_of(packed_there() or packed(read(MODULE_FILE))), 0o644), PAGE_FILE, said)
-    sums = {path: sum_of(f'{TOP}/{path}') for path in (MODULE_FILE, PAGE_FILE)}
-    tell(write(Note(makers, sums)), TREE.record, said)
+    tell(write(makers), TREE.record, said)
 
 
 def packed_there() -> str:
@@ -140,63 +129,35 @@ def tell(is_new: bool, path: str, said: TextIO) -> None:
         print(f'stored: {path}', file=said)
 
 
-class Made(NamedTuple):
-    """A module, and its makers."""
-
-    makers: Makers
-    content: bytes
-
-
-def made_now() -> Made:
-    """Proves what has changed, and builds the module. Raises Unfit."""
-    # Mostly the module is there, and then none of this need be read.
-    from building.run import make
-
-    if make():
-        raise Unfit('the programs are not built, and so neither is the page')
-    return built_now()
-
-
-def built_now() -> Made:
-    """Builds the module over the libraries that are there. Raises Unfit."""
-    from web_build.module import built
-
-    makers = makers_here()
-    if not makers.binaryen:
-        raise Unfit("there is no command wasm-opt: Debian's package binaryen has it")
-    return Made(makers, built(CRATE))
-
-
-def makers_here() -> Makers:
+def makers_here() -> Dict[str, str]:
     from web_build.module import binaryen
 
     rt = command()
-    return Makers(kit_of(rt) if rt else '', binaryen(), sources())
+    return {'kit': kit_of(rt) if rt else '', 'binaryen': binaryen(), 'sources': sources()}
+
+
+def built_by(makers: Dict[str, str]) -> bytes:
+    """The module, built over the libraries that are there. Raises Unfit."""
+    from web_build.module import built
+
+    if not makers['binaryen']:
+        raise Unfit("there is no command wasm-opt: Debian's package binaryen has it")
+    return built(CRATE)
 
 
 def compare() -> int:
     """Builds the module anew, and compares. Says how many cases have passed, which are the record, the page and the module, and gives the status to end with."""
     faults = [f'{wrong}: {ADVICE}' for wrong in (module_fault(), page_fault()) if wrong]
-    passed = 2 - len(faults)
-    kept, here = noted().makers, makers_here()
-    if (kept.kit, kept.binaryen) != (here.kit, here.binaryen):
-        print(f"{MODULE_FILE} was built by '{kept.kit}' and '{kept.binaryen}', and here are '{here.kit}' and '{here.binaryen}': so it isn't compared")
-    else:
-        unlike = difference()
-        passed += 1 - len(unlike)
-        faults += unlike
-    for text in faults:
-        print(f'FAILED: {text}')
-    print(f'{passed} passed, {len(faults)} failed')
-    return 1 if faults else 0
-
-
-def difference() -> List[str]:
-    """How the module that is built now differs from that in the tree; nothing where they are the same bytes."""
+    here = makers_here()
+    if (noted('kit'), noted('binaryen')) != (here['kit'], here['binaryen']):
+        print(f"{MODULE_FILE} was built by '{noted('kit')}' and '{noted('binaryen')}', and here are '{here['kit']}' and '{here['binaryen']}': so it isn't compared")
+        return compared(2, faults)
     try:
-        return [] if built_now().content == read(MODULE_FILE) else [f'the module that was built is not {MODULE_FILE}: {ADVICE}']
+        if built_by(here) != read(MODULE_FILE):
+            faults.append(f'the module that was built is not {MODULE_FILE}: {ADVICE}')
     except (Unfit, OSError) as error:
-        return [f'the module: {error}']
+        faults.append(f'the module: {error}')
+    return compared(3, faults)
 
 
 def read(path: str) -> bytes:

@@ -5,7 +5,6 @@
 //! |---|---|
 //! | `load FILE` | what becomes of a save: the refusal's name; or the status, the game ID, and `respelled` where the session is written otherwise |
 //! | `damage FILE` | for each kind of damage how many texts were made of the save, a digest of the answers to them in order, and how often each answer came |
-//! | `each FILE` | the answer to each of these texts, for where a digest isn't the wanted one |
 //! | `square SIZE SEED` | the numbers of a seed's square |
 //! | `towers SIZE SEED`, `unequal SIZE SEED` | the ID of a seed's game |
 //! | `fair GAME SIZE LETTER SEED` | the ID of a seed's fair game, or the refusal's name |
@@ -21,87 +20,50 @@
 
 mod answers;
 mod damage;
-mod fair;
 mod saves;
 mod seeded;
 
-use crate::requests::fair::fair_answer;
-use crate::requests::saves::{Detail, print_damaged, print_loaded};
+use crate::requests::saves::{print_damaged, print_loaded};
 use crate::requests::seeded::seeded_answer;
 use clue_rules::{Game, Towers, Unequal};
 use std::io::Write;
 use std::rt::Files;
 use std::{fs, io};
 
-/// What is asked of a save.
-#[derive(Clone, Copy)]
-enum Request {
-    Load,
-    Damage(Detail),
-}
-
 fn answer_save<P: Game>(
     rt: &(impl Files + Print + AllocGlobal),
-    request: Request,
+    line: &str,
     name: &str,
 ) -> io::Result<()> {
     let text = fs::read(rt, name)?;
-    match request {
-        Request::Load => print_loaded::<P>(rt, name, &text),
-        Request::Damage(detail) => print_damaged::<P>(rt, detail, &text),
+    if line.starts_with("load ") {
+        return print_loaded::<P>(rt, name, &text);
     }
+    println!(rt; "{line}")?;
+    print_damaged::<P>(rt, &text)
 }
 
-// The folder says which game it is.
-fn answer_file(
-    rt: &(impl Files + Print + AllocGlobal),
-    request: Request,
-    name: &str,
-) -> io::Result<()> {
-    if name.starts_with("towers/") {
-        answer_save::<Towers>(rt, request, name)
-    } else {
-        answer_save::<Unequal>(rt, request, name)
-    }
-}
-
+// Of a save the folder says which game it is.
 fn answer(rt: &(impl Files + Print + AllocGlobal), line: &str) -> io::Result<()> {
     match line.split_once(' ') {
-        Some(("load", name)) => answer_file(rt, Request::Load, name),
-        Some(("each", name)) => answer_file(rt, Request::Damage(Detail::Each), name),
-        Some(("damage", name)) => {
-            println!(rt; "{line}")?;
-            answer_file(rt, Request::Damage(Detail::Counts), name)
+        _ if line.starts_with('#') => println!(rt; "{line}"),
+        Some(("load" | "damage", name)) if name.starts_with("towers/") => {
+            answer_save::<Towers>(rt, line, name)
         }
-        Some(("fair", words)) => {
-            let answer = fair_answer(rt.alloc(), words)?;
-            print_behind(rt, line, &answer)
-        }
+        Some(("load" | "damage", name)) => answer_save::<Unequal>(rt, line, name),
         _ => {
             let answer = seeded_answer(rt.alloc(), line)?;
-            print_behind(rt, line, &answer)
+            print!(rt; "{line} ")?;
+            io::writer(rt).write_all(&answer)?;
+            println!(rt; "")
         }
     }
-}
-
-fn print_behind(rt: &impl Print, line: &str, answer: &[u8]) -> io::Result<()> {
-    print!(rt; "{line} ")?;
-    io::writer(rt).write_all(answer)?;
-    println!(rt; "")
 }
 
 /// Answers the lines of standard input.
 pub(crate) fn answer_requests(rt: &(impl Input + Files + Print + AllocGlobal)) -> io::Result<()> {
     for line in rt.lines(rt.alloc()) {
-        answer_line(rt, line?.as_str())?;
+        answer(rt, line?.as_str())?;
     }
     Ok(())
-}
-
-fn answer_line(rt: &(impl Files + Print + AllocGlobal), line: &str) -> io::Result<()> {
-    if line.starts_with('#') {
-        println!(rt; "{line}")
-    } else {
-        answer(rt, line)
-    }
 }

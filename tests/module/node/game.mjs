@@ -6,7 +6,7 @@ import {moduleOf} from './module.mjs';
 /** @typedef {{game: Game, before: Uint8Array, line: Uint8Array, said: Uint8Array, saved: Uint8Array}} Answered */
 
 /** @type {Record<Game, string[]>} */
-export const GAMES = {
+const GAMES = {
   towers: [
     'board', 'new 3:3//////3/////', 'board', 'move M', 'marks', 'move R0,0,1', 'hint', 'completable', 'list 5', 'grade', 'undo', 'redo', 'save', 'move D0,-1', 'done',
     'solve', 'status', 'restart', 'fair 6 h 7', 'hint', 'board', 'new 5!7', 'move R9,9,9', 'fair 9 e 3', 'hint', 'show', 'nothing', '', 'id',
@@ -17,11 +17,19 @@ export const GAMES = {
   ],
 };
 
+/** @param {Uint8Array} one @param {Uint8Array} other */
+export const isSame = (one, other) => Buffer.compare(one, other) === 0;
+
 /**
- * The game by a whole module.
- * @param {string} path @param {Game} game @returns {Answered[]}
+ * Both games by a whole module.
+ * @param {string} path @returns {Answered[]}
  */
-export function answered(path, game) {
+export function bothAnswered(path) {
+  return [...answered(path, 'towers'), ...answered(path, 'unequal')];
+}
+
+/** @param {string} path @param {Game} game @returns {Answered[]} */
+function answered(path, game) {
   const module = moduleOf(path);
   let before = new Uint8Array(0);
   return GAMES[game].map((text) => {

@@ -4,7 +4,7 @@
 // the object alone had none, the one after. The same module answers the lines that come then, too.
 
 import {readFileSync} from 'node:fs';
-import {GAMES, answered} from './game.mjs';
+import {bothAnswered, isSame} from './game.mjs';
 import {moduleOf, pagesOf} from './module.mjs';
 
 /** @typedef {import('./game.mjs').Answered} Answered */
@@ -12,9 +12,6 @@ import {moduleOf, pagesOf} from './module.mjs';
 /** What is said where there was no memory: of the line, and of its object. */
 const REFUSED = '{"refused":"OutOfMemory"';
 const LOST = '{"lost":"OutOfMemory"}\n';
-
-/** @param {Uint8Array} one @param {Uint8Array} other */
-const isSame = (one, other) => Buffer.compare(one, other) === 0;
 
 /**
  * Whether the line had its answer. Throws where it had another one.
@@ -37,7 +34,7 @@ function hasAnswer(module, wanted) {
 }
 
 const [, , path] = process.argv;
-const games = Object.keys(GAMES).flatMap((game) => answered(path, /** @type {import('../../../page/module.js').Game} */ (game)));
+const games = bothAnswered(path);
 const least = pagesOf(readFileSync(path));
 let refused = 0;
 let tried = 0;

@@ -2,14 +2,11 @@
 //
 // A line has its answer, or the module traps; it never answers otherwise. A new module goes on with the same text.
 
-import {GAMES, answered} from './game.mjs';
+import {bothAnswered, isSame} from './game.mjs';
 import {moduleOf} from './module.mjs';
 
 /** Each stack has so many bytes more than the one before. */
 const STEP = 4096;
-
-/** @param {Uint8Array} one @param {Uint8Array} other */
-const isSame = (one, other) => Buffer.compare(one, other) === 0;
 
 /**
  * Whether the line had its answer, in a module of its own. Throws where it had another one.
@@ -32,7 +29,7 @@ function hasAnswer(path, stack, wanted) {
 }
 
 const [, , path] = process.argv;
-const games = Object.keys(GAMES).flatMap((game) => answered(path, /** @type {import('../../../page/module.js').Game} */ (game)));
+const games = bothAnswered(path);
 let trapped = 0;
 let isWhole = false;
 let stack = 0;

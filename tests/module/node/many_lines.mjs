@@ -1,16 +1,16 @@
 // So many lines in one module, whose memory doesn't grow any more after the first of them:     node many_lines.mjs MODULE LINES
 
-import {GAMES, answered} from './game.mjs';
+import {bothAnswered, isSame} from './game.mjs';
 import {moduleOf} from './module.mjs';
 
 const [, , path, lines] = process.argv;
-const games = Object.keys(GAMES).flatMap((game) => answered(path, /** @type {import('../../../page/module.js').Game} */ (game)));
+const games = bothAnswered(path);
 const module = moduleOf(path);
 
 function play() {
   for (const {game, before, line, said, saved} of games) {
     const turned = module.turn(game, before, line);
-    if (Buffer.compare(turned.said, said) || Buffer.compare(turned.saved, saved)) {
+    if (!isSame(turned.said, said) || !isSame(turned.saved, saved)) {
       throw new Error(`${game}, ${Buffer.from(line)}: another answer`);
     }
   }

@@ -5,8 +5,8 @@
 // The statuses and the lines on standard error are the program's; it has no help.
 
 import {readFileSync, readSync, renameSync, writeFileSync, writeSync} from 'node:fs';
+import {parseArgs} from 'node:util';
 import {moduleOf} from './module.mjs';
-import {read} from './words.mjs';
 
 /** @typedef {import('../../../page/module.js').Turned} Turned */
 
@@ -143,15 +143,30 @@ function save(path, text) {
   });
 }
 
+/**
+ * The game and the options that the words name.
+ * @param {string[]} args
+ */
+function read(args) {
+  try {
+    const {positionals: [game, ...more], values} = parseArgs({
+      args, allowPositionals: true, options: {id: {type: 'string'}, load: {type: 'string'}, save: {type: 'string'}},
+    });
+    if ((game === 'towers' || game === 'unequal') && !more.length && (values.id === undefined || values.load === undefined)) {
+      return /** @type {const} */ ([game, values]);
+    }
+  } catch {
+    // Words that are none.
+  }
+  throw new End(2, 'usage: puzzles-json towers | unequal [--id ID] [--load FILE] [--save FILE]');
+}
+
 /** @param {string[]} given */
 function main([path, ...given]) {
-  const words = read(given);
-  if (!words) {
-    throw new End(2, 'usage: puzzles-json towers | unequal [--id ID] [--load FILE] [--save FILE]');
-  }
+  const [game, words] = read(given);
   const {load, id} = words;
   const file = load === undefined ? undefined : or('cannot read the file', () => readFileSync(load), load);
-  const session = new Session(moduleOf(path), words.game);
+  const session = new Session(moduleOf(path), game);
   if (file) {
     session.load(file);
   } else if (id !== undefined) {

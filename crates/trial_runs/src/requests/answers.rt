@@ -6,11 +6,8 @@ use play_midend::Session;
 use play_save::{LoadFault, load, save};
 use std::alloc::{AllocError, Global};
 
-/// How many different answers there are: a text loads, the refusals by their numbers, and one that may not come.
-const ANSWERS: usize = 16;
-
-/// The number of what may not come: a session that isn't the same when it is saved and loaded again.
-const CHANGED: u8 = 15;
+/// How many different answers there are: a text loads, and the refusals by their numbers.
+const ANSWERS: usize = 15;
 
 /// A digest of bytes: FNV-1a of 64 bits.
 #[derive(Clone, Copy)]
@@ -57,28 +54,11 @@ impl Answer {
 
     fn loaded<P: Game>(alloc: Global, session: &Session<P>) -> Result<Answer, AllocError> {
         let in_full = status_and_save(alloc, session)?;
-        let (number, name) = if loads_again(alloc, session) {
-            (0, "loads")
-        } else {
-            (CHANGED, "changed")
-        };
         Ok(Answer {
-            number,
-            name,
+            number: 0,
+            name: "loads",
             in_full,
         })
-    }
-
-    /// The answer's name.
-    pub(crate) fn name(&self) -> &'static str {
-        self.name
-    }
-
-    /// A digest of the answer in full.
-    pub(crate) fn digest(&self) -> u64 {
-        let mut digest = Digest::new();
-        digest.take(&self.in_full);
-        digest.0
     }
 }
 
@@ -129,28 +109,6 @@ fn word_of(board: &Board) -> &'static str {
         "solved"
     } else {
         "playing"
-    }
-}
-
-// Whether the session's own save loads as a session with the same save.
-fn loads_again<P: Game>(alloc: Global, session: &Session<P>) -> bool {
-    match save(alloc, session) {
-        Ok(text) => loads_as_its_own::<P>(alloc, &text),
-        Err(_) => false,
-    }
-}
-
-fn loads_as_its_own<P: Game>(alloc: Global, text: &[u8]) -> bool {
-    match load::<P>(alloc, text) {
-        Ok(again) => is_save_of(alloc, text, &again),
-        Err(_) => false,
-    }
-}
-
-fn is_save_of<P: Game>(alloc: Global, text: &[u8], session: &Session<P>) -> bool {
-    match save(alloc, session) {
-        Ok(own) => own.as_slice() == text,
-        Err(_) => false,
     }
 }
 

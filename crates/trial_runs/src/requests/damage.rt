@@ -99,79 +99,57 @@ impl Damage {
         save: &SaveText,
         number: usize,
     ) -> Result<Option<Vec<u8>>, AllocError> {
-        let records = save.records.as_slice();
+        let (text, records) = (save.text, save.records.as_slice());
+        let next = number.saturating_add(1);
         match self {
-            Damage::Whole => Ok(Some(save.text.to_vec(alloc)?)),
-            Damage::RecordLeftOut => without_record(alloc, records, number),
-            Damage::RecordDoubled => with_record_twice(alloc, records, number),
+            Damage::Whole => Ok(Some(text.to_vec(alloc)?)),
+            Damage::ByteChanged => {
+                let place = number / VALUES.len();
+                let value = VALUES[number % VALUES.len()];
+                with_bytes(alloc, text, place, &[value], place.saturating_add(1))
+            }
+            Damage::ByteLeftOut => with_bytes(alloc, text, number, &[], next),
+            Damage::ByteDoubled => with_bytes(alloc, text, next, &[], number),
+            Damage::CutOff => with_bytes(alloc, text, number, &[], text.len()),
+            Damage::RecordLeftOut => with_records(alloc, records, number, next),
+            Damage::RecordDoubled => with_records(alloc, records, next, number),
             Damage::RecordsExchanged => {
                 let count = records.len().max(1);
                 with_exchange(alloc, records, number / count, number % count)
             }
-            Damage::ByteChanged => {
-                let value = VALUES[number % VALUES.len()];
-                with_byte(alloc, save.text, number / VALUES.len(), value)
-            }
-            Damage::ByteLeftOut | Damage::ByteDoubled | Damage::CutOff => {
-                self.text_at(alloc, save.text, number)
-            }
         }
-    }
-
-    // A byte left out or doubled, or the text in front of it.
-    fn text_at(
-        self,
-        alloc: Global,
-        text: &[u8],
-        place: usize,
-    ) -> Result<Option<Vec<u8>>, AllocError> {
-        if place >= text.len() {
-            return Ok(None);
-        }
-        let (front, rest) = text.split_at(place);
-        let parts: [&[u8]; 2] = match self {
-            Damage::ByteLeftOut => [front, &rest[1..]],
-            Damage::ByteDoubled => [&text[..place + 1], rest],
-            _ => [front, &[]],
-        };
-        Ok(Some(joined(alloc, &parts)?))
     }
 }
 
-fn with_byte(
+// The bytes in front of a place, others, and those from a place on.
+fn with_bytes(
     alloc: Global,
     text: &[u8],
-    place: usize,
-    value: u8,
+    front: usize,
+    others: &[u8],
+    from: usize,
 ) -> Result<Option<Vec<u8>>, AllocError> {
-    let mut text = text.to_vec(alloc)?;
-    let Some(byte) = text.get_mut(place) else {
-        return Ok(None);
-    };
-    *byte = value;
-    Ok(Some(text))
+    match (text.get(..front), text.get(from..)) {
+        (Some(front), Some(rest)) => Ok(Some(joined(alloc, &[front, others, rest])?)),
+        _ => Ok(None),
+    }
 }
 
-fn without_record(
+// The records in front of a place, and those from a place on.
+fn with_records(
     alloc: Global,
     records: &[&[u8]],
-    place: usize,
+    front: usize,
+    from: usize,
 ) -> Result<Option<Vec<u8>>, AllocError> {
-    if place >= records.len() {
-        return Ok(None);
+    match (records.get(..front), records.get(from..)) {
+        (Some(front), Some(rest)) => {
+            let mut text = joined(alloc, front)?;
+            add_parts(&mut text, rest)?;
+            Ok(Some(text))
+        }
+        _ => Ok(None),
     }
-    Ok(Some(joined_twice(alloc, &records[..place], &records[place + 1..])?))
-}
-
-fn with_record_twice(
-    alloc: Global,
-    records: &[&[u8]],
-    place: usize,
-) -> Result<Option<Vec<u8>>, AllocError> {
-    if place >= records.len() {
-        return Ok(None);
-    }
-    Ok(Some(joined_twice(alloc, &records[..place + 1], &records[place..])?))
 }
 
 // The first has to stand before the second.
@@ -189,20 +167,10 @@ fn with_exchange(
     Ok(Some(joined(alloc, &records)?))
 }
 
-fn joined_twice(alloc: Global, front: &[&[u8]], rest: &[&[u8]]) -> Result<Vec<u8>, AllocError> {
-    let mut text = joined(alloc, front)?;
-    match add_parts(&mut text, rest) {
-        Ok(()) => Ok(text),
-        Err(error) => Err(error),
-    }
-}
-
 fn joined(alloc: Global, parts: &[&[u8]]) -> Result<Vec<u8>, AllocError> {
     let mut text = Vec::new(alloc);
-    match add_parts(&mut text, parts) {
-        Ok(()) => Ok(text),
-        Err(error) => Err(error),
-    }
+    add_parts(&mut text, parts)?;
+    Ok(text)
 }
 
 fn add_parts(text: &mut Vec<u8>, parts: &[&[u8]]) -> Result<(), AllocError> {

@@ -9,13 +9,6 @@ use std::alloc::Global;
 use std::io;
 use std::io::Write;
 
-/// How much is printed of damaged texts: what came of each kind, or each answer.
-#[derive(Clone, Copy)]
-pub(crate) enum Detail {
-    Counts,
-    Each,
-}
-
 /// Prints what becomes of a save file.
 pub(crate) fn print_loaded<P: Game>(
     rt: &(impl Print + AllocGlobal),
@@ -67,54 +60,36 @@ fn print_id<P: Game>(
     println!(rt; ";{respelled}")
 }
 
-/// Prints the answers to the texts that each kind of damage makes of a save file.
+/// Prints of each kind of damage what came of the texts that it makes of a save file.
 pub(crate) fn print_damaged<P: Game>(
     rt: &(impl Print + AllocGlobal),
-    detail: Detail,
     bytes: &[u8],
 ) -> io::Result<()> {
     let save = SaveText::new(rt.alloc(), bytes)?;
     for damage in DAMAGES.iter() {
-        print_kind::<P>(rt, detail, &save, *damage)?;
+        print_kind::<P>(rt, &save, *damage)?;
     }
     Ok(())
 }
 
 fn print_kind<P: Game>(
     rt: &(impl Print + AllocGlobal),
-    detail: Detail,
     save: &SaveText,
     damage: Damage,
 ) -> io::Result<()> {
-    let kind = damage.name();
     let mut block = Block::new();
     for number in 0..damage.numbers(save) {
         if let Some(text) = damage.text(rt.alloc(), save, number)? {
-            let answer = Answer::of::<P>(rt.alloc(), &text)?;
-            block.take(&answer);
-            if matches!(detail, Detail::Each) {
-                print_answer(rt, kind, block.texts(), &answer)?;
-            }
+            block.take(&Answer::of::<P>(rt.alloc(), &text)?);
         }
     }
-    match detail {
-        Detail::Counts => {
-            print!(rt; "{kind}; {}; {:016x}", block.texts(), block.digest())?;
-            print_counts(rt, block.counts())
-        }
-        Detail::Each => Ok(()),
-    }
-}
-
-// The line of an answer, which is the last of so many.
-fn print_answer(
-    rt: &impl Print,
-    kind: &'static str,
-    texts: u64,
-    answer: &Answer,
-) -> io::Result<()> {
-    let at = texts.saturating_sub(1);
-    println!(rt; "{kind} {at}; {}; {:016x}", answer.name(), answer.digest())
+    print!(rt;
+        "{}; {}; {:016x}",
+        damage.name(),
+        block.texts(),
+        block.digest()
+    )?;
+    print_counts(rt, block.counts())
 }
 
 // The rest of the line: how often each answer came.

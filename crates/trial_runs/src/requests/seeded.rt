@@ -1,6 +1,7 @@
-//! Squares and games of seeds.
+//! Squares and games of seeds, fair ones too.
 
 use clue_rules::{Game, Params, Towers, Unequal};
+use fair_games::{FairFault, FairGame, fair, grade_of_letter};
 use latin_board::{Grid, Size};
 use puzzle_gen::{generate, square};
 use std::alloc::{AllocError, Global};
@@ -34,7 +35,7 @@ fn game_text<P: Game>(alloc: Global, size: Size, seed: u64) -> io::Result<Vec<u8
 }
 
 /// The ID of a puzzle.
-pub(crate) fn id_text<P: Game>(alloc: Global, params: &Params, puzzle: &P) -> io::Result<Vec<u8>> {
+fn id_text<P: Game>(alloc: Global, params: &Params, puzzle: &P) -> io::Result<Vec<u8>> {
     let mut text = Vec::new(alloc);
     match add_id(alloc, &mut text, params, puzzle) {
         Ok(()) => Ok(text),
@@ -56,19 +57,41 @@ fn add_id<P: Game>(
     }
 }
 
+/// The ID of the seed's fair game, or the name of the refusal.
+fn fair_text<P: FairGame>(alloc: Global, size: Size, letter: u8, seed: u64) -> io::Result<Vec<u8>> {
+    let Some(grade) = grade_of_letter::<P>(letter) else {
+        return Ok(FairFault::NotOffered.name().as_bytes().to_vec(alloc)?);
+    };
+    let letter = Some(letter);
+    match fair::<P>(size, grade, seed) {
+        Ok(puzzle) => id_text(alloc, &Params { size, letter }, &puzzle),
+        Err(fault) => Ok(fault.name().as_bytes().to_vec(alloc)?),
+    }
+}
+
+/// The words of a line: what is asked for, a size, a letter where a fair game is, and a seed.
+fn read_line(line: &str) -> Option<(&str, Size, Option<u8>, u64)> {
+    let (kind, rest) = line.strip_prefix("fair ").unwrap_or(line).split_once(' ')?;
+    let (width, rest) = rest.split_once(' ')?;
+    let (letter, seed) = match rest.split_once(' ') {
+        Some((letter, seed)) => (letter.as_bytes().first().copied(), seed),
+        None => (None, rest),
+    };
+    let size = Size::new(width.parse::<u8>().ok()?)?;
+    Some((kind, size, letter, seed.parse::<u64>().ok()?))
+}
+
 /// The answer to a line: a square's numbers in reading order, or a game's ID; a question mark where nothing is asked.
 pub(crate) fn seeded_answer(alloc: Global, line: &str) -> io::Result<Vec<u8>> {
-    let mut words = line.split(' ');
-    let (Some(kind), Some(width), Some(seed)) = (words.next(), words.next(), words.next()) else {
+    let Some((kind, size, letter, seed)) = read_line(line) else {
         return Ok(b"?".to_vec(alloc)?);
     };
-    let (Ok(width), Ok(seed)) = (width.parse::<u8>(), seed.parse::<u64>()) else {
-        return Ok(b"?".to_vec(alloc)?);
-    };
-    match (kind, Size::new(width)) {
-        ("square", Some(size)) => square_text(alloc, size, seed),
-        ("towers", Some(size)) => game_text::<Towers>(alloc, size, seed),
-        ("unequal", Some(size)) => game_text::<Unequal>(alloc, size, seed),
+    match (kind, letter) {
+        ("square", None) => square_text(alloc, size, seed),
+        ("towers", None) => game_text::<Towers>(alloc, size, seed),
+        ("unequal", None) => game_text::<Unequal>(alloc, size, seed),
+        ("towers", Some(letter)) => fair_text::<Towers>(alloc, size, letter, seed),
+        ("unequal", Some(letter)) => fair_text::<Unequal>(alloc, size, letter, seed),
         _ => Ok(b"?".to_vec(alloc)?),
     }
 }
