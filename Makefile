@@ -134,7 +134,8 @@ test-bodies:
 	@RT='$(RT)' tools/test_bodies $(CRATES)
 
 test-faults:
-	@$(TESTS) tests/faults
+	@cd crates/trial_runs && '$(RT)' run -- calls < /dev/null > /dev/null
+	@$(TESTS) --calls=crates/trial_runs/out/trial_runs tests/faults
 
 trust:
 	@tools/trust $(PROMISE)

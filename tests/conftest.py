@@ -33,7 +33,7 @@ class Programs(NamedTuple):
 
 
 def pytest_addoption(parser: pytest.Parser) -> None:
-    for name, what in (('puzzles', 'the program'), ('puzzles-json', 'the one that writes objects')):
+    for name, what in (('puzzles', 'the program'), ('puzzles-json', 'the one that writes objects'), ('calls', 'that of crates/trial_runs')):
         parser.addoption(f'--{name}', metavar='PATH', help=f'{what}, if not the one that is ready')
     parser.addoption('--kills', type=int, metavar='N', help='how often the board, or a browser in each case of the page, is killed while a game is played')
 

@@ -1,7 +1,8 @@
 """The built program under fire: each request for memory, each read, write, open, flush, rename and close fails in turn. What it
 answers then is compared with runs in which nothing fails.
 
-The calls fail by a library that is preloaded, faults.c. Where there is no C compiler for it, or the program can't be made to load it, all is skipped.
+--calls names the program of crates/trial_runs, which makes one call a run. The calls fail by a library that is preloaded, faults.c. Where there is
+no C compiler for it, or the program can't be made to load it, all is skipped.
 """
 
 from typing import List
@@ -9,10 +10,14 @@ from typing import List
 import pytest
 
 from tests.faults import devices, memory, saves
+from tests.faults.calls import Calls
 from tests.faults.rounds import Rounds
-from tests.harness import FaultLibrary, Room, by_name, need_root
+from tests.harness import TOP, FaultLibrary, Room, Skip, by_name, need_root
 
 SCRIPTS = [devices.FIRST, devices.SAVED]
+
+#: The calls of crates/trial_runs in so many parts, which can be tried side by side.
+PARTS = 6
 
 
 @pytest.fixture
@@ -71,3 +76,16 @@ def test_size_limited(rounds: Rounds, save: saves.Save, is_ignored: bool) -> Non
 def test_another_users_file() -> None:
     """Where there are other users, all files that are saved over are another one's."""
     need_root()
+
+
+@pytest.mark.parametrize(('is_full', 'part'), [(True, 0), *((False, part) for part in range(PARTS))])
+def test_calls(request: pytest.FixtureRequest, room: Room, library: FaultLibrary, is_full: bool, part: int) -> None:
+    """The calls on a full history go one after the other."""
+    path = request.config.getoption('--calls')
+    if not path:
+        raise Skip('the program of crates/trial_runs is not named', 'make test-faults, with the kit')
+    calls = Calls(room, str(TOP / path), library)
+    listed = [(game, call) for game, call in calls.listed() if call.startswith('full-') == is_full]
+    assert listed
+    for game, call in listed if is_full else listed[part::PARTS]:
+        calls.refuse(game, call)
