@@ -28,7 +28,7 @@ class Seen(NamedTuple):
     fewer_in: Tuple[int, ...] = ()
 
 
-def clue_sentence(puzzle: TowersPuzzle, left: Left, step: Step) -> str:
+def clue_sentence(puzzle: TowersPuzzle, left: Left, step: Step, names_squares: bool) -> str:
     size, kind, clue = puzzle.size, step.reason.kind, puzzle.clues[step.reason.place]
     side, at = divmod(step.reason.place, size)
     named = f"Clue {clue} {SIDES[side]} {at + 1}"
@@ -37,7 +37,7 @@ def clue_sentence(puzzle: TowersPuzzle, left: Left, step: Step) -> str:
         return f'{named}: {plain[clue]}, so {losses(size, step)}.'
     line = {cell: looked_at(kind, size, left[cell]) for cell in seen_squares(size, step.reason.place)}
     seen = all_seen(clue, line, step)
-    known = '' if kind == 'bound' else known_words(size, clue, line, step, seen)
+    known = '' if kind == 'bound' else known_words(size, clue, line, step, seen) if names_squares else None
     if known is None:
         known = OF_THE_LINE[kind] + line_name(size, at if side > 1 else size + at)
     shown: Dict[Seen, Dict[int, List[int]]] = {}

@@ -15,12 +15,16 @@ from tests.second_implementation.towers import TowersPuzzle
 #: How many characters a line of text has at most.
 WIDTH = 100
 
+#: In how many squares the steps of a hint strike at most, if its sentences name squares that a clue needs.
+NAMED_AMONG = 60
+
 
 def expect_text(puzzle: Puzzle, numbers: Numbers, hint: Object, chain: Sequence[Step]) -> None:
     before = left = view = in_view(puzzle.size, numbers)
+    names_squares = sum(len(step.strikes) for step in chain) <= NAMED_AMONG
     each_step: List[Told] = []
     for step, told in zip(chain, hint['steps']):
-        each_step.append(Told(step, left, sentence_of(puzzle, left, step)))
+        each_step.append(Told(step, left, sentence_of(puzzle, left, step, names_squares)))
         assert told['text'] == cut(each_step[-1].sentence)
         before = left
         left = after(puzzle, left, [step]) or left
@@ -47,9 +51,9 @@ def cut(sentence: str) -> List[str]:
 # ---- a step
 
 
-def sentence_of(puzzle: Puzzle, left: Left, step: Step) -> str:
+def sentence_of(puzzle: Puzzle, left: Left, step: Step, names_squares: bool) -> str:
     if isinstance(puzzle, TowersPuzzle) and step.reason.kind in ('bound', 'stand', 'clue'):
-        return clue_sentence(puzzle, left, step)
+        return clue_sentence(puzzle, left, step, names_squares)
     return f'{capital(why_of(puzzle.size, left, step))}: {losses(puzzle.size, step)}.'
 
 
