@@ -13,8 +13,9 @@ from typing import Iterator, NamedTuple
 from building.listing import sum_of
 from building.record import BUILT, TREE, TREES
 from release import installing, places
-from release.note import Ready, Unfit, commit, fit, fit_to_install, git, sums_in
+from release.note import Ready, commit, fit, fit_to_install, git, sums_in
 from release.places import TOP, Folders
+from web_build.scripts import Unfit
 
 #: The folders of the tarball of programs, which are those below PREFIX. The documents lie at its top.
 FOLDERS = {
