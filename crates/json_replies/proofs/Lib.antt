@@ -1,8 +1,8 @@
 pub mod ReplyLines
-pub mod ObjectTexts
 pub mod WrittenData
 pub mod ViewsAlike
 pub mod Spellings
+pub mod ObjectLines
 pub mod HintSpellings
 pub mod ToldReplies
 pub mod BeginReading

@@ -1,12 +1,16 @@
 -- The lines of a reply, cut off its front one by one, and texts byte by byte.
-use Rattle.std.proofs.Common.{◌≡◌, ◌≢◌, ℕ, suc, ◌+◌, ◌-◌, ◌<◌, ◌≤◌, ◌==◌, true, false, if◌then◌else◌, List, [], ◌∷◌, ◌++◌, length, take, get_or, encode_utf8, sym, ap, ap₂, refl, ◌∙◌, append_assoc, append-nil, arith}
+use Rattle.std.proofs.Common.{◌≡◌, ◌≢◌, ℕ, suc, ◌+◌, ◌-◌, ◌<◌, ◌≤◌, ◌==◌, true, false, if◌then◌else◌, List, [], ◌∷◌, ◌++◌, length, map, take, get_or, encode_utf8, sym, ap, ap₂, refl, subst, ◌∙◌, append_assoc, append-nil, arith}
 use Rattle.std.specs.Prelude.{IsAscii}
 use Rattle.std.proofs.lemmas.List.{take_more}
 use Rattle.std.proofs.lemmas.Str.{encode_ascii}
 use Rattle.std.proofs.lemmas.Bool.Decides.{nat_tests}
 use Rattle.byte_text.specs.Cuts.{Lacks}
 use Rattle.puzzle_cli.specs.Lines.{onto, segments}
-use Rattle.json_replies.specs.Texts.{latin_text, lines_of}
+use Rattle.serde_json.specs.Data.{Data}
+use Rattle.json.specs.Written.{Written}
+use Rattle.json_replies.specs.Texts.{latin_text, lines_of, text_data}
+use Rattle.json_replies.specs.Inner.WrittenData.{Follow}
+use Rattle.json_replies.proofs.WrittenData.{more_follow, none_follow}
 
 some_onto : (b : ℕ) (ps : List (List ℕ)) → 1 ≤ length (onto b ps)
 some_onto b [] = omega arith
@@ -43,6 +47,21 @@ lines_of-front line rest lacks =
 
 pub lines_of-none : (line : List ℕ) → Lacks 10 line → lines_of line ≡ []
 lines_of-none line lacks = ap (λ ps. take (length ps - 1) ps) (segments-whole line lacks)
+
+-- the lines that are left follow the one that was written
+pub one_more_line : (line more rest : List ℕ) (all : List Data) (start old new : Written) → Lacks 10 line
+    → rest ≡ line ++ 10 ∷ more → Follow (text_data line ∷ []) old new
+    → ((end : Written) → Follow (map text_data (lines_of rest)) old end → Follow all start end)
+    → (end : Written) → Follow (map text_data (lines_of more)) new end → Follow all start end
+one_more_line line more rest all start old new lacks parts here before end after =
+    before end (subst (λ ls. Follow (map text_data ls) old end) (sym (ap lines_of parts ∙ lines_of-front line more lacks))
+    (more_follow (text_data line ∷ []) (map text_data (lines_of more)) old new end here after))
+
+-- when no line is left, all were written
+pub no_more_line : (rest : List ℕ) (all : List Data) (start last : Written) → Lacks 10 rest
+    → ((end : Written) → Follow (map text_data (lines_of rest)) last end → Follow all start end) → Follow all start last
+no_more_line rest all start last lacks before =
+    before last (subst (λ ls. Follow (map text_data ls) last last) (sym (lines_of-none rest lacks)) (none_follow last))
 
 latin-push : (xs : List ℕ) (b : ℕ) → latin_text (xs ++ b ∷ []) ≡ latin_text xs ++ encode_utf8 b
 latin-push [] b = append-nil (encode_utf8 b)

@@ -16,11 +16,11 @@ use Rattle.json_replies.specs.declared.further_line.FurtherLine.{FurtherLine}
 use Rattle.json_replies.specs.declared.further_line.FurtherLine.TheVariants.{Board, Completable, Hint as AskHint, Grade as AskGrade, Solutions, Spare, SpareBy}
 use Rattle.json_replies.specs.Boards.{squares, grid_data, givens_data, mark_set_data, marks_data, repeats_data, board_data}
 use Rattle.json_replies.specs.Counts.{count_data}
-use Rattle.json_replies.specs.FurtherLines.{BoardFacts, IsAnswer, answer_data, solutions_data}
+use Rattle.json_replies.specs.FurtherLines.{BoardFacts, IsAnswer, answer_data, solutions_data, solutions_in}
 use Rattle.json_replies.specs.ListedItems.{place_data, ends_data, when_listed, sign_data, clues_listed, givens_listed, signs_listed, items_data}
 use Rattle.json_replies.specs.ObjectLines.{IsShallow}
 use Rattle.json_replies.specs.Sessions.{session_data}
-use Rattle.json_replies.specs.Laws.Spellings.{AllFit, all_append, either, integer_whole, listed_fits, when_fits}
+use Rattle.json_replies.specs.Laws.Spellings.{AllFit, all_append, either, integer_whole, list_fits, listed_fits, when_fits}
 use Rattle.json_replies.specs.Laws.Spellings.{deeper}
 use Rattle.json_replies.proofs.HintSpellings.{numbers_fit, set_fits, hint_value_fits, grade_fits}
 
@@ -64,9 +64,7 @@ board_fits p b e clues signs clues_fit signs_fit =
 -- ---- solutions and items
 
 solutions_fit : (found : Answer) → IsShallow 7 (solutions_data found)
-solutions_fit NoSolution = tt
-solutions_fit (One g) = (grid_fits 5 g, tt)
-solutions_fit (Several g h) = (grid_fits 5 g, (grid_fits 5 h, tt))
+solutions_fit found = list_fits 6 grid_data (grid_fits 5) (solutions_in found)
 
 listed_one_fits : (n : ℕ) (listed : ℕ → Bool) (item : Option ℕ) (d : Data) → IsShallow n d → AllFit n (when_listed listed item d)
 listed_one_fits n listed None d fit = tt

@@ -11,14 +11,13 @@ use Rattle.puzzle_cli.specs.declared.reply.refusal.Refusal.TheVariants.{Line as 
 use Rattle.puzzle_cli.specs.Commands.{is_quit}
 use Rattle.puzzle_cli.specs.Formats.{Leaves}
 use Rattle.json_replies.specs.Replies.{reply_data}
-use Rattle.json_replies.specs.ObjectLines.{IsShallow, OrLost, IsLineOfData}
+use Rattle.json_replies.specs.ObjectLines.{OrLost, IsLineOfData}
 use Rattle.json_replies.specs.Sessions.{session_data}
 use Rattle.json_replies.specs.JsonReplies.{TellsOutcome, TellsLine, JsonReply}
 use Rattle.json_replies.specs.declared.further_line.FurtherLine.{FurtherLine}
 use Rattle.latin_board.specs.Boards.{BoardValue}
 use Rattle.puzzle_cli.specs.SessionReplies.{shown_board}
 use Rattle.json_replies.specs.FurtherLines.{BoardFacts, Further, further_at, IsFurtherLine, IsAnswer}
-use Rattle.json_replies.proofs.Spellings.{session_fits}
 
 pub tells_nothing : {P : Type 0} (f : GameFacts P) (said : List ℕ) (last new : Option (History P)) (bytes : List ℕ)
     → (length said == 0) ≡ true → bytes ≡ [] → TellsOutcome f (Ok (said, last)) new bytes
@@ -31,11 +30,6 @@ pub tells_said : {P : Type 0} (f : GameFacts P) (said : List ℕ) (last new : Op
     → (length said == 0) ≡ false → OrLost (IsLineOfData (reply_data None said (session_data f new))) bytes → TellsOutcome f (Ok (said, last)) new bytes
 tells_said f [] last new bytes some told = absurd (true≢false some)
 tells_said f (x ∷ said) last new bytes some told = told
-
--- what is told of a session can be written
-pub session_spelled : {P : Type 0} (f : GameFacts P) (session : Option (History P)) (told : Data)
-    → told ≡ session_data f session → IsShallow 7 told
-session_spelled f session told is = subst (IsShallow 7) (sym is) (session_fits f session)
 
 -- ---- what is said to a line
 

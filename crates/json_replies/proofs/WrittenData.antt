@@ -1,5 +1,5 @@
 -- What follows when data are written token by token.
-use Rattle.std.proofs.Common.{◌≡◌, ℕ, ◌<◌, ◌^◌, List, [], ◌∷◌, ◌++◌, ℤ, pos, negsuc, SFits, w8, Some, Ok, option_map, option_and_then, refl, sym, ap, ap₂, ◌∙◌, append_assoc, append-nil, arith, decimal, ◌+◌, map, take, subst}
+use Rattle.std.proofs.Common.{◌≡◌, ℕ, ◌<◌, ◌^◌, List, [], ◌∷◌, ◌++◌, ℤ, pos, negsuc, SFits, w8, Some, Ok, option_map, option_and_then, refl, sym, ap, ◌∙◌, append_assoc, append-nil, arith, decimal, ◌+◌, map, take, subst}
 use Rattle.std.specs.List.{flat_map, range_with_len}
 use Rattle.std.specs.Fmt.{signed_decimal}
 use Rattle.std.proofs.lemmas.Grind.{flat_map-append}
@@ -8,22 +8,17 @@ use Rattle.puzzle_cli.proofs.Ranges.{flat_map_onto}
 use Rattle.json.specs.Token.{Token, begin_array, end_array, begin_object, end_object, key, number as number_token}
 use Rattle.json.specs.Tree.{json_tokens, items_tokens, members_tokens}
 use Rattle.json.specs.Written.{Written, Writes}
-use Rattle.serde_json.specs.Data.{Data, number, array, object, item, no_members}
+use Rattle.serde_json.specs.Data.{Data, Members, number, array, object, item, no_members, put}
 use Rattle.serde_json.specs.Find.{of_integer}
-use Rattle.serde_json.specs.Read.{of_json, of_items}
+use Rattle.serde_json.specs.Read.{of_json, of_items, of_members}
 use Rattle.serde_json.specs.View.{items_of}
 use Rattle.serde_json.specs.Written.{outline, items_outline, members_outline}
 use Rattle.serde_json.proofs.Numbers.{number_of-decimal, number_of-negative}
-use Rattle.json.specs.Lex.{tokens}
-use Rattle.json.specs.Print.{print}
-use Rattle.serde_json.proofs.Texts.{print-outline}
 use Rattle.json_replies.specs.Counts.{count_data}
-use Rattle.json_replies.specs.ObjectLines.{IsShallow}
-use Rattle.json_replies.specs.Inner.ObjectTexts.{as_members, IsPlainText}
-use Rattle.json_replies.proofs.ObjectTexts.{put_all, object_reads, tokens_are_plain}
-use Rattle.json_replies.specs.Inner.WrittenData.{data_tokens, AllRead, Follow, member_tokens, AllMembersRead, MembersFollow}
+use Rattle.json_replies.specs.Inner.WrittenData.{as_members, data_tokens, AllRead, Follow, member_tokens, AllMembersRead, MembersFollow}
 
-one_tokens : (d : Data) → data_tokens (d ∷ []) ≡ json_tokens (outline d)
+-- the tokens of one value alone
+pub one_tokens : (d : Data) → data_tokens (d ∷ []) ≡ json_tokens (outline d)
 one_tokens d = append-nil (json_tokens (outline d))
 
 all_read : (xs ys : List Data) → AllRead xs → AllRead ys → AllRead (xs ++ ys)
@@ -139,6 +134,19 @@ more_members {xs} {ys} {a} first more = record {
   reads = all_members_read xs ys first.reads more.reads;
 }
 
+-- the members, put one by one among those before them
+abbrev pub put_all : List (List ℕ × Data) → Members → Members
+put_all [] before = before
+put_all (m ∷ ms) before = put_all ms (put m.0 m.1 before)
+
+-- members that read as themselves are put one by one
+object_reads : (ms : List (List ℕ × Data)) (before : Members) → AllMembersRead ms
+    → of_members (members_outline (as_members ms)) before ≡ Some (put_all ms before)
+object_reads [] before reads = refl
+object_reads (m ∷ ms) before reads =
+    ap (option_and_then (λ e. of_members (members_outline (as_members ms)) (put m.0 e before))) reads.0
+    ∙ object_reads ms (put m.0 m.1 before) reads.1
+
 object_tokens : (ms : List (List ℕ × Data)) → members_tokens (members_outline (as_members ms)) ≡ member_tokens ms ++ end_object ∷ []
 object_tokens [] = refl
 object_tokens (m ∷ ms) =
@@ -158,17 +166,3 @@ object_follows ms {old} ordered opens follow closes = record {
       ∙ ap (λ ts. old.tokens ++ ts) (sym (one_tokens (object (as_members ms))));
   reads = (ap (option_map object) (object_reads ms no_members follow.reads ∙ ap Some ordered), tt);
 }
-
--- ---- the whole
-
--- the text of data that alone were written
-pub written_alone : (d : Data) (text : List ℕ) (start end : Written) → start.before ≡ [] → start.tokens ≡ [] → Follow (d ∷ []) start end
-    → text ≡ end.before ++ print end.tokens → tokens (print end.tokens) ≡ end.tokens → IsShallow 7 d
-    → IsPlainText d text
-written_alone d text start end no_text no_token follow is back fits =
-    let all : end.tokens ≡ json_tokens (outline d) = follow.adds ∙ ap (λ ts. ts ++ data_tokens (d ∷ [])) no_token ∙ one_tokens d in
-    record {
-      text = is ∙ ap₂ (λ (b : List ℕ) (ts : List Token). b ++ print ts) (follow.stays ∙ no_text) all ∙ print-outline d;
-      plain = tokens_are_plain d (print end.tokens) fits (back ∙ all) follow.reads.0;
-      fits = fits;
-    }

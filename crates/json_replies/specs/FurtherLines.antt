@@ -114,10 +114,14 @@ answer_data (One g) = string (codes "one")
 answer_data (Several g h) = string (codes "several")
 
 -- the solutions that were found
+abbrev pub solutions_in : Answer → List GridValue
+solutions_in NoSolution = []
+solutions_in (One g) = g ∷ []
+solutions_in (Several g h) = g ∷ h ∷ []
+
+-- the list of them
 abbrev pub solutions_data : Answer → Data
-solutions_data NoSolution = list_data grid_data []
-solutions_data (One g) = list_data grid_data (g ∷ [])
-solutions_data (Several g h) = list_data grid_data (g ∷ h ∷ [])
+solutions_data found = list_data grid_data (solutions_in found)
 
 -- a hint of a grid is told in this answer
 abbrev pub IsHintAnswer : Puzzle → (Grade → List ℕ) → Striking → (ℕ → ℕ) → (ℕ → ℕ → Bool) → GridValue → Data

@@ -1,4 +1,4 @@
 -- Words that the contracts of private functions alone use.
-pub mod ObjectTexts
+pub mod ObjectMembers
 pub mod WrittenData
 pub mod ToldResponses

@@ -1,105 +1,127 @@
 //! The object of a board.
 
-ghost use Rattle.std.specs.Prelude.{◌≡◌, ◌≤◌, IfOk};
-ghost use Rattle.latin_board.specs.Marks.{IsMarkSet};
-ghost use Rattle.serde_json.specs.View.{view};
-ghost use Rattle.json_replies.specs.Boards.{grid_data, givens_data, mark_set_data, marks_data, repeats_data};
-ghost use Rattle.json_replies.specs.Boards.{board_data};
+ghost use Rattle.std.specs.Prelude.{◌≡◌, ◌*◌, ◌<◌, ◌≤◌, ◌∷◌, [], OnOk};
+ghost use Rattle.latin_board.specs.Boards.{marks_at};
+ghost use Rattle.latin_board.specs.Squares.{number_at};
+ghost use Rattle.number_sets.specs.Sets.{has_number};
+ghost use Rattle.board_checks.specs.Errors.{has_repeated};
+ghost use Rattle.json_replies.specs.Boards.{board_data, grid_data, mark_set_data, when};
+ghost use Rattle.json_replies.specs.Counts.{count_data};
+ghost use Rattle.json_replies.specs.Inner.WrittenData.{Follow};
 
-use crate::lists::{push_value, push_when, square_count};
+use crate::shown::Shows;
+use crate::written::{
+    Each, write_flag_at, write_number, write_number_at, write_number_when, write_range,
+    write_squares,
+};
 use board_checks::BoardErrors;
-use latin_board::{Board, Grid, Marks, Size};
-use serde_json::{Map, Value, put};
-use std::alloc::{AllocError, Global};
+use json::Writer;
+use latin_board::{Board, Grid, Marks};
+use std::alloc::AllocError;
 use trail_solver::Rules;
 
-/// The board, its puzzle's givens, its errors, and the clues and signs that its game has beside them.
-pub(crate) fn board_value<P: Rules>(
-    alloc: Global,
+/// Writes the board, its puzzle's givens, its errors, and the clues and signs that its game has beside them.
+pub(crate) fn write_board<P: Shows>(
+    writer: &mut Writer,
     puzzle: &P,
     board: &Board,
     errors: &BoardErrors,
-    clues: Value,
-    signs: Value,
-) -> Result<Value, AllocError>
-    ensures { IfOk result (λ value. view value
-        ≡ board_data (P.puzzle puzzle.now) board.now errors.now (view clues) (view signs)) }
+) -> Result<(), AllocError>
+    requires { board.now.size ≡ (P.puzzle puzzle.now).size }
+    ensures { OnOk result (Follow (board_data (P.puzzle puzzle.now) board.now errors.now
+        (P.clues puzzle.now board.now errors.now) (P.signs puzzle.now board.now errors.now) ∷ [])
+        writer.old writer.new) }
 {
-    let mut members = Map::new(alloc);
-    put(&mut members, alloc, "size", Value::from(board.size().get()))?;
-    put(&mut members, alloc, "signs", signs)?;
-    let numbers = grid_value(alloc, board.grid())?;
-    put(&mut members, alloc, "numbers", numbers)?;
-    put(&mut members, alloc, "marks", marks_value(alloc, board)?)?;
-    put(&mut members, alloc, "givens", givens_value(alloc, puzzle)?)?;
-    put(
-        &mut members,
-        alloc,
-        "errors",
-        repeats_value(alloc, board.size(), errors)?,
-    )?;
-    put(
-        &mut members,
-        alloc,
-        "completed",
-        Value::from(board.completed()),
-    )?;
-    put(&mut members, alloc, "clues", clues)?;
-    put(&mut members, alloc, "cheated", Value::from(board.cheated()))?;
-    Ok(Value::from(members))
+    let size = board.size();
+    writer.begin_object()?;
+    write_flag_at(writer, "cheated", board.cheated())?;
+    writer.key("clues")?;
+    puzzle.write_clues(writer, board, errors)?;
+    write_flag_at(writer, "completed", board.completed())?;
+    writer.key("errors")?;
+    write_squares(writer, size, &Repeats(errors))?;
+    writer.key("givens")?;
+    write_squares(writer, puzzle.size(), &Givens(puzzle))?;
+    writer.key("marks")?;
+    write_squares(writer, size, &MarkSets(board))?;
+    writer.key("numbers")?;
+    write_grid(writer, board.grid())?;
+    writer.key("signs")?;
+    puzzle.write_signs(writer, board, errors)?;
+    write_number_at(writer, "size", Some(usize::from(size.get())))?;
+    writer.end_object()?;
+    Ok(())
 }
 
-/// The number of each square, 0 where it is blank.
-pub(crate) fn grid_value(alloc: Global, grid: &Grid) -> Result<Value, AllocError>
-    ensures { IfOk result (λ list. view list ≡ grid_data grid.now) }
+/// Writes the number of each square, 0 where it is blank.
+pub(crate) fn write_grid(writer: &mut Writer, grid: &Grid) -> Result<(), AllocError>
+    ensures { OnOk result (Follow (grid_data grid.now ∷ []) writer.old writer.new) }
 {
-    let mut list = Vec::new(alloc);
-    for cell in 0..square_count(grid.size()) {
-        push_value(&mut list, Value::from(grid.get(cell)))?;
+    write_squares(writer, grid.size(), &Numbers(grid))
+}
+
+// The number of each square.
+#[derive(Drop)]
+struct Numbers<'a>(&'a Grid);
+
+impl<'a> Each for Numbers<'a> {
+    ghost asks = { λ of cell. cell < of.0.now.size * of.0.now.size };
+
+    ghost tells = { λ of cell. count_data (number_at of.0.now cell) ∷ [] };
+
+    fn write(&self, writer: &mut Writer, cell: usize) -> Result<(), AllocError> {
+        write_number(writer, usize::from(self.0.get(cell)))
     }
-    Ok(Value::from(list))
 }
 
 // The given number of each square, 0 where there is none.
-fn givens_value<P: Rules>(alloc: Global, puzzle: &P) -> Result<Value, AllocError>
-    ensures { IfOk result (λ list. view list ≡ givens_data (P.puzzle puzzle.now)) }
-{
-    let mut list = Vec::new(alloc);
-    for cell in 0..square_count(puzzle.size()) {
-        push_value(&mut list, Value::from(puzzle.given(cell)))?;
+#[derive(Drop)]
+struct Givens<'a, P>(&'a P);
+
+impl<'a, P: Rules> Each for Givens<'a, P> {
+    ghost asks = { λ of cell. cell < (P.puzzle of.0.now).size * (P.puzzle of.0.now).size };
+
+    ghost tells = { λ of cell. count_data ((P.puzzle of.0.now).given cell) ∷ [] };
+
+    fn write(&self, writer: &mut Writer, cell: usize) -> Result<(), AllocError> {
+        write_number(writer, usize::from(self.0.given(cell)))
     }
-    Ok(Value::from(list))
 }
 
 // The pencil marks of each square.
-fn marks_value(alloc: Global, board: &Board) -> Result<Value, AllocError>
-    ensures { IfOk result (λ list. view list ≡ marks_data board.now) }
-{
-    let mut list = Vec::new(alloc);
-    for cell in 0..square_count(board.size()) {
-        push_value(&mut list, mark_set_value(alloc, board.marks(cell))?)?;
+#[derive(Drop)]
+struct MarkSets<'a>(&'a Board);
+
+impl<'a> Each for MarkSets<'a> {
+    ghost asks = { λ of cell. cell < of.0.now.size * of.0.now.size };
+
+    ghost tells = { λ of cell. mark_set_data (marks_at of.0.now cell) ∷ [] };
+
+    fn write(&self, writer: &mut Writer, cell: usize) -> Result<(), AllocError> {
+        write_range(writer, 1, 9, &self.0.marks(cell))
     }
-    Ok(Value::from(list))
 }
 
-// The numbers of a set of marks, rising.
-fn mark_set_value(alloc: Global, marks: Marks) -> Result<Value, AllocError>
-    ensures { IfOk result (λ list. view list ≡ mark_set_data marks) }
-{
-    let mut list = Vec::new(alloc);
-    for n in 1..10 {
-        push_when(&mut list, marks.has(n), usize::from(n))?;
+impl Each for Marks {
+    ghost asks = { λ _ n. (1 ≤ n) × (n ≤ 9) };
+
+    ghost tells = { λ set n. when (has_number set n) (count_data n) };
+
+    fn write(&self, writer: &mut Writer, n: usize) -> Result<(), AllocError> {
+        write_number_when(writer, self.has(n as u8), n)
     }
-    Ok(Value::from(list))
 }
 
 // The squares whose number stands again in its row or column.
-fn repeats_value(alloc: Global, size: Size, errors: &BoardErrors) -> Result<Value, AllocError>
-    ensures { IfOk result (λ list. view list ≡ repeats_data size errors.now) }
-{
-    let mut list = Vec::new(alloc);
-    for cell in 0..square_count(size) {
-        push_when(&mut list, errors.is_repeated(cell), cell)?;
+#[derive(Drop)]
+struct Repeats<'a>(&'a BoardErrors);
+
+impl<'a> Each for Repeats<'a> {
+    ghost asks = { λ _ cell. Unit {0} };
+
+    ghost tells = { λ of cell. when (has_repeated of.0.now cell) (count_data cell) };
+
+    fn write(&self, writer: &mut Writer, cell: usize) -> Result<(), AllocError> {
+        write_number_when(writer, self.0.is_repeated(cell), cell)
     }
-    Ok(Value::from(list))
 }

@@ -1,6 +1,6 @@
 //! The format of the program `puzzles-json`: each reply is one JSON object on one line.
 
-ghost use Rattle.std.specs.Prelude.{◌≡◌, ◌≤◌, false, length, Some, None, Ok, IfOk};
+ghost use Rattle.std.specs.Prelude.{◌≡◌, ◌≤◌, false, length, Some, None, Ok};
 ghost use Rattle.std.specs.Option.{option_copied};
 ghost use Rattle.puzzle_cli.specs.Machines.{IsResponse};
 ghost use Rattle.puzzle_cli.specs.Replies.{refusal_line};
@@ -18,10 +18,8 @@ use crate::begin_line::{BeginLine, read_begin};
 use crate::begin_refusal::BeginRefusal;
 use crate::further::answer_line;
 use crate::further_line::{FurtherLine, read_further};
-use crate::object_line::reply_object;
-use crate::session::session_value;
+use crate::object_line::reply_line;
 use crate::shown::{ShownFacts, Shows};
-use latin_board::OutOfMemory;
 use play_midend::Session;
 use puzzle_cli::{Draw, Facts, Format, LineFault, Refusal, Response, Text, execute};
 use std::alloc::Global;
@@ -144,24 +142,10 @@ fn object<P: Draw>(
     ensures { OrLost (IsLineOfData (reply_data (option_copied refused.entry) reply.now
         (session_data ⟦<P as Facts>⟧.facts session.now))) (text_bytes result) }
 {
-    match object_line(alloc, session, refused, reply) {
+    match reply_line(alloc, session, refused, reply) {
         Ok(line) => Text::Long(line),
         Err(_) => lost(),
     }
-}
-
-#[tactic(auto, using(crate::proofs::ToldReplies::session_spelled))]
-fn object_line<P: Draw>(
-    alloc: Global,
-    session: &Option<Session<P>>,
-    refused: Option<&[u8]>,
-    reply: &[u8],
-) -> Result<Vec<u8>, OutOfMemory>
-    ensures { IfOk result (λ line. IsLineOfData (reply_data (option_copied refused.entry) reply.now
-        (session_data ⟦<P as Facts>⟧.facts session.now)) line.items) }
-{
-    let session = session_value(alloc, session)?;
-    Ok(reply_object(alloc, refused, reply, &session)?)
 }
 
 // What is said where memory is wanting.

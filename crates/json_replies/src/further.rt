@@ -1,35 +1,38 @@
-//! The answers beside the commands, as texts of JSON: the board, the solutions that keep its numbers, a hint, the puzzle's grade and items.
+//! The answers beside the commands, as data of JSON: the board, the solutions that keep its numbers, a hint, the puzzle's grade and items.
 
 ghost use Rattle.line_steps.specs.Reasons.{StruckBy};
-ghost use Rattle.std.specs.Prelude.{◌≡◌, Option, Some, Ok, IfOk};
-ghost use Rattle.serde_json.specs.View.{view};
+ghost use Rattle.std.specs.Prelude.{◌≡◌, ◌∷◌, [], Option, Some, None, Ok, map, IfOk, OnOk};
 ghost use Rattle.trail_solver.specs.Answers.{Fits};
 ghost use Rattle.trail_solver.specs.Completions.{Completes};
 ghost use Rattle.trail_solver.specs.Puzzles.{Solves};
 ghost use Rattle.trail_solver.specs.declared.answer.Answer.{Answer};
 ghost use Rattle.named_steps.specs.Graded.{IsGradeOf};
 ghost use Rattle.line_steps.specs.declared.grade.Grade.{Grade as GradeValue};
-ghost use Rattle.json_replies.specs.FurtherLines.{IsAnswer, IsFurtherLine, IsHintAnswer, answer_data, solutions_data};
+ghost use Rattle.json_replies.specs.Boards.{grid_data};
+ghost use Rattle.json_replies.specs.FurtherLines.{IsAnswer, IsFurtherLine, IsHintAnswer, answer_data, further_key};
+ghost use Rattle.json_replies.specs.FurtherLines.{solutions_data, solutions_in};
 ghost use Rattle.json_replies.specs.HintObjects.{grade_data};
 ghost use Rattle.json_replies.specs.ListedItems.{AreItemsListed};
+ghost use Rattle.json_replies.specs.Sessions.{game_data};
 ghost use Rattle.json_replies.specs.declared.listed_items.Listing.TheVariants.{ByAnswer};
-ghost use Rattle.json_replies.specs.Inner.ObjectTexts.{IsTextWhere};
+ghost use Rattle.json_replies.specs.Inner.ObjectMembers.{AnswerFollows, further_list, reply_list};
+ghost use Rattle.json_replies.specs.Inner.WrittenData.{Follow, FollowsWhere, MembersFollow};
 
-use crate::board::{board_value, grid_value};
+use crate::board::{write_board, write_grid};
 use crate::further_line::FurtherLine;
-use crate::hint_text::hint_text;
-use crate::listed_items::{Listing, items_value};
-use crate::lists::push_value;
-use crate::object_line::{answer_object, value_text};
-use crate::session::game_value;
+use crate::hint_text::write_hint;
+use crate::listed_items::{Listing, write_items};
+use crate::object_line::{ended, write_said};
+use crate::session::write_game;
 use crate::shown::{ShownFacts, Shows};
+use crate::written::{write_null, write_word};
 use board_checks::errors;
+use json::Writer;
 use latin_board::{Board, Grid, OutOfMemory};
 use named_steps::{Grade, grade_of};
 use needed_items::Items;
 use play_midend::Session;
 use puzzle_cli::Facts;
-use serde_json::Value;
 use std::alloc::{AllocError, Global};
 use step_chains::next_hint;
 use step_texts::StepNames;
@@ -46,132 +49,203 @@ pub(crate) fn answer_line<P: Shows>(
     ensures { IfOk result (λ line. IsFurtherLine ⟦<P as Facts>⟧.facts
         ⟦<P as ShownFacts>⟧.board_facts (Ok which) (Some session.now) line.items) }
 {
-    let answer = answer_text(alloc, session.puzzle(), session.board(), which)?;
-    let game = game_value(alloc, session)?;
-    Ok(answer_object(alloc, which, &answer, &game)?)
+    let mut writer = Writer::new(Vec::new(alloc));
+    writer.begin_object()?;
+    write_members(alloc, &mut writer, session, which)?;
+    writer.end_object()?;
+    Ok(ended(writer)?)
 }
 
-// The answer itself, of a puzzle and the board that is shown.
-fn answer_text<P: Shows>(
+// Writes the answer and what each object has.
+fn write_members<P: Shows>(
     alloc: Global,
+    writer: &mut Writer,
+    session: &Session<P>,
+    which: FurtherLine,
+) -> Result<(), OutOfMemory>
+    ensures { OnOk result (AnswerFollows ⟦<P as Facts>⟧.facts ⟦<P as ShownFacts>⟧.board_facts session.now which
+        (λ answer. further_list which answer (game_data ⟦<P as Facts>⟧.facts session.now)) writer.old writer.new) }
+{
+    if which.is_last() {
+        write_common(alloc, writer, session)?;
+        write_answer_at(alloc, writer, session, which)?;
+        Ok(())
+    } else {
+        write_answer_at(alloc, writer, session, which)?;
+        write_common(alloc, writer, session)?;
+        Ok(())
+    }
+}
+
+// Writes what each object has.
+fn write_common<P: Shows>(
+    alloc: Global,
+    writer: &mut Writer,
+    session: &Session<P>,
+) -> Result<(), OutOfMemory>
+    ensures { OnOk result
+        (MembersFollow (reply_list None [] (game_data ⟦<P as Facts>⟧.facts session.now)) writer.old writer.new) }
+{
+    write_said(alloc, writer, None, b"")?;
+    writer.key("session")?;
+    write_game(alloc, writer, session)?;
+    Ok(())
+}
+
+// Writes the answer under its key.
+fn write_answer_at<P: Shows>(
+    alloc: Global,
+    writer: &mut Writer,
+    session: &Session<P>,
+    which: FurtherLine,
+) -> Result<(), OutOfMemory>
+    ensures { OnOk result (AnswerFollows ⟦<P as Facts>⟧.facts ⟦<P as ShownFacts>⟧.board_facts session.now which
+        (λ answer. (further_key which, answer) ∷ []) writer.old writer.new) }
+{
+    writer.key(which.key())?;
+    write_answer(alloc, writer, session.puzzle(), session.board(), which)?;
+    Ok(())
+}
+
+// Writes the answer itself, of a puzzle and the board that is shown.
+fn write_answer<P: Shows>(
+    alloc: Global,
+    writer: &mut Writer,
     puzzle: &P,
     board: &Board,
     which: FurtherLine,
-) -> Result<Vec<u8>, OutOfMemory>
+) -> Result<(), OutOfMemory>
     requires { board.now.size ≡ (P.puzzle puzzle.now).size }
-    ensures { IfOk result (λ text. IsTextWhere (IsAnswer ⟦<P as Facts>⟧.facts
-        ⟦<P as ShownFacts>⟧.board_facts puzzle.now board.now which) text.items) }
+    ensures { OnOk result (FollowsWhere (IsAnswer ⟦<P as Facts>⟧.facts
+        ⟦<P as ShownFacts>⟧.board_facts puzzle.now board.now which) writer.old writer.new) }
 {
-    let value = match which {
-        FurtherLine::Hint => return hint_answer(alloc, puzzle, board.grid()),
-        FurtherLine::Board => board_answer(alloc, puzzle, board)?,
-        FurtherLine::Completable => count_answer(alloc, puzzle, board.grid())?,
-        FurtherLine::Grade => grade_answer(alloc, puzzle)?,
-        FurtherLine::Solutions => solutions_answer(alloc, puzzle, board.grid())?,
-        FurtherLine::Spare => spare_answer(alloc, puzzle)?,
-        FurtherLine::SpareBy(grade) => items_value(alloc, puzzle, &Listing::ByGrade(grade))?,
-    };
-    Ok(value_text(alloc, &value)?)
+    match which {
+        FurtherLine::Board => board_answer(writer, puzzle, board),
+        FurtherLine::Completable => count_answer(writer, puzzle, board.grid()),
+        FurtherLine::Hint => hint_answer(alloc, writer, puzzle, board.grid()),
+        FurtherLine::Grade => grade_answer(writer, puzzle),
+        FurtherLine::Solutions => solutions_answer(writer, puzzle, board.grid()),
+        FurtherLine::Spare => spare_answer(alloc, writer, puzzle),
+        FurtherLine::SpareBy(grade) => {
+            Ok(write_items(alloc, writer, puzzle, &Listing::ByGrade(grade))?)
+        }
+    }
 }
 
 // The board that is shown, and what is wrong on it. What it takes of the stack isn't on it while a hint is looked for.
 #[inline(never)]
-fn board_answer<P: Shows>(alloc: Global, puzzle: &P, board: &Board) -> Result<Value, OutOfMemory>
+fn board_answer<P: Shows>(writer: &mut Writer, puzzle: &P, board: &Board) -> Result<(), OutOfMemory>
     requires { board.now.size ≡ (P.puzzle puzzle.now).size }
-    ensures { IfOk result (λ value. IsAnswer ⟦<P as Facts>⟧.facts ⟦<P as ShownFacts>⟧.board_facts puzzle.now board.now
-        FurtherLine.Board (view value)) }
+    ensures { OnOk result (FollowsWhere (IsAnswer ⟦<P as Facts>⟧.facts ⟦<P as ShownFacts>⟧.board_facts puzzle.now board.now
+        FurtherLine.Board) writer.old writer.new) }
 {
     let errors = errors(puzzle, board.grid());
-    let clues = puzzle.tell_clues(alloc, board, &errors)?;
-    let signs = puzzle.tell_signs(alloc, board, &errors)?;
-    Ok(board_value(alloc, puzzle, board, &errors, clues, signs)?)
+    write_board(writer, puzzle, board, &errors)?;
+    Ok(())
 }
 
 // How many solutions keep the numbers of a grid of the puzzle's size. What it takes of the stack isn't on it while a hint is
 // looked for.
 #[inline(never)]
-fn count_answer<P: Shows>(alloc: Global, puzzle: &P, grid: &Grid) -> Result<Value, OutOfMemory>
+fn count_answer<P: Shows>(writer: &mut Writer, puzzle: &P, grid: &Grid) -> Result<(), OutOfMemory>
     requires { grid.now.size ≡ (P.puzzle puzzle.now).size }
-    ensures { IfOk result (λ value. (found : Answer) × Fits (Completes (P.puzzle puzzle.now) grid.now) found
-        × (view value ≡ answer_data found)) }
+    ensures { OnOk result (FollowsWhere (λ answer. (found : Answer) × Fits (Completes (P.puzzle puzzle.now) grid.now) found
+        × (answer ≡ answer_data found)) writer.old writer.new) }
 {
-    Ok(count_value(alloc, completion(puzzle, grid))?)
+    write_count(writer, completion(puzzle, grid))?;
+    Ok(())
 }
 
-// How many solutions keep the numbers, as a word.
-fn count_value(alloc: Global, found: Answer) -> Result<Value, AllocError>
-    ensures { IfOk result (λ value. view value ≡ answer_data found) }
+// Writes how many solutions keep the numbers, as a word.
+fn write_count(writer: &mut Writer, found: Answer) -> Result<(), AllocError>
+    ensures { OnOk result (Follow (answer_data found ∷ []) writer.old writer.new) }
 {
-    let word = match found {
-        Answer::None => "none",
-        Answer::One(_) => "one",
-        Answer::Several(_, _) => "several",
-    };
-    Value::try_from_str(alloc, word)
+    match found {
+        Answer::None => write_word(writer, "none"),
+        Answer::One(_) => write_word(writer, "one"),
+        Answer::Several(_, _) => write_word(writer, "several"),
+    }
 }
 
 // Two of the solutions that keep the numbers of a grid of the puzzle's size, or as many as there are.
 #[inline(never)]
-fn solutions_answer<P: Shows>(alloc: Global, puzzle: &P, grid: &Grid) -> Result<Value, OutOfMemory>
+fn solutions_answer<P: Shows>(
+    writer: &mut Writer,
+    puzzle: &P,
+    grid: &Grid,
+) -> Result<(), OutOfMemory>
     requires { grid.now.size ≡ (P.puzzle puzzle.now).size }
-    ensures { IfOk result (λ value. (found : Answer) × Fits (Completes (P.puzzle puzzle.now) grid.now) found
-        × (view value ≡ solutions_data found)) }
+    ensures { OnOk result (FollowsWhere (λ answer. (found : Answer) × Fits (Completes (P.puzzle puzzle.now) grid.now) found
+        × (answer ≡ solutions_data found)) writer.old writer.new) }
 {
-    Ok(solutions_value(alloc, completion(puzzle, grid))?)
+    let found = completion(puzzle, grid);
+    writer.begin_array()?;
+    write_grids(writer, &found)?;
+    writer.end_array()?;
+    Ok(())
 }
 
-// The solutions that were found.
-fn solutions_value(alloc: Global, found: Answer) -> Result<Value, AllocError>
-    ensures { IfOk result (λ value. view value ≡ solutions_data found) }
+// Writes the solutions that were found.
+#[tactic(auto, using(crate::proofs::WrittenData::none_follow, crate::proofs::WrittenData::more_follow))]
+fn write_grids(writer: &mut Writer, found: &Answer) -> Result<(), AllocError>
+    ensures { OnOk result (Follow (map grid_data (solutions_in found.now)) writer.old writer.new) }
 {
-    let mut list = Vec::new(alloc);
     match found {
-        Answer::None => (),
-        Answer::One(grid) => push_value(&mut list, grid_value(alloc, &grid)?)?,
+        Answer::None => Ok(()),
+        Answer::One(grid) => write_grid(writer, grid),
         Answer::Several(one, other) => {
-            push_value(&mut list, grid_value(alloc, &one)?)?;
-            push_value(&mut list, grid_value(alloc, &other)?)?;
+            write_grid(writer, one)?;
+            write_grid(writer, other)?;
+            Ok(())
         }
     }
-    Ok(Value::from(list))
 }
 
 // The items that could be left out, or of which one is to blame.
 #[inline(never)]
-fn spare_answer<P: Shows>(alloc: Global, puzzle: &P) -> Result<Value, OutOfMemory>
-    ensures { IfOk result (λ value. (found : Answer) × Fits (Solves (P.puzzle puzzle.now)) found
+fn spare_answer<P: Shows>(alloc: Global, writer: &mut Writer, puzzle: &P) -> Result<(), OutOfMemory>
+    ensures { OnOk result (FollowsWhere (λ answer. (found : Answer) × Fits (Solves (P.puzzle puzzle.now)) found
         × AreItemsListed ⟦<P as Rules>⟧ (StruckBy P.puzzle P.own) P.Items.own (P.says_greater_of puzzle.now) puzzle.now
-        (ByAnswer found) (view value)) }
+        (ByAnswer found) answer) writer.old writer.new) }
 {
-    Ok(items_value(alloc, puzzle, &Listing::ByAnswer(solve(puzzle)))?)
+    write_items(alloc, writer, puzzle, &Listing::ByAnswer(solve(puzzle)))?;
+    Ok(())
 }
 
 // The hint of a grid of the puzzle's size.
-fn hint_answer<P: Shows>(alloc: Global, puzzle: &P, grid: &Grid) -> Result<Vec<u8>, OutOfMemory>
+fn hint_answer<P: Shows>(
+    alloc: Global,
+    writer: &mut Writer,
+    puzzle: &P,
+    grid: &Grid,
+) -> Result<(), OutOfMemory>
     requires { grid.now.size ≡ (P.puzzle puzzle.now).size }
-    ensures { IfOk result (λ text. IsTextWhere (IsHintAnswer (P.puzzle puzzle.now) P.grade_letter
-        (StruckBy P.puzzle P.own puzzle.now) (P.edge_clue_of puzzle.now) (P.says_greater_of puzzle.now) grid.now) text.items) }
+    ensures { OnOk result (FollowsWhere (IsHintAnswer (P.puzzle puzzle.now) P.grade_letter
+        (StruckBy P.puzzle P.own puzzle.now) (P.edge_clue_of puzzle.now) (P.says_greater_of puzzle.now) grid.now)
+        writer.old writer.new) }
 {
     let hint = next_hint(alloc, puzzle, grid)?;
-    let text = hint_text(alloc, puzzle, grid, &hint)?;
-    Ok(text)
+    write_hint(alloc, writer, puzzle, grid, &hint)?;
+    Ok(())
 }
 
 // The puzzle's grade, if it has one. What it takes of the stack isn't on it while a hint is looked for.
 #[inline(never)]
-fn grade_answer<P: Shows>(alloc: Global, puzzle: &P) -> Result<Value, OutOfMemory>
-    ensures { IfOk result (λ value. (grade : Option GradeValue) × IsGradeOf (P.puzzle puzzle.now) (StruckBy P.puzzle P.own puzzle.now)
-        grade × (view value ≡ grade_data P.grade_letter grade)) }
+fn grade_answer<P: Shows>(writer: &mut Writer, puzzle: &P) -> Result<(), OutOfMemory>
+    ensures { OnOk result (FollowsWhere (λ answer. (grade : Option GradeValue)
+        × IsGradeOf (P.puzzle puzzle.now) (StruckBy P.puzzle P.own puzzle.now) grade
+        × (answer ≡ grade_data P.grade_letter grade)) writer.old writer.new) }
 {
-    Ok(grade_value::<P>(alloc, grade_of(puzzle))?)
+    write_grade::<P>(writer, grade_of(puzzle))?;
+    Ok(())
 }
 
-// The letter of a grade, or null.
-fn grade_value<P: StepNames>(alloc: Global, grade: Option<Grade>) -> Result<Value, AllocError>
-    ensures { IfOk result (λ value. view value ≡ grade_data P.grade_letter grade) }
+// Writes the letter of a grade, or null.
+fn write_grade<P: StepNames>(writer: &mut Writer, grade: Option<Grade>) -> Result<(), AllocError>
+    ensures { OnOk result (Follow (grade_data P.grade_letter grade ∷ []) writer.old writer.new) }
 {
     match grade {
-        Some(grade) => Value::try_from_str(alloc, P::letter(grade)),
-        None => Ok(Value::from(())),
+        Some(grade) => write_word(writer, P::letter(grade)),
+        None => write_null(writer),
     }
 }

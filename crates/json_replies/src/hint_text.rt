@@ -1,22 +1,23 @@
-//! The text of the object of a hint.
+//! The object of a hint.
 
 ghost use Rattle.line_steps.specs.Reasons.{StruckBy};
 ghost use Rattle.std.specs.Prelude.{◌≡◌, ◌*◌, ◌<◌, ◌∷◌, [], codes, OnOk, IfOk};
 ghost use Rattle.std.specs.Option.{option_copied};
 ghost use Rattle.step_texts.specs.Lines.{line_texts};
 ghost use Rattle.named_steps.specs.Chains.{IsView};
-ghost use Rattle.trail_solver.specs.Candidates.{CandidatesValue};
+ghost use Rattle.trail_solver.specs.Candidates.{CandidatesValue, may_be};
+ghost use Rattle.trail_solver.specs.Pairs.{IsPair};
+ghost use Rattle.json_replies.specs.Boards.{when};
 ghost use Rattle.json_replies.specs.Counts.{count_data};
 ghost use Rattle.json_replies.specs.Texts.{list_data};
 ghost use Rattle.json_replies.specs.HintObjects.{IsGoalTold, IsHintValue, IsTextOf, by_word, goal_line_data};
 ghost use Rattle.json_replies.specs.HintObjects.{left_data, said_of, steps_in, view_data, without_number};
-ghost use Rattle.json_replies.specs.Inner.ObjectTexts.{IsTextWhere};
 ghost use Rattle.json_replies.specs.Inner.WrittenData.{count_or_null, said_data, said_members, word_or_null};
-ghost use Rattle.json_replies.specs.Inner.WrittenData.{Follow, MembersFollow};
+ghost use Rattle.json_replies.specs.Inner.WrittenData.{Follow, FollowsWhere, MembersFollow};
 
-use crate::lists::square_count;
 use crate::written::{
-    write_lines, write_number, write_number_at, write_number_when, write_word_at,
+    Each, write_lines, write_number, write_number_at, write_number_when, write_range,
+    write_squares, write_word_at,
 };
 use crate::written_steps::write_steps;
 use json::Writer;
@@ -29,37 +30,33 @@ use step_texts::{
 };
 use trail_solver::Candidates;
 
-/// A hint of a grid as an object: what it says, what is in view, and the steps from there, each with its sentence.
+/// Writes a hint of a grid as an object: what it says, what is in view, and the steps from there, each with its sentence.
 #[inline(never)]
-pub(crate) fn hint_text<P: StepNames>(
+pub(crate) fn write_hint<P: StepNames>(
     alloc: Global,
+    writer: &mut Writer,
     p: &P,
     grid: &Grid,
     hint: &NextHint,
-) -> Result<Vec<u8>, AllocError>
+) -> Result<(), AllocError>
     requires size { grid.now.size ≡ (P.Rules.puzzle p.now).size }
     requires goal { IsGoalTold grid.now.size hint.now }
-    ensures { IfOk result (λ text. IsTextWhere (IsHintValue (P.Rules.puzzle p.now).size P.grade_letter
-        (P.edge_clue_of p.now) (P.says_greater_of p.now) (StruckBy P.puzzle P.own p.now) grid.now hint.now) text.items) }
+    ensures { OnOk result (FollowsWhere (IsHintValue (P.Rules.puzzle p.now).size P.grade_letter (P.edge_clue_of p.now)
+        (P.says_greater_of p.now) (StruckBy P.puzzle P.own p.now) grid.now hint.now) writer.old writer.new) }
 {
     let told = told_steps(alloc, p, view_of(grid), steps_in(hint))?;
     let groups = told_groups(alloc, p, told.as_slice())?;
     let lines = text_of(alloc, p, grid, told.as_slice(), hint)?;
-    let mut writer = Writer::new(Vec::new(alloc));
     writer.begin_object()?;
-    write_said(
-        &mut writer,
-        said_of::<P>(grid.size(), hint),
-        groups.as_slice(),
-    )?;
+    write_said(writer, said_of::<P>(grid.size(), hint), groups.as_slice())?;
     writer.key("steps")?;
-    write_steps(alloc, &mut writer, p, told.as_slice())?;
+    write_steps(alloc, writer, p, told.as_slice())?;
     writer.key("text")?;
-    write_lines(alloc, &mut writer, lines.as_slice())?;
+    write_lines(alloc, writer, lines.as_slice())?;
     writer.key("view")?;
-    write_view(&mut writer, grid)?;
+    write_view(writer, grid)?;
     writer.end_object()?;
-    Ok(writer.into_inner())
+    Ok(())
 }
 
 // What a hint says: each a member, null where it says nothing of that.
@@ -214,23 +211,38 @@ fn write_view(writer: &mut Writer, grid: &Grid) -> Result<(), AllocError>
 fn write_candidates(writer: &mut Writer, candidates: &Candidates) -> Result<(), AllocError>
     ensures { OnOk result (Follow (view_data candidates.now ∷ []) writer.old writer.new) }
 {
-    writer.begin_array()?;
-    for cell in 0..square_count(candidates.size()) {
-        write_left(writer, candidates, cell)?;
-    }
-    writer.end_array()?;
-    Ok(())
+    write_squares(writer, candidates.size(), &View(candidates))
 }
 
-// Writes the numbers that are left of a square, rising.
-fn write_left(writer: &mut Writer, candidates: &Candidates, cell: usize) -> Result<(), AllocError>
-    requires { cell < candidates.now.size * candidates.now.size }
-    ensures { OnOk result (Follow (left_data candidates.now cell ∷ []) writer.old writer.new) }
-{
-    writer.begin_array()?;
-    for n in 1..candidates.size().get() + 1 {
-        write_number_when(writer, candidates.may(cell, n), usize::from(n))?;
+// The numbers that are left of each square.
+#[derive(Drop)]
+struct View<'a>(&'a Candidates);
+
+impl<'a> Each for View<'a> {
+    ghost asks = { λ view cell. cell < view.0.now.size * view.0.now.size };
+
+    ghost tells = { λ view cell. left_data view.0.now cell ∷ [] };
+
+    fn write(&self, writer: &mut Writer, cell: usize) -> Result<(), AllocError> {
+        let candidates = self.0;
+        let width = usize::from(candidates.size().get());
+        write_range(writer, 1, width, &Left { candidates, cell })
     }
-    writer.end_array()?;
-    Ok(())
+}
+
+// The numbers that are left of a square, rising.
+#[derive(Drop)]
+struct Left<'a> {
+    candidates: &'a Candidates,
+    cell: usize,
+}
+
+impl<'a> Each for Left<'a> {
+    ghost asks = { λ left n. IsPair left.candidates.now.size left.cell n };
+
+    ghost tells = { λ left n. when (may_be left.candidates.now left.cell n) (count_data n) };
+
+    fn write(&self, writer: &mut Writer, n: usize) -> Result<(), AllocError> {
+        write_number_when(writer, self.candidates.may(self.cell, n as u8), n)
+    }
 }

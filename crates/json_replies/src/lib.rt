@@ -18,7 +18,6 @@ mod further_line;
 mod hint_text;
 mod item_words;
 mod listed_items;
-mod lists;
 mod object_line;
 mod reason_parts;
 mod reply_laws;

@@ -1,21 +1,24 @@
 //! The items that `spare` lists.
 
 ghost use Rattle.line_steps.specs.Reasons.{StruckBy};
-ghost use Rattle.std.specs.Prelude.{◌≡◌, ◌↔◌, ◌+◌, ◌*◌, ◌<◌, ◌++◌, ℕ, Bool, false, length, map, slice_index_or, IfOk, IsTrue, OnOk};
-ghost use Rattle.serde_json.specs.View.{view};
+ghost use Rattle.std.specs.Prelude.{◌≡◌, ◌↔◌, ◌*◌, ◌<◌, ◌∷◌, [], ℕ, length, IfOk, IsTrue, OnOk};
 ghost use Rattle.needed_items.specs.Needed.{IsSpare};
 ghost use Rattle.json_replies.specs.Boards.{when};
 ghost use Rattle.json_replies.specs.Counts.{count_data};
 ghost use Rattle.json_replies.specs.ListedItems.{AreItemsListed, IsListing, Passes, listed_by};
-ghost use Rattle.json_replies.specs.ListedItems.{place_data, ends_data, when_listed, sign_data, clues_listed, givens_listed, signs_at, signs_listed};
+ghost use Rattle.json_replies.specs.ListedItems.{place_data, ends_data, when_listed, items_data, sign_data, signs_at};
+ghost use Rattle.json_replies.specs.Inner.WrittenData.{Follow, FollowsWhere};
 
-use crate::lists::{push_value, push_when, square_count};
 use crate::shown::Shows;
+use crate::written::{
+    Each, square_count, write_number_at, write_number_when, write_place_at, write_range,
+    write_squares,
+};
 use fair_games::is_spare_by;
-use latin_board::edge_xy;
+use json::Writer;
+use latin_board::Size;
 use named_steps::Grade;
 use needed_items::{Items, is_blamed, is_spare};
-use serde_json::{Map, Value, put};
 use std::alloc::{AllocError, Global};
 use trail_solver::{Answer, Rules};
 
@@ -28,26 +31,47 @@ pub(crate) enum Listing {
     ByGrade(Grade),
 }
 
-/// The object of the items that are listed.
-pub(crate) fn items_value<P: Shows>(
+/// Writes the object of the items that are listed.
+pub(crate) fn write_items<P: Shows>(
     alloc: Global,
+    writer: &mut Writer,
     puzzle: &P,
     by: &Listing,
-) -> Result<Value, AllocError>
+) -> Result<(), AllocError>
     requires { IsListing (P.puzzle puzzle.now) by.now }
-    ensures { IfOk result (λ value. AreItemsListed ⟦<P as Rules>⟧ (StruckBy P.puzzle P.own) P.Items.own
-        (P.says_greater_of puzzle.now) puzzle.now by.now (view value)) }
+    ensures { OnOk result (FollowsWhere (AreItemsListed ⟦<P as Rules>⟧ (StruckBy P.puzzle P.own) P.Items.own
+        (P.says_greater_of puzzle.now) puzzle.now by.now) writer.old writer.new) }
 {
     let listed = listed_items(alloc, puzzle, by)?;
-    let listed = listed.as_slice();
-    let mut lists = Map::new(alloc);
-    let signs = listed_signs(alloc, puzzle, listed)?;
-    put(&mut lists, alloc, "signs", signs)?;
-    let givens = listed_givens(alloc, puzzle, listed)?;
-    put(&mut lists, alloc, "givens", givens)?;
-    let clues = listed_clues(alloc, puzzle, listed)?;
-    put(&mut lists, alloc, "clues", clues)?;
-    Ok(Value::from(lists))
+    write_listed(writer, puzzle, listed.as_slice())?;
+    Ok(())
+}
+
+// Writes the items of which a list has it that they are listed.
+fn write_listed<P: Shows>(
+    writer: &mut Writer,
+    puzzle: &P,
+    listed: &[bool],
+) -> Result<(), AllocError>
+    requires { length listed.now ≡ P.items_of (P.puzzle puzzle.now).size }
+    ensures { OnOk result (Follow (items_data P.Items.own (P.says_greater_of puzzle.now) (P.puzzle puzzle.now).size
+        (listed_by listed.now) ∷ []) writer.old writer.new) }
+{
+    let size = puzzle.size();
+    writer.begin_object()?;
+    writer.key("clues")?;
+    write_range(
+        writer,
+        0,
+        4 * usize::from(size.get()),
+        &Clues { puzzle, listed },
+    )?;
+    writer.key("givens")?;
+    write_squares(writer, size, &Givens { puzzle, listed })?;
+    writer.key("signs")?;
+    write_squares(writer, size, &Signs { puzzle, listed })?;
+    writer.end_object()?;
+    Ok(())
 }
 
 // For each item whether it is listed.
@@ -90,93 +114,90 @@ fn is_in(listed: &[bool], item: usize) -> bool
 }
 
 // The places of the clues that are listed.
-fn listed_clues<P: Shows>(alloc: Global, puzzle: &P, listed: &[bool]) -> Result<Value, AllocError>
-    requires { length listed.now ≡ P.items_of (P.puzzle puzzle.now).size }
-    ensures { IfOk result (λ list. view list ≡ clues_listed P.Items.own (P.puzzle puzzle.now).size (listed_by listed.now)) }
-{
-    let mut list = Vec::new(alloc);
-    for place in 0..4 * puzzle.size().get() {
-        push_clue(alloc, &mut list, puzzle, listed, place)?;
-    }
-    Ok(Value::from(list))
+#[derive(Drop)]
+struct Clues<'a, P> {
+    puzzle: &'a P,
+    listed: &'a [bool],
 }
 
-fn push_clue<P: Shows>(
-    alloc: Global,
-    list: &mut Vec<Value>,
-    puzzle: &P,
-    listed: &[bool],
-    place: u8,
-) -> Result<(), AllocError>
-    requires count { length listed.now ≡ P.items_of (P.puzzle puzzle.now).size }
-    requires place { place < 4 * (P.puzzle puzzle.now).size }
-    ensures { OnOk result (map view list.new.items ≡ map view list.old.items
-        ++ when_listed (listed_by listed.now) (P.clue_item_of (P.puzzle puzzle.now).size place)
-        (place_data (P.puzzle puzzle.now).size place)) }
-{
-    let size = puzzle.size();
-    if let Some(item) = P::clue_item(size, place)
-        && is_in(listed, item)
-    {
-        let (x, y) = edge_xy(size, place);
-        let mut clue = Map::new(alloc);
-        put(&mut clue, alloc, "y", Value::from(y))?;
-        put(&mut clue, alloc, "x", Value::from(x))?;
-        push_value(list, Value::from(clue))?;
+impl<'a, P: Shows> Each for Clues<'a, P> {
+    ghost asks = { λ of place. (length of.listed.now ≡ P.items_of (P.puzzle of.puzzle.now).size)
+        × (place < 4 * (P.puzzle of.puzzle.now).size) };
+
+    ghost tells = { λ of place. when_listed (listed_by of.listed.now) (P.clue_item_of (P.puzzle of.puzzle.now).size place)
+        (place_data (P.puzzle of.puzzle.now).size place) };
+
+    #[tactic(auto, using(crate::proofs::WrittenData::none_follow))]
+    fn write(&self, writer: &mut Writer, place: usize) -> Result<(), AllocError> {
+        let size = self.puzzle.size();
+        let place = place as u8;
+        if let Some(item) = P::clue_item(size, place)
+            && is_in(self.listed, item)
+        {
+            write_place(writer, size, place)?;
+        }
+        Ok(())
     }
+}
+
+// Writes a place of the edge.
+fn write_place(writer: &mut Writer, size: Size, place: u8) -> Result<(), AllocError>
+    requires { place < 4 * size }
+    ensures { OnOk result (Follow (place_data size place ∷ []) writer.old writer.new) }
+{
+    writer.begin_object()?;
+    write_place_at(writer, size, Some(place))?;
+    writer.end_object()?;
     Ok(())
 }
 
 // The squares of the givens that are listed.
-fn listed_givens<P: Shows>(alloc: Global, puzzle: &P, listed: &[bool]) -> Result<Value, AllocError>
-    requires { length listed.now ≡ P.items_of (P.puzzle puzzle.now).size }
-    ensures { IfOk result (λ list. view list ≡ givens_listed P.Items.own (P.puzzle puzzle.now).size (listed_by listed.now)) }
-{
-    let mut list = Vec::new(alloc);
-    let size = puzzle.size();
-    for cell in 0..square_count(size) {
-        let is_listed = is_in(listed, P::given_item(size, cell));
-        push_when(&mut list, is_listed, cell)?;
+#[derive(Drop)]
+struct Givens<'a, P> {
+    puzzle: &'a P,
+    listed: &'a [bool],
+}
+
+impl<'a, P: Shows> Each for Givens<'a, P> {
+    ghost asks = { λ of cell. (length of.listed.now ≡ P.items_of (P.puzzle of.puzzle.now).size)
+        × (cell < (P.puzzle of.puzzle.now).size * (P.puzzle of.puzzle.now).size) };
+
+    ghost tells = { λ of cell.
+        when (listed_by of.listed.now (P.given_item_of (P.puzzle of.puzzle.now).size cell)) (count_data cell) };
+
+    fn write(&self, writer: &mut Writer, cell: usize) -> Result<(), AllocError> {
+        let item = P::given_item(self.puzzle.size(), cell);
+        write_number_when(writer, is_in(self.listed, item), cell)
     }
-    Ok(Value::from(list))
 }
 
-// The signs that are listed, square by square.
-fn listed_signs<P: Shows>(alloc: Global, puzzle: &P, listed: &[bool]) -> Result<Value, AllocError>
-    requires { length listed.now ≡ P.items_of (P.puzzle puzzle.now).size }
-    ensures { IfOk result (λ list. view list ≡ signs_listed P.Items.own (P.says_greater_of puzzle.now)
-        (P.puzzle puzzle.now).size (listed_by listed.now)) }
-{
-    let mut list = Vec::new(alloc);
-    for cell in 0..square_count(puzzle.size()) {
-        push_signs(alloc, &mut list, puzzle, listed, cell)?;
+// The signs of a square to its right and below it that are listed.
+#[derive(Drop)]
+struct Signs<'a, P> {
+    puzzle: &'a P,
+    listed: &'a [bool],
+}
+
+impl<'a, P: Shows> Each for Signs<'a, P> {
+    ghost asks = { λ of cell. (length of.listed.now ≡ P.items_of (P.puzzle of.puzzle.now).size)
+        × (cell < (P.puzzle of.puzzle.now).size * (P.puzzle of.puzzle.now).size) };
+
+    ghost tells = { λ of cell. signs_at P.Items.own (P.says_greater_of of.puzzle.now) (P.puzzle of.puzzle.now).size
+        (listed_by of.listed.now) cell };
+
+    #[tactic(auto, using(crate::proofs::WrittenData::more_follow))]
+    fn write(&self, writer: &mut Writer, cell: usize) -> Result<(), AllocError> {
+        let width = usize::from(self.puzzle.size().get());
+        write_later_sign(writer, self.puzzle, self.listed, cell, cell + 1)?;
+        write_later_sign(writer, self.puzzle, self.listed, cell, cell + width)?;
+        Ok(())
     }
-    Ok(Value::from(list))
 }
 
-// Appends the signs of a square to its right and below it that are listed.
-fn push_signs<P: Shows>(
-    alloc: Global,
-    list: &mut Vec<Value>,
-    puzzle: &P,
-    listed: &[bool],
-    cell: usize,
-) -> Result<(), AllocError>
-    requires count { length listed.now ≡ P.items_of (P.puzzle puzzle.now).size }
-    requires cell { cell < (P.puzzle puzzle.now).size * (P.puzzle puzzle.now).size }
-    ensures { OnOk result (map view list.new.items ≡ map view list.old.items
-        ++ signs_at P.Items.own (P.says_greater_of puzzle.now) (P.puzzle puzzle.now).size (listed_by listed.now) cell) }
-{
-    let width = usize::from(puzzle.size().get());
-    push_sign(alloc, list, puzzle, listed, cell, cell + 1)?;
-    push_sign(alloc, list, puzzle, listed, cell, cell + width)?;
-    Ok(())
-}
-
-// Appends the sign between a square and a later one, where it is listed.
-fn push_sign<P: Shows>(
-    alloc: Global,
-    list: &mut Vec<Value>,
+// Writes the sign between a square and a later one, where it is listed.
+#[tactic(auto, using(crate::proofs::WrittenData::none_follow))]
+fn write_later_sign<P: Shows>(
+    writer: &mut Writer,
     puzzle: &P,
     listed: &[bool],
     first: usize,
@@ -184,8 +205,9 @@ fn push_sign<P: Shows>(
 ) -> Result<(), AllocError>
     requires count { length listed.now ≡ P.items_of (P.puzzle puzzle.now).size }
     requires first { first < (P.puzzle puzzle.now).size * (P.puzzle puzzle.now).size }
-    ensures { OnOk result (map view list.new.items ≡ map view list.old.items
-        ++ sign_data P.Items.own (P.says_greater_of puzzle.now) (P.puzzle puzzle.now).size (listed_by listed.now) first second) }
+    ensures { OnOk result (Follow
+        (sign_data P.Items.own (P.says_greater_of puzzle.now) (P.puzzle puzzle.now).size (listed_by listed.now) first second)
+        writer.old writer.new) }
 {
     let size = puzzle.size();
     if second >= square_count(size) {
@@ -195,19 +217,21 @@ fn push_sign<P: Shows>(
         && is_in(listed, item)
     {
         if puzzle.says_greater(first, second) {
-            push_value(list, ends_value(alloc, first, second)?)?;
+            write_ends(writer, first, second)?;
         } else {
-            push_value(list, ends_value(alloc, second, first)?)?;
+            write_ends(writer, second, first)?;
         }
     }
     Ok(())
 }
 
-fn ends_value(alloc: Global, greater: usize, less: usize) -> Result<Value, AllocError>
-    ensures { IfOk result (λ sign. view sign ≡ ends_data greater less) }
+// Writes the squares of a sign.
+fn write_ends(writer: &mut Writer, greater: usize, less: usize) -> Result<(), AllocError>
+    ensures { OnOk result (Follow (ends_data greater less ∷ []) writer.old writer.new) }
 {
-    let mut sign = Map::new(alloc);
-    put(&mut sign, alloc, "less", Value::from(less))?;
-    put(&mut sign, alloc, "greater", Value::from(greater))?;
-    Ok(Value::from(sign))
+    writer.begin_object()?;
+    write_number_at(writer, "greater", Some(greater))?;
+    write_number_at(writer, "less", Some(less))?;
+    writer.end_object()?;
+    Ok(())
 }

@@ -1,11 +1,17 @@
 //! What the object of a step tells of its reason: its word, where it looks from, and what it speaks of.
 
 ghost use Rattle.std.specs.Prelude.{◌≡◌, ◌*◌, ◌<◌, ◌∷◌, [], ℕ, Bool, OnOk, IfSome};
-ghost use Rattle.json_replies.specs.Reasons.{edge_at, ends_at, line_cells_data, one_data, parts_of, place_data};
+ghost use Rattle.number_sets.specs.Sets.{has_number};
+ghost use Rattle.latin_board.specs.Lines.{line_cell};
+ghost use Rattle.json_replies.specs.Boards.{when};
+ghost use Rattle.json_replies.specs.Counts.{count_data};
+ghost use Rattle.json_replies.specs.Reasons.{edge_at, ends_at, one_data, parts_of, place_data};
 ghost use Rattle.json_replies.specs.Reasons.{squares_data};
 ghost use Rattle.json_replies.specs.Inner.WrittenData.{count_or_null, Follow};
 
-use crate::written::{write_null, write_number, write_number_when, write_numbers};
+use crate::written::{
+    Each, write_null, write_number, write_number_when, write_numbers, write_range,
+};
 use json::Writer;
 use latin_board::{Size, line_cell};
 use named_steps::Reason;
@@ -169,24 +175,31 @@ fn write_squares(
     if line >= 2 * size.get() as usize {
         return write_null(writer);
     }
-    write_line_cells(writer, size, line as u8, places)
+    let cells = LineCells {
+        size,
+        line: line as u8,
+        places,
+    };
+    write_range(writer, 0, usize::from(size.get()), &cells)
 }
 
-// Writes the squares at some places of a line of the grid.
-fn write_line_cells(
-    writer: &mut Writer,
+// The squares at some places of a line of the grid.
+#[derive(Drop)]
+struct LineCells {
     size: Size,
     line: u8,
     places: NumberSet,
-) -> Result<(), AllocError>
-    requires { line < 2 * size }
-    ensures { OnOk result (Follow (line_cells_data size line places ∷ []) writer.old writer.new) }
-{
-    writer.begin_array()?;
-    for place in 0..size.get() {
-        let cell = line_cell(size, line, place);
-        write_number_when(writer, places.has(place), cell)?;
+}
+
+impl Each for LineCells {
+    ghost asks = { λ of place. (of.line < 2 * of.size) × (place < of.size) };
+
+    ghost tells = { λ of place. when (has_number of.places place) (count_data (line_cell of.size of.line place)) };
+
+    fn write(&self, writer: &mut Writer, place: usize) -> Result<(), AllocError> {
+        let _width = self.size.get();
+        let place = place as u8;
+        let cell = line_cell(self.size, self.line, place);
+        write_number_when(writer, self.places.has(place), cell)
     }
-    writer.end_array()?;
-    Ok(())
 }

@@ -1,57 +1,56 @@
 //! The object of a session.
 
-ghost use Rattle.std.specs.Prelude.{◌≡◌, IfOk};
-ghost use Rattle.serde_json.specs.View.{view};
+ghost use Rattle.std.specs.Prelude.{◌∷◌, [], codes, OnOk};
+ghost use Rattle.json_replies.specs.Counts.{count_data};
 ghost use Rattle.json_replies.specs.Sessions.{game_data, session_data};
+ghost use Rattle.json_replies.specs.Inner.WrittenData.{Follow, MembersFollow};
 
-use crate::text::text_value;
+use crate::written::{write_null, write_number_at, write_text, write_word_at};
+use json::Writer;
 use latin_board::OutOfMemory;
 use play_midend::Session;
 use puzzle_cli::{Draw, Facts, id_text, status_word};
-use serde_json::{Map, Value, put};
-use std::alloc::Global;
+use std::alloc::{AllocError, Global};
 
-/// The session, or null where there is none. `OutOfMemory` where a growth was refused.
-pub(crate) fn session_value<P: Draw>(
+/// Writes the session, or null where there is none. `OutOfMemory` where a growth was refused.
+pub(crate) fn write_session<P: Draw>(
     alloc: Global,
+    writer: &mut Writer,
     session: &Option<Session<P>>,
-) -> Result<Value, OutOfMemory>
-    ensures { IfOk result (λ value.
-        view value ≡ session_data ⟦<P as Facts>⟧.facts session.now) }
+) -> Result<(), OutOfMemory>
+    ensures { OnOk result (Follow (session_data ⟦<P as Facts>⟧.facts session.now ∷ []) writer.old writer.new) }
 {
     match session {
-        Some(session) => game_value(alloc, session),
-        None => Ok(Value::from(())),
+        Some(session) => write_game(alloc, writer, session),
+        None => Ok(write_null(writer)?),
     }
 }
 
-/// The game, its ID, which state is shown, how many there are, and whether it is solved. `OutOfMemory` where a growth was refused.
-pub(crate) fn game_value<P: Draw>(alloc: Global, session: &Session<P>) -> Result<Value, OutOfMemory>
-    ensures { IfOk result (λ value.
-        view value ≡ game_data ⟦<P as Facts>⟧.facts session.now) }
+/// Writes the game, its ID, which state is shown, how many there are, and whether it is solved. `OutOfMemory` where a growth was
+/// refused.
+pub(crate) fn write_game<P: Draw>(
+    alloc: Global,
+    writer: &mut Writer,
+    session: &Session<P>,
+) -> Result<(), OutOfMemory>
+    ensures { OnOk result (Follow (game_data ⟦<P as Facts>⟧.facts session.now ∷ []) writer.old writer.new) }
 {
     let id = id_text(alloc, session)?;
     let status = status_word(session.board());
-    let mut game = Map::new(alloc);
-    put(
-        &mut game,
-        alloc,
-        "game",
-        Value::try_from_str(alloc, P::name())?,
-    )?;
-    put(&mut game, alloc, "id", text_value(alloc, &id)?)?;
-    put(
-        &mut game,
-        alloc,
-        "position",
-        Value::from(session.position()),
-    )?;
-    put(&mut game, alloc, "states", Value::from(session.states()))?;
-    put(
-        &mut game,
-        alloc,
-        "status",
-        Value::try_from_str(alloc, status)?,
-    )?;
-    Ok(Value::from(game))
+    writer.begin_object()?;
+    write_word_at(writer, "game", Some(P::name()))?;
+    writer.key("id")?;
+    write_text(alloc, writer, &id)?;
+    write_position(writer, session)?;
+    write_number_at(writer, "states", Some(session.states()))?;
+    write_word_at(writer, "status", Some(status))?;
+    writer.end_object()?;
+    Ok(())
+}
+
+// Writes which state is shown, as a member.
+fn write_position<P: Draw>(writer: &mut Writer, session: &Session<P>) -> Result<(), AllocError>
+    ensures { OnOk result (MembersFollow ((codes "position", count_data session.now.position) ∷ []) writer.old writer.new) }
+{
+    write_number_at(writer, "position", Some(session.position()))
 }

@@ -1,24 +1,25 @@
 //! What a game adds to be told as JSON: the clues and signs of its boards, and laws of its letters.
 
 ghost use Rattle.line_steps.specs.Reasons.{StruckBy};
-ghost use Rattle.std.specs.Prelude.{◌≡◌, IfOk};
+ghost use Rattle.std.specs.Prelude.{◌≡◌, ◌∷◌, [], OnOk};
 ghost use Rattle.latin_board.specs.Boards.{BoardValue};
 ghost use Rattle.serde_json.specs.Data.{Data, array, no_items};
-ghost use Rattle.serde_json.specs.View.{view};
 ghost use Rattle.board_checks.specs.Errors.{ErrorsValue};
 ghost use Rattle.json_replies.specs.ObjectLines.{IsShallow};
 ghost use Rattle.json_replies.specs.FairLines.{AreFairLetters};
 ghost use Rattle.json_replies.specs.FurtherLines.{BoardFacts};
+ghost use Rattle.json_replies.specs.Inner.WrittenData.{Follow};
 
-use crate::clue_lists::{clues_value, signs_value};
+use crate::clue_lists::{write_clue_list, write_sign_list};
+use crate::written::write_none;
 use board_checks::{BoardErrors, Demands};
 use fair_games::FairGame;
 use game_texts::Game;
+use json::Writer;
 use latin_board::Board;
 use needed_items::Items;
 use puzzle_cli::Draw;
-use serde_json::Value;
-use std::alloc::{AllocError, Global};
+use std::alloc::AllocError;
 use step_texts::StepNames;
 use towers_game::Towers;
 use trail_solver::Rules;
@@ -31,25 +32,25 @@ pub trait Shows: Draw + Demands + StepNames + FairGame + Items {
 
     ghost signs: { Self → BoardValue → ErrorsValue → Data };
 
-    /// The clues at the edges of a board of the puzzle's size, each with whether it is done, and an error.
-    fn tell_clues(
+    /// Writes the clues at the edges of a board of the puzzle's size, each with whether it is done, and an error.
+    fn write_clues(
         &self,
-        alloc: Global,
+        writer: &mut Writer,
         board: &Board,
         errors: &BoardErrors,
-    ) -> Result<Value, AllocError>
+    ) -> Result<(), AllocError>
         requires { board.now.size ≡ (Self.puzzle self.now).size }
-        ensures { IfOk result (λ list. view list ≡ clues self.now board.now errors.now) };
+        ensures { OnOk result (Follow (clues self.now board.now errors.now ∷ []) writer.old writer.new) };
 
-    /// The signs between the squares of a board of the puzzle's size, each with whether it is an error.
-    fn tell_signs(
+    /// Writes the signs between the squares of a board of the puzzle's size, each with whether it is an error.
+    fn write_signs(
         &self,
-        alloc: Global,
+        writer: &mut Writer,
         board: &Board,
         errors: &BoardErrors,
-    ) -> Result<Value, AllocError>
+    ) -> Result<(), AllocError>
         requires { board.now.size ≡ (Self.puzzle self.now).size }
-        ensures { IfOk result (λ list. view list ≡ signs self.now board.now errors.now) };
+        ensures { OnOk result (Follow (signs self.now board.now errors.now ∷ []) writer.old writer.new) };
 
     // Both are lists of flat objects without a float, at most.
     ghost clues_fit: { (p : Self) (b : BoardValue) (e : ErrorsValue) → IsShallow 2 (clues p b e) };
@@ -75,22 +76,22 @@ impl Shows for Towers {
 
     ghost fair_letters = { towers_fair };
 
-    fn tell_clues(
+    fn write_clues(
         &self,
-        alloc: Global,
+        writer: &mut Writer,
         board: &Board,
         errors: &BoardErrors,
-    ) -> Result<Value, AllocError> {
-        clues_value(alloc, self, board, errors)
+    ) -> Result<(), AllocError> {
+        write_clue_list(writer, self, board, errors)
     }
 
-    fn tell_signs(
+    fn write_signs(
         &self,
-        alloc: Global,
+        writer: &mut Writer,
         _board: &Board,
         _errors: &BoardErrors,
-    ) -> Result<Value, AllocError> {
-        Ok(Value::from(Vec::new(alloc)))
+    ) -> Result<(), AllocError> {
+        write_none(writer)
     }
 }
 
@@ -109,22 +110,22 @@ impl Shows for Unequal {
 
     ghost fair_letters = { unequal_fair };
 
-    fn tell_clues(
+    fn write_clues(
         &self,
-        alloc: Global,
+        writer: &mut Writer,
         _board: &Board,
         _errors: &BoardErrors,
-    ) -> Result<Value, AllocError> {
-        Ok(Value::from(Vec::new(alloc)))
+    ) -> Result<(), AllocError> {
+        write_none(writer)
     }
 
-    fn tell_signs(
+    fn write_signs(
         &self,
-        alloc: Global,
+        writer: &mut Writer,
         _board: &Board,
         errors: &BoardErrors,
-    ) -> Result<Value, AllocError> {
-        signs_value(alloc, self, errors)
+    ) -> Result<(), AllocError> {
+        write_sign_list(writer, self, errors)
     }
 }
 

@@ -1,20 +1,21 @@
 //! The steps of a hint, written as objects: where each looks, what it strikes, and its sentence.
 
 ghost use Rattle.std.specs.Prelude.{◌≡◌, ◌*◌, ◌<◌, ◌∷◌, [], slice_index, OnOk, IfSome};
-ghost use Rattle.serde_json.specs.Data.{number};
-ghost use Rattle.serde_json.specs.Find.{of_integer};
+ghost use Rattle.number_sets.specs.Sets.{has_number};
 ghost use Rattle.json_replies.specs.Boards.{when, mark_set_data};
 ghost use Rattle.json_replies.specs.Texts.{list_data};
-ghost use Rattle.json_replies.specs.Steps.{x_data, y_data, edge_clue_data, greater_data, less_data, counts_data, shows_data};
+ghost use Rattle.json_replies.specs.Steps.{edge_clue_data, greater_data, less_data, shows_data};
 ghost use Rattle.json_replies.specs.Steps.{strike_data, step_data, steps_data};
-ghost use Rattle.json_replies.specs.Inner.WrittenData.{count_or_null, integer_or_null, Follow, MembersFollow};
+ghost use Rattle.json_replies.specs.Inner.WrittenData.{count_or_null, Follow};
 
 use crate::reason_parts::{
     Ends, edge_of, ends_of, line_of, word_of, write_cells_of, write_numbers_of,
 };
-use crate::written::{write_lines, write_null, write_number_at, write_numbers, write_word_at};
+use crate::written::{
+    Each, write_lines, write_null, write_number_at, write_numbers, write_place_at, write_range,
+    write_word_at,
+};
 use json::Writer;
-use latin_board::{Size, edge_xy};
 use number_sets::NumberSet;
 use std::alloc::{AllocError, Global};
 use step_texts::{StepNames, Strike, ToldStep};
@@ -65,8 +66,7 @@ fn write_step<P: StepNames>(
     write_strikes(writer, step.strikes.as_slice())?;
     writer.key("text")?;
     write_lines(alloc, writer, step.text.as_slice())?;
-    write_integer_at(writer, "x", x_of(size, edge))?;
-    write_integer_at(writer, "y", y_of(size, edge))?;
+    write_place_at(writer, size, edge)?;
     writer.end_object()?;
     Ok(())
 }
@@ -98,47 +98,6 @@ fn less_of(ends: Option<Ends>) -> Option<usize>
         Some(ends) => Some(ends.less),
         None => None,
     }
-}
-
-fn x_of(size: Size, edge: Option<u8>) -> Option<i8>
-    requires { IfSome edge (λ place. place < 4 * size) }
-    ensures { integer_or_null result ≡ x_data size edge }
-{
-    match edge {
-        Some(place) => Some(edge_xy(size, place).0),
-        None => None,
-    }
-}
-
-fn y_of(size: Size, edge: Option<u8>) -> Option<i8>
-    requires { IfSome edge (λ place. place < 4 * size) }
-    ensures { integer_or_null result ≡ y_data size edge }
-{
-    match edge {
-        Some(place) => Some(edge_xy(size, place).1),
-        None => None,
-    }
-}
-
-// Writes a member that is an integer, or null.
-#[tactic(auto, using(crate::proofs::WrittenData::key_follows))]
-fn write_integer_at(writer: &mut Writer, key: &str, n: Option<i8>) -> Result<(), AllocError>
-    ensures { OnOk result (MembersFollow ((key.now, integer_or_null n) ∷ []) writer.old writer.new) }
-{
-    writer.key(key)?;
-    match n {
-        Some(n) => write_integer(writer, n)?,
-        None => write_null(writer)?,
-    }
-    Ok(())
-}
-
-// Writes an integer.
-fn write_integer(writer: &mut Writer, n: i8) -> Result<(), AllocError>
-    ensures { OnOk result (Follow (number (of_integer n) ∷ []) writer.old writer.new) }
-{
-    writer.i64(i64::from(n))?;
-    Ok(())
 }
 
 // Writes what is struck, square by square.
@@ -177,32 +136,33 @@ fn write_shows(
 {
     match shows {
         None => write_null(writer),
-        Some(shows) => write_counts(writer, values, shows),
+        Some(shows) => write_range(writer, 1, 9, &Counts { values, shows }),
     }
 }
 
-// Writes the counts of towers that are shown with each of the numbers.
-fn write_counts(
-    writer: &mut Writer,
+// The counts of towers that are shown with each of the numbers.
+#[derive(Drop)]
+struct Counts<'a> {
     values: NumberSet,
-    shows: &[NumberSet; 10],
-) -> Result<(), AllocError>
-    ensures { OnOk result (Follow (counts_data values shows.now ∷ []) writer.old writer.new) }
-{
-    writer.begin_array()?;
-    for n in 1..10 {
-        write_numbers_when(writer, values.has(n), counts_with(shows, n))?;
-    }
-    writer.end_array()?;
-    Ok(())
+    shows: &'a [NumberSet; 10],
 }
 
-// The counts of towers that are shown with one of the numbers.
-fn counts_with(shows: &[NumberSet; 10], n: u8) -> NumberSet
+impl<'a> Each for Counts<'a> {
+    ghost asks = { λ _ n. n < 10 };
+
+    ghost tells = { λ counts n. when (has_number counts.values n) (mark_set_data (slice_index counts.shows.now n)) };
+
+    fn write(&self, writer: &mut Writer, n: usize) -> Result<(), AllocError> {
+        write_numbers_when(writer, self.values.has(n as u8), counts_with(self.shows, n))
+    }
+}
+
+// The counts of towers that are shown with a number.
+fn counts_with(shows: &[NumberSet; 10], n: usize) -> NumberSet
     requires { n < 10 }
     ensures { result ≡ slice_index shows.now n }
 {
-    shows[usize::from(n)]
+    shows[n]
 }
 
 // Writes the numbers of a set, where the test holds.

@@ -5,7 +5,7 @@ use Rattle.std.specs.Option.{option_copied}
 use Rattle.json.specs.Token.{Token, key}
 use Rattle.json.specs.Tree.{json_tokens}
 use Rattle.json.specs.Written.{Written}
-use Rattle.serde_json.specs.Data.{Data, null, number, string}
+use Rattle.serde_json.specs.Data.{Data, Members, member, no_members, null, number, string}
 use Rattle.serde_json.specs.Find.{of_integer}
 use Rattle.serde_json.specs.Read.{of_json}
 use Rattle.serde_json.specs.Written.{outline}
@@ -42,6 +42,15 @@ pub record Follow (ds : List Data) (old new : Written) : Type 0 where
   pub stays : new.before ≡ old.before
   pub adds : new.tokens ≡ old.tokens ++ data_tokens ds
   pub reads : AllRead ds
+
+-- some data of which this holds follow
+abbrev pub FollowsWhere : (Data → Type 0) → Written → Written → Type 0
+FollowsWhere Holds old new = (d : Data) × Holds d × Follow (d ∷ []) old new
+
+-- some members as those of an object
+abbrev pub as_members : List (List ℕ × Data) → Members
+as_members [] = no_members
+as_members (m ∷ ms) = member m.0 m.1 (as_members ms)
 
 -- the tokens of members
 abbrev pub member_tokens : List (List ℕ × Data) → List Token

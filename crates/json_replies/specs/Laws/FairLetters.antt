@@ -1,56 +1,42 @@
 -- The letters of fair games.
-use Rattle.std.proofs.Common.{◌≡◌, ℕ, List, codes, Contains, Some, refl, sym, ◌∙◌, subst, arith}
+use Rattle.std.proofs.Common.{◌≡◌, ℕ, List, [], ◌∷◌, codes, Contains, Option, Some, refl, sym, ◌∙◌, subst, arith}
 use Rattle.line_steps.specs.declared.grade.Grade.{Grade}
 use Rattle.line_steps.specs.declared.grade.Grade.TheVariants.{Latin, Easy, Hard}
 use Rattle.fair_games.specs.Letters.{towers_letter, unequal_letter}
-use Rattle.json_replies.specs.FairLines.{AreFairLetters}
+use Rattle.json_replies.specs.FairLines.{AreFairLetters, letter_at}
 
--- the code of a letter of the list
-listed : (letters : List ℕ) (own code : ℕ) → Contains letters own → Some own ≡ Some code → Contains letters code
-listed letters own code contains is = let same : own ≡ code = cc is in subst (Contains letters) same contains
+-- the code is one of the letters, and the grade's alone
+abbrev IsOwn : List ℕ → (Grade → Option ℕ) → Grade → ℕ → Type 0
+IsOwn letters letter grade code = Contains letters code × (letter_at letter (code ∷ []) ≡ Some grade)
 
-towers_known : (grade : Grade) (code : ℕ) → towers_letter grade ≡ Some code → Contains (codes "ehxu") code
-towers_known Latin code is = absurd (cc is)
-towers_known Easy code is = listed (codes "ehxu") 101 code (0, omega arith, refl) is
-towers_known Hard code is = listed (codes "ehxu") 104 code (1, omega arith, refl) is
+-- so is the same code
+same_own : (letters : List ℕ) (letter : Grade → Option ℕ) (grade : Grade) (own code : ℕ) → IsOwn letters letter grade own
+    → Some own ≡ Some code → IsOwn letters letter grade code
+same_own letters letter grade own code owns is =
+    let same : own ≡ code = cc is in subst (IsOwn letters letter grade) same owns
 
--- one code is no other
-other_code : {A : Type 0} (own another code : ℕ) → (own ≡ another → ⊥) → Some own ≡ Some code → Some another ≡ Some code
-    → A
-other_code own another code apart is so =
-    let both : Some own ≡ Some another = is ∙ sym so in
-    let same : own ≡ another = cc both in
-    absurd (apart same)
-
-towers_apart : (one other : Grade) (code : ℕ) → towers_letter one ≡ Some code → towers_letter other ≡ Some code
-    → one ≡ other
-towers_apart Latin other code is so = absurd (cc is)
-towers_apart Easy Latin code is so = absurd (cc so)
-towers_apart Easy Easy code is so = refl
-towers_apart Easy Hard code is so = other_code 101 104 code (λ e. absurd (omega (arith, e))) is so
-towers_apart Hard Latin code is so = absurd (cc so)
-towers_apart Hard Easy code is so = other_code 104 101 code (λ e. absurd (omega (arith, e))) is so
-towers_apart Hard Hard code is so = refl
+-- where each grade's letter is its own, they are letters of fair games
+all_own : (letters : List ℕ) (letter : Grade → Option ℕ)
+    → ((grade : Grade) (code : ℕ) → letter grade ≡ Some code → IsOwn letters letter grade code) → AreFairLetters letters letter
+all_own letters letter own = record {
+  known = λ grade code is. (own grade code is).0;
+  apart = λ one other code is so.
+      let both : Some one ≡ Some other = sym (own one code is).1 ∙ (own other code so).1 in
+      cc both;
+}
 
 pub towers_fair : AreFairLetters (codes "ehxu") towers_letter
-towers_fair = record { known = towers_known; apart = towers_apart }
-
-unequal_known : (grade : Grade) (code : ℕ) → unequal_letter grade ≡ Some code → Contains (codes "tekxr") code
-unequal_known Latin code is = listed (codes "tekxr") 116 code (0, omega arith, refl) is
-unequal_known Easy code is = listed (codes "tekxr") 101 code (1, omega arith, refl) is
-unequal_known Hard code is = listed (codes "tekxr") 107 code (2, omega arith, refl) is
-
-unequal_apart : (one other : Grade) (code : ℕ) → unequal_letter one ≡ Some code → unequal_letter other ≡ Some code
-    → one ≡ other
-unequal_apart Latin Latin code is so = refl
-unequal_apart Latin Easy code is so = other_code 116 101 code (λ e. absurd (omega (arith, e))) is so
-unequal_apart Latin Hard code is so = other_code 116 107 code (λ e. absurd (omega (arith, e))) is so
-unequal_apart Easy Latin code is so = other_code 101 116 code (λ e. absurd (omega (arith, e))) is so
-unequal_apart Easy Easy code is so = refl
-unequal_apart Easy Hard code is so = other_code 101 107 code (λ e. absurd (omega (arith, e))) is so
-unequal_apart Hard Latin code is so = other_code 107 116 code (λ e. absurd (omega (arith, e))) is so
-unequal_apart Hard Easy code is so = other_code 107 101 code (λ e. absurd (omega (arith, e))) is so
-unequal_apart Hard Hard code is so = refl
+towers_fair = all_own (codes "ehxu") towers_letter own
+  where
+    own : (grade : Grade) (code : ℕ) → towers_letter grade ≡ Some code → IsOwn (codes "ehxu") towers_letter grade code
+    own Latin code is = absurd (cc is)
+    own Easy code is = same_own (codes "ehxu") towers_letter Easy 101 code ((0, omega arith, refl), refl) is
+    own Hard code is = same_own (codes "ehxu") towers_letter Hard 104 code ((1, omega arith, refl), refl) is
 
 pub unequal_fair : AreFairLetters (codes "tekxr") unequal_letter
-unequal_fair = record { known = unequal_known; apart = unequal_apart }
+unequal_fair = all_own (codes "tekxr") unequal_letter own
+  where
+    own : (grade : Grade) (code : ℕ) → unequal_letter grade ≡ Some code → IsOwn (codes "tekxr") unequal_letter grade code
+    own Latin code is = same_own (codes "tekxr") unequal_letter Latin 116 code ((0, omega arith, refl), refl) is
+    own Easy code is = same_own (codes "tekxr") unequal_letter Easy 101 code ((1, omega arith, refl), refl) is
+    own Hard code is = same_own (codes "tekxr") unequal_letter Hard 107 code ((2, omega arith, refl), refl) is

@@ -101,6 +101,7 @@ listed_fits n f each (k ∷ ks) = all_append n (f k) (flat_map f ks) (each k) (l
 pub when_fits : (n : ℕ) (t : Bool) (d : Data) → IsShallow n d → AllFit n (when t d)
 when_fits n t d fit = either (AllFit n) t (d ∷ []) [] (fit, tt) tt
 
+-- the lines of a reply are texts
 pub lines_fit : (n : ℕ) (reply : List ℕ) → IsShallow (suc n) (lines_data reply)
 lines_fit n reply = list_fits n text_data (λ line. tt) (lines_of reply)
 

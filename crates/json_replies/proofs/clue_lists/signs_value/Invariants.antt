@@ -1,8 +1,0 @@
-use Rattle.std.proofs.Common.{◌≡◌, map}
-use Rattle.std.specs.List.{range_with_len, flat_map}
-use Rattle.serde_json.specs.View.{view}
-use Rattle.json_replies.specs.ClueLists.{signs_at}
-use Rattle.json_replies.proofs.clue_lists.signs_value.Given as goal
-
-abbrev pub invariant-loop-cell : goal.invariant-loop-cell
-invariant-loop-cell l = map view l.list.items ≡ flat_map (signs_at l.puzzle l.errors) (range_with_len 0 l.cell)
