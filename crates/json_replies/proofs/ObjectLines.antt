@@ -1,5 +1,5 @@
 -- The line of an object that was written, and what it reads as.
-use Rattle.std.proofs.Common.{◌≡◌, ℕ, suc, ◌≤◌, true, false, if◌then◌else◌, List, [], ◌∷◌, ◌++◌, Some, None, option_and_then, refl, sym, ap, ap₂, subst, ◌∙◌, append-nil, arith}
+use Rattle.std.proofs.Common.{◌≡◌, ℕ, suc, ◌≤◌, List, [], ◌∷◌, ◌++◌, Some, None, option_and_then, refl, sym, ap, ap₂, subst, ◌∙◌, append-nil, arith}
 use Rattle.std.specs.Prelude.{max}
 use Rattle.json.specs.Lex.{tokens}
 use Rattle.json.specs.Print.{print}
@@ -17,9 +17,9 @@ use Rattle.json_replies.specs.declared.further_line.FurtherLine.TheVariants.{Boa
 use Rattle.json_replies.specs.FurtherLines.{further_key, further_data, is_last_key}
 use Rattle.json_replies.specs.ObjectLines.{IsShallow, IsLineOfData}
 use Rattle.json_replies.specs.Inner.ObjectMembers.{reply_list, further_list}
-use Rattle.json_replies.specs.Inner.WrittenData.{Follow, MembersFollow, as_members, data_tokens}
+use Rattle.json_replies.specs.Inner.WrittenData.{Follow, as_members, data_tokens}
 use Rattle.json_replies.specs.Laws.Spellings.{either, told_whole, lines_fit}
-use Rattle.json_replies.proofs.WrittenData.{one_tokens, more_members, put_all}
+use Rattle.json_replies.proofs.WrittenData.{one_tokens, put_all}
 
 mutual
   depth-outline : (d : Data) → tree.depth (outline d) ≡ depth d
@@ -79,23 +79,7 @@ further_in_order Solutions answer session = (refl, refl)
 further_in_order Spare answer session = (refl, refl)
 further_in_order (SpareBy grade) answer session = (refl, refl)
 
--- an answer after what each object has
-pub answer_last : (which : FurtherLine) (answer session : Data) {a b c : Written} → is_last_key which ≡ true
-    → MembersFollow (reply_list None [] session) a b → MembersFollow ((further_key which, answer) ∷ []) b c
-    → MembersFollow (further_list which answer session) a c
-answer_last which answer session {a} {c = c} last first second =
-    subst (λ t. MembersFollow (if t then reply_list None [] session ++ (further_key which, answer) ∷ []
-    else (further_key which, answer) ∷ reply_list None [] session) a c) (sym last) (more_members first second)
-
--- or before it
-pub answer_first : (which : FurtherLine) (answer session : Data) {a b c : Written} → is_last_key which ≡ false
-    → MembersFollow ((further_key which, answer) ∷ []) a b → MembersFollow (reply_list None [] session) b c
-    → MembersFollow (further_list which answer session) a c
-answer_first which answer session {a} {c = c} other first second =
-    subst (λ t. MembersFollow (if t then reply_list None [] session ++ (further_key which, answer) ∷ []
-    else (further_key which, answer) ∷ reply_list None [] session) a c) (sym other) (more_members first second)
-
--- and with it the object isn't too deep
+-- an answer keeps the object from being too deep
 pub further_fits : (which : FurtherLine) (answer session : Data) → IsShallow 7 answer → IsShallow 7 session
     → IsShallow 8 (object (as_members (further_list which answer session)))
 further_fits which answer session told fits =
