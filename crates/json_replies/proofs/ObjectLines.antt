@@ -17,7 +17,8 @@ use Rattle.json_replies.specs.declared.further_line.FurtherLine.TheVariants.{Boa
 use Rattle.json_replies.specs.FurtherLines.{further_key, further_data, is_last_key}
 use Rattle.json_replies.specs.ObjectLines.{IsShallow, IsLineOfData}
 use Rattle.json_replies.specs.Inner.ObjectMembers.{reply_list, further_list}
-use Rattle.json_replies.specs.Inner.WrittenData.{Follow, as_members, data_tokens}
+use Rattle.json_replies.specs.WrittenData.{Follow, data_tokens}
+use Rattle.json_replies.specs.Inner.WrittenData.{as_members}
 use Rattle.json_replies.specs.Laws.Spellings.{either, told_whole, lines_fit}
 use Rattle.json_replies.proofs.WrittenData.{one_tokens, put_all}
 

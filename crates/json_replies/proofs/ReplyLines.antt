@@ -9,7 +9,7 @@ use Rattle.puzzle_cli.specs.Lines.{onto, segments}
 use Rattle.serde_json.specs.Data.{Data}
 use Rattle.json.specs.Written.{Written}
 use Rattle.json_replies.specs.Texts.{latin_text, lines_of, text_data}
-use Rattle.json_replies.specs.Inner.WrittenData.{Follow}
+use Rattle.json_replies.specs.WrittenData.{Follow}
 use Rattle.json_replies.proofs.WrittenData.{more_follow, none_follow}
 
 some_onto : (b : ℕ) (ps : List (List ℕ)) → 1 ≤ length (onto b ps)

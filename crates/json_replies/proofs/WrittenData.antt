@@ -15,7 +15,8 @@ use Rattle.serde_json.specs.View.{items_of}
 use Rattle.serde_json.specs.Written.{outline, items_outline, members_outline}
 use Rattle.serde_json.proofs.Numbers.{number_of-decimal, number_of-negative}
 use Rattle.json_replies.specs.Counts.{count_data}
-use Rattle.json_replies.specs.Inner.WrittenData.{as_members, data_tokens, AllRead, Follow, member_tokens, AllMembersRead, MembersFollow}
+use Rattle.json_replies.specs.WrittenData.{data_tokens, AllRead, Follow}
+use Rattle.json_replies.specs.Inner.WrittenData.{as_members, member_tokens, AllMembersRead, MembersFollow}
 
 -- the tokens of one value alone
 pub one_tokens : (d : Data) → data_tokens (d ∷ []) ≡ json_tokens (outline d)

@@ -1,10 +1,12 @@
--- What is told as JSON. Bytes, lines and counts: Texts, Counts; an object's line: ObjectLines; the session that is
--- left: Sessions; a reply: Replies; the board, its clues and signs: Boards, ClueLists; a hint, with the steps that
--- explain it: Reasons, Steps, HintObjects; the lines beside the commands: FurtherLines; the line `fair`:
--- FairLines, FairReplies; a setter's lines: ItemChanges, DeskReplies, ListedItems; all lines that begin a game:
--- BeginLines, BeginRefusals, BeginReplies; what may be said to a line: JsonReplies; its laws: ReplyLaws, FairLaws.
+-- What is told as JSON. Bytes, lines and counts: Texts, Counts; data token by token: WrittenData; an object's
+-- line: ObjectLines; the session that is left: Sessions; a reply: Replies; the board, its clues and signs:
+-- Boards, ClueLists; a hint, with the steps that explain it: Reasons, Steps, HintObjects; the lines beside the
+-- commands: FurtherLines; the line `fair`: FairLines, FairReplies; a setter's lines: ItemChanges, DeskReplies,
+-- ListedItems; all lines that begin a game: BeginLines, BeginRefusals, BeginReplies; what may be said to a line:
+-- JsonReplies; its laws: ReplyLaws, FairLaws.
 pub mod Texts
 pub mod Counts
+pub mod WrittenData
 pub mod ObjectLines
 pub mod Sessions
 pub mod Replies

@@ -7,7 +7,7 @@ ghost use Rattle.number_sets.specs.Sets.{has_number};
 ghost use Rattle.board_checks.specs.Errors.{has_repeated};
 ghost use Rattle.json_replies.specs.Boards.{board_data, grid_data, mark_set_data, when};
 ghost use Rattle.json_replies.specs.Counts.{count_data};
-ghost use Rattle.json_replies.specs.Inner.WrittenData.{Follow};
+ghost use Rattle.json_replies.specs.WrittenData.{Follow};
 
 use crate::shown::Shows;
 use crate::written::{

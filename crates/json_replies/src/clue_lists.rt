@@ -6,7 +6,8 @@ ghost use Rattle.board_checks.specs.Errors.{has_broken};
 ghost use Rattle.towers_game.specs.Towers.{clue_of};
 ghost use Rattle.json_replies.specs.Boards.{when};
 ghost use Rattle.json_replies.specs.ClueLists.{clue_data, clues_data, sign_data, later_sign, signs_at, signs_data};
-ghost use Rattle.json_replies.specs.Inner.WrittenData.{Follow, MembersFollow};
+ghost use Rattle.json_replies.specs.WrittenData.{Follow};
+ghost use Rattle.json_replies.specs.Inner.WrittenData.{MembersFollow};
 
 use crate::written::{
     Each, square_count, write_flag_at, write_number_at, write_place_at, write_range, write_squares,

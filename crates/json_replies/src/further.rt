@@ -16,7 +16,8 @@ ghost use Rattle.json_replies.specs.ListedItems.{AreItemsListed};
 ghost use Rattle.json_replies.specs.Sessions.{game_data};
 ghost use Rattle.json_replies.specs.declared.listed_items.Listing.TheVariants.{ByAnswer};
 ghost use Rattle.json_replies.specs.Inner.ObjectMembers.{AnswerFollows, further_list, reply_list};
-ghost use Rattle.json_replies.specs.Inner.WrittenData.{Follow, FollowsWhere, MembersFollow};
+ghost use Rattle.json_replies.specs.WrittenData.{Follow};
+ghost use Rattle.json_replies.specs.Inner.WrittenData.{FollowsWhere, MembersFollow};
 
 use crate::board::{write_board, write_grid};
 use crate::further_line::FurtherLine;

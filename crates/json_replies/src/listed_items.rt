@@ -7,7 +7,8 @@ ghost use Rattle.json_replies.specs.Boards.{when};
 ghost use Rattle.json_replies.specs.Counts.{count_data};
 ghost use Rattle.json_replies.specs.ListedItems.{AreItemsListed, IsListing, Passes, listed_by};
 ghost use Rattle.json_replies.specs.ListedItems.{place_data, ends_data, when_listed, items_data, sign_data, signs_at};
-ghost use Rattle.json_replies.specs.Inner.WrittenData.{Follow, FollowsWhere};
+ghost use Rattle.json_replies.specs.WrittenData.{Follow};
+ghost use Rattle.json_replies.specs.Inner.WrittenData.{FollowsWhere};
 
 use crate::shown::Shows;
 use crate::written::{

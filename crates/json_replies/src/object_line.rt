@@ -11,7 +11,8 @@ ghost use Rattle.json_replies.specs.Replies.{name_data, reply_data};
 ghost use Rattle.json_replies.specs.Sessions.{session_data};
 ghost use Rattle.json_replies.specs.ObjectLines.{IsLineOfData};
 ghost use Rattle.json_replies.specs.Inner.ObjectMembers.{said_list};
-ghost use Rattle.json_replies.specs.Inner.WrittenData.{Follow, MembersFollow};
+ghost use Rattle.json_replies.specs.WrittenData.{Follow};
+ghost use Rattle.json_replies.specs.Inner.WrittenData.{MembersFollow};
 
 use crate::session::write_session;
 use crate::written::{write_null, write_text};

@@ -7,7 +7,8 @@ ghost use Rattle.json_replies.specs.Boards.{when};
 ghost use Rattle.json_replies.specs.Counts.{count_data};
 ghost use Rattle.json_replies.specs.Reasons.{edge_at, ends_at, one_data, parts_of, place_data};
 ghost use Rattle.json_replies.specs.Reasons.{squares_data};
-ghost use Rattle.json_replies.specs.Inner.WrittenData.{count_or_null, Follow};
+ghost use Rattle.json_replies.specs.WrittenData.{Follow};
+ghost use Rattle.json_replies.specs.Inner.WrittenData.{count_or_null};
 
 use crate::written::{
     Each, write_null, write_number, write_number_when, write_numbers, write_range,

@@ -3,7 +3,8 @@
 ghost use Rattle.std.specs.Prelude.{◌∷◌, [], codes, OnOk};
 ghost use Rattle.json_replies.specs.Counts.{count_data};
 ghost use Rattle.json_replies.specs.Sessions.{game_data, session_data};
-ghost use Rattle.json_replies.specs.Inner.WrittenData.{Follow, MembersFollow};
+ghost use Rattle.json_replies.specs.WrittenData.{Follow};
+ghost use Rattle.json_replies.specs.Inner.WrittenData.{MembersFollow};
 
 use crate::written::{write_null, write_number_at, write_text, write_word_at};
 use json::Writer;

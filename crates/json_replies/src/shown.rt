@@ -8,7 +8,7 @@ ghost use Rattle.board_checks.specs.Errors.{ErrorsValue};
 ghost use Rattle.json_replies.specs.ObjectLines.{IsShallow};
 ghost use Rattle.json_replies.specs.FairLines.{AreFairLetters};
 ghost use Rattle.json_replies.specs.FurtherLines.{BoardFacts};
-ghost use Rattle.json_replies.specs.Inner.WrittenData.{Follow};
+ghost use Rattle.json_replies.specs.WrittenData.{Follow};
 
 use crate::clue_lists::{write_clue_list, write_sign_list};
 use crate::written::write_none;

@@ -12,7 +12,8 @@ ghost use Rattle.json_replies.specs.Counts.{count_data};
 ghost use Rattle.json_replies.specs.Boards.{listed_data, when, squares, mark_set_data};
 ghost use Rattle.json_replies.specs.Steps.{x_data, y_data};
 ghost use Rattle.json_replies.specs.Texts.{text_data, list_data};
-ghost use Rattle.json_replies.specs.Inner.WrittenData.{count_or_null, integer_or_null, word_or_null, Follow, MembersFollow};
+ghost use Rattle.json_replies.specs.WrittenData.{Follow};
+ghost use Rattle.json_replies.specs.Inner.WrittenData.{count_or_null, integer_or_null, word_or_null, MembersFollow};
 
 use crate::text::latin_text;
 use json::Writer;

@@ -6,7 +6,8 @@ ghost use Rattle.json_replies.specs.Boards.{when, mark_set_data};
 ghost use Rattle.json_replies.specs.Texts.{list_data};
 ghost use Rattle.json_replies.specs.Steps.{edge_clue_data, greater_data, less_data, shows_data};
 ghost use Rattle.json_replies.specs.Steps.{strike_data, step_data, steps_data};
-ghost use Rattle.json_replies.specs.Inner.WrittenData.{count_or_null, Follow};
+ghost use Rattle.json_replies.specs.WrittenData.{Follow};
+ghost use Rattle.json_replies.specs.Inner.WrittenData.{count_or_null};
 
 use crate::reason_parts::{
     Ends, edge_of, ends_of, line_of, word_of, write_cells_of, write_numbers_of,

@@ -1,4 +1,4 @@
--- Data that are written token by token.
+-- Members, and data of which something holds, that are written token by token.
 use Rattle.std.specs.Prelude.{◌≡◌, ℕ, ℤ, List, [], ◌∷◌, ◌++◌, codes, Option, Some, None}
 use Rattle.std.specs.List.{flat_map}
 use Rattle.std.specs.Option.{option_copied}
@@ -12,6 +12,7 @@ use Rattle.serde_json.specs.Written.{outline}
 use Rattle.json_replies.specs.declared.hint_text.Said.{Said}
 use Rattle.json_replies.specs.Counts.{count_data}
 use Rattle.json_replies.specs.HintObjects.{SaidData}
+use Rattle.json_replies.specs.WrittenData.{Follow}
 
 -- a count, or null
 abbrev pub count_or_null : Option ℕ → Data
@@ -27,21 +28,6 @@ integer_or_null (Some n) = number (of_integer n)
 abbrev pub word_or_null : Option (List ℕ) → Data
 word_or_null None = null
 word_or_null (Some word) = string word
-
--- the tokens of data, one after the other
-abbrev pub data_tokens : List Data → List Token
-data_tokens ds = flat_map (λ d. json_tokens (outline d)) ds
-
--- each of them reads as itself
-abbrev pub AllRead : List Data → Type 0
-AllRead [] = Unit {0}
-AllRead (d ∷ ds) = (of_json (outline d) ≡ Some d) × AllRead ds
-
--- these data follow what was written
-pub record Follow (ds : List Data) (old new : Written) : Type 0 where
-  pub stays : new.before ≡ old.before
-  pub adds : new.tokens ≡ old.tokens ++ data_tokens ds
-  pub reads : AllRead ds
 
 -- some data of which this holds follow
 abbrev pub FollowsWhere : (Data → Type 0) → Written → Written → Type 0

@@ -1,6 +1,6 @@
 use Rattle.std.proofs.Common.{map, take}
 use Rattle.json_replies.specs.Counts.{count_data}
-use Rattle.json_replies.specs.Inner.WrittenData.{Follow}
+use Rattle.json_replies.specs.WrittenData.{Follow}
 use Rattle.json_replies.proofs.hint_text.write_groups.Given as goal
 
 abbrev pub invariant-loop-steps : goal.invariant-loop-steps

@@ -1,6 +1,6 @@
 use Rattle.std.proofs.Common.{◌∷◌, [], List, Bool, refl, subst}
 use Rattle.json_replies.specs.ListedItems.{items_data, listed_by}
-use Rattle.json_replies.specs.Inner.WrittenData.{Follow}
+use Rattle.json_replies.specs.WrittenData.{Follow}
 use Rattle.json_replies.proofs.listed_items.write_items.Goals as goal
 
 pub returns : goal.returns

@@ -1,7 +1,7 @@
 use Rattle.std.proofs.Common.{◌≡◌, ℕ, List, ◌∷◌, ◌++◌, map, Option, MatchOption, rules, ap, subst, sym}
 use denote.Ref.{Bor}
 use Rattle.json_replies.specs.Texts.{text_data, lines_of}
-use Rattle.json_replies.specs.Inner.WrittenData.{Follow}
+use Rattle.json_replies.specs.WrittenData.{Follow}
 use Rattle.json_replies.proofs.ReplyLines.{one_more_line, no_more_line}
 use Rattle.json_replies.proofs.WrittenData.{list_follows}
 use Rattle.json_replies.proofs.object_line.write_reply.Goals as goal

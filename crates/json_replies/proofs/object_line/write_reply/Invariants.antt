@@ -1,7 +1,7 @@
 use Rattle.std.proofs.Common.{length, map}
 use Rattle.json.specs.Written.{Written}
 use Rattle.json_replies.specs.Texts.{text_data, lines_of}
-use Rattle.json_replies.specs.Inner.WrittenData.{Follow}
+use Rattle.json_replies.specs.WrittenData.{Follow}
 use Rattle.json_replies.proofs.object_line.write_reply.Given as goal
 
 -- what is left of the list

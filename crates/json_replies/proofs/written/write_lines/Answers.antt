@@ -3,7 +3,7 @@ use Rattle.std.proofs.lemmas.List.{take_all, take_more}
 use Rattle.serde_json.specs.Data.{Data}
 use Rattle.step_texts.specs.Lines.{line_items}
 use Rattle.json_replies.specs.Texts.{text_data}
-use Rattle.json_replies.specs.Inner.WrittenData.{Follow}
+use Rattle.json_replies.specs.WrittenData.{Follow}
 use Rattle.json_replies.proofs.Listed.{map_twice}
 use Rattle.json_replies.proofs.WrittenData.{item_follows, list_follows}
 use Rattle.json_replies.proofs.written.write_lines.Goals as goal

@@ -1,7 +1,7 @@
 use Rattle.std.proofs.Common.{map, take}
 use Rattle.step_texts.specs.Lines.{line_items}
 use Rattle.json_replies.specs.Texts.{text_data}
-use Rattle.json_replies.specs.Inner.WrittenData.{Follow}
+use Rattle.json_replies.specs.WrittenData.{Follow}
 use Rattle.json_replies.proofs.written.write_lines.Given as goal
 
 abbrev pub invariant-loop-line : goal.invariant-loop-line

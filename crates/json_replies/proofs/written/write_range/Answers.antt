@@ -1,6 +1,6 @@
 use Rattle.std.proofs.Common.{◌≡◌, ℕ, refl, subst, arith}
 use Rattle.std.specs.List.{range_with_len, flat_map}
-use Rattle.json_replies.specs.Inner.WrittenData.{Follow}
+use Rattle.json_replies.specs.WrittenData.{Follow}
 use Rattle.json_replies.proofs.WrittenData.{range_follows, list_follows}
 use Rattle.json_replies.proofs.written.write_range.Goals as goal
 

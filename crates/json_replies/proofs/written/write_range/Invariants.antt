@@ -1,5 +1,5 @@
 use Rattle.std.specs.List.{range_with_len, flat_map}
-use Rattle.json_replies.specs.Inner.WrittenData.{Follow}
+use Rattle.json_replies.specs.WrittenData.{Follow}
 use Rattle.json_replies.proofs.written.write_range.Given as goal
 
 abbrev pub invariant-loop-k : goal.invariant-loop-k

@@ -4,7 +4,8 @@ use Rattle.step_texts.specs.Lines.{line_texts}
 use Rattle.json_replies.specs.Reasons.{parts_of}
 use Rattle.json_replies.specs.Texts.{text_data, list_data}
 use Rattle.json_replies.specs.Steps.{x_data, y_data, edge_clue_data, greater_data, less_data, strike_data}
-use Rattle.json_replies.specs.Inner.WrittenData.{Follow, MembersFollow}
+use Rattle.json_replies.specs.WrittenData.{Follow}
+use Rattle.json_replies.specs.Inner.WrittenData.{MembersFollow}
 use Rattle.json_replies.proofs.WrittenData.{object_follows, more_members, key_follows, member_is}
 use Rattle.json_replies.proofs.written_steps.write_step.Goals as goal
 

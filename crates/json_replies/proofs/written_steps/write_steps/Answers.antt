@@ -2,7 +2,7 @@ use Rattle.std.proofs.Common.{◌≡◌, List, map, take, refl, subst, arith}
 use Rattle.std.proofs.lemmas.List.{take_all, take_more}
 use Rattle.step_texts.specs.declared.told.ToldStep.{ToldStep}
 use Rattle.json_replies.specs.Steps.{step_data}
-use Rattle.json_replies.specs.Inner.WrittenData.{Follow}
+use Rattle.json_replies.specs.WrittenData.{Follow}
 use Rattle.json_replies.proofs.WrittenData.{item_follows, list_follows}
 use Rattle.json_replies.proofs.written_steps.write_steps.Goals as goal
 

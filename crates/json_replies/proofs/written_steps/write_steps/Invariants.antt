@@ -1,6 +1,6 @@
 use Rattle.std.proofs.Common.{map, take}
 use Rattle.json_replies.specs.Steps.{step_data}
-use Rattle.json_replies.specs.Inner.WrittenData.{Follow}
+use Rattle.json_replies.specs.WrittenData.{Follow}
 use Rattle.json_replies.proofs.written_steps.write_steps.Given as goal
 
 abbrev pub invariant-loop-step : goal.invariant-loop-step

@@ -1,6 +1,6 @@
 use Rattle.std.proofs.Common.{map, take}
 use Rattle.json_replies.specs.Steps.{strike_data}
-use Rattle.json_replies.specs.Inner.WrittenData.{Follow}
+use Rattle.json_replies.specs.WrittenData.{Follow}
 use Rattle.json_replies.proofs.written_steps.write_strikes.Given as goal
 
 abbrev pub invariant-loop-strike : goal.invariant-loop-strike
