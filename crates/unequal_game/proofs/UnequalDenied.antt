@@ -1,7 +1,6 @@
 -- An item of Unequal is denied: a given goes from the candidates of its square, and a sign is turned round.
 use Rattle.std.proofs.lemmas.Bool.Decides.{nat_tests}
 use Rattle.std.proofs.Common.{◌≡◌, ◌≢◌, ℕ, ◌+◌, ◌*◌, ◌<◌, ◌≤◌, ◌⊎◌, true, List, set, length, refl, sym, ap, subst, ◌∙◌, inl, inr, arith, slice_index}
-use Rattle.std.proofs.lemmas.Bool.{cases_eq}
 use Rattle.std.proofs.lemmas.List.{get_or-set_same, get_or-set_other}
 use Rattle.latin_board.specs.Squares.{GridValue, IsGrid, IsLatin, number_at}
 use Rattle.latin_board.proofs.LatinLines.{line_differs}
@@ -49,17 +48,7 @@ solved_but v r d p q g x y same here s = record {
   where
     held : (a b : ℕ) → holds_sign (sign_between (with_signs v r d) a b) (number_at g a) (number_at g b) ≡ true
         → holds_sign (sign_between (with_signs v p q) a b) (number_at g a) (number_at g b) ≡ true
-    held a b h =
-        let P : Sign → Type 0 = λ s. holds_sign s (number_at g a) (number_at g b) ≡ true in
-        let Q : ℕ → Type 0 = λ n. holds_sign (sign_between (with_signs v p q) n b) (number_at g n) (number_at g b) ≡ true in
-        let R : ℕ → Type 0 = λ n. holds_sign (sign_between (with_signs v p q) x n) (number_at g x) (number_at g n) ≡ true in
-        elim (cases_eq a x) [
-          | inl first ↦ elim (cases_eq b y) [
-            | inl second ↦ subst Q (sym first) (subst R (sym second) here)
-            | inr other ↦ subst P (sym (same a b (λ e f. other f))) h
-          ]
-          | inr other ↦ subst P (sym (same a b (λ e f. other e))) h
-        ]
+    held a b h = grind (arith, nat_tests)
 
 -- of two different numbers, a sign holds or its opposite
 held_or_turned : (s : Sign) (m n : ℕ) → (IsSaid s → m ≢ n) → (holds_sign s m n ≡ true) ⊎ (holds_sign (turned_sign s) m n ≡ true)

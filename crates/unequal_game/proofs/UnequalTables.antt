@@ -3,7 +3,7 @@ use Rattle.std.proofs.lemmas.Bool.Decides.{nat_tests}
 use Rattle.std.proofs.Common.{◌≡◌, ℕ, ◌+◌, ◌*◌, ◌%◌, ◌<◌, ◌≤◌, replicate, None, Some, Bool, true, false, nat_lt, not, List, set, take, length-set, arith, refl, sym, ap, subst, ◌∙◌, inl, inr, ◌==◌, slice_index_or}
 use Rattle.std.proofs.Math.Seq.{take-set-lt}
 use Rattle.std.proofs.lemmas.List.{drop-set-lt, get_or-set_same, get_or-set_other, get_or-replicate, get_or_past, length-take, length-replicate, drop-replicate, take-replicate}
-use Rattle.std.proofs.lemmas.Bool.{eq-eqb, ne_eqb, cases_eq, cases_lt, lt-ltb}
+use Rattle.std.proofs.lemmas.Bool.{ne_eqb, cases_lt, lt-ltb}
 use Rattle.latin_board.specs.Squares.{GridValue, IsGrid, blank_grid}
 use Rattle.unequal_game.specs.declared.unequal.direction.Direction.{Direction}
 use Rattle.unequal_game.specs.declared.unequal.direction.Direction.TheVariants.{Right, Down}
@@ -30,7 +30,7 @@ sign_in_front n places cell s inside = take-set-lt n places cell s inside
 sign_put : (w : ℕ) (d : Direction) (places : List Sign) (cell : ℕ) (t : Sign) → cell < w * w → (neighbour w cell d ≡ None → t ≡ Absent) → KeepsSigns w d places
     → KeepsSigns w d (set places cell t)
 sign_put w d places cell t inside gone kept =
-    grind (arith, nat_tests, length-set, drop-set-lt, sign_in_front, length-take, get_or-set_same, get_or-set_other)
+    grind (arith, nat_tests, length-set, drop-set-lt, length-take, get_or-set_same, get_or-set_other, sign_in_front)
 
 -- a sign that is turned round stands where one stood
 pub turned_kept : (w : ℕ) (d : Direction) (places : List Sign) (cell : ℕ) (s t : Sign) → cell < w * w → KeepsSigns w d places
@@ -55,10 +55,7 @@ one_goes empty present gone number i c xs here only =
     ∙ kept-but_one empty 0 c c xs (omega arith)
   where
     one : (cell : ℕ) → present (slice_index_or xs cell empty) ≡ true → not (number cell == i) ≡ not (cell == c)
-    one cell is = elim (cases_eq cell c) [
-      | inl same ↦ rw (eq-eqb (number cell) i (ap number same ∙ here), eq-eqb cell c same) refl
-      | inr other ↦ rw (ne_eqb (number cell) i (λ e. other (only cell is e)), ne_eqb cell c other) refl
-    ]
+    one cell is = grind (arith, nat_tests)
 
 -- to take an item away is to keep all others
 pub without_cut : (v : UnequalValue) (i : ℕ) → IsUnequal v → with_item v (item_at v.size i) 0 ≡ cut_unequal v (λ j. not (j == i))

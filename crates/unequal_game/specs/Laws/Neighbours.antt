@@ -2,9 +2,9 @@
 -- other on a line.
 use Rattle.std.proofs.lemmas.Bool.Decides.{nat_tests}
 use Rattle.std.proofs.Common.{◌≡◌, ℕ, ◌+◌, ◌-◌, ◌*◌, ◌/◌, ◌%◌, ◌<◌, ◌≤◌, ◌⊎◌, Bool, true, false, if◌then◌else◌, ◌==◌}
-use Rattle.std.proofs.Common.{nat_lt, Some, None, refl, sym, ◌∙◌, inl, inr, arith}
+use Rattle.std.proofs.Common.{Some, None, refl, sym, ◌∙◌, inl, inr, arith}
 use Rattle.std.proofs.lemmas.Nat.{div_below, mod_below, div-mul-add, mod-mul-add}
-use Rattle.std.proofs.lemmas.Bool.{lt-ltb, ne_eqb, ltb-false, eqb-false}
+use Rattle.std.proofs.lemmas.Bool.{ne_eqb, eqb-false}
 use Rattle.std.proofs.lemmas.Option.{cond_some}
 use Rattle.latin_board.specs.Lines.{line_cell}
 use Rattle.latin_board.proofs.LatinLines.{line_cell-column, line_cell-row, line_cell_of_row, line_cell_inside}
@@ -37,11 +37,7 @@ next_order w a b small h = grind (arith, nat_tests)
 pub towards : (w a b : ℕ) (d : Direction) → 3 ≤ w → a < w * w → neighbour w a d ≡ Some b → IsNext w a b ⊎ IsNext w b a
 towards w a b Right small inside e = inl (record { inside = inside; points = inl e })
 towards w a b Down small inside e = inl (record { inside = inside; points = inr e })
-towards w a b Up small inside e =
-    let there = some_else (nat_lt a w) (a - w) b e in
-    let high : w ≤ a = ltb-false a w there.0 in
-    let back : b + w ≡ a = omega (arith, there.1) in
-    inr (record { inside = omega (arith, there.1); points = inr (rw (back, lt-ltb a (w * w) inside) refl) })
+towards w a b Up small inside e = grind (arith, nat_tests, some_else)
 towards w a b Left small inside e =
     let there = some_else (a % w == 0) (a - 1) b e in
     let column : 0 < a % w = omega (arith, eqb-false (a % w) 0 there.0) in

@@ -1,7 +1,7 @@
 -- The signs of a puzzle: between which squares they stand, which square they say to be the greater, and those that a
 -- rule gives.
 use Rattle.std.proofs.lemmas.Bool.Decides.{nat_tests}
-use Rattle.std.proofs.Common.{◌≡◌, ◌↔◌, Bool, ℕ, ◌+◌, ◌*◌, ◌<◌, ◌≤◌, ◌⊎◌, true, List, length, Some, None, refl}
+use Rattle.std.proofs.Common.{◌≡◌, ◌↔◌, Bool, ℕ, ◌+◌, ◌*◌, ◌<◌, ◌≤◌, ◌⊎◌, true, List, None, refl}
 use Rattle.std.proofs.Common.{sym, ◌∙◌, inl, inr, arith, slice_index_or}
 use Rattle.std.specs.Bool.{IsTrue}
 use Rattle.std.proofs.lemmas.Bool.{and_parts, eq-eqb, ne_eqb}
@@ -13,7 +13,7 @@ use Rattle.unequal_game.specs.declared.unequal.direction.Direction.TheVariants.{
 use Rattle.unequal_game.specs.declared.unequal.sign.Sign.{Sign}
 use Rattle.unequal_game.specs.declared.unequal.sign.Sign.TheVariants.{Absent, FirstGreater, SecondGreater}
 use Rattle.unequal_game.specs.Unequal.{UnequalValue, IsUnequal, IsGreater, neighbour, right_sign, lower_sign}
-use Rattle.unequal_game.specs.Unequal.{sign_between, says_first, says_second, is_greater, holds_sign, holds_signs}
+use Rattle.unequal_game.specs.Unequal.{sign_between, is_greater, holds_sign, holds_signs}
 use Rattle.unequal_game.specs.Unequal.{holds_towards, sign_towards, signs_towards, signed_puzzle}
 use Rattle.unequal_game.specs.Laws.Neighbours.{IsNext, right_of, below_of, next_order}
 use Rattle.unequal_game.specs.Laws.RangeTests.{all_in_range, range_all}
@@ -41,18 +41,9 @@ pub below_between : (v : UnequalValue) (a : ℕ) → 3 ≤ v.size → sign_betwe
 below_between v a small =
     rw (ne_eqb (a + v.size) (a + 1) (λ e. omega arith), eq-eqb (a + v.size) (a + v.size) refl) refl
 
--- a sign in a list of them, which has none where the grid ends, stands between a square and its neighbour
-has_neighbour : (w : ℕ) (d : Direction) (signs : List Sign) (a : ℕ)
-    → ((cell : ℕ) → neighbour w cell d ≡ None → slice_index_or signs cell Absent ≡ Absent)
-    → IsSaid (slice_index_or signs a Absent) → (b : ℕ) × (neighbour w a d ≡ Some b)
-has_neighbour w d signs a ends said = grind (arith, nat_tests)
-
-in_list : (signs : List Sign) (n a : ℕ) → length signs ≡ n → IsSaid (slice_index_or signs a Absent) → a < n
-in_list signs n a count said = grind (arith, nat_tests, get_or_past)
-
 -- signs stand between neighbours alone
 pub said_next : (v : UnequalValue) (a b : ℕ) → IsUnequal v → IsSaid (sign_between v a b) → IsNext v.size a b
-said_next v a b valid said = grind (arith, nat_tests, has_neighbour, right_of, in_list, below_of)
+said_next v a b valid said = grind (arith, nat_tests, right_of, below_of, get_or_past)
 
 -- ---- which square is the greater
 
@@ -76,15 +67,9 @@ greater_second v a b valid next h = grind (arith, nat_tests, greater_next, next_
 pub never_both : (v : UnequalValue) (a b : ℕ) → IsUnequal v → IsGreater v a b → IsGreater v b a → ⊥
 never_both v a b valid up down = grind (arith, nat_tests, greater_next, greater_second, greater_first)
 
-is_first : (s : Sign) → says_first s ≡ true → s ≡ FirstGreater
-is_first s e = grind (arith, nat_tests)
-
-is_second : (s : Sign) → says_second s ≡ true → s ≡ SecondGreater
-is_second s e = grind (arith, nat_tests)
-
 -- `is_greater` is the test of `IsGreater`
 pub greater_decides : (v : UnequalValue) (a b : ℕ) → IsTrue (is_greater v a b) ↔ IsGreater v a b
-greater_decides v a b = grind (arith, nat_tests, is_first, is_second)
+greater_decides v a b = grind (arith, nat_tests)
 
 pub greater_tested : (v : UnequalValue) (a b : ℕ) (t : Bool) → t ≡ is_greater v a b → IsTrue t ↔ IsGreater v a b
 greater_tested v a b t value = rw value (greater_decides v a b)

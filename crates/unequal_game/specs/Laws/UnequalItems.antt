@@ -2,10 +2,10 @@
 -- by it.
 use Rattle.std.proofs.lemmas.Bool.Decides.{nat_tests}
 use Rattle.std.proofs.Common.{◌≡◌, ◌≢◌, ℕ, zero, ◌+◌, ◌-◌, ◌*◌, ◌/◌, ◌%◌, ◌<◌, ◌≤◌, nat_lt, ◌⊎◌, Bool, true, false}
-use Rattle.std.proofs.Common.{◌&&◌, refl, sym, ap, subst, ◌∙◌, inl, inr, arith, if◌then◌else◌, slice_index, ◌==◌}
+use Rattle.std.proofs.Common.{◌&&◌, refl, ap, ◌∙◌, inl, inr, arith, if◌then◌else◌, slice_index, ◌==◌}
 use Rattle.std.proofs.Math.Nat.{mul_comm}
 use Rattle.std.proofs.lemmas.Nat.{div_below, mod_below, div-mul-add, mod-mul-add, mul-add-lt}
-use Rattle.std.proofs.lemmas.Bool.{false≢true, lt-ltb, le-ltb, cases_lt, ne_eqb}
+use Rattle.std.proofs.lemmas.Bool.{lt-ltb, le-ltb, cases_lt, ne_eqb}
 use Rattle.std.proofs.lemmas.List.{get_or_past}
 use Rattle.latin_board.specs.Squares.{GridValue, IsGrid, IsLatin, number_at}
 use Rattle.latin_board.proofs.LatinLines.{line_differs, latin_full}
@@ -22,7 +22,7 @@ use Rattle.unequal_game.specs.Unequal.{is_present, has_item, has_unequal, keeps_
 use Rattle.unequal_game.specs.Unequal.{full_unequal, unequal_given_grid}
 use Rattle.unequal_game.specs.Inner.UnequalItems.{HasPlace}
 use Rattle.unequal_game.specs.Laws.Neighbours.{IsNext, right_of, below_of, next_line, next_inside}
-use Rattle.unequal_game.specs.Laws.Signs.{IsSaid, first_said, second_said, said_next, right_between, below_between}
+use Rattle.unequal_game.specs.Laws.Signs.{first_said, second_said, said_next, right_between, below_between}
 use Rattle.unequal_game.specs.Laws.Signs.{sign_held, each_sign_held, signed_between, signed_valid}
 use Rattle.trail_solver.proofs.KeptItems.{length-kept, entry-kept, kept-all, kept-kept, kept-same, present_kept}
 use Rattle.trail_solver.proofs.KeptItems.{not_positive, still_asked, none_asked, small_widths, IsGrid-kept}
@@ -83,10 +83,6 @@ is_given_item w cell inside = grind (arith, nat_tests)
 pub not_present : (s : Sign) → is_present s ≡ false → s ≡ Absent
 not_present s h = grind (arith, nat_tests)
 
-present_said : (s : Sign) → is_present s ≡ true → IsSaid s
-present_said s here none =
-    let P : Sign → Type 0 = λ t. is_present t ≡ true in absurd (false≢true (subst P (sym none) here))
-
 -- each item of a puzzle is one that it can have
 pub has_is_item : (v : UnequalValue) (item : Item) → IsUnequal v → has_item v item ≡ true → IsItem v.size item
 has_is_item v item valid here =
@@ -94,7 +90,6 @@ has_is_item v item valid here =
       arith,
       nat_tests,
       said_next,
-      present_said,
       right_between,
       mod_below,
       is_right_item,

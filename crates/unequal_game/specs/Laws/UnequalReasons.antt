@@ -1,10 +1,9 @@
 -- What the signs of Unequal strike: from fewer candidates too, in no solution, in the whole puzzle if in a cut, and along
 -- which lines.
 use Rattle.std.proofs.lemmas.Bool.Decides.{nat_tests}
-use Rattle.std.proofs.Common.{◌≡◌, ◌≢◌, ℕ, ◌*◌, ◌<◌, ◌≤◌, ◌⊎◌, Bool, false, inl, inr, arith}
+use Rattle.std.proofs.Common.{◌≡◌, ◌≢◌, ℕ, ◌*◌, ◌<◌, ◌≤◌, ◌⊎◌, Bool, inl, inr, arith}
 use Rattle.latin_board.specs.Squares.{GridValue, number_at}
-use Rattle.trail_solver.specs.Pairs.{IsPair}
-use Rattle.trail_solver.specs.Candidates.{CandidatesValue, IsWithin, may_be}
+use Rattle.trail_solver.specs.Candidates.{CandidatesValue, IsWithin}
 use Rattle.trail_solver.specs.Puzzles.{Solves}
 use Rattle.unequal_game.specs.Unequal.{UnequalValue, IsUnequal, IsGreater, HoldsSigns, cut_unequal, unequal_puzzle}
 use Rattle.line_steps.specs.Left.{IsLeft, IsFewer}
@@ -88,18 +87,12 @@ pub sign_stays : (v : UnequalValue) (a b : ℕ) (c d : CandidatesValue) → d.si
     → ((u : ℕ) → IsLeft c b u → IsLeft d b u) → IsSignQuiet v a b c → IsSignQuiet v a b d
 sign_stays v a b c d same fewer first second quiet cell value pair = grind (arith, nat_tests, was_gone, sign_was)
 
--- what is left of the first square of a sign is left of it where all stays along its line
-from_stays : (line from to : ℕ) (c d : CandidatesValue) → StaysOn line c d
-    → AreNextOn c.size line from to ⊎ AreNextOn c.size line to from
-    → (u : ℕ) → IsLeft c from u → IsLeft d from u
-from_stays line from to c d stays h u left = grind (arith, nat_tests)
-
 -- what a sign strikes that looks along a line it struck before, where all stayed along it
 pub unequal_look : (v : UnequalValue) (c d : CandidatesValue) (reason : Reason) (cell value line : ℕ) → c.size ≡ v.size
     → line < 2 * c.size
     → LooksAlong c.size line reason cell → StaysOn line c d → IsUnequalOwn v d reason cell value
     → IsUnequalOwn v c reason cell value
-unequal_look v c d reason cell value line size low along stays h = grind (arith, nat_tests, sign_was, from_stays)
+unequal_look v c d reason cell value line size low along stays h = grind (arith, nat_tests, sign_was)
 
 -- neighbours follow one another on a line
 next_on : (w a b : ℕ) → 3 ≤ w → IsNext w a b → (line : ℕ) × (line < 2 * w) × AreNextOn w line a b
@@ -123,16 +116,10 @@ pub unequal_stand : (v : UnequalValue) (c : CandidatesValue) (reason : Reason) (
     → IsUnequalOwn v c reason cell value → StandsAlong v.size reason cell
 unequal_stand v c reason cell value valid h = grind (arith, nat_tests, sign_on, turned)
 
-one_sign : (v : UnequalValue) (line from to cell value : ℕ) (c : CandidatesValue) → AreSignsQuiet v line c
-    → AreNextOn c.size line from to ⊎ AreNextOn c.size line to from → IsPair c.size cell value
-    → IsBySign v c from to cell value
-    → may_be c cell value ≡ false
-one_sign v line from to cell value c quiet h pair here = grind (arith, nat_tests)
-
 -- where the signs along a line strike nothing
 signs_own : (v : UnequalValue) (grade : Grade) (line : ℕ) (c : CandidatesValue) → AreSignsQuiet v line c
     → IsQuietAlong (IsUnequalOwn v) grade line c
-signs_own v grade line c quiet reason cell value has along pair h = grind (arith, nat_tests, one_sign)
+signs_own v grade line c quiet reason cell value has along pair h = grind (arith, nat_tests)
 
 -- so none of theirs along the line does
 pub signs_along : (v : UnequalValue) (grade : Grade) (line : ℕ) (c : CandidatesValue) → AreSignsQuiet v line c

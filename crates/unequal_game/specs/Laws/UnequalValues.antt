@@ -16,7 +16,7 @@ use Rattle.unequal_game.specs.Inner.UnequalItems.{HasPlace, with_item}
 use Rattle.unequal_game.specs.Unequal.{UnequalValue, IsUnequal, neighbour, right_sign, lower_sign}
 use Rattle.unequal_game.specs.Unequal.{sign_between}
 use Rattle.unequal_game.specs.Laws.Signs.{right_between, below_between}
-use Rattle.unequal_game.specs.Unequal.{unequal_items, item_at, item_number, is_present, has_item, has_unequal}
+use Rattle.unequal_game.specs.Unequal.{unequal_items, item_at, item_number, has_item, has_unequal}
 use Rattle.unequal_game.specs.Unequal.{sign_number, numbered_sign, item_says, unequal_says, item_most, unequal_most}
 use Rattle.unequal_game.specs.Unequal.{blank_unequal, sign_item}
 use Rattle.unequal_game.specs.Laws.UnequalItems.{IsItem, number_of_item_at, has_place, is_right_item, is_lower_item}
@@ -35,12 +35,6 @@ number_back n small = grind (arith, nat_tests)
 pub sign_same : (s t : Sign) → sign_number s ≡ sign_number t → s ≡ t
 sign_same s t e = sym (sign_back s) ∙ ap numbered_sign e ∙ sign_back t
 
-present_number : (s : Sign) → is_present s ≡ nat_lt 0 (sign_number s)
-present_number s = grind (arith, nat_tests)
-
-sign_within : (s : Sign) → sign_number s ≤ 2
-sign_within s = grind (arith, nat_tests)
-
 -- ---- items and their places
 
 -- different numbers are those of different items
@@ -52,7 +46,7 @@ items_apart w i j small other same =
 
 -- the puzzle has the items that say something
 has_by_says : (v : UnequalValue) (item : Item) → has_item v item ≡ nat_lt 0 (item_says v item)
-has_by_says v item = grind (arith, nat_tests, present_number)
+has_by_says v item = grind (arith, nat_tests)
 
 pub has_by_value : (v : UnequalValue) (i : ℕ) → has_unequal v i ≡ nat_lt 0 (unequal_says v i)
 has_by_value v i = has_by_says v (item_at v.size i)
@@ -60,7 +54,7 @@ has_by_value v i = has_by_says v (item_at v.size i)
 -- no item says more than it can
 says_within : (v : UnequalValue) (item : Item) → IsUnequal v → HasPlace v.size item
     → item_says v item ≤ item_most v.size item
-says_within v item valid place = grind (arith, nat_tests, sign_within, number_within)
+says_within v item valid place = grind (arith, nat_tests, number_within)
 
 pub value_within : (v : UnequalValue) (i : ℕ) → IsUnequal v → i < unequal_items v.size
     → unequal_says v i ≤ unequal_most v.size i
@@ -123,10 +117,6 @@ value_all p q p_valid q_valid size same =
     ]
 
 -- where an item says another number, the others say what they said
-one_says : (v : UnequalValue) (item : Item) (n : ℕ) → IsUnequal v → HasPlace v.size item → n ≤ item_most v.size item
-    → item_says (with_item v item n) item ≡ n
-one_says v item n valid place fits = grind (arith, nat_tests, get_or-set_same, number_back)
-
 other_says : (v : UnequalValue) (item other : Item) (n : ℕ) → other ≢ item
     → item_says (with_item v item n) other ≡ item_says v other
 other_says v item other n apart = grind (arith, nat_tests, get_or-set_other)
@@ -137,19 +127,17 @@ with_size v item n = grind (arith, nat_tests)
 -- what the item of a number says then
 pub put_one : (v u : UnequalValue) (item : Item) (i n : ℕ) → u ≡ with_item v item n → item ≡ item_at v.size i
     → IsUnequal v → i < unequal_items v.size → n ≤ unequal_most v.size i → unequal_says u i ≡ n
-put_one v u item i n put is valid inside fits = grind (arith, nat_tests, with_size, one_says, has_place)
+put_one v u item i n put is valid inside fits =
+    grind (arith, nat_tests, with_size, has_place, get_or-set_same, number_back)
 
 pub put_others : (v u : UnequalValue) (item : Item) (i n j : ℕ) → u ≡ with_item v item n → item ≡ item_at v.size i
     → IsUnequal v → j ≢ i → unequal_says u j ≡ unequal_says v j
 put_others v u item i n j put is valid other = grind (arith, nat_tests, with_size, other_says, items_apart)
 
 -- the blank puzzle says nothing
-none_says : (w : ℕ) (item : Item) → HasPlace w item → item_says (blank_unequal w) item ≡ 0
-none_says w item place = grind (arith, nat_tests, get_or-replicate)
-
 pub blank_none : (v : UnequalValue) (w : ℕ) → v ≡ blank_unequal w → IsUnequal v → (i : ℕ) → i < unequal_items w
     → unequal_says v i ≡ 0
-blank_none v w is valid i inside = grind (arith, nat_tests, none_says, has_place)
+blank_none v w is valid i inside = grind (arith, nat_tests, has_place, get_or-replicate)
 
 -- ---- places
 
