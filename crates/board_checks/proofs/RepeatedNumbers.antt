@@ -1,5 +1,6 @@
 -- A repeated number stands elsewhere in its square's row or column.
-use Rattle.std.proofs.Common.{◌≡◌, ◌≢◌, ◌↔◌, ◌⊎◌, ℕ, ◌+◌, ◌*◌, ◌/◌, ◌%◌, ◌<◌, inl, inr, sym, ap, ◌∙◌, arith}
+use Rattle.std.proofs.lemmas.Bool.Decides.{nat_tests}
+use Rattle.std.proofs.Common.{◌≡◌, ◌≢◌, ◌↔◌, ◌⊎◌, ℕ, ◌+◌, ◌*◌, ◌/◌, ◌%◌, ◌<◌, inl, inr, ap, ◌∙◌, arith}
 use Rattle.std.proofs.lemmas.Nat.{div_below, mod_below}
 use Rattle.latin_board.specs.Squares.{GridValue, number_at}
 use Rattle.latin_board.specs.Lines.{line_cell}
@@ -11,24 +12,11 @@ use Rattle.board_checks.specs.Inner.Repeats.{IsElsewhere}
 -- a number that stands elsewhere in a line of its square is repeated
 pub repeated_from_line : (g : GridValue) (cell line place : ℕ) → 0 < number_at g cell → line < 2 * g.size → place < g.size
     → line_cell g.size line place ≡ cell → IsElsewhere g cell line → IsRepeated g cell
-repeated_from_line g cell line place filled below within here e =
-    let apart : place ≢ e.place = λ same. e.apart (ap (line_cell g.size line) (sym same) ∙ here) in
-    let peers = line_peers g.size line place e.place below within e.within apart in
-    record {
-      filled = filled;
-      other = line_cell g.size line e.place;
-      peers = rw here at peers;
-      same = e.same;
-    }
+repeated_from_line g cell line place filled below within here e = grind (arith, nat_tests, line_peers)
 
 elsewhere_at : (g : GridValue) (cell other line place : ℕ) → place < g.size → line_cell g.size line place ≡ other
     → cell ≢ other → number_at g other ≡ number_at g cell → IsElsewhere g cell line
-elsewhere_at g cell other line place within here apart same = record {
-  place = place;
-  within = within;
-  apart = λ e. apart (sym e ∙ here);
-  same = ap (number_at g) here ∙ same;
-}
+elsewhere_at g cell other line place within here apart same = grind (arith, nat_tests)
 
 -- the row and the column of a square have all its peers
 pub repeated_by_lines : (g : GridValue) (cell : ℕ) → cell < g.size * g.size

@@ -1,11 +1,12 @@
 -- A sign is broken where the square of the greater number can hold none that is greater than the least of the other.
-use Rattle.std.proofs.Common.{◌≡◌, ◌≢◌, ◌↔◌, ℕ, zero, suc, ◌+◌, ◌*◌, ◌<◌, ◌≤◌, true, [], ◌∷◌, length, get_or, inl, inr, refl, sym, ◌∙◌, arith, subst}
-use Rattle.std.proofs.lemmas.Bool.{cases_lt, cases_eq, lt-ltb, ltb-true, eq-eqb, ne_eqb, false≢true}
+use Rattle.std.proofs.lemmas.Bool.Decides.{nat_tests}
+use Rattle.std.proofs.Common.{◌≡◌, ◌≢◌, ◌↔◌, ℕ, ◌+◌, ◌*◌, ◌<◌, ◌≤◌, true, [], ◌∷◌, length, get_or, inl, inr, refl, sym, arith, subst}
+use Rattle.std.proofs.lemmas.Bool.{cases_lt, lt-ltb, ltb-true}
 use Rattle.std.proofs.lemmas.Option.{cond_some}
 use Rattle.latin_board.specs.Squares.{GridValue, IsGrid, number_at}
 use Rattle.latin_board.proofs.Numbers.{number_within}
 use Rattle.unequal_game.specs.declared.unequal.sign.Sign.{Sign}
-use Rattle.unequal_game.specs.declared.unequal.sign.Sign.TheVariants.{Absent, FirstGreater, SecondGreater}
+use Rattle.unequal_game.specs.declared.unequal.sign.Sign.TheVariants.{FirstGreater, SecondGreater}
 use Rattle.unequal_game.specs.Unequal.{UnequalValue, IsUnequal, IsGreater, sign_between, is_present}
 use Rattle.unequal_game.specs.Laws.Neighbours.{next_order, next_inside}
 use Rattle.unequal_game.specs.Laws.Signs.{said_next, greater_next}
@@ -20,46 +21,24 @@ use Rattle.board_checks.specs.Laws.UnequalDemands.{present_said, right_demand, b
 -- ---- one end of a sign
 
 most_within : (w n : ℕ) → 3 ≤ w → n ≤ w → (1 ≤ most_of w n) × (most_of w n ≤ w) × (0 < n → most_of w n ≡ n)
-most_within w n small within = elim (cases_eq n 0) [
-  | inl blank ↦ rw (eq-eqb n 0 blank) (omega arith, omega arith, λ some. omega arith)
-  | inr other ↦ rw (ne_eqb n 0 other) (omega arith, within, λ some. refl)
-]
+most_within w n small within = grind (arith, nat_tests)
 
 least_within : (w n : ℕ) → 3 ≤ w → n ≤ w → (1 ≤ least_of n) × (least_of n ≤ w) × (0 < n → least_of n ≡ n)
-least_within w n small within = elim (cases_eq n 0) [
-  | inl blank ↦ rw (eq-eqb n 0 blank) (omega arith, omega arith, λ some. omega arith)
-  | inr other ↦ rw (ne_eqb n 0 other) (omega arith, within, λ some. refl)
-]
+least_within w n small within = grind (arith, nat_tests)
 
 -- what comes into a square is at most the one and at least the other
 below_most : (w n x : ℕ) → x ≤ w → (0 < n → x ≡ n) → x ≤ most_of w n
-below_most w n x within keeps = elim (cases_eq n 0) [
-  | inl blank ↦ rw (eq-eqb n 0 blank) within
-  | inr other ↦ let same = keeps (omega arith) in rw (ne_eqb n 0 other) (omega arith)
-]
+below_most w n x within keeps = grind (arith, nat_tests)
 
 -- what a square may hold is no less than its least number
 above_least : (n x : ℕ) → 1 ≤ x → (0 < n → x ≡ n) → least_of n ≤ x
-above_least n x low keeps = elim (cases_eq n 0) [
-  | inl blank ↦ rw (eq-eqb n 0 blank) low
-  | inr other ↦ let same = keeps (omega arith) in rw (ne_eqb n 0 other) (omega arith)
-]
+above_least n x low keeps = grind (arith, nat_tests)
 
 -- ---- the fillings of two squares
 
 pair_filling : (w a b x y : ℕ) → (1 ≤ x) × (x ≤ w) × (0 < a → x ≡ a) → (1 ≤ y) × (y ≤ w) × (0 < b → y ≡ b) → x ≢ y
     → IsFillingIn w (a ∷ b ∷ []) (x ∷ y ∷ [])
-pair_filling w a b x y (low_x, high_x, keeps_x) (low_y, high_y, keeps_y) apart = record {
-  same_length = refl;
-  keeps = keeps;
-  within = two_all (λ n. (1 ≤ n) × (n ≤ w)) x y (low_x, high_x) (low_y, high_y);
-  apart = two_pairs (λ a b. a ≢ b) x y apart;
-}
-  where
-    keeps : (k : ℕ) → k < length (a ∷ b ∷ []) → 0 < get_or (a ∷ b ∷ []) k 0 → get_or (x ∷ y ∷ []) k 0 ≡ get_or (a ∷ b ∷ []) k 0
-    keeps zero low some = keeps_x some
-    keeps (suc zero) low some = keeps_y some
-    keeps (suc (suc k)) low some = absurd (omega arith)
+pair_filling w a b x y h here apart = grind (arith, nat_tests, two_all, two_pairs)
 
 -- ---- a sign
 
@@ -118,16 +97,10 @@ second_broken g a b valid inside inside_b =
 -- ---- the sign between two squares of which one comes first
 
 ordered_first : (v : UnequalValue) (a b : ℕ) → IsUnequal v → a < b → IsGreater v a b → sign_between v a b ≡ FirstGreater
-ordered_first v a b valid order h = elim (greater_next v a b valid h) [
-  | inl up ↦ up.1
-  | inr down ↦ absurd (omega (arith, next_order v.size b a valid.givens.smallest down.0))
-]
+ordered_first v a b valid order h = grind (arith, nat_tests, greater_next, next_order)
 
 ordered_second : (v : UnequalValue) (a b : ℕ) → IsUnequal v → a < b → IsGreater v b a → sign_between v a b ≡ SecondGreater
-ordered_second v a b valid order h = elim (greater_next v b a valid h) [
-  | inl up ↦ absurd (omega (arith, next_order v.size b a valid.givens.smallest up.0))
-  | inr down ↦ down.1
-]
+ordered_second v a b valid order h = grind (arith, nat_tests, greater_next, next_order)
 
 present_broken : (g : GridValue) (s : Sign) (a b : ℕ) → is_present s ≡ true → IsSignBroken g s a b ↔ IsBroken g (sign_demand s a b)
 present_broken g s a b present = (
@@ -162,24 +135,13 @@ greater_second_broken v g a b valid is_grid order inside h =
 -- without a sign nothing is broken
 pub unsigned_unbroken : (v : UnequalValue) (g : GridValue) (a b : ℕ) → (IsGreater v a b → ⊥) → (IsGreater v b a → ⊥)
     → IsSignBroken g (sign_between v a b) a b → ⊥
-unsigned_unbroken v g a b not_first not_second h = by (sign_between v a b) refl
-  where
-    by : (s : Sign) → sign_between v a b ≡ s → ⊥
-    by Absent e =
-        let there = cond_some (is_present (sign_between v a b)) (sign_demand (sign_between v a b) a b) h.0 h.1 in
-        false≢true (rw e at there.0)
-    by FirstGreater e = not_first (inl e)
-    by SecondGreater e = not_second (inr e)
+unsigned_unbroken v g a b not_first not_second h = grind (arith, nat_tests, cond_some)
 
 -- what is broken on the right of a square, or below it, is the sign there
 pub right_broken : (v : UnequalValue) (g : GridValue) (cell : ℕ)
     → IsBrokenAt (unequal_demand v) g (RightOf cell) ↔ IsSignBroken g (sign_between v cell (cell + 1)) cell (cell + 1)
-right_broken v g cell =
-    let same = right_demand v cell in
-    (λ h. let (d, says, broken) = h in (d, same ∙ says, broken), λ h. let (d, says, broken) = h in (d, sym same ∙ says, broken))
+right_broken v g cell = grind (arith, nat_tests, right_demand)
 
 pub below_broken : (v : UnequalValue) (g : GridValue) (cell : ℕ) → 3 ≤ v.size
     → IsBrokenAt (unequal_demand v) g (Below cell) ↔ IsSignBroken g (sign_between v cell (cell + v.size)) cell (cell + v.size)
-below_broken v g cell small =
-    let same = below_demand v cell small in
-    (λ h. let (d, says, broken) = h in (d, same ∙ says, broken), λ h. let (d, says, broken) = h in (d, sym same ∙ says, broken))
+below_broken v g cell small = grind (arith, nat_tests, below_demand)

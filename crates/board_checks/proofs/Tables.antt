@@ -1,13 +1,13 @@
 -- Tables of answers that are filled in from the front.
-use Rattle.std.proofs.Common.{◌≡◌, ◌↔◌, ℕ, zero, suc, ◌+◌, ◌*◌, ◌<◌, ◌≤◌, Bool, true, false, List, [], ◌∷◌, length, get_or, set, replicate, inl, inr, refl, ◌∙◌, arith}
+use Rattle.std.proofs.lemmas.Bool.Decides.{nat_tests}
+use Rattle.std.proofs.Common.{◌≡◌, ◌↔◌, ℕ, zero, suc, ◌+◌, ◌*◌, ◌<◌, ◌≤◌, Bool, true, false, List, [], ◌∷◌, length, get_or, set, replicate, inl, inr, refl, arith}
 use Rattle.std.specs.Bool.{IsTrue, beq}
 use Rattle.std.specs.List.{list_any}
-use Rattle.std.proofs.lemmas.Bool.{cases_lt, cases_eq, both_ways, false≢true}
+use Rattle.std.proofs.lemmas.Bool.{cases_lt, false≢true}
 use Rattle.std.proofs.Math.Nat.{mul-le-mul_left}
 use Rattle.latin_board.specs.declared.grid.TheConstants.{CELLS}
 use Rattle.std.proofs.lemmas.List.{get_or_past, get_or-replicate, length-replicate, length-set, get_or-set_same, get_or-set_other}
 use Rattle.board_checks.specs.declared.spot.Spot.{Spot}
-use Rattle.board_checks.specs.declared.spot.Spot.TheVariants.{Edge, RightOf, Below}
 use Rattle.board_checks.specs.Errors.{ErrorsValue, has_broken}
 
 -- the answers below n say of which numbers P holds, and from n on none is yes
@@ -30,28 +30,16 @@ none_told P = record {
 -- one entry more is told
 pub one_more_told : (P : ℕ → Type 0) (n : ℕ) (b : Bool) (found : List Bool) → n < CELLS → IsTrue b ↔ P n → AreTold n P found
     → AreTold (n + 1) P (set found n b)
-one_more_told P n b found inside here h = record {
-  room = length-set found n b ∙ h.room;
-  told = λ k low. elim (cases_eq k n) [
-    | inl same ↦ rw same (rw (get_or-set_same found n b false (omega (arith, inside, h.room))) here)
-    | inr other ↦ rw (get_or-set_other found n k b false other) (h.told k (omega arith))
-  ];
-  rest = λ k low. get_or-set_other found n k b false (λ same. omega arith) ∙ h.rest k (omega arith);
-}
+one_more_told P n b found inside here h = grind (arith, nat_tests, length-set, get_or-set_same, get_or-set_other)
 
 -- when all entries are told, the table tells of each
 pub all_told : (P : ℕ → Type 0) (n : ℕ) (found : List Bool) → AreTold n P found → ((k : ℕ) → P k → k < n)
     → (k : ℕ) → IsTrue (get_or found k false) ↔ P k
-all_told P n found h within k = elim (cases_lt k n) [
-  | inl low ↦ h.told k low
-  | inr past ↦ (λ e. absurd (both_ways (get_or found k false) (h.rest k past) e), λ p. absurd (omega (arith, within k p)))
-]
+all_told P n found h within k = grind (arith, nat_tests)
 
 -- a square of a grid of at most 9 has a place
 pub square_in_table : (w cell : ℕ) → w ≤ 9 → cell < w * w → cell < CELLS
-square_in_table w cell small inside =
-    let more : w * w ≤ w * 9 = mul-le-mul_left w small in
-    omega arith
+square_in_table w cell small inside = grind (arith, nat_tests, mul-le-mul_left)
 
 -- some answer is yes
 pub yes_somewhere : (answers : List Bool) → IsTrue (list_any (λ y. beq y true) answers) ↔ ((k : ℕ) × IsTrue (get_or answers k false))
@@ -71,6 +59,4 @@ yes_somewhere answers = (there answers, λ h. here answers h.0 h.1)
 -- what is broken, but at no edge place and on the right of no square, is so below one
 pub left_below : (e : ErrorsValue) → (((k : ℕ) × IsTrue (get_or e.edges k false)) → ⊥) → (((k : ℕ) × IsTrue (get_or e.right k false)) → ⊥)
     → (spot : Spot) → IsTrue (has_broken e spot) → (k : ℕ) × IsTrue (get_or e.below k false)
-left_below e no_edge no_right (Edge place) h = absurd (no_edge (place, h))
-left_below e no_edge no_right (RightOf cell) h = absurd (no_right (cell, h))
-left_below e no_edge no_right (Below cell) h = (cell, h)
+left_below e no_edge no_right spot h = grind (arith, nat_tests)

@@ -1,12 +1,13 @@
 -- A grid with an error has no completion, and a full one without any is a solution.
-use Rattle.std.proofs.Common.{◌≡◌, ◌↔◌, ℕ, ◌*◌, ◌<◌, false, Option, Some, List, length, get_or, slice_index_or, inl, inr, refl, sym, ap, ◌∙◌, arith, subst}
+use Rattle.std.proofs.lemmas.Bool.Decides.{nat_tests}
+use Rattle.std.proofs.Common.{◌≡◌, ◌↔◌, ℕ, ◌*◌, ◌<◌, false, Option, Some, List, length, get_or, slice_index_or, inl, inr, refl, sym, ap, ◌∙◌, arith}
 use Rattle.std.specs.Bool.{IsTrue}
 use Rattle.std.proofs.lemmas.Bool.{both_ways, true_from_ne_false}
 use Rattle.std.proofs.lemmas.Grind.{same_number_lists}
 use Rattle.std.proofs.lemmas.List.{get_or-map, length-map}
 use Rattle.std.proofs.lemmas.List.FromFn.{get_or-map-range_with_len}
 use Rattle.latin_board.specs.Squares.{GridValue, IsGrid, IsFull, HasEachOnce, number_at}
-use Rattle.latin_board.specs.Lines.{line_cell, line_of, ArePeers}
+use Rattle.latin_board.specs.Lines.{line_cell, line_of}
 use Rattle.latin_board.proofs.LatinLines.{latin_from_lines, latin_full, line_cell_inside, length-line_of, peers_differ}
 use Rattle.latin_board.proofs.Numbers.{number_within}
 use Rattle.latin_board.proofs.PeerLines.{line_peers}
@@ -31,12 +32,7 @@ number_of g d k e low = get_or-map (number_at g) d.cells k 0 e low
 -- ---- what a completion keeps
 
 pub never_repeated : (p : Puzzle) (g h : GridValue) (cell : ℕ) → g.size ≡ p.size → Completes p g h → IsRepeated g cell → ⊥
-never_repeated p g h cell size c r =
-    let s = c.0 in
-    let peers : ArePeers h.size cell r.other = subst (λ w. ArePeers w cell r.other) (size ∙ sym s.same_size) r.peers in
-    let kept = c.1 cell r.peers.first r.filled in
-    let other = c.1 r.other r.peers.second (omega (arith, r.filled, r.same)) in
-    peers_differ h s.is_grid s.latin cell r.other peers (kept ∙ sym r.same ∙ sym other)
+never_repeated p g h cell size c r = grind (arith, nat_tests, peers_differ)
 
 -- a completion fills in each demand's line, and meets it
 completion_fills : (p : Puzzle) (g h : GridValue) (d : Demand) → g.size ≡ p.size → Completes p g h → IsOfPeers p.size d
@@ -101,11 +97,7 @@ full_line g line valid full none below =
 -- a full line is its own filling
 own_filling : (g : GridValue) (d : Demand) (filled : List ℕ) → IsFull g → IsOfPeers g.size d → IsFillingIn g.size (numbers_of g d) filled
     → filled ≡ numbers_of g d
-own_filling g d filled full on h =
-    same_number_lists filled (numbers_of g d) h.same_length (λ k low.
-    let mine : length (numbers_of g d) ≡ length d.cells = length-map d.cells (number_at g) in
-    let within : k < length d.cells = omega (arith, h.same_length) in
-    h.keeps k (omega (arith, h.same_length)) (rw (number_of g d k 0 within) (full.each (get_or d.cells k 0) (on.inside k 0 within))))
+own_filling g d filled full on h = grind (arith, nat_tests, same_number_lists, length-map, number_of)
 
 full_met : (p : Puzzle) (demand : Spot → Option Demand) (g : GridValue) → AreDemandsOf p demand → g.size ≡ p.size → IsFull g
     → ((spot : Spot) → IsBrokenAt demand g spot → ⊥) → MeetsAll demand g
@@ -139,9 +131,7 @@ pub at_each_spot : (demand : Spot → Option Demand) (g : GridValue) (e : Errors
     → ((cell : ℕ) → IsTrue (slice_index_or e.right cell false) ↔ IsBrokenAt demand g (RightOf cell))
     → ((cell : ℕ) → IsTrue (slice_index_or e.below cell false) ↔ IsBrokenAt demand g (Below cell))
     → (spot : Spot) → IsTrue (has_broken e spot) ↔ IsBrokenAt demand g spot
-at_each_spot demand g e edges right below (Edge place) = edges place
-at_each_spot demand g e edges right below (RightOf cell) = right cell
-at_each_spot demand g e edges right below (Below cell) = below cell
+at_each_spot demand g e edges right below spot = grind (arith, nat_tests)
 
 -- the errors of a grid of the puzzle's size, exactly
 pub record AreErrorsOf (p : Puzzle) (demand : Spot → Option Demand) (g : GridValue) (e : ErrorsValue) : Type 0 where

@@ -1,10 +1,12 @@
 -- Candidates from which a grade's steps lead on as from all pairs.
+use Rattle.std.proofs.Common.{arith}
+use Rattle.std.proofs.lemmas.Bool.Decides.{nat_tests}
 use Rattle.std.proofs.Common.{◌≡◌, ℕ, ◌*◌, ◌<◌, List, [], ◌∷◌, ◌++◌, refl, sym, ◌∙◌, subst}
 use Rattle.latin_board.specs.Squares.{GridValue, number_at}
 use Rattle.trail_solver.specs.Candidates.{CandidatesValue, IsOnly, IsWithin}
 use Rattle.trail_solver.specs.Pairs.{IsPair}
 use Rattle.trail_solver.specs.Puzzles.{Puzzle, Solves}
-use Rattle.line_steps.specs.Left.{IsLeft, IsFewer, all_of, without}
+use Rattle.line_steps.specs.Left.{IsFewer, all_of, without}
 use Rattle.line_steps.specs.Chains.{StepValue, IsChain, AreOfGrade, left_by}
 use Rattle.line_steps.specs.Settled.{IsClosure}
 use Rattle.named_steps.specs.Following.{Follows}
@@ -19,16 +21,7 @@ use Rattle.line_steps.specs.Reasons.{Striking}
 -- all pairs are one
 pub base_all : (Struck : Striking) (grade : Grade) (g : GridValue) (c : CandidatesValue) → c.size ≡ g.size
     → c.trail ≡ [] → IsBase Struck grade g c
-base_all Struck grade g c size none =
-    let all : c ≡ all_of g.size = λ i. record { size = size i; trail = none i } in
-    subst (IsBase Struck grade g) (sym all) (record {
-      size = refl;
-      steps = [];
-      chain = tt;
-      allowed = tt;
-      fewer = λ cell value left. left;
-      within = record { each = λ cell inside. refl };
-    })
+base_all Struck grade g c size none = grind (arith, nat_tests)
 
 -- ---- more items
 
@@ -44,14 +37,7 @@ chain_more Less More more c (step ∷ steps) h = (
 pub base_more : (Less More : Striking)
     → ((c : CandidatesValue) (reason : Reason) (cell value : ℕ) → Less c reason cell value → More c reason cell value)
     → (grade : Grade) (g : GridValue) (c : CandidatesValue) → IsBase Less grade g c → IsBase More grade g c
-base_more Less More more grade g c base = record {
-  size = base.size;
-  steps = base.steps;
-  chain = chain_more Less More more (all_of g.size) base.steps base.chain;
-  allowed = base.allowed;
-  fewer = base.fewer;
-  within = base.within;
-}
+base_more Less More more grade g c base = grind (arith, nat_tests, chain_more)
 
 -- ---- what a grade leaves
 
@@ -95,14 +81,7 @@ base_settled p Struck sound less grade g c d s base h =
 -- where the square's numbers alone are left, it follows
 pub base_follows : (Struck : Striking) (grade : Grade) (g : GridValue) (d : CandidatesValue) → IsBase Struck grade g d
     → ((cell : ℕ) → cell < d.size * d.size → IsOnly d cell (number_at g cell)) → Follows Struck grade g
-base_follows Struck grade g d base only = record {
-  steps = base.steps;
-  chain = base.chain;
-  allowed = base.allowed;
-  alone = λ cell inside other left.
-      let now : IsLeft d cell other = base.fewer cell other left in
-      (only cell (subst (λ (w : ℕ). cell < w * w) (sym base.size) inside)).alone other now.pair.low now.pair.high now.may;
-}
+base_follows Struck grade g d base only = grind (arith, nat_tests)
 
 all_fewer : (w : ℕ) (c : CandidatesValue) → c.size ≡ w → IsFewer (all_of w) c
 all_fewer w c size = λ cell value h. record { pair = subst (λ (n : ℕ). IsPair n cell value) size h.pair; may = refl }

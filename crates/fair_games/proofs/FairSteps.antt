@@ -1,7 +1,8 @@
 -- Draws, one after the other, until one gives a game of the grade; and that there is just one such game.
-use Rattle.std.proofs.Common.{◌≡◌, ℕ, zero, suc, ◌+◌, ◌<◌, Bool, true, false, if◌then◌else◌, List, [], Option, Some, None, IfSome, MatchOption, Result, Ok, Err, inl, inr, refl, sym, ◌∙◌, ap, subst, arith, ◌-◌, ◌*◌, ◌≤◌, not, IsTrue, ◌↔◌}
+use Rattle.std.proofs.lemmas.Bool.Decides.{nat_tests}
+use Rattle.std.proofs.Common.{◌≡◌, ℕ, zero, suc, ◌+◌, ◌<◌, Bool, true, false, List, [], Option, Some, None, IfSome, MatchOption, Result, Ok, Err, inl, inr, refl, sym, ◌∙◌, ap, subst, arith, ◌-◌, ◌*◌, ◌≤◌, not, IsTrue, ◌↔◌}
 use Rattle.std.proofs.lemmas.Bool.{both_ways, cases_eq, cases_order, false≢true}
-use Rattle.latin_board.specs.Squares.{GridValue, latin_test}
+use Rattle.latin_board.specs.Squares.{GridValue}
 use Rattle.trail_solver.specs.Puzzles.{Puzzle}
 use Rattle.trail_solver.specs.Solutions.{IsOnlySolution}
 use Rattle.trail_solver.specs.declared.rules.Rules.{Ghosts}
@@ -15,7 +16,7 @@ use Rattle.named_steps.proofs.Followed.{follows_only}
 use Rattle.named_steps.proofs.Solutions.{graded_next}
 use Rattle.line_steps.specs.declared.grade.Grade.{Grade}
 use Rattle.line_steps.specs.declared.grade.Grade.TheVariants.{Latin, Easy, Hard}
-use Rattle.puzzle_gen.specs.SeededSquares.{drawn_order, square_of}
+use Rattle.puzzle_gen.specs.SeededSquares.{drawn_order}
 use Rattle.fair_games.specs.Squares.{drawn_rows, first_row, with_first_row}
 use Rattle.fair_games.proofs.RowSteps.{with_row_size}
 use Rattle.fair_games.specs.Draws.{drawn_game, stream_after, draw_at}
@@ -32,9 +33,7 @@ use Rattle.line_steps.specs.Reasons.{Striking}
 
 pub next_left : (trial : Trial) (w items k : ℕ) (s now next : Stream) → now ≡ stream_after trial w items k s
     → next ≡ (drawn_game trial w items now).1 → next ≡ stream_after trial w items (k + 1) s
-next_left trial w items k s now next so_far drew =
-    let more : suc k ≡ k + 1 = omega arith in
-    drew ∙ ap (λ (t : Stream). (drawn_game trial w items t).1) so_far ∙ ap (λ (n : ℕ). stream_after trial w items n s) more
+next_left trial w items k s now next so_far drew = grind (arith, nat_tests)
 
 -- what is drawn now is the next draw
 drawn_now : (trial : Trial) (w items k : ℕ) (s now : Stream) → now ≡ stream_after trial w items k s
@@ -59,13 +58,7 @@ pub found_fair : {P : Type 0} (f : Ghosts P) (Struck : P → Striking) (grade : 
     (s now : Stream) (p : P) → now ≡ stream_after trial w items k s → IsPrunedGame f Struck grade (drawn_game trial w items now).0 p
     → IsOfGrade f Struck grade p → ((n : ℕ) → n < k → IsPassedOver f Struck grade (draw_at trial w items s n)) → k < 512
     → IsFair f Struck grade (draw_at trial w items s) p
-found_fair f Struck grade trial w items k s now p so_far pruned graded before few = record {
-  draw = k;
-  few = few;
-  pruned = subst (λ (d : GridValue × List ℕ). IsPrunedGame f Struck grade d p) (drawn_now trial w items k s now so_far) pruned;
-  graded = graded;
-  earlier = before;
-}
+found_fair f Struck grade trial w items k s now p so_far pruned graded before few = grind (arith, nat_tests, drawn_now)
 
 -- ---- there is just one
 
@@ -78,26 +71,11 @@ game_once f Struck grade draw p q first second =
 -- so one that gives a game of the grade isn't passed over
 not_passed : {P : Type 0} (f : Ghosts P) (Struck : P → Striking) (grade : Grade) (draw : GridValue × List ℕ) (p : P)
     → IsPrunedGame f Struck grade draw p → IsOfGrade f Struck grade p → IsPassedOver f Struck grade draw → ⊥
-not_passed f Struck grade draw p pruned graded passed =
-    let same = game_once f Struck grade draw p passed.puzzle pruned passed.pruned in
-    passed.other (subst (IsOfGrade f Struck grade) same graded)
+not_passed f Struck grade draw p pruned graded passed = grind (arith, nat_tests, game_once)
 
 fair_same : {P : Type 0} (f : Ghosts P) (Struck : P → Striking) (grade : Grade) (draws : ℕ → GridValue × List ℕ) (p q : P)
     → IsFair f Struck grade draws p → IsFair f Struck grade draws q → p ≡ q
-fair_same f Struck grade draws p q first second =
-    elim (cases_order first.draw second.draw) [
-      | inl here ↦
-          game_once f Struck grade (draws first.draw) p q first.pruned
-          (subst (λ (n : ℕ). IsPrunedGame f Struck grade (draws n) q) (sym here) second.pruned)
-      | inr apart ↦ elim apart [
-        | inl before ↦ absurd
-            (not_passed f Struck grade (draws first.draw) p first.pruned first.graded
-            (second.earlier first.draw before))
-        | inr after ↦ absurd
-            (not_passed f Struck grade (draws second.draw) q second.pruned second.graded
-            (first.earlier second.draw after))
-      ]
-    ]
+fair_same f Struck grade draws p q first second = grind (arith, nat_tests, cases_order, game_once, not_passed)
 
 -- two results of the same draws are the same
 pub fair_once : {P : Type 0} (f : Ghosts P) (Struck : P → Striking) (grade : Grade) (offered : Bool)
@@ -168,22 +146,13 @@ rows_size w (suc n) s =
 
 -- a draw's square has the width
 pub draw_size : (trial : Trial) (w items : ℕ) (s : Stream) (n : ℕ) → (draw_at trial w items s n).0.size ≡ w
-draw_size trial w items s n =
-    let before = stream_after trial w items n s in
-    let rows = drawn_rows w w before in
-    pick (latin_test rows.0) rows.0 (rows_size w w before)
-  where
-    pick : (b : Bool) (g : GridValue) → g.size ≡ w → (if b then g else square_of w 0).size ≡ w
-    pick true g e = e
-    pick false g e = refl
+draw_size trial w items s n = grind (arith, nat_tests, rows_size)
 
 -- ---- grades
 
 -- what is so of none of the grades is so of no grade
 pub no_grade : (Is : Grade → Type 0) → (Is Latin → ⊥) → (Is Easy → ⊥) → (Is Hard → ⊥) → (grade : Grade) → Is grade → ⊥
-no_grade Is latin easy hard Latin is = latin is
-no_grade Is latin easy hard Easy is = easy is
-no_grade Is latin easy hard Hard is = hard is
+no_grade Is latin easy hard grade is = grind (arith, nat_tests)
 
 -- ---- the items that are needed
 

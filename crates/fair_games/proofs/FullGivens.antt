@@ -1,4 +1,5 @@
 -- The full puzzle of a Latin square follows by its givens.
+use Rattle.std.proofs.lemmas.Bool.Decides.{nat_tests}
 use Rattle.std.proofs.Common.{◌≡◌, ◌≢◌, ℕ, zero, suc, ◌*◌, ◌^◌, ◌<◌, ◌≤◌, true, false, not, ◌&&◌, ◌||◌, List, [], ◌++◌, inl, inr, refl, sym, ◌∙◌, ap, subst, arith, eqb, leb, ltb}
 use Rattle.std.proofs.Math.Bool.{and-false, or-false}
 use Rattle.std.proofs.lemmas.Bool.{both_ways, and_parts, and_from, eq-eqb, cases_eq, cases_lt, ne_eqb, lt-ltb, le-ltb, ltb-true, le-leb, leb-true, lt-leb}
@@ -29,10 +30,7 @@ others w number = flip_number (numbers_to w) number
 
 others_has : (w number v : ℕ) → 1 ≤ number → number ≤ w
     → has_number (others w number) v ≡ ((leb 1 v && leb v w) && not (eqb v number))
-others_has w number v low high =
-    has_number-taken (numbers_to w) number v
-    (has_number-numbers_to w number ∙ and_from (leb 1 number) (leb number w) (le-leb 1 number low) (le-leb number w high))
-    ∙ ap (λ b. b && not (eqb v number)) (has_number-numbers_to w v)
+others_has w number v low high = grind (arith, nat_tests, has_number-taken, has_number-numbers_to)
 
 others_small : (w number : ℕ) → w ≤ 9 → 1 ≤ number → number ≤ w → others w number < 2 ^ 16
 others_small w number small low high =

@@ -1,4 +1,5 @@
 -- The steps of the pruning, for puzzles whose steps have names.
+use Rattle.std.proofs.lemmas.Bool.Decides.{nat_tests}
 use Rattle.std.proofs.Common.{◌≡◌, ◌≢◌, ℕ, ◌+◌, ◌*◌, ◌<◌, Bool, true, false, ◌&&◌, List, [], ◌∷◌, ◌++◌, length, slice_index, drop, take, IsTrue, inl, inr, refl, sym, ◌∙◌, ap, subst, arith, length-append}
 use Rattle.std.proofs.lemmas.Bool.{and_parts, both_ways}
 use Rattle.std.proofs.lemmas.List.{get_or-append-add, take-append-drop, take_more}
@@ -87,21 +88,12 @@ pub record IsCutOf {P : Type 0} (f : Ghosts P) (g : GridValue) (p : P) : Type 0 
 -- a cut of a Latin square's full puzzle is a puzzle that the square solves
 pub cut_of : {P : Type 0} (f : Ghosts P) (g : GridValue) (p : P) (keep : ℕ → Bool) → ItemLaws f → IsGrid g → IsLatin g
     → p ≡ f.cut (f.full_of g) keep → IsCutOf f g p
-cut_of {P} f g p keep laws grid latin is_cut =
-    let full_valid = laws.full_valid g grid latin in
-    subst (IsCutOf f g) (sym is_cut) (record {
-      valid = laws.cut_valid (f.full_of g) keep full_valid;
-      size = laws.cut_size (f.full_of g) keep ∙ laws.full_size g grid latin;
-      solves = laws.cut_solved (f.full_of g) keep g full_valid (laws.full_solved g grid latin);
-    })
+cut_of f g p keep laws grid latin is_cut = grind (arith, nat_tests)
 
 -- the pruned puzzle of a square and an order
 pub pruned_cut : {P : Type 0} (f : Ghosts P) (Fails : P → Type 0) (g : GridValue) (order : List ℕ) (p : P) → ItemLaws f
     → IsPrunedBy f Fails g order p → IsCutOf f g p
-pruned_cut f Fails g order p laws pruned =
-    cut_of f g p (f.has p) laws pruned.is_grid pruned.is_latin
-    (cut_in_turn f Fails order (f.full_of g) p laws (laws.full_valid g pruned.is_grid pruned.is_latin)
-    pruned.in_turn).is_cut
+pruned_cut f Fails g order p laws pruned = grind (arith, nat_tests, cut_of, cut_in_turn)
 
 -- without any set of its items that has one that was tried, the test fails
 pub pruned_needs : {P : Type 0} (f : Ghosts P) (Struck : P → Striking) → HasSteps f Struck → (grade : Grade)
@@ -120,11 +112,7 @@ pruned_needs f Struck steps grade g order p keep i pruned small there tried lost
 
 -- without one item
 none_of_one : (item : ℕ) → none_of (item ∷ []) ≡ all_but item
-none_of_one item = λ i j. and_true (all_but item j) i
-  where
-    and_true : (b : Bool) → (b && true) ≡ b
-    and_true true = refl
-    and_true false = refl
+none_of_one item = grind (arith, nat_tests)
 
 none_of_both : (first second : List ℕ) (j : ℕ) → (none_of first j && none_of second j) ≡ none_of (first ++ second) j
 none_of_both [] second j = refl
@@ -189,12 +177,7 @@ pub rest_without : {P : Type 0} (f : Ghosts P) (Struck : P → Striking) → Has
     (g : GridValue) (order : List ℕ) (p q : P) (base : CandidatesValue) → f.valid p → Solves (f.puzzle p) g
     → IsBase (Struck (f.cut p (none_of order))) grade g base → q ≡ f.cut p (none_of order)
     → IsRest f Struck grade g q base
-rest_without f Struck steps grade g order p q base valid solves is gone =
-    subst (λ r. IsRest f Struck grade g r base) (sym gone) (record {
-      valid = steps.items.cut_valid p (none_of order) valid;
-      solves = steps.items.cut_solved p (none_of order) g valid solves;
-      base = is;
-    })
+rest_without f Struck steps grade g order p q base valid solves is gone = grind (arith, nat_tests)
 
 -- no step from a base strikes the square's numbers
 pub rest_holds : {P : Type 0} (f : Ghosts P) (Struck : P → Striking) → HasSteps f Struck → (grade : Grade)
@@ -252,23 +235,13 @@ pub items_of_parts : (n : ℕ) (first second order : List ℕ) → first ++ seco
     → ((k : ℕ) → k < length order → slice_index order k < n)
     → ((k : ℕ) → k < length first → slice_index first k < n) × ((k : ℕ) → k < length second → slice_index second k < n)
 items_of_parts n first second order parts all =
-    let whole : (k : ℕ) → k < length (first ++ second) → slice_index (first ++ second) k < n =
-    subst (λ (xs : List ℕ). (k : ℕ) → k < length xs → slice_index xs k < n) (sym parts) all in (
-      λ k inside.
-          let there = whole k (omega (arith, length-append first second, inside)) in
-          omega (arith, get_or-append first second 0 k inside, there),
-      λ k inside.
-          let there = whole (length first + k) (omega (arith, length-append first second, inside)) in
-          omega (arith, get_or-append-add first second k 0, there),
-    )
+    grind (arith, nat_tests, length-append, get_or-append, get_or-append-add)
 
 -- what is left in turn is solved by what solves the puzzle
 pub left_solved : {P : Type 0} (f : Ghosts P) (Fails : P → Type 0) (order : List ℕ) (p q : P) (g : GridValue)
     → ItemLaws f → f.valid p
     → IsLeftInTurn f Fails order p q → Solves (f.puzzle p) g → Solves (f.puzzle q) g
-left_solved {P} f Fails order p q g laws valid tried solves =
-    subst (λ (r : P). Solves (f.puzzle r) g) (sym (cut_in_turn f Fails order p q laws valid tried).is_cut)
-    (laws.cut_solved p (f.has q) g valid solves)
+left_solved f Fails order p q g laws valid tried solves = grind (arith, nat_tests, cut_in_turn)
 
 -- an item that isn't tried stays as it was
 untried_same : {P : Type 0} (f : Ghosts P) (Fails : P → Type 0) (order : List ℕ) (p q : P) (i : ℕ) → ItemLaws f
@@ -316,9 +289,7 @@ half_has {P} f Fails first second p half laws valid tried =
 cut_base : {P : Type 0} (f : Ghosts P) (Struck : P → Striking) → HasSteps f Struck → (grade : Grade)
     (g : GridValue) (r q : P) (keep : ℕ → Bool) (left : CandidatesValue) → f.cut r keep ≡ q → IsBase (Struck q) grade g left
     → IsBase (Struck r) grade g left
-cut_base {P} f Struck steps grade g r q keep left is base =
-    base_more (Struck (f.cut r keep)) (Struck r) (steps.cut r keep) grade g left
-    (subst (λ (s : P). IsBase (Struck s) grade g left) (sym is) base)
+cut_base f Struck steps grade g r q keep left is base = grind (arith, nat_tests, base_more)
 
 -- what is left without all items is a base for the first half
 pub first_base : {P : Type 0} (f : Ghosts P) (Struck : P → Striking) → HasSteps f Struck → (grade : Grade)

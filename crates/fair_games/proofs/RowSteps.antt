@@ -1,4 +1,5 @@
 -- The first row that fits, number by number.
+use Rattle.std.proofs.lemmas.Bool.Decides.{nat_tests}
 use Rattle.std.proofs.Common.{◌≡◌, ℕ, zero, suc, ◌+◌, ◌-◌, ◌<◌, ◌≤◌, true, false, if◌then◌else◌, Option, Some, None, List, [], ◌∷◌, ◌++◌, length, length-append, take, drop, get_or, refl, sym, ◌∙◌, ap, arith}
 use Rattle.std.proofs.Math.Seq.{drop-cons, take-append_seam, take-length}
 use Rattle.std.proofs.Math.ListN.{drop_of_length-le}
@@ -13,9 +14,7 @@ tries g numbers column columns chosen n = if is_free g column chosen n then ways
 -- the ways from a number on are those by it, and then those from the next one on
 next_ways : (try : ℕ → List (List ℕ)) (numbers : List ℕ) (k : ℕ) → k < length numbers
     → flat_map try (drop k numbers) ≡ try (get_or numbers k 0) ++ flat_map try (drop (k + 1) numbers)
-next_ways try numbers k below =
-    let next : suc k ≡ k + 1 = omega arith in
-    ap (flat_map try) (drop-cons numbers k 0 below ∙ ap (λ (j : ℕ). get_or numbers k 0 ∷ drop j numbers) next)
+next_ways try numbers k below = grind (arith, nat_tests, drop-cons)
 
 -- a list without a first element is empty
 none_first : (xs : List (List ℕ)) → slice_get xs 0 ≡ None → xs ≡ []
@@ -36,9 +35,7 @@ passes_over try numbers k below nothing =
 -- one that leads to something is taken
 takes_first : (try : ℕ → List (List ℕ)) (numbers row : List ℕ) (k : ℕ) → k < length numbers → slice_get (try (get_or numbers k 0)) 0 ≡ Some row
     → slice_get (flat_map try (drop k numbers)) 0 ≡ Some row
-takes_first try numbers row k below found =
-    ap (λ ws. slice_get ws 0) (next_ways try numbers k below)
-    ∙ first_front (try (get_or numbers k 0)) (flat_map try (drop (k + 1) numbers)) row found
+takes_first try numbers row k below found = grind (arith, nat_tests, next_ways, first_front)
 
 -- nothing is left to be tried
 pub tries_none : (try : ℕ → List (List ℕ)) (numbers : List ℕ) (k : ℕ) → length numbers ≤ k → flat_map try (drop k numbers) ≡ []
@@ -54,10 +51,7 @@ take_all xs n e = ap (λ (k : ℕ). take k xs) e ∙ take-length xs
 -- the first of the columns takes a number
 pub row_begins : (g : GridValue) (numbers columns chosen : List ℕ) → 1 ≤ length columns
     → ways g numbers columns chosen ≡ flat_map (tries g numbers (get_or columns 0 0) (rest_of columns) chosen) numbers
-row_begins g numbers [] chosen some = absurd (omega arith)
-row_begins g numbers (column ∷ columns) chosen some =
-    let count : length (column ∷ columns) - 1 ≡ length columns = omega arith in
-    ap (λ (cs : List ℕ). flat_map (tries g numbers column cs chosen) numbers) (sym (take_all columns (length (column ∷ columns) - 1) count))
+row_begins g numbers columns chosen some = grind (arith, nat_tests, take_all)
 
 -- a free number leads to what the columns after it have
 tries_free : (g : GridValue) (numbers : List ℕ) (column : ℕ) (columns chosen : List ℕ) (n : ℕ) → is_free g column chosen n ≡ true
@@ -87,9 +81,7 @@ pub passes_taken : (g : GridValue) (numbers columns chosen : List ℕ) (k : ℕ)
     → is_free g (get_or columns 0 0) chosen (get_or numbers k 0) ≡ false
     → flat_map (tries g numbers (get_or columns 0 0) (rest_of columns) chosen) (drop k numbers)
     ≡ flat_map (tries g numbers (get_or columns 0 0) (rest_of columns) chosen) (drop (k + 1) numbers)
-passes_taken g numbers columns chosen k below taken =
-    passes_over (tries g numbers (get_or columns 0 0) (rest_of columns) chosen) numbers k below
-    (tries_taken g numbers (get_or columns 0 0) (rest_of columns) chosen (get_or numbers k 0) taken)
+passes_taken g numbers columns chosen k below taken = grind (arith, nat_tests, passes_over, tries_taken)
 
 -- and one that leads nowhere
 pub passes_free : (g : GridValue) (numbers columns chosen more : List ℕ) (k : ℕ) → k < length numbers
@@ -98,9 +90,7 @@ pub passes_free : (g : GridValue) (numbers columns chosen more : List ℕ) (k : 
     → flat_map (tries g numbers (get_or columns 0 0) (rest_of columns) chosen) (drop k numbers)
     ≡ flat_map (tries g numbers (get_or columns 0 0) (rest_of columns) chosen) (drop (k + 1) numbers)
 passes_free g numbers columns chosen more k below free made none =
-    passes_over (tries g numbers (get_or columns 0 0) (rest_of columns) chosen) numbers k below
-    (tries_free g numbers (get_or columns 0 0) (rest_of columns) chosen (get_or numbers k 0) free
-    ∙ ap (ways g numbers (rest_of columns)) (sym made) ∙ none_first (ways g numbers (rest_of columns) more) none)
+    grind (arith, nat_tests, passes_over, tries_free, none_first)
 
 -- a list without the number that was put after it
 pub without_last : (xs ys : List ℕ) (x : ℕ) → ys ≡ xs ++ x ∷ [] → take (length ys - 1) ys ≡ xs

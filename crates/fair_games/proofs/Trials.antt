@@ -1,4 +1,5 @@
 -- Orders of some items, put together of orders of the givens and of the clues (or signs).
+use Rattle.std.proofs.lemmas.Bool.Decides.{nat_tests}
 use Rattle.std.proofs.Common.{◌≡◌, ℕ, zero, suc, ◌+◌, ◌-◌, ◌/◌, ◌<◌, ◌≤◌, ◌==◌, List, [], ◌∷◌, ◌++◌, length, map, take, drop, slice_index, IsPermutation, inl, inr, refl, sym, ◌∙◌, ap, subst, arith, append-nil, append_assoc, length-append, eq-eqb}
 use Rattle.std.proofs.Math.ListN.{get_or-append}
 use Rattle.std.proofs.lemmas.List.{take-append-drop, length-map, map-append}
@@ -52,17 +53,7 @@ stands_there i (x ∷ xs) inside = elim (cases_Bool (i == x)) [
 
 -- the beginning of an order of all items is one of some
 pub trial_front : (n : ℕ) (xs ys : List ℕ) → IsOrder n (xs ++ ys) → IsTrial n xs
-trial_front n xs ys order =
-    let short : length xs ≤ n = omega (arith, order.count, length-append xs ys) in
-    record {
-      items = λ k inside. subst (λ (i : ℕ). i < n) (index_front xs ys k inside) (order.items k (omega (arith, inside, short)));
-      places = λ k inside.
-          let same = index_front xs ys k inside in
-          let there : place_in (slice_index xs k) (xs ++ ys) ≡ k =
-          subst (λ (i : ℕ). place_in i (xs ++ ys) ≡ k) same (order.places k (omega (arith, inside, short))) in
-          sym (place_front (slice_index xs k) xs ys (place_back (slice_index xs k) xs ys (omega (arith, there, inside)))) ∙ there;
-      back = λ i inside. stands_there i xs inside;
-    }
+trial_front n xs ys order = grind (arith, nat_tests, length-append, index_front, place_front, place_back, stands_there)
 
 -- ---- all items
 
@@ -133,31 +124,21 @@ trial_in_turn trial m n clues givens first second =
 -- ---- lists that are put together one after the other
 
 pub put_two : (a b c first second : List ℕ) → a ≡ [] → b ≡ a ++ first → c ≡ b ++ map (λ i. 0 + i) second → c ≡ first ++ second
-put_two a b c first second none one two =
-    two ∙ ap (λ (xs : List ℕ). xs ++ map (λ i. 0 + i) second) (one ∙ ap (λ (xs : List ℕ). xs ++ first) none)
-    ∙ ap (λ (xs : List ℕ). first ++ xs) (map_zero second)
+put_two a b c first second none one two = grind (arith, nat_tests, map_zero)
 
 pub put_three : (a b c d first second third : List ℕ) → a ≡ [] → b ≡ a ++ map (λ i. 0 + i) first → c ≡ b ++ second → d ≡ c ++ map (λ i. 0 + i) third
     → d ≡ first ++ second ++ third
-put_three a b c d first second third none one two three =
-    three ∙ ap (λ (xs : List ℕ). xs ++ map (λ i. 0 + i) third)
-    (two ∙ ap (λ (xs : List ℕ). xs ++ second) (one ∙ ap (λ (xs : List ℕ). xs ++ map (λ i. 0 + i) first) none ∙ map_zero first))
-    ∙ ap (λ (xs : List ℕ). (first ++ second) ++ xs) (map_zero third)
+put_three a b c d first second third none one two three = grind (arith, nat_tests, map_zero)
 
 -- what is put together of lists that are the two orders
 pub turn_made : (trial : Trial) (m : ℕ) (lent_clues lent_givens clues givens order : List ℕ) → length clues ≡ m → lent_clues ≡ clues
     → lent_givens ≡ givens → order ≡ in_turn trial (length lent_clues) lent_clues lent_givens → order ≡ in_turn trial m clues givens
-turn_made trial m lent_clues lent_givens clues givens order count first second put =
-    put ∙ ap (λ (xs : List ℕ). in_turn trial (length xs) xs lent_givens) first ∙ ap (λ (xs : List ℕ). in_turn trial (length clues) clues xs) second
-    ∙ ap (λ (n : ℕ). in_turn trial n clues givens) count
+turn_made trial m lent_clues lent_givens clues givens order count first second put = grind (arith, nat_tests)
 
 -- and the stream that is left
 pub turn_drawn : (trial : Trial) (m n : ℕ) (s middle end : Stream) (clues givens order : List ℕ) → (givens, middle) ≡ drawn_order n s
     → (clues, end) ≡ drawn_order m middle → order ≡ in_turn trial m clues givens → (order, end) ≡ drawn_trial trial m n s
-turn_drawn trial m n s middle end clues givens order first second put =
-    ap (λ (xs : List ℕ). (xs, end)) put
-    ∙ ap (λ (p : List ℕ × Stream). (in_turn trial m p.0 givens, p.1)) second
-    ∙ ap (λ (p : List ℕ × Stream). (in_turn trial m (drawn_order m p.1).0 p.0, (drawn_order m p.1).1)) first
+turn_drawn trial m n s middle end clues givens order first second put = grind (arith, nat_tests)
 
 -- ---- which items are tried
 

@@ -1,4 +1,5 @@
 -- The givens of a Towers description, filled byte by byte.
+use Rattle.std.proofs.lemmas.Bool.Decides.{nat_tests}
 use Rattle.std.proofs.Common.{◌≡◌, ℕ, ◌+◌, ◌-◌, ◌*◌, ◌<◌, ◌≤◌, true, List, ◌++◌, take, set, replicate, sym, ap, ◌∙◌, arith}
 use Rattle.std.specs.List.{flat_map}
 use Rattle.line_steps.specs.Inner.Filled.{IsFilledTo}
@@ -17,10 +18,7 @@ digit_filled w n place v xs ys is filled width room =
 -- a letter leaves its run of squares at 0
 pub letter_filled : (w n place k : ℕ) (xs : List ℕ) → IsFilledTo 0 (w * w) place xs → n ≡ w → k ≤ n * n - place
     → IsFilledTo 0 (w * w) (place + k) xs
-letter_filled w n place k xs filled width fits =
-    let area : n * n ≡ w * w = ap (λ k. k * k) width in
-    let within = filled.within in
-    (filled_run 0 (w * w) place k xs filled (omega arith)).0
+letter_filled w n place k xs filled width fits = grind (arith, nat_tests, filled_run)
 
 pub letter_taken : (w n place byte : ℕ) (xs : List ℕ) → IsFilledTo 0 (w * w) place xs → n ≡ w
     → byte - letter_a + 1 ≤ n * n - place → letter_a ≤ byte → byte ≤ letter_z

@@ -1,7 +1,8 @@
 -- How many towers are seen along a line that has a tall one near its beginning.
+use Rattle.std.proofs.lemmas.Bool.Decides.{nat_tests}
 use Rattle.std.proofs.Common.{◌≡◌, ℕ, ◌+◌, ◌-◌, ◌*◌, ◌<◌, ◌≤◌, ◌&&◌, inl, inr, Bool, true, false, cond, not, nat_le, refl, ltb, List, [], ◌∷◌, ◌++◌, length, get_or, zero, suc, sym, ap, ◌∙◌, subst, arith}
 use Rattle.std.specs.List.{All, list_all}
-use Rattle.std.proofs.lemmas.Bool.{both_ways, cases_Bool, cases_lt, ltb-true, and_parts, and_from, le-leb}
+use Rattle.std.proofs.lemmas.Bool.{both_ways, cases_Bool, cases_lt, and_parts, and_from, le-leb}
 use Rattle.std.proofs.lemmas.List.{get_or_default}
 use Rattle.std.proofs.lemmas.List.Elements.{All-tail}
 use Rattle.std.proofs.lemmas.List.Folds.{list_all-append}
@@ -27,9 +28,7 @@ abbrev pub IsNoGreater : ℕ → List ℕ → Type 0
 IsNoGreater m before = (x : ℕ) → list_all (λ y. ltb y x) before ≡ true → m < x
 
 last_no_greater : (before : List ℕ) (m : ℕ) → IsNoGreater m (before ++ m ∷ [])
-last_no_greater before m x tall =
-    let parts = and_parts _ _ (sym (list_all-append (λ y. ltb y x) before (m ∷ [])) ∙ tall) in
-    ltb-true m x (and_parts _ _ parts.1).0
+last_no_greater before m x tall = grind (arith, nat_tests, list_all-append)
 
 more_no_greater : (before : List ℕ) (m v : ℕ) → IsNoGreater m before → IsNoGreater m (before ++ v ∷ [])
 more_no_greater before m v h x tall =

@@ -1,6 +1,7 @@
 -- What stands alone in one set of a row is no filling's value in another place, so what is kept of the reduced row is kept of the row.
-use Rattle.std.proofs.Common.{◌≡◌, ◌≢◌, ◌↔◌, ℕ, ◌<◌, ◌≤◌, true, inl, inr, List, length, take, slice_index, sym, ◌∙◌, subst, arith}
-use Rattle.std.proofs.lemmas.Bool.{both_ways, cases_lt, true_from_ne_false}
+use Rattle.std.proofs.lemmas.Bool.Decides.{nat_tests}
+use Rattle.std.proofs.Common.{◌≡◌, ◌≢◌, ◌↔◌, ℕ, ◌<◌, ◌≤◌, true, List, length, take, slice_index, sym, ◌∙◌, subst, arith}
+use Rattle.std.proofs.lemmas.Bool.{true_from_ne_false}
 use Rattle.std.proofs.lemmas.List.{get_or-take, length-take-le}
 use Rattle.number_sets.specs.Sets.{has_number, IsEmpty, IsSingle}
 use Rattle.tower_lines.specs.LineFillings.{IsFilling}
@@ -11,34 +12,19 @@ use Rattle.towers_game.proofs.RowFillings.{HaveFillings, kept_of_both, has_taken
 -- a filling has no value in a place that is the only number of another place's set
 never_elsewhere : (sets line : List ℕ) (clue k j : ℕ) → IsFilling sets clue line → k < length sets → j < length sets → j ≢ k
     → IsSingle (slice_index sets j) (slice_index line k) → ⊥
-never_elsewhere sets line clue k j f inside other_inside other single =
-    let same : slice_index line j ≡ slice_index line k =
-    single.alone (slice_index line j) (f.start.candidates j (omega (arith, f.whole, other_inside))) in
-    elim (cases_lt j k) [
-      | inl before ↦ f.start.apart j k before (omega (arith, f.whole, inside)) same
-      | inr after ↦ f.start.apart k j (omega (arith, after, other)) (omega (arith, f.whole, other_inside)) (sym same)
-    ]
+never_elsewhere sets line clue k j f inside other_inside other single = grind (arith, nat_tests)
 
 single_taken : (width j v : ℕ) (sets : List ℕ) → j < width → IsSingle (slice_index sets j) v → IsSingle (slice_index (take width sets) j) v
 single_taken width j v sets low single = subst (λ (set : ℕ). IsSingle set v) (sym (get_or-take width sets j 0 low)) single
 
 -- what is alone in a set is in none of those that are empty
 not_past : (width j v : ℕ) (sets : List ℕ) → ((k : ℕ) → width ≤ k → IsEmpty (slice_index sets k)) → IsSingle (slice_index sets j) v → j < width
-not_past width j v sets empty single = elim (cases_lt j width) [
-  | inl low ↦ low
-  | inr past ↦ absurd (both_ways (has_number (slice_index sets j) v) (empty j past v) single.has)
-]
+not_past width j v sets empty single = grind (arith, nat_tests)
 
 -- where a set is left without numbers that stand alone, these stand alone elsewhere
 pub reduced_set : (width : ℕ) (sets : List ℕ) (k lone rest : ℕ) → ((n : ℕ) → (has_number lone n ≡ true) ↔ IsLone width sets n)
     → IsWithout (slice_index sets k) lone rest → IsReducedSet width sets k rest
-reduced_set width sets k lone rest is without = record {
-  fewer = without.fewer;
-  taken = λ number has gone.
-      let t = without.taken number has gone in
-      let l = (is number).0 t.0 in
-      (l.place, l.inside, λ same. t.1 (subst (λ (j : ℕ). IsSingle (slice_index sets j) number) same l.single), l.single);
-}
+reduced_set width sets k lone rest is without = grind (arith, nat_tests)
 
 -- of the row without what stands alone elsewhere the same is kept
 pub kept_reduced : (width clue : ℕ) (sets row kept : List ℕ) → IsReduced 9 sets row → width ≤ 9 → length sets ≡ 9

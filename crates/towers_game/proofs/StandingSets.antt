@@ -1,4 +1,5 @@
 -- What may stand in the squares from a place, as a row of sets: nothing, one value, or anything; and what is struck of it.
+use Rattle.std.proofs.lemmas.Bool.Decides.{nat_tests}
 use Rattle.std.proofs.Common.{◌≡◌, ◌↔◌, ℕ, ◌+◌, ◌*◌, ◌<◌, ◌≤◌, true, inl, inr, List, set, take, slice_index, nat_le, ◌&&◌, not, refl, sym, ap, ◌∙◌, subst, arith}
 use Rattle.std.proofs.lemmas.Bool.{both_ways, and_parts, and_from, cases_lt, false_from_ne_true, leb-true, le-leb, not_from_false}
 use Rattle.std.proofs.lemmas.List.{get_or_past, length-set}
@@ -21,13 +22,7 @@ use Rattle.line_steps.proofs.GivenSets.{up_to_pair}
 -- any value may stand in each square
 pub full_may : (c : CandidatesValue) (place all : ℕ) (row : List ℕ) → place < 4 * c.size → ((v : ℕ) → has_number all v ≡ (nat_le 1 v && nat_le v c.size))
     → AreFull all c.size row → AreMaySets c.size Anything place c.size row
-full_may c place all row inside members full = record {
-  count = full.count;
-  each = λ k low v.
-      let is = up_to_pair c.size (view_cell c.size place k) all v (view_inside c.size place k inside low) members in
-      let same = ap (λ (n : ℕ). has_number n v) (full.each k low) in (λ has. (is.0 (sym same ∙ has), tt), λ h. same ∙ is.1 h.0);
-  rest = full.rest;
-}
+full_may c place all row inside members full = grind (arith, nat_tests, up_to_pair, view_inside)
 
 -- what stands in an empty set's square is none
 standing_none : (all left set : ℕ) → IsStandingSet all left set → IsEmpty left → IsEmpty set

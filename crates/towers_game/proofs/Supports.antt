@@ -1,5 +1,6 @@
 -- A value is in no filling by what may stand exactly where no filling by the sets of that supports it.
-use Rattle.std.proofs.Common.{◌≡◌, ◌↔◌, ℕ, ◌*◌, ◌<◌, ◌≤◌, true, false, List, length, take, slice_index, sym, ap, ◌∙◌, subst, arith, Bool}
+use Rattle.std.proofs.lemmas.Bool.Decides.{nat_tests}
+use Rattle.std.proofs.Common.{◌≡◌, ◌↔◌, ℕ, ◌*◌, ◌<◌, ◌≤◌, true, false, List, length, take, slice_index, sym, ap, ◌∙◌, arith, Bool}
 use Rattle.std.proofs.lemmas.Bool.{both_ways, false_from_ne_true, true_from_ne_false}
 use Rattle.std.proofs.lemmas.List.{get_or-take, length-take-le}
 use Rattle.number_sets.specs.Sets.{has_number, IsEmpty}
@@ -18,27 +19,11 @@ record IsRow (w : ℕ) (May : ℕ → ℕ → Type 0) (place : ℕ) (row : List 
   each : (k v : ℕ) → k < w → (has_number (slice_index row k) v ≡ true) ↔ (IsPair w (view_cell w place k) v × May (view_cell w place k) v)
 
 row_of_sets : (w : ℕ) (May : ℕ → ℕ → Type 0) (place : ℕ) (sets : List ℕ) → w ≤ 9 → AreMaySets w May place w sets → IsRow w May place (take w sets)
-row_of_sets w May place sets small h = record {
-  count = length-take-le w sets (omega (arith, h.count));
-  each = λ k v low.
-      let P : ℕ → Type 0 = λ set. (has_number set v ≡ true) ↔ (IsPair w (view_cell w place k) v × May (view_cell w place k) v) in
-      subst P (sym (get_or-take w sets k 0 low)) (h.each k low v);
-}
+row_of_sets w May place sets small h = grind (arith, nat_tests, length-take-le, get_or-take)
 
 to_sets : (w : ℕ) (May : ℕ → ℕ → Type 0) (place clue : ℕ) (row line : List ℕ) → IsRow w May place row → IsFillingFrom w May place clue line
     → IsFilling row clue line
-to_sets w May place clue row line r f = record {
-  start = record {
-    room = omega (arith, r.count, f.whole);
-    values = λ j low.
-        let pair = f.pairs j (omega (arith, f.whole, low)) in
-        (pair.low, omega (arith, pair.high, r.count));
-    candidates = λ j low. let inside : j < w = omega (arith, f.whole, low) in (r.each j (slice_index line j) inside).1 (f.pairs j inside, f.may j inside);
-    apart = λ i j before low. f.apart i j before (omega (arith, f.whole, low));
-  };
-  whole = f.whole ∙ sym r.count;
-  shown = f.shown;
-}
+to_sets w May place clue row line r f = grind (arith, nat_tests)
 
 from_sets : (w : ℕ) (May : ℕ → ℕ → Type 0) (place clue : ℕ) (row line : List ℕ) → IsRow w May place row → IsFilling row clue line
     → IsFillingFrom w May place clue line
@@ -95,8 +80,4 @@ unfilled_tested w May place clue cell k v sets kept small place_in low here are 
 -- each set is within the other where no number is beyond, and otherwise not
 pub within_test : (result : Bool) (some all : List ℕ) (beyond : ℕ) → ((n : ℕ) → (has_number beyond n ≡ true) ↔ IsBeyond 9 some all n)
     → MatchBool result (IsEmpty beyond) ((n : ℕ) × (has_number beyond n ≡ true)) → MatchBool result (AreWithin some all) (AreWithin some all → ⊥)
-within_test true some all beyond is none = λ k low n has. true_from_ne_false (has_number (slice_index all k) n) (λ lacks.
-    both_ways (has_number beyond n) (none n) ((is n).1 (record { place = k; inside = low; has = has; lacks = lacks })))
-within_test false some all beyond is one = λ within.
-    let b = (is one.0).0 one.1 in
-    both_ways (has_number (slice_index all b.place) one.0) b.lacks (within b.place b.inside one.0 b.has)
+within_test result some all beyond is none = grind (arith, nat_tests, true_from_ne_false)

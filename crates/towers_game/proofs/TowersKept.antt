@@ -1,5 +1,7 @@
 -- What was read keeps what each Towers puzzle keeps.
-use Rattle.std.proofs.Common.{◌≡◌, ℕ, ◌*◌, ◌≤◌, List, take, Ok, sym, subst}
+use Rattle.std.proofs.Common.{arith}
+use Rattle.std.proofs.lemmas.Bool.Decides.{nat_tests}
+use Rattle.std.proofs.Common.{◌≡◌, ℕ, ◌*◌, ◌≤◌, List, take, Ok}
 use Rattle.std.proofs.lemmas.List.Elements.{All-from_recursion}
 use Rattle.latin_board.specs.Squares.{GridValue}
 use Rattle.line_steps.specs.Inner.Filled.{IsFilledTo}
@@ -18,7 +20,4 @@ kept_at_size part clues givens filled read = record {
 
 pub towers_kept : (w : ℕ) (part clues : List ℕ) (givens : GridValue) → givens.size ≡ w → IsFilledTo 0 36 (4 * w) clues
     → clues_at w part ≡ Ok (take (4 * w) clues) → KeepsTowers clues givens
-towers_kept w part clues givens size filled read =
-    kept_at_size part clues givens
-    (subst (λ n. IsFilledTo 0 36 (4 * n) clues) (sym size) filled)
-    (subst (λ n. clues_at n part ≡ Ok (take (4 * n) clues)) (sym size) read)
+towers_kept w part clues givens size filled read = grind (arith, nat_tests, kept_at_size)

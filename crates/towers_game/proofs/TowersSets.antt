@@ -1,5 +1,6 @@
 -- What clues strike, as sets.
-use Rattle.std.proofs.Common.{◌≡◌, ◌≢◌, ◌↔◌, ℕ, ◌*◌, ◌<◌, true, sym, subst, arith}
+use Rattle.std.proofs.lemmas.Bool.Decides.{nat_tests}
+use Rattle.std.proofs.Common.{◌≡◌, ◌≢◌, ◌↔◌, ℕ, ◌*◌, ◌<◌, true, arith}
 use Rattle.number_sets.specs.Sets.{has_number}
 use Rattle.trail_solver.specs.Pairs.{IsPair}
 use Rattle.towers_game.specs.Towers.{TowersValue, clue_of}
@@ -10,15 +11,4 @@ use Rattle.towers_game.specs.TowersReasons.{IsByClue}
 pub clue_struck : (p : TowersValue) (w : ℕ) (May : ℕ → ℕ → Type 0) (place clue cell result v : ℕ) → w ≡ p.size → place < 4 * w
     → clue ≡ clue_of p place → clue ≢ 0 → (has_number result v ≡ true) ↔ (IsPair w cell v × IsUnfilled w May place clue cell v)
     → (has_number result v ≡ true) ↔ (IsPair w cell v × IsByClue p May place cell v)
-clue_struck p w May place clue cell result v size place_in is some tested =
-    let A : ℕ → ℕ → Type 0 = λ n k. IsUnfilled n May place k cell v in (
-      λ has. (
-        (tested.0 has).0,
-        record {
-          place_is = omega (arith, size, place_in);
-          clued = omega (arith, is, some);
-          unfilled = subst (λ (n : ℕ). A n (clue_of p place)) size (subst (λ (k : ℕ). A w k) is (tested.0 has).1);
-        },
-      ),
-      λ h. tested.1 (h.0, subst (λ (k : ℕ). A w k) (sym is) (subst (λ (n : ℕ). A n (clue_of p place)) (sym size) h.1.unfilled)),
-    )
+clue_struck p w May place clue cell result v size place_in is some tested = grind (arith, nat_tests)

@@ -1,5 +1,6 @@
 -- The clues of a Towers puzzle as a table of 36 places: the full puzzle's, and one item less.
-use Rattle.std.proofs.Common.{◌≡◌, ℕ, zero, ◌+◌, ◌*◌, ◌<◌, ◌≤◌, not, List, set, All, refl, arith, replicate, ◌==◌, subst}
+use Rattle.std.proofs.lemmas.Bool.Decides.{nat_tests}
+use Rattle.std.proofs.Common.{◌≡◌, ℕ, zero, ◌+◌, ◌*◌, ◌<◌, ◌≤◌, not, List, set, refl, arith, replicate, ◌==◌, subst}
 use Rattle.std.proofs.Math.Seq.{take-set-lt}
 use Rattle.std.proofs.lemmas.List.{drop-replicate, length-replicate, take-replicate}
 use Rattle.std.proofs.lemmas.List.Elements.{All-replicate}
@@ -17,23 +18,16 @@ abbrev pub HasClues : GridValue → ℕ → List ℕ → Type 0
 HasClues g n clues = IsFilledBy zero 36 (λ place. seen (line_from g place)) n clues
 
 pub full_kept : (g : GridValue) (clues : List ℕ) → IsGrid g → HasClues g (4 * g.size) clues → KeepsTowers clues g
-full_kept g clues is_grid h = record {
-  padded = h.filled;
-  within = let P : List ℕ → Type 0 = λ xs. All (λ clue. clue ≤ g.size) xs in rw h.front ((full_valid g is_grid).clues_within);
-}
+full_kept g clues is_grid h = grind (arith, nat_tests, full_valid)
 
 pub clue_dropped : (givens : GridValue) (clues : List ℕ) (i : ℕ) → i < 4 * givens.size
     → towers_value (set clues i 0) givens ≡ cut_towers (towers_value clues givens) (λ j. not (j == i))
-clue_dropped givens clues i inside =
-    let kept = item_emptied zero (4 * givens.size) clues givens.numbers i inside in
-    rw (kept.0, kept.1) refl
+clue_dropped givens clues i inside = grind (arith, nat_tests, item_emptied)
 
 pub given_dropped : (old new : GridValue) (clues : List ℕ) (i k : ℕ) → 4 * old.size + k ≡ i → new.size ≡ old.size
     → new.numbers ≡ set old.numbers k 0
     → towers_value clues new ≡ cut_towers (towers_value clues old) (λ j. not (j == i))
-given_dropped old new clues i k e size numbers =
-    let kept = given_emptied zero (4 * old.size) clues old.numbers i k e in
-    rw (size, numbers, kept.0, kept.1) refl
+given_dropped old new clues i k e size numbers = grind (arith, nat_tests, given_emptied)
 
 -- another clue at a place
 pub clue_put : (givens : GridValue) (clues : List ℕ) (place n : ℕ) → place < 4 * givens.size

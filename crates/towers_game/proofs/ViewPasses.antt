@@ -1,6 +1,6 @@
 -- What clues take away is struck by them, and where they take nothing they are settled.
-use Rattle.std.proofs.Common.{◌≡◌, ◌≢◌, ℕ, ◌+◌, ◌-◌, ◌*◌, ◌<◌, true, List, slice_index, inl, inr, refl, sym, ap, ◌∙◌, subst, arith}
-use Rattle.std.proofs.lemmas.Bool.{cases_lt, lt-ltb, le-ltb}
+use Rattle.std.proofs.lemmas.Bool.Decides.{nat_tests}
+use Rattle.std.proofs.Common.{◌≡◌, ◌≢◌, ℕ, ◌+◌, ◌*◌, ◌<◌, true, List, slice_index, sym, ap, ◌∙◌, subst, arith}
 use Rattle.number_sets.specs.Sets.{has_number}
 use Rattle.trail_solver.specs.Pairs.{IsPair}
 use Rattle.trail_solver.specs.Candidates.{CandidatesValue}
@@ -29,16 +29,7 @@ use Rattle.line_steps.proofs.LineEnds.{ends}
 
 -- the place of a square in the row from a place, and back
 view_index_twice : (w place k : ℕ) → k < w → view_index w place (view_index w place k) ≡ k
-view_index_twice w place k low = elim (cases_lt place w) [
-  | inl top ↦ rw (lt-ltb place w top) refl
-  | inr below ↦ elim (cases_lt place (2 * w)) [
-    | inl bottom ↦ rw (le-ltb place w below, lt-ltb place (2 * w) bottom) (omega (arith, low))
-    | inr beside ↦ elim (cases_lt place (3 * w)) [
-      | inl left ↦ rw (le-ltb place w below, le-ltb place (2 * w) beside, lt-ltb place (3 * w) left) refl
-      | inr right ↦ rw (le-ltb place w below, le-ltb place (2 * w) beside, le-ltb place (3 * w) right) (omega (arith, low))
-    ]
-  ]
-]
+view_index_twice w place k low = grind (arith, nat_tests)
 
 -- the values that are in no filling, square by square along the line
 pub view_taken : (May : ℕ → ℕ → Type 0) (line place clue : ℕ) (row along : List ℕ) (a b : CandidatesValue) → view_line a.size place ≡ line
@@ -72,9 +63,7 @@ look_reason Stands place = Stand place
 look_reason Marks place = Clue place
 
 look_has : (look : Look) (place : ℕ) → has_reason (look_grade look) (look_reason look place) ≡ true
-look_has Alone place = refl
-look_has Stands place = refl
-look_has Marks place = refl
+look_has look place = grind (arith, nat_tests)
 
 look_struck : (v : TowersValue) (look : Look) (c : CandidatesValue) (place cell value : ℕ) → IsByClue v (May look c) place cell value
     → IsTowersStruckBy v c (look_reason look place) cell value
@@ -113,7 +102,4 @@ view_calm v look line place clue a b size place_in on is t stays cell value pair
 -- where the clues at both ends strike nothing, no clue along the line does
 pub ends_quiet : (v : TowersValue) (look : Look) (line : ℕ) (c : CandidatesValue) → IsViewQuiet v look (front_place c.size line) c
     → IsViewQuiet v look (front_place c.size line + c.size) c → AreViewsQuiet v look line c
-ends_quiet v look line c front back place low on = elim (ends c.size place line low on) [
-  | inl first ↦ subst (λ (n : ℕ). IsViewQuiet v look n c) (sym first) front
-  | inr second ↦ subst (λ (n : ℕ). IsViewQuiet v look n c) (sym second) back
-]
+ends_quiet v look line c front back place low on = grind (arith, nat_tests, ends)

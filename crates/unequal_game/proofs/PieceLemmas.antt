@@ -1,5 +1,6 @@
 -- What commas separate, piece by piece.
-use Rattle.std.proofs.Common.{◌≡◌, ◌≢◌, ℕ, ◌+◌, ◌<◌, List, [], ◌∷◌, ◌++◌, length, Option, Some, Err, refl, sym, ap, ◌∙◌, inl, inr, arith, append_assoc, length-append}
+use Rattle.std.proofs.lemmas.Bool.Decides.{nat_tests}
+use Rattle.std.proofs.Common.{◌≡◌, ◌≢◌, ℕ, ◌<◌, List, [], ◌∷◌, ◌++◌, length, Option, Some, Err, refl, sym, ap, ◌∙◌, inl, inr, arith, append_assoc, length-append}
 use Rattle.std.specs.List.{join_with_byte}
 use Rattle.std.proofs.lemmas.List.Splits.{join_with_byte-slice_split}
 use Rattle.byte_text.specs.Cuts.{before, behind}
@@ -36,10 +37,7 @@ pieces_without_comma text rest wanted some h = elim h [
 
 pub pieces_shorter : (o after : Option (List ℕ)) (bytes : List ℕ) → o ≡ Some bytes → after ≡ behind comma bytes
     → length (pieces_left after) < length (pieces_left o)
-pieces_shorter o after bytes e f =
-    let here : length (pieces_left (Some bytes)) ≡ length (pieces_left (behind comma bytes)) + 1 =
-    ap length (split_once bytes) ∙ omega arith in
-    rw (e, f) (omega (arith, here))
+pieces_shorter o after bytes e f = grind (arith, nat_tests, split_once)
 
 pub pieces_step : (ps : List (List ℕ)) (o after : Option (List ℕ)) (bytes piece : List ℕ) (all : List (List ℕ))
     → ps ++ pieces_left o ≡ all → o ≡ Some bytes → piece ≡ before comma bytes → after ≡ behind comma bytes
@@ -50,7 +48,4 @@ pieces_step ps o after bytes piece all h e f g =
 
 pub pieces_over : (ps all : List (List ℕ)) (o : Option (List ℕ)) (bytes : List ℕ) (wanted : ℕ) → ps ++ pieces_left o ≡ all
     → o ≡ Some bytes → length ps ≡ wanted → exactly wanted all ≡ Err TooMany
-pieces_over ps all o bytes wanted h e full =
-    let some : 0 < length (pieces_left o) = rw e (omega (arith, ap length (split_once bytes))) in
-    let more : wanted < length all = omega (arith, ap length h, length-append ps (pieces_left o)) in
-    exactly_many wanted all more
+pieces_over ps all o bytes wanted h e full = grind (arith, nat_tests, split_once, length-append, exactly_many)

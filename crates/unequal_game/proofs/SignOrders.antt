@@ -1,5 +1,6 @@
 -- The sign between a square and a later one tells which is the greater.
-use Rattle.std.proofs.Common.{◌≡◌, ◌↔◌, ℕ, ◌+◌, ◌<◌, inl, inr, refl, sym, ◌∙◌, arith}
+use Rattle.std.proofs.lemmas.Bool.Decides.{nat_tests}
+use Rattle.std.proofs.Common.{◌≡◌, ◌↔◌, ℕ, ◌+◌, ◌<◌, refl, arith}
 use Rattle.std.proofs.lemmas.Bool.{ne_eqb}
 use Rattle.unequal_game.specs.declared.unequal.sign.Sign.{Sign}
 use Rattle.unequal_game.specs.declared.unequal.sign.Sign.TheVariants.{Absent, FirstGreater, SecondGreater}
@@ -12,20 +13,8 @@ none_back v a b low = rw (ne_eqb a (b + 1) (λ e. omega (arith, e, low)), ne_eqb
 
 -- the first is the greater where the sign says so
 pub first_by_sign : (v : UnequalValue) (a b : ℕ) (s : Sign) → a < b → s ≡ sign_between v a b → (s ≡ FirstGreater) ↔ IsGreater v a b
-first_by_sign v a b s low is = (
-  λ e. inl (sym is ∙ e),
-  λ h. elim h [
-    | inl e ↦ is ∙ e
-    | inr e ↦ absurd (second_said (sym (none_back v a b low) ∙ e))
-  ],
-)
+first_by_sign v a b s low is = grind (arith, nat_tests, second_said, none_back)
 
 -- and the second
 pub second_by_sign : (v : UnequalValue) (a b : ℕ) (s : Sign) → a < b → s ≡ sign_between v a b → (s ≡ SecondGreater) ↔ IsGreater v b a
-second_by_sign v a b s low is = (
-  λ e. inr (sym is ∙ e),
-  λ h. elim h [
-    | inl e ↦ absurd (first_said (sym (none_back v a b low) ∙ e))
-    | inr e ↦ is ∙ e
-  ],
-)
+second_by_sign v a b s low is = grind (arith, nat_tests, first_said, none_back)

@@ -1,9 +1,10 @@
 -- The values that none that is left of a square is above, or none below.
+use Rattle.std.proofs.lemmas.Bool.Decides.{nat_tests}
 use Rattle.std.proofs.Common.{◌≡◌, ◌≢◌, ◌↔◌, ℕ, ◌+◌, ◌-◌, ◌*◌, ◌%◌, ◌^◌, ◌<◌, ◌≤◌, true, false, nat_le, nat_lt, ◌&&◌, bit_and, bit_or, bit_xor, sym, ap, ◌∙◌, inl, inr, arith, add-one}
 use Rattle.std.specs.Int.{bit_at}
 use Rattle.std.specs.Int.Bits.{xor_add_and}
 use Rattle.std.proofs.Math.Nat.{pow-suc}
-use Rattle.std.proofs.lemmas.Bool.{both_ways, and_parts, and_from, or_cases, or_left, cases_lt, cases_eq, lt-ltb, ltb-true, leb-true, le-leb}
+use Rattle.std.proofs.lemmas.Bool.{both_ways, and_parts, or_cases, or_left, cases_lt, cases_eq, lt-ltb, ltb-true, leb-true, le-leb}
 use Rattle.std.proofs.lemmas.Nat.{pow_pos, or_lt, and_le_l}
 use Rattle.std.proofs.lemmas.Nat.Bits.{bit_at_xor, ones_shl, bit_at-lt}
 use Rattle.number_sets.specs.Sets.{has_number, IsGreatest}
@@ -87,10 +88,7 @@ from_greatest_has set top result v small low high is =
 pub bounds_left : (c : CandidatesValue) (from set bounds x : ℕ) (Is : ℕ → Type 0) → c.size ≤ 9 → x ≤ c.size → IsSetOf c from set
     → ((has_number bounds x ≡ true) ↔ ((x < 16) × ((u : ℕ) → has_number set u ≡ true → Is u)))
     → (has_number bounds x ≡ true) ↔ ((u : ℕ) → IsLeft c from u → Is u)
-bounds_left c from set bounds x Is small high is tested = (
-  λ has u left. (tested.0 has).1 u ((is u).1 (left.pair, left.may)),
-  λ h. tested.1 (omega (arith, high, small), λ u has. let left = (is u).0 has in h u (record { pair = left.0; may = left.1 })),
-)
+bounds_left c from set bounds x Is small high is tested = grind (arith, nat_tests)
 
 -- the values of the size that do
 pub bounds_struck : (c : CandidatesValue) (from set bounds all result v : ℕ) (Is : ℕ → Type 0) → c.size ≤ 9 → IsSetOf c from set
@@ -98,14 +96,6 @@ pub bounds_struck : (c : CandidatesValue) (from set bounds all result v : ℕ) (
     → ((has_number bounds v ≡ true) ↔ ((v < 16) × ((u : ℕ) → has_number set u ≡ true → Is u)))
     → ((n : ℕ) → has_number result n ≡ (has_number all n && has_number bounds n))
     → (has_number result v ≡ true) ↔ ((1 ≤ v) × (v ≤ c.size) × ((u : ℕ) → IsLeft c from u → Is u))
-bounds_struck c from set bounds all result v Is small is members tested shared = (
-  λ has.
-      let both = and_parts (has_number all v) (has_number bounds v) (sym (shared v) ∙ has) in
-      let ends = and_parts (nat_le 1 v) (nat_le v c.size) (sym (members v) ∙ both.0) in
-      let high : v ≤ c.size = leb-true v c.size ends.1 in
-      (leb-true 1 v ends.0, high, (bounds_left c from set bounds v Is small high is tested).0 both.1),
-  λ h. shared v ∙ and_from (has_number all v) (has_number bounds v) (members v ∙ and_from (nat_le 1 v) (nat_le v c.size) (le-leb 1 v h.0) (le-leb v c.size h.1))
-      ((bounds_left c from set bounds v Is small h.1 is tested).1 h.2),
-)
+bounds_struck c from set bounds all result v Is small is members tested shared = grind (arith, nat_tests, bounds_left)
 
 -- ---- two squares

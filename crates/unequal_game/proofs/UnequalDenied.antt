@@ -1,7 +1,6 @@
 -- An item of Unequal is denied: a given goes from the candidates of its square, and a sign is turned round.
 use Rattle.std.proofs.lemmas.Bool.Decides.{nat_tests}
-use Rattle.std.proofs.Common.{◌≡◌, ◌≢◌, ℕ, ◌+◌, ◌*◌, ◌<◌, ◌≤◌, ◌⊎◌, true, false, List, set, length, refl, sym, ap, subst, ◌∙◌, inl, inr, arith, slice_index}
-use Rattle.std.proofs.lemmas.Bool.{cases_eq, eq-eqb, ne_eqb}
+use Rattle.std.proofs.Common.{◌≡◌, ◌≢◌, ℕ, ◌+◌, ◌*◌, ◌<◌, ◌≤◌, ◌⊎◌, true, List, set, length, refl, sym, ap, subst, ◌∙◌, inl, inr, arith, slice_index}
 use Rattle.std.proofs.lemmas.List.{get_or-set_same, get_or-set_other}
 use Rattle.latin_board.specs.Squares.{GridValue, IsGrid, IsLatin, number_at}
 use Rattle.latin_board.proofs.LatinLines.{line_differs}
@@ -14,7 +13,7 @@ use Rattle.unequal_game.specs.declared.unequal.sign.Sign.{Sign}
 use Rattle.unequal_game.specs.declared.unequal.sign.Sign.TheVariants.{Absent}
 use Rattle.line_steps.specs.Inner.Narrowing.{KeepsEach}
 use Rattle.unequal_game.specs.Inner.UnequalItems.{denied_item, item_cell, turned_sign, with_item}
-use Rattle.unequal_game.specs.Unequal.{UnequalValue, IsUnequal, holds_sign, holds_signs, lower_sign, right_sign, sign_between, unequal_puzzle}
+use Rattle.unequal_game.specs.Unequal.{UnequalValue, IsUnequal, holds_sign, lower_sign, right_sign, sign_between, unequal_puzzle}
 use Rattle.unequal_game.specs.Laws.Neighbours.{IsNext, next_line}
 use Rattle.unequal_game.specs.Laws.Signs.{IsSaid, below_between, each_sign_held, first_said, right_between, said_next, second_said, sign_held}
 use Rattle.line_steps.proofs.GivenDenied.{given_denied}
@@ -23,12 +22,7 @@ use Rattle.line_steps.proofs.GivenDenied.{given_denied}
 pub number_denied : (v u : UnequalValue) (item : Item) (cell given : ℕ) (old new : CandidatesValue) → item ≡ Given cell → u ≡ with_item v (Given cell) 0
     → given ≡ slice_index v.givens cell → KeepsEach (λ g. number_at g cell ≢ given) old new
     → Denies (unequal_puzzle v) (unequal_puzzle (with_item v item 0)) (unequal_puzzle u) old new
-number_denied v u item cell given old new at is value keeps =
-    let P : UnequalValue → Type 0 = λ x. Denies (unequal_puzzle v) (unequal_puzzle (with_item v (Given cell) 0)) (unequal_puzzle x) old new in
-    let Q : Item → Type 0 = λ x. Denies (unequal_puzzle v) (unequal_puzzle (with_item v x 0)) (unequal_puzzle u) old new in
-    let Keeps : ℕ → Type 0 = λ n. KeepsEach (λ g. number_at g cell ≢ n) old new in
-    subst Q (sym at) (subst P (sym is) (given_denied v.size (slice_index v.givens) (slice_index (set v.givens cell 0)) (holds_signs v) (λ place. false) (λ place. false) cell old new
-    (λ c apart. get_or-set_other v.givens cell c 0 0 apart) (subst Keeps value keeps)))
+number_denied v u item cell given old new at is value keeps = grind (arith, nat_tests, given_denied, get_or-set_other)
 
 -- ---- a sign
 
@@ -54,17 +48,7 @@ solved_but v r d p q g x y same here s = record {
   where
     held : (a b : ℕ) → holds_sign (sign_between (with_signs v r d) a b) (number_at g a) (number_at g b) ≡ true
         → holds_sign (sign_between (with_signs v p q) a b) (number_at g a) (number_at g b) ≡ true
-    held a b h =
-        let P : Sign → Type 0 = λ s. holds_sign s (number_at g a) (number_at g b) ≡ true in
-        let Q : ℕ → Type 0 = λ n. holds_sign (sign_between (with_signs v p q) n b) (number_at g n) (number_at g b) ≡ true in
-        let R : ℕ → Type 0 = λ n. holds_sign (sign_between (with_signs v p q) x n) (number_at g x) (number_at g n) ≡ true in
-        elim (cases_eq a x) [
-          | inl first ↦ elim (cases_eq b y) [
-            | inl second ↦ subst Q (sym first) (subst R (sym second) here)
-            | inr other ↦ subst P (sym (same a b (λ e f. other f))) h
-          ]
-          | inr other ↦ subst P (sym (same a b (λ e f. other e))) h
-        ]
+    held a b h = grind (arith, nat_tests)
 
 -- of two different numbers, a sign holds or its opposite
 held_or_turned : (s : Sign) (m n : ℕ) → (IsSaid s → m ≢ n) → (holds_sign s m n ≡ true) ⊎ (holds_sign (turned_sign s) m n ≡ true)
@@ -96,17 +80,10 @@ sign_denied v r d p q x y c valid without denied none turn = record {
 }
 
 right_but : (v : UnequalValue) (cell : ℕ) (s : Sign) → AreSameBut (with_signs v (set v.right cell s) v.below) v cell (cell + 1)
-right_but v cell s a b apart = elim (cases_eq b (a + 1)) [
-  | inl next ↦ rw (eq-eqb b (a + 1) next) (get_or-set_other v.right cell a s Absent (λ e. apart e (next ∙ ap (λ n. n + 1) e)))
-  | inr other ↦ rw (ne_eqb b (a + 1) other) refl
-]
+right_but v cell s a b apart = grind (arith, nat_tests, get_or-set_other)
 
 lower_but : (v : UnequalValue) (cell : ℕ) (s : Sign) → AreSameBut (with_signs v v.right (set v.below cell s)) v cell (cell + v.size)
-lower_but v cell s a b apart = elim (cases_eq b (a + v.size)) [
-  | inl next ↦
-      rw (eq-eqb b (a + v.size) next, get_or-set_other v.below cell a s Absent (λ e. apart e (next ∙ ap (λ n. n + v.size) e))) refl
-  | inr other ↦ rw (ne_eqb b (a + v.size) other) refl
-]
+lower_but v cell s a b apart = grind (arith, nat_tests, get_or-set_other)
 
 -- a sign towards the right neighbour is turned round
 pub right_denied : (v u : UnequalValue) (item : Item) (cell : ℕ) (c : CandidatesValue) → IsUnequal v → item ≡ RightSign cell

@@ -1,8 +1,9 @@
 -- The signs of an Unequal puzzle as two tables of 81 places: one item less.
-use Rattle.std.proofs.Common.{◌≡◌, ℕ, ◌+◌, ◌*◌, ◌%◌, ◌<◌, ◌≤◌, replicate, None, Some, Bool, true, false, nat_lt, not, List, set, take, length, length-set, arith, refl, sym, ap, subst, ◌∙◌, inl, inr, ◌==◌, slice_index_or}
+use Rattle.std.proofs.lemmas.Bool.Decides.{nat_tests}
+use Rattle.std.proofs.Common.{◌≡◌, ℕ, ◌+◌, ◌*◌, ◌%◌, ◌<◌, ◌≤◌, replicate, None, Some, Bool, true, false, nat_lt, not, List, set, take, length-set, arith, refl, sym, ap, subst, ◌∙◌, inl, inr, ◌==◌, slice_index_or}
 use Rattle.std.proofs.Math.Seq.{take-set-lt}
 use Rattle.std.proofs.lemmas.List.{drop-set-lt, get_or-set_same, get_or-set_other, get_or-replicate, get_or_past, length-take, length-replicate, drop-replicate, take-replicate}
-use Rattle.std.proofs.lemmas.Bool.{eq-eqb, ne_eqb, cases_eq, cases_lt, lt-ltb}
+use Rattle.std.proofs.lemmas.Bool.{ne_eqb, cases_lt, lt-ltb}
 use Rattle.latin_board.specs.Squares.{GridValue, IsGrid, blank_grid}
 use Rattle.unequal_game.specs.declared.unequal.direction.Direction.{Direction}
 use Rattle.unequal_game.specs.declared.unequal.direction.Direction.TheVariants.{Right, Down}
@@ -14,7 +15,7 @@ use Rattle.trail_solver.specs.Items.{kept_items}
 use Rattle.trail_solver.proofs.AgreeingSets.{squares_fit}
 use Rattle.unequal_game.specs.Inner.UnequalFields.{HoldsSignsOf, KeepsSigns, KeepsUnequal, unequal_value}
 use Rattle.unequal_game.specs.Inner.UnequalItems.{item_cell, turned_sign, with_item}
-use Rattle.unequal_game.specs.Unequal.{UnequalValue, IsUnequal, blank_unequal, neighbour, cut_unequal, item_at, item_number, has_item, is_present, sign_towards, signs_towards}
+use Rattle.unequal_game.specs.Unequal.{UnequalValue, IsUnequal, blank_unequal, neighbour, cut_unequal, item_at, item_number, has_item, is_present, sign_towards}
 use Rattle.trail_solver.proofs.KeptItems.{kept-all, kept-same, not_positive}
 use Rattle.unequal_game.specs.Laws.UnequalItems.{number_of_item_at, has_is_item, not_present}
 use Rattle.unequal_game.specs.Laws.Signs.{none_at_end}
@@ -28,19 +29,8 @@ sign_in_front n places cell s inside = take-set-lt n places cell s inside
 -- a sign may change where the square has a neighbour, and anywhere to no sign
 sign_put : (w : ℕ) (d : Direction) (places : List Sign) (cell : ℕ) (t : Sign) → cell < w * w → (neighbour w cell d ≡ None → t ≡ Absent) → KeepsSigns w d places
     → KeepsSigns w d (set places cell t)
-sign_put w d places cell t inside gone kept = record {
-  padded = record {
-    count = length-set places cell t ∙ kept.padded.count;
-    within = kept.padded.within;
-    rest = drop-set-lt (w * w) places cell t inside ∙ kept.padded.rest;
-  };
-  ends = λ k none. rw (sign_in_front (w * w) places cell t inside) (elim (cases_eq k cell) [
-    | inl same ↦
-        let count : cell < length (take (w * w) places) = omega (arith, length-take (w * w) places, kept.padded.count, kept.padded.within) in
-        rw (same, get_or-set_same (take (w * w) places) cell t Absent count) (gone (rw same at none))
-    | inr other ↦ rw (get_or-set_other (take (w * w) places) cell k t Absent other) (kept.ends k none)
-  ]);
-}
+sign_put w d places cell t inside gone kept =
+    grind (arith, nat_tests, length-set, drop-set-lt, length-take, get_or-set_same, get_or-set_other, sign_in_front)
 
 -- a sign that is turned round stands where one stood
 pub turned_kept : (w : ℕ) (d : Direction) (places : List Sign) (cell : ℕ) (s t : Sign) → cell < w * w → KeepsSigns w d places
@@ -65,10 +55,7 @@ one_goes empty present gone number i c xs here only =
     ∙ kept-but_one empty 0 c c xs (omega arith)
   where
     one : (cell : ℕ) → present (slice_index_or xs cell empty) ≡ true → not (number cell == i) ≡ not (cell == c)
-    one cell is = elim (cases_eq cell c) [
-      | inl same ↦ rw (eq-eqb (number cell) i (ap number same ∙ here), eq-eqb cell c same) refl
-      | inr other ↦ rw (ne_eqb (number cell) i (λ e. other (only cell is e)), ne_eqb cell c other) refl
-    ]
+    one cell is = grind (arith, nat_tests)
 
 -- to take an item away is to keep all others
 pub without_cut : (v : UnequalValue) (i : ℕ) → IsUnequal v → with_item v (item_at v.size i) 0 ≡ cut_unequal v (λ j. not (j == i))
@@ -100,15 +87,7 @@ without_cut v i valid = by (item_at v.size i) refl
 -- when the squares of the grid are passed, the signs of the direction are there
 pub signs_filled : (w : ℕ) (sign : ℕ → ℕ → Sign) (d : Direction) (cell : ℕ) (places : List Sign) → cell ≡ w * w
     → IsFilledBy Absent 81 (sign_towards w sign d) cell places → HoldsSignsOf w sign d places
-signs_filled w sign d cell places all h =
-    let front : take (w * w) places ≡ signs_towards w sign d = rw (← all) h.front in
-    record {
-      kept = record {
-        padded = rw (← all) h.filled;
-        ends = λ k none. rw front (none_at_end w sign d k none);
-      };
-      front = front;
-    }
+signs_filled w sign d cell places all h = grind (arith, nat_tests, none_at_end)
 
 -- a sign towards the right or the lower neighbour, where the square has one
 pub right_put : (w : ℕ) (places : List Sign) (cell : ℕ) (t : Sign) → cell < w * w → cell % w + 1 < w → KeepsSigns w Right places

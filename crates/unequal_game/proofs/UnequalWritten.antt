@@ -1,4 +1,5 @@
 -- The written form of an Unequal puzzle, letter by letter and piece by piece.
+use Rattle.std.proofs.lemmas.Bool.Decides.{nat_tests}
 use Rattle.std.proofs.Common.{◌≡◌, ℕ, zero, suc, ◌+◌, ◌<◌, Bool, true, false, List, [], ◌∷◌, ◌++◌, length, take, map, refl, ap, ◌∙◌, append_assoc, append-nil, arith, if◌then◌else◌, slice_index_or}
 use Rattle.std.specs.List.{filter, flat_map, range_with_len}
 use Rattle.std.proofs.lemmas.Grind.{flat_map-append}
@@ -30,6 +31,4 @@ range_more a (suc n) =
 -- one piece more
 pub pieces_more : (f : ℕ → List ℕ) (i : ℕ) (old new : List ℕ) → old ≡ flat_map f (range_with_len 0 i) → new ≡ old ++ f i
     → new ≡ flat_map f (range_with_len 0 (i + 1))
-pieces_more f i old new before here =
-    let place : 0 + i ≡ i = omega arith in
-    rw (here, before, range_more 0 i, flat_map-append f (range_with_len 0 i) ((0 + i) ∷ []), place, append-nil (f i)) refl
+pieces_more f i old new before here = grind (arith, nat_tests, range_more, flat_map-append, append-nil)

@@ -1,8 +1,9 @@
 -- The laws of what Towers demands: it stands along the lines of the grid's edge places, and is all that the clues ask.
-use Rattle.std.proofs.Common.{◌≡◌, ◌↔◌, ℕ, ◌*◌, ◌<◌, nat_lt, Some, length, map, refl, sym, ap, ◌∙◌, subst, inl, inr, arith}
+use Rattle.std.proofs.lemmas.Bool.Decides.{nat_tests}
+use Rattle.std.proofs.Common.{◌≡◌, ◌↔◌, ℕ, ◌*◌, ◌<◌, Some, length, map, refl, sym, ap, ◌∙◌, subst, arith}
 use Rattle.std.specs.Bool.{IsTrue}
 use Rattle.std.specs.List.{range_with_len}
-use Rattle.std.proofs.lemmas.Bool.{cases_lt, ltb-true, lt-ltb, eqb-true, eq-eqb}
+use Rattle.std.proofs.lemmas.Bool.{lt-ltb, eqb-true, eq-eqb}
 use Rattle.std.proofs.lemmas.Grind.{same_number_lists}
 use Rattle.std.proofs.lemmas.List.{get_or_past, get_or-map, length-map}
 use Rattle.std.proofs.lemmas.List.FromFn.{length-map-range_with_len, get_or-map-range_with_len}
@@ -11,7 +12,7 @@ use Rattle.latin_board.specs.Squares.{GridValue, IsGrid, IsFull, number_at}
 use Rattle.latin_board.proofs.PeerLines.{line_peers}
 use Rattle.tower_lines.specs.TowersSeen.{seen}
 use Rattle.towers_game.specs.Towers.{TowersValue, IsTowers, clue_of, holds_clues}
-use Rattle.line_steps.specs.Views.{line_from, view_cell, view_line, view_index}
+use Rattle.line_steps.specs.Views.{line_from, view_cell}
 use Rattle.towers_game.specs.Laws.TowersItems.{clues_decide, length-line_from}
 use Rattle.line_steps.specs.Laws.Edges.{view_line_low, view_index_low}
 use Rattle.line_steps.specs.Laws.LineSquares.{view_index_apart, view_inside}
@@ -27,43 +28,30 @@ use Rattle.board_checks.specs.Games.{clue_demand, towers_demand}
 -- what is demanded at an edge place is what its clue demands
 pub demanded : (v : TowersValue) (place : ℕ) (d : Demand) → towers_demand v (Edge place) ≡ Some d
     → (0 < clue_of v place) × (clue_demand v place ≡ d)
-demanded v place d e =
-    let there = cond_some (nat_lt 0 (clue_of v place)) (clue_demand v place) d e in
-    (ltb-true 0 (clue_of v place) there.0, there.1)
+demanded v place d e = grind (arith, nat_tests, cond_some)
 
 placed : (v : TowersValue) (place : ℕ) → IsTowers v → 0 < clue_of v place → place < 4 * v.size
-placed v place valid clued = elim (cases_lt place (4 * v.size)) [
-  | inl inside ↦ inside
-  | inr past ↦
-      let none : clue_of v place ≡ 0 = get_or_past v.clues place 0 (omega (arith, valid.clue_count)) in
-      absurd (omega arith)
-]
+placed v place valid clued = grind (arith, nat_tests, get_or_past)
 
 pub demand_spot : (v : TowersValue) (spot : Spot) (d : Demand) → IsTowers v → towers_demand v spot ≡ Some d
     → IsSpot v.size spot
-demand_spot v (Edge place) d valid e = placed v place valid (demanded v place d e).0
-demand_spot v (RightOf cell) d valid e = absurd (none-some d e)
-demand_spot v (Below cell) d valid e = absurd (none-some d e)
+demand_spot v spot d valid e = grind (arith, nat_tests, placed, demanded, none-some)
 
 -- ---- the squares of a clue's line
 
 clue_on_line : (v : TowersValue) (place : ℕ) → place < 4 * v.size → IsOfPeers v.size (clue_demand v place)
 clue_on_line v place inside =
-    let w = v.size in
-    let len = length-map-range_with_len (view_cell w place) 0 w in
-    let here = λ (k d : ℕ) (low : k < w). get_or-map-range_with_len (view_cell w place) 0 w k k d low (omega arith) in
-    record {
-      inside = λ k d low.
-          let within : k < w = omega (arith, len) in
-          rw (here k d within) (view_inside w place k inside within);
-      peers = λ i j d order low.
-          let second : j < w = omega (arith, len) in
-          let first : i < w = omega arith in
-          rw (here i d first, here j d second)
-          (line_peers w (view_line w place) (view_index w place i) (view_index w place j) (view_line_low w place inside)
-          (view_index_low w place i first) (view_index_low w place j second)
-          (view_index_apart w place i j first second (λ same. omega arith)));
-    }
+    grind (
+      arith,
+      nat_tests,
+      length-map-range_with_len,
+      get_or-map-range_with_len,
+      view_inside,
+      line_peers,
+      view_line_low,
+      view_index_low,
+      view_index_apart,
+    )
 
 pub demand_line : (v : TowersValue) (spot : Spot) (d : Demand) → IsTowers v → towers_demand v spot ≡ Some d
     → IsOfPeers v.size d

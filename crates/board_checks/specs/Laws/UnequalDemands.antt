@@ -1,13 +1,14 @@
 -- The laws of what Unequal demands: it stands between neighbours, and is all that the signs ask.
-use Rattle.std.proofs.Common.{◌≡◌, ◌↔◌, ℕ, ◌+◌, ◌*◌, ◌<◌, ◌≤◌, true, Some, refl, sym, ap, ◌∙◌, subst, inl, inr, arith}
+use Rattle.std.proofs.lemmas.Bool.Decides.{nat_tests}
+use Rattle.std.proofs.Common.{◌≡◌, ◌↔◌, ℕ, ◌+◌, ◌≤◌, true, Some, refl, sym, ap, ◌∙◌, subst, inl, inr, arith}
 use Rattle.std.specs.Bool.{IsTrue}
-use Rattle.std.proofs.lemmas.Bool.{ltb-true, lt-ltb, false≢true}
+use Rattle.std.proofs.lemmas.Bool.{ltb-true}
 use Rattle.std.proofs.lemmas.Option.{cond_some, none-some}
 use Rattle.latin_board.specs.Squares.{GridValue, IsGrid, IsFull, number_at}
 use Rattle.latin_board.specs.Lines.{ArePeers}
 use Rattle.latin_board.proofs.PeerLines.{line_peers}
 use Rattle.unequal_game.specs.declared.unequal.sign.Sign.{Sign}
-use Rattle.unequal_game.specs.declared.unequal.sign.Sign.TheVariants.{Absent, FirstGreater, SecondGreater}
+use Rattle.unequal_game.specs.declared.unequal.sign.Sign.TheVariants.{FirstGreater, SecondGreater}
 use Rattle.unequal_game.specs.Unequal.{UnequalValue, IsUnequal, HoldsSigns, sign_between, holds_sign, holds_signs}
 use Rattle.unequal_game.specs.Unequal.{is_present}
 use Rattle.unequal_game.specs.Laws.Neighbours.{IsNext, right_of, below_of, next_line, next_inside}
@@ -24,9 +25,7 @@ use Rattle.board_checks.specs.Laws.TwoSquares.{two_all, two_pairs}
 
 -- a sign that is present says something
 pub present_said : (s : Sign) → is_present s ≡ true → IsSaid s
-present_said Absent present none = false≢true present
-present_said FirstGreater present none = cc
-present_said SecondGreater present none = cc
+present_said s present none = grind (arith, nat_tests)
 
 -- a sign between two squares, and what it demands
 record IsDemanded (v : UnequalValue) (a b : ℕ) (d : Demand) : Type 0 where
@@ -36,10 +35,7 @@ record IsDemanded (v : UnequalValue) (a b : ℕ) (d : Demand) : Type 0 where
 demanded_between : (v : UnequalValue) (a b : ℕ) (d : Demand) → IsUnequal v
     → demand_if_present (sign_between v a b) a b ≡ Some d
     → IsDemanded v a b d
-demanded_between v a b d valid e =
-    let s = sign_between v a b in
-    let there = cond_some (is_present s) (sign_demand s a b) d e in
-    record { next = said_next v a b valid (present_said s there.0); is = there.1 }
+demanded_between v a b d valid e = grind (arith, nat_tests, cond_some, said_next, present_said)
 
 -- the demand of the sign between a square and the next on its right
 pub right_demand : (v : UnequalValue) (cell : ℕ)
@@ -64,9 +60,7 @@ below_demanded v cell d valid e =
 
 pub demand_spot : (v : UnequalValue) (spot : Spot) (d : Demand) → IsUnequal v → unequal_demand v spot ≡ Some d
     → IsSpot v.size spot
-demand_spot v (Edge place) d valid e = absurd (none-some d e)
-demand_spot v (RightOf cell) d valid e = (right_demanded v cell d valid e).next.inside
-demand_spot v (Below cell) d valid e = (below_demanded v cell d valid e).next.inside
+demand_spot v spot d valid e = grind (arith, nat_tests, none-some, right_demanded, below_demanded)
 
 next_peers : (w a b : ℕ) → 3 ≤ w → IsNext w a b → ArePeers w a b
 next_peers w a b small next =
@@ -77,12 +71,7 @@ next_peers w a b small next =
     rw (on.first, on.second) at peers
 
 demanded_on_line : (v : UnequalValue) (a b : ℕ) (d : Demand) → IsUnequal v → IsDemanded v a b d → IsOfPeers v.size d
-demanded_on_line v a b d valid h =
-    let small = valid.givens.smallest in
-    subst (IsOfPeers v.size) h.is (record {
-      inside = two_all (λ cell. cell < v.size * v.size) a b h.next.inside (next_inside v.size a b small h.next);
-      peers = two_pairs (ArePeers v.size) a b (next_peers v.size a b small h.next);
-    })
+demanded_on_line v a b d valid h = grind (arith, nat_tests, two_all, next_inside, two_pairs, next_peers)
 
 pub demand_line : (v : UnequalValue) (spot : Spot) (d : Demand) → IsUnequal v → unequal_demand v spot ≡ Some d
     → IsOfPeers v.size d
@@ -95,9 +84,7 @@ demand_line v (Below cell) d valid e = demanded_on_line v cell (cell + v.size) d
 -- numbers that are as all signs say are as this one says
 sign_held : (v : UnequalValue) (g : GridValue) (a b : ℕ) → HoldsSigns v g → (s : Sign) → sign_between v a b ≡ s
     → holds_sign s (number_at g a) (number_at g b) ≡ true
-sign_held v g a b held Absent e = refl
-sign_held v g a b held FirstGreater e = lt-ltb (number_at g b) (number_at g a) (held.each a b (inl e))
-sign_held v g a b held SecondGreater e = lt-ltb (number_at g a) (number_at g b) (held.each b a (inr e))
+sign_held v g a b held s e = grind (arith, nat_tests)
 
 demanded_met : (v : UnequalValue) (g : GridValue) (a b : ℕ) (d : Demand) → HoldsSigns v g → IsDemanded v a b d
     → IsTrue (d.says (numbers_of g d))

@@ -1,10 +1,11 @@
 -- The clue part of a Towers description: what is read is written so, and what is written so is read.
-use Rattle.std.proofs.Common.{◌≡◌, ◌≢◌, ℕ, ◌+◌, ◌-◌, ◌*◌, ◌<◌, ◌≤◌, true, false, ◌==◌, nat_le, List, [], ◌∷◌, length}
-use Rattle.std.proofs.Common.{map, Ok, refl, sym, ap, ◌∙◌, subst, arith, if◌then◌else◌}
+use Rattle.std.proofs.lemmas.Bool.Decides.{nat_tests}
+use Rattle.std.proofs.Common.{◌≡◌, ◌≢◌, ℕ, ◌+◌, ◌*◌, ◌<◌, ◌≤◌, true, List, [], ◌∷◌, length}
+use Rattle.std.proofs.Common.{map, Ok, refl, sym, ap, ◌∙◌, subst, arith}
 use Rattle.std.specs.List.{AllByRecursion, list_all, join_with_byte}
 use Rattle.std.proofs.lemmas.List.{length-map}
 use Rattle.std.proofs.lemmas.List.Splits.{join_with_byte-slice_split}
-use Rattle.std.proofs.lemmas.Bool.{and_parts, and_from, eqb-true, eqb-false, ne_eqb, leb-true, le-leb}
+use Rattle.std.proofs.lemmas.Bool.{and_parts, and_from, ne_eqb}
 use Rattle.byte_text.specs.Cuts.{Lacks}
 use Rattle.byte_text.proofs.CutLaws.{lacks_join, pieces_join}
 use Rattle.byte_text.proofs.ReadingLaws.{bind_taken, bind_again}
@@ -19,31 +20,10 @@ clue_field_some : (clue : ℕ) → clue ≢ 0 → clue_field clue ≡ (digit_zer
 clue_field_some clue some = rw (ne_eqb clue 0 some) refl
 
 field_taken : (w : ℕ) (f : List ℕ) → is_clue_field w f ≡ true → (clue_field (clue_in f) ≡ f) × (clue_in f ≤ w)
-field_taken w [] is = (refl, omega arith)
-field_taken w (b ∷ []) is =
-    let tests = and_parts (nat_le (digit_zero + 1) b) (nat_le b (digit_zero + w)) is in
-    let low = leb-true (digit_zero + 1) b tests.0 in
-    let high = leb-true b (digit_zero + w) tests.1 in
-    let some : b - digit_zero ≢ 0 = omega arith in
-    let digit : digit_zero + (b - digit_zero) ≡ b = omega arith in
-    (clue_field_some (b - digit_zero) some ∙ ap (λ x. x ∷ []) digit, omega arith)
-field_taken w (b ∷ c ∷ bs) is = cc
+field_taken w f is = grind (arith, nat_tests, clue_field_some)
 
 field_again : (w clue : ℕ) → clue ≤ w → (is_clue_field w (clue_field clue) ≡ true) × (clue_in (clue_field clue) ≡ clue)
-field_again w clue within =
-    elim (clue == 0) as
-    (λ t. (clue == 0) ≡ t
-    → (is_clue_field w (if t then [] else ((digit_zero + clue) ∷ [])) ≡ true)
-    × (clue_in (if t then [] else ((digit_zero + clue) ∷ [])) ≡ clue)) [
-      | true ↦ λ none. let e = eqb-true clue 0 none in (refl, omega arith)
-      | false ↦ λ some.
-          let apart = eqb-false clue 0 some in (
-            and_from (nat_le (digit_zero + 1) (digit_zero + clue)) (nat_le (digit_zero + clue) (digit_zero + w))
-                (le-leb (digit_zero + 1) (digit_zero + clue) (omega arith))
-                (le-leb (digit_zero + clue) (digit_zero + w) (omega arith)),
-            omega arith,
-          )
-    ] refl
+field_again w clue within = grind (arith, nat_tests)
 
 fields_taken : (w : ℕ) (fs : List (List ℕ)) → list_all (is_clue_field w) fs ≡ true
     → (map clue_field (map clue_in fs) ≡ fs) × AllByRecursion (λ clue. clue ≤ w) (map clue_in fs)
@@ -68,11 +48,7 @@ fields_again w (clue ∷ clues) within =
 
 -- no field has a byte that is not a digit
 field_lacks : (c clue : ℕ) → c < digit_zero + 1 → Lacks c (clue_field clue)
-field_lacks c clue small =
-    elim (clue == 0) as (λ t. (clue == 0) ≡ t → Lacks c (if t then [] else ((digit_zero + clue) ∷ []))) [
-      | true ↦ λ none. tt
-      | false ↦ λ some. let apart = eqb-false clue 0 some in (omega arith, tt)
-    ] refl
+field_lacks c clue small = grind (arith, nat_tests)
 
 fields_lack : (c : ℕ) (clues : List ℕ) → c < digit_zero + 1 → AllByRecursion (Lacks c) (map clue_field clues)
 fields_lack c [] small = tt

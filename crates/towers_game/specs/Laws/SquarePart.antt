@@ -1,15 +1,12 @@
 -- The square part of a Towers description: what is read has the grammar, and what has the grammar is read.
 use Rattle.std.proofs.lemmas.Bool.Decides.{nat_tests}
-use Rattle.std.proofs.Common.{◌≡◌, ℕ, zero, suc, ◌+◌, ◌-◌, ◌*◌, ◌<◌, ◌≤◌, true, false, ◌==◌, ◌&&◌, ◌||◌, not, nat_le}
+use Rattle.std.proofs.Common.{◌≡◌, ℕ, zero, suc, ◌+◌, ◌-◌, ◌*◌, ◌<◌, ◌≤◌, true, false}
 use Rattle.std.proofs.Common.{List, [], ◌∷◌, ◌++◌, length, replicate, Ok, ◌⊎◌, inl, inr, refl, sym, ap, ◌∙◌, subst}
 use Rattle.std.proofs.Common.{arith}
 use Rattle.std.specs.List.{AllByRecursion, flat_map}
-use Rattle.std.proofs.lemmas.Bool.{and_parts, and_from, or_cases, or_right, eqb-true, eq-eqb, leb-true, le-leb, lt-leb}
-use Rattle.std.proofs.lemmas.Bool.{not-true}
-use Rattle.byte_text.specs.Decimals.{is_digit, begins_digit}
+use Rattle.std.proofs.lemmas.Bool.{and_parts, and_from, lt-leb}
+use Rattle.byte_text.specs.Decimals.{begins_digit}
 use Rattle.byte_text.specs.Bytes.{underscore, letter_a, letter_z, digit_zero, digit_nine}
-use Rattle.game_texts.specs.declared.id_fault.IdFault.TheVariants.{BadSquares}
-use Rattle.game_texts.specs.IdFaults.{exactly}
 use Rattle.towers_game.specs.TowersText.{IsSquareText, is_blank_letter, is_square_byte, is_square_part, squares_of}
 use Rattle.towers_game.specs.TowersText.{givens_at, blanks_of}
 use Rattle.game_texts.specs.Laws.Exactly.{exactly_taken, exactly_again}
@@ -38,10 +35,7 @@ pub squares_of_letter : (b : ℕ) → letter_a ≤ b → b ≤ letter_z → squa
 squares_of_letter b low high = rw (letter_true b low high) refl
 
 pub squares_of_digit : (b : ℕ) → digit_zero ≤ b → b ≤ digit_nine → squares_of b ≡ (b - digit_zero) ∷ []
-squares_of_digit b low high =
-    let digit : is_digit b ≡ true =
-    and_from (nat_le digit_zero b) (nat_le b digit_nine) (le-leb digit_zero b low) (le-leb b digit_nine high) in
-    rw (letter_false b (omega arith), digit) refl
+squares_of_digit b low high = grind (arith, nat_tests, letter_false)
 
 pub squares_taken : (w : ℕ) (bs : List ℕ) → w ≤ 9 → is_square_part w bs ≡ true
     → IsSquareText w bs (flat_map squares_of bs)
@@ -106,15 +100,9 @@ squares_within w (b ∷ bs) squares (inr (inr (low, high, ends, (rest, says, tex
 pub givens_taken : (w : ℕ) (part givens : List ℕ) → w ≤ 9 → givens_at w part ≡ Ok givens
     → (length givens ≡ w * w) × IsSquareText w part givens
 unfolding givens_at
-givens_taken w part givens small read =
-    let readable =
-    refused_else (is_square_part w part) (exactly (w * w) (flat_map squares_of part)) BadSquares givens read in
-    let count = exactly_taken (w * w) (flat_map squares_of part) givens readable.1 in
-    (ap length (sym count.0) ∙ count.1, subst (IsSquareText w part) count.0 (squares_taken w part small readable.0))
+givens_taken w part givens small read = grind (arith, nat_tests, refused_else, exactly_taken, squares_taken)
 
 pub givens_again : (w : ℕ) (part givens : List ℕ) → w ≤ 9 → length givens ≡ w * w → IsSquareText w part givens
     → givens_at w part ≡ Ok givens
 unfolding givens_at
-givens_again w part givens small count text =
-    let read = squares_again w part givens small text in
-    rw (read.0, read.1) (exactly_again (w * w) givens count)
+givens_again w part givens small count text = grind (arith, nat_tests, squares_again, exactly_again)

@@ -1,4 +1,5 @@
 -- The square part that is written is a text of its squares.
+use Rattle.std.proofs.lemmas.Bool.Decides.{nat_tests}
 use Rattle.std.proofs.Common.{◌≡◌, ◌≢◌, ℕ, zero, suc, ◌+◌, ◌-◌, ◌*◌, ◌/◌, ◌%◌, ◌<◌, ◌≤◌, Bool, true, false, ◌==◌, ◌&&◌}
 use Rattle.std.proofs.Common.{List, [], ◌∷◌, ◌++◌, replicate, inl, inr, refl, sym, ap, ◌∙◌, subst, arith, append_assoc}
 use Rattle.std.proofs.Common.{append-nil, nat_le, if◌then◌else◌}
@@ -12,9 +13,7 @@ use Rattle.towers_game.specs.TowersText.{IsSquareText, blank_letters, given_writ
 -- one letter
 letter_text : (w k : ℕ) (bs squares : List ℕ) → k < 26 → IsSquareText w bs squares
     → IsSquareText w ((letter_a + k) ∷ bs) (replicate (k + 1) 0 ++ squares)
-letter_text w k bs squares small text =
-    let run : letter_a + k + 1 - letter_a ≡ k + 1 = omega arith in
-    inr (inl (omega arith, omega arith, (squares, ap (λ n. replicate n 0 ++ squares) (sym run), text)))
+letter_text w k bs squares small text = grind (arith, nat_tests)
 
 -- so many times `z`
 zs_text : (w k : ℕ) (bs squares : List ℕ) → IsSquareText w bs squares
@@ -81,11 +80,7 @@ given_whole : (n : ℕ) (after_given : Bool) (s : ℕ) (bs : List ℕ)
 given_whole n after_given s bs = simp append_assoc
 
 given_begins : (n s : ℕ) (bs : List ℕ) → begins_digit (given_written n true s ++ bs) ≡ false
-given_begins n s bs = elim (cases_eq n 0) [
-  | inl none ↦ rw none refl
-  | inr some ↦ subst (λ xs. begins_digit xs ≡ false) (given_whole n true s bs)
-      (letters_begin n ((if (n == 0) && true then (underscore ∷ []) else []) ++ ((digit_zero + s) ∷ bs)) some)
-]
+given_begins n s bs = grind (arith, nat_tests, given_whole, letters_begin)
 
 begins_written : (n : ℕ) (squares : List ℕ) → begins_digit (squares_written n true squares) ≡ false
 begins_written n [] = elim (cases_eq n 0) [
@@ -100,9 +95,7 @@ begins_written n (s ∷ ss) =
 -- a given, and `_` before it or not
 digit_text : (w s : ℕ) (bs squares : List ℕ) → s ≢ 0 → s ≤ w → begins_digit bs ≡ false → IsSquareText w bs squares
     → IsSquareText w ((digit_zero + s) ∷ bs) (s ∷ squares)
-digit_text w s bs squares some within ends text =
-    let value : s ≡ digit_zero + s - digit_zero = omega arith in
-    inr (inr (omega arith, omega arith, ends, (squares, ap (λ x. x ∷ squares) value, text)))
+digit_text w s bs squares some within ends text = grind (arith, nat_tests)
 
 given_text : (w s : ℕ) (separate : Bool) (bs squares : List ℕ) → s ≢ 0 → s ≤ w → begins_digit bs ≡ false
     → IsSquareText w bs squares

@@ -1,11 +1,12 @@
 -- The laws of Towers items: what a cut keeps, what two cuts make, and that the full puzzle of a Latin square is solved
 -- by it.
-use Rattle.std.proofs.Common.{◌≡◌, ◌↔◌, ℕ, zero, ◌+◌, ◌-◌, ◌*◌, ◌<◌, ◌≤◌, Bool, true, false, ◌&&◌, ◌||◌, [], length}
-use Rattle.std.proofs.Common.{refl, sym, ◌∙◌, inl, inr, arith, nat_lt, ◌==◌, slice_index, slice_index_or}
+use Rattle.std.proofs.lemmas.Bool.Decides.{nat_tests}
+use Rattle.std.proofs.Common.{◌≡◌, ◌↔◌, ℕ, zero, ◌+◌, ◌*◌, ◌<◌, ◌≤◌, Bool, true, false, ◌&&◌, ◌||◌, [], length}
+use Rattle.std.proofs.Common.{refl, sym, ◌∙◌, arith, nat_lt, ◌==◌, slice_index, slice_index_or}
 use Rattle.std.specs.Bool.{Decides, IsTrue}
 use Rattle.std.specs.List.{range_with_len}
-use Rattle.std.proofs.lemmas.Bool.{lt-ltb, cases_lt}
-use Rattle.std.proofs.lemmas.Bool.Decides.{Decides-at, Decides-like, Decides-or, Decides-eqb}
+use Rattle.std.proofs.lemmas.Bool.{lt-ltb}
+use Rattle.std.proofs.lemmas.Bool.Decides.{Decides-at, Decides-like}
 use Rattle.std.proofs.lemmas.List.{length-reverse}
 use Rattle.std.proofs.lemmas.List.Elements.{All-map}
 use Rattle.std.proofs.lemmas.List.FromFn.{length-map-range_with_len, get_or-map-range_with_len}
@@ -27,11 +28,7 @@ use Rattle.line_steps.specs.Laws.Edges.{edge_cases}
 -- ---- the test of the clues
 
 one_clue_decides : (n m : ℕ) → Decides ((n == 0) || (m == n)) (0 < n → m ≡ n)
-one_clue_decides n m =
-    Decides-like ((n == 0) || (m == n))
-    (λ h low. elim h [ inl none ↦ absurd (omega arith) | inr same ↦ same ])
-    (λ h. elim (cases_lt 0 n) [ inl low ↦ inr (h low) | inr none ↦ inl (omega arith) ])
-    (Decides-or _ _ (Decides-eqb n 0) (Decides-eqb m n))
+one_clue_decides n m = grind (arith, nat_tests)
 
 -- the test of the clues answers whether all hold
 pub clues_decide : (v : TowersValue) (g : GridValue) → Decides (holds_clues v g) (HoldsClues v g)
@@ -137,12 +134,7 @@ length-row g row = length-map-range_with_len (λ c. number_at g (row * g.size + 
 
 -- from each place as many squares are seen as the grid is wide
 pub length-line_from : (g : GridValue) (place : ℕ) → length (line_from g place) ≡ g.size
-length-line_from g place =
-    edge_cases (λ line. length line ≡ g.size) g.size place _ _ _ _
-    (λ upper. length-column g place)
-    (λ from lower. length-reverse (column_of g (place - g.size)) ∙ length-column g (place - g.size))
-    (λ from left. length-row g (place - 2 * g.size))
-    (λ right. length-reverse (row_of g (place - 3 * g.size)) ∙ length-row g (place - 3 * g.size))
+length-line_from g place = grind (arith, nat_tests, edge_cases, length-column, length-reverse, length-row)
 
 pub seen_within : (g : GridValue) (place : ℕ) → seen (line_from g place) ≤ g.size
 seen_within g place = omega (arith, seen_most [] (line_from g place), length-line_from g place)

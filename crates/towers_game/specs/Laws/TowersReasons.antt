@@ -1,8 +1,8 @@
 -- What the clues of Towers strike: from fewer candidates too, in no solution, in the whole puzzle if in a cut, and along
 -- which lines.
-use Rattle.std.proofs.Common.{◌≡◌, ◌≢◌, ℕ, ◌*◌, ◌<◌, Bool, slice_index, refl, sym, ap, ◌∙◌, subst, arith}
+use Rattle.std.proofs.lemmas.Bool.Decides.{nat_tests}
+use Rattle.std.proofs.Common.{◌≡◌, ◌≢◌, ℕ, ◌*◌, ◌<◌, Bool, slice_index, sym, ap, ◌∙◌, subst, arith}
 use Rattle.latin_board.specs.Squares.{GridValue, IsGrid, IsLatin, number_at}
-use Rattle.latin_board.specs.Lines.{line_cell}
 use Rattle.latin_board.proofs.LatinLines.{line_differs, latin_full}
 use Rattle.latin_board.proofs.Numbers.{number_within}
 use Rattle.tower_lines.specs.TowersSeen.{seen}
@@ -37,22 +37,7 @@ use Rattle.line_steps.specs.declared.grade.Grade.TheVariants.{Easy, Hard}
 clue_less : (v : TowersValue) (May Less : ℕ → ℕ → Type 0) (place cell value : ℕ)
     → ((k u : ℕ) → k < v.size → Less (view_cell v.size place k) u → May (view_cell v.size place k) u)
     → IsByClue v May place cell value → IsByClue v Less place cell value
-clue_less v May Less place cell value fewer h = record {
-  place_is = h.place_is;
-  clued = h.clued;
-  unfilled = record {
-    index = h.unfilled.index;
-    inside = h.unfilled.inside;
-    here = h.unfilled.here;
-    none = λ line f. h.unfilled.none line (record {
-      whole = f.whole;
-      pairs = f.pairs;
-      may = λ k low. fewer k (slice_index line k) low (f.may k low);
-      apart = f.apart;
-      shown = f.shown;
-    });
-  };
-}
+clue_less v May Less place cell value fewer h = grind (arith, nat_tests)
 
 -- what may stand in a square may stand there while all stays that is left of it
 may_stays : (look : Look) (c d : CandidatesValue) (cell value : ℕ) → ((u : ℕ) → IsLeft c cell u → IsLeft d cell u)
@@ -152,13 +137,7 @@ towers_sound v c reason cell value g size solved within h = absurd h
 clue_whole : (v : TowersValue) (keep : ℕ → Bool) (May : ℕ → ℕ → Type 0) (place cell value : ℕ)
     → IsByClue (cut_towers v keep) May place cell value
     → IsByClue v May place cell value
-clue_whole v keep May place cell value h =
-    let same : clue_of (cut_towers v keep) place ≡ clue_of v place = kept_number keep 0 v.clues place h.clued in
-    record {
-      place_is = h.place_is;
-      clued = omega (arith, h.clued, same);
-      unfilled = subst (λ (clue : ℕ). IsUnfilled v.size May place clue cell value) same h.unfilled;
-    }
+clue_whole v keep May place cell value h = grind (arith, nat_tests, kept_number)
 
 -- what a clue strikes in a cut it strikes in the whole
 pub towers_whole : (v : TowersValue) (keep : ℕ → Bool) (c : CandidatesValue) (reason : Reason) (cell value : ℕ)
@@ -176,13 +155,7 @@ pub clue_was : (v : TowersValue) (look : Look) (place cell value : ℕ) (c d : C
     → StaysOn (view_line c.size place) c d → IsByClue v (May look d) place cell value
     → IsByClue v (May look c) place cell value
 clue_was v look place cell value c d size place_is stays h =
-    let On : ℕ → Type 0 =
-    λ w. (k u : ℕ) → k < w → IsLeft c (line_cell w (view_line w place) k) u
-    → IsLeft d (line_cell w (view_line w place) k) u in
-    let on : On v.size = subst On size stays in
-    clue_less v (May look d) (May look c) place cell value
-    (λ k u k_is may. may_stays look c d (view_cell v.size place k) u
-    (λ x left. on (view_index v.size place k) x (view_index_low v.size place k k_is) left) may) h
+    grind (arith, nat_tests, clue_less, may_stays, view_index_low)
 
 -- a clue that strikes nothing strikes nothing where all stays along its line
 pub view_stays : (v : TowersValue) (look : Look) (place : ℕ) (c d : CandidatesValue) → c.size ≡ v.size
@@ -216,11 +189,7 @@ towers_look v c d reason cell value line size low along stays h = absurd h
 towers_stands : (v : TowersValue) (Stays : ℕ → ℕ → Type 0) (place cell value : ℕ) → IsByClue v Stays place cell value
     → (line : ℕ) × (line < 2 * v.size)
     × ((place < 4 * v.size) × (view_line v.size place ≡ line) × IsOn v.size line cell)
-towers_stands v Stays place cell value h =
-    let index = h.unfilled.index in
-    let at : IsOn v.size (view_line v.size place) cell =
-    (view_index v.size place index, view_index_low v.size place index h.unfilled.inside, sym h.unfilled.here) in
-    (view_line v.size place, view_line_low v.size place h.place_is, (h.place_is, refl, at))
+towers_stands v Stays place cell value h = grind (arith, nat_tests, view_index_low, view_line_low)
 
 -- a clue that strikes looks along a line
 pub towers_stand : (v : TowersValue) (c : CandidatesValue) (reason : Reason) (cell value : ℕ)
@@ -237,11 +206,7 @@ left_stands c cell value left = λ alone none. none value left
 -- where clues strike nothing along a line by what stands in it, they strike nothing by Easy
 easy_own : (v : TowersValue) (line : ℕ) (c : CandidatesValue) → AreViewsQuiet v Stands line c
     → IsQuietAlong (IsTowersOwn v) Easy line c
-easy_own v line c quiet (Bound place) cell value has along pair h =
-    quiet place along.0 along.1 cell value pair (clue_less v Anything (Standing c) place cell value (λ k x low may. tt) h)
-easy_own v line c quiet (Stand place) cell value has along pair h = quiet place along.0 along.1 cell value pair h
-easy_own v line c quiet (Clue place) cell value has along pair h = absurd (cc)
-easy_own v line c quiet reason cell value has along pair h = absurd h
+easy_own v line c quiet reason cell value has along pair h = grind (arith, nat_tests, clue_less)
 
 pub easy_along : (v : TowersValue) (line : ℕ) (c : CandidatesValue) → AreViewsQuiet v Stands line c
     → IsQuietAlong (IsTowersStruckBy v) Easy line c
@@ -250,12 +215,7 @@ easy_along v line c quiet = quiet_own (towers_puzzle v) (IsTowersOwn v) Easy lin
 -- and by Hard, where they strike nothing by its pencil marks
 hard_own : (v : TowersValue) (line : ℕ) (c : CandidatesValue) → AreViewsQuiet v Marks line c
     → IsQuietAlong (IsTowersOwn v) Hard line c
-hard_own v line c quiet (Bound place) cell value has along pair h =
-    quiet place along.0 along.1 cell value pair (clue_less v Anything (IsLeft c) place cell value (λ k x low may. tt) h)
-hard_own v line c quiet (Stand place) cell value has along pair h =
-    quiet place along.0 along.1 cell value pair (clue_less v (Standing c) (IsLeft c) place cell value (λ k x low. left_stands c _ x) h)
-hard_own v line c quiet (Clue place) cell value has along pair h = quiet place along.0 along.1 cell value pair h
-hard_own v line c quiet reason cell value has along pair h = absurd h
+hard_own v line c quiet reason cell value has along pair h = grind (arith, nat_tests, clue_less, left_stands)
 
 -- so none of theirs along the line does
 pub hard_along : (v : TowersValue) (line : ℕ) (c : CandidatesValue) → AreViewsQuiet v Marks line c

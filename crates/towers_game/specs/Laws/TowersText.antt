@@ -1,8 +1,8 @@
 -- The laws of Towers descriptions: what is read describes the puzzle, what describes it is read, and what is written
 -- does.
+use Rattle.std.proofs.lemmas.Bool.Decides.{nat_tests}
 use Rattle.std.proofs.Common.{◌≡◌, ℕ, ◌*◌, ◌≤◌, true, false, ◌==◌, ◌||◌, not, List, [], ◌∷◌, ◌++◌, length, replicate}
 use Rattle.std.proofs.Common.{Option, Some, None, Result, Ok, inl, inr, refl, sym, ap, ◌∙◌, subst, arith, append-nil}
-use Rattle.std.proofs.Common.{if◌then◌else◌}
 use Rattle.std.specs.List.{AllByRecursion, list_any}
 use Rattle.std.proofs.lemmas.List.{length-replicate}
 use Rattle.std.proofs.lemmas.List.Elements.{All-from_recursion, recursion_from_All}
@@ -14,7 +14,7 @@ use Rattle.byte_text.proofs.ReadingLaws.{bind_taken, bind_again}
 use Rattle.byte_text.specs.Bytes.{comma}
 use Rattle.game_texts.specs.declared.id_fault.IdFault.{IdFault}
 use Rattle.towers_game.specs.Towers.{TowersValue, IsTowers}
-use Rattle.towers_game.specs.TowersText.{clue_part, IsTowersText, squares_written, square_part, towers_text, clues_at}
+use Rattle.towers_game.specs.TowersText.{clue_part, IsTowersText, square_part, towers_text, clues_at}
 use Rattle.towers_game.specs.TowersText.{givens_behind, towers_at, SaysSquares}
 use Rattle.towers_game.specs.Laws.CluePart.{clue_part_lacks_comma, clues_taken, clues_again}
 use Rattle.towers_game.specs.Laws.SquarePart.{givens_taken, givens_again, squares_within, zeros_within}
@@ -73,19 +73,7 @@ cut_again : (w : ℕ) (text : List ℕ) (clues givens : List ℕ) → w ≤ 9 �
     → SaysSquares w text (clue_part clues) givens
     → (before comma text ≡ clue_part clues) × (givens_behind w (behind comma text) ≡ Ok givens)
 cut_again w text clues givens small count parts =
-    let lacks = clue_part_lacks_comma clues in
-    elim parts [
-      | inl (alone, blank) ↦
-          let none : behind comma text ≡ None =
-          ap (behind comma) alone ∙ behind_none_in comma (clue_part clues) lacks in
-          (ap (before comma) alone ∙ before_all comma (clue_part clues) lacks, rw none (ap Ok (sym blank)))
-      | inr (part, both, squares) ↦
-          let some : behind comma text ≡ Some part =
-          ap (behind comma) both ∙ behind_at comma (clue_part clues) part lacks in (
-            ap (before comma) both ∙ before_at comma (clue_part clues) part lacks,
-            rw some (givens_again w part givens small count squares),
-          )
-    ]
+    grind (arith, nat_tests, clue_part_lacks_comma, behind_none_in, before_all, behind_at, before_at, givens_again)
 
 pub towers_again : (text : List ℕ) (p : TowersValue) → IsTowersText p text → towers_at p.size text ≡ Ok p
 unfolding towers_at
@@ -112,19 +100,8 @@ none_given (n ∷ ns) =
 
 written_parts : (w : ℕ) (front givens : List ℕ) → length givens ≡ w * w → AllUpTo w givens
     → SaysSquares w (front ++ square_part givens) front givens
-written_parts w front givens count within =
-    elim (list_any (λ n. not (n == 0)) givens) as
-    (λ t. list_any (λ n. not (n == 0)) givens ≡ t
-    → SaysSquares w (front ++ (if t then (comma ∷ squares_written 0 false givens) else [])) front givens) [
-      | true ↦ λ some. inr (squares_written 0 false givens, refl, squares_written_text w givens within)
-      | false ↦ λ none. inl (append-nil front, none_given givens none ∙ ap (λ n. replicate n 0) count)
-    ] refl
+written_parts w front givens count within = grind (arith, nat_tests, squares_written_text, append-nil, none_given)
 
 -- the description that is written describes the puzzle
 pub towers_canonical : (p : TowersValue) → IsTowers p → IsTowersText p (towers_text p)
-towers_canonical p puzzle = record {
-  puzzle = puzzle;
-  parts =
-      written_parts p.size (clue_part p.clues) p.givens puzzle.givens.count
-      (recursion_from_All (λ n. n ≤ p.size) p.givens puzzle.givens.within);
-}
+towers_canonical p puzzle = grind (arith, nat_tests, written_parts, recursion_from_All)

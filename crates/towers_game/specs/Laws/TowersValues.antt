@@ -1,11 +1,11 @@
 -- The laws of what Towers items say: it shows which items there are, and it is all that a puzzle is.
-use Rattle.std.proofs.Common.{◌≡◌, ℕ, ◌+◌, ◌-◌, ◌*◌, ◌<◌, ◌≤◌, nat_lt, refl, sym, ◌∙◌, ap, inl, inr, arith}
+use Rattle.std.proofs.lemmas.Bool.Decides.{nat_tests}
+use Rattle.std.proofs.Common.{◌≡◌, ℕ, ◌+◌, ◌-◌, ◌*◌, ◌<◌, ◌≤◌, nat_lt, refl, sym, ◌∙◌, ap, arith}
 use Rattle.std.proofs.Common.{slice_index, Some}
-use Rattle.std.proofs.lemmas.Bool.{lt-ltb, le-ltb, cases_lt}
+use Rattle.std.proofs.lemmas.Bool.{lt-ltb, le-ltb}
 use Rattle.std.proofs.lemmas.List.{get_or-replicate, ext_get_or}
-use Rattle.std.proofs.lemmas.List.Elements.{All-get_or}
 use Rattle.latin_board.proofs.Numbers.{number_within}
-use Rattle.towers_game.specs.Towers.{TowersValue, IsTowers, clue_of, towers_given_grid, towers_items, has_towers}
+use Rattle.towers_game.specs.Towers.{TowersValue, IsTowers, clue_of, towers_items, has_towers}
 use Rattle.towers_game.specs.Towers.{towers_says, towers_most, blank_towers}
 
 -- what a clue says, and what a given says
@@ -17,21 +17,12 @@ says_given v i past = rw (le-ltb i (4 * v.size) past) refl
 
 -- the puzzle has the items that say something
 pub has_by_value : (v : TowersValue) (i : ℕ) → has_towers v i ≡ nat_lt 0 (towers_says v i)
-has_by_value v i = elim (cases_lt i (4 * v.size)) [
-  | inl clue ↦ rw (lt-ltb i (4 * v.size) clue) refl
-  | inr given ↦ rw (le-ltb i (4 * v.size) given) refl
-]
+has_by_value v i = grind (arith, nat_tests)
 
 -- no item says more than the width
 pub value_within : (v : TowersValue) (i : ℕ) → IsTowers v → i < towers_items v.size
     → towers_says v i ≤ towers_most v.size i
-value_within v i h inside = elim (cases_lt i (4 * v.size)) [
-  | inl clue ↦
-      rw (says_clue v i clue)
-      (All-get_or (λ clue. clue ≤ v.size) v.clues i 0 (omega (arith, h.clue_count)) h.clues_within)
-  | inr given ↦
-      rw (says_given v i given) (number_within (towers_given_grid v) h.givens (i - 4 * v.size) (omega (arith, inside)))
-]
+value_within v i h inside = grind (arith, nat_tests, says_clue, says_given, number_within)
 
 -- two puzzles of one size whose items say the same are one
 pub value_all : (p q : TowersValue) → IsTowers p → IsTowers q → p.size ≡ q.size
@@ -57,11 +48,7 @@ value_all p q p_valid q_valid size same =
 
 -- the blank puzzle says nothing
 blank_says : (w i : ℕ) → i < towers_items w → towers_says (blank_towers w) i ≡ 0
-blank_says w i inside = elim (cases_lt i (4 * w)) [
-  | inl clue ↦ says_clue (blank_towers w) i clue ∙ get_or-replicate (4 * w) i 0 0 clue
-  | inr given ↦
-      says_given (blank_towers w) i given ∙ get_or-replicate (w * w) (i - 4 * w) 0 0 (omega (arith, inside))
-]
+blank_says w i inside = grind (arith, nat_tests, says_clue, get_or-replicate, says_given)
 
 pub blank_none : (v : TowersValue) (w : ℕ) → v ≡ blank_towers w → (i : ℕ) → i < towers_items w → towers_says v i ≡ 0
 blank_none v w is i inside = ap (λ (u : TowersValue). towers_says u i) is ∙ blank_says w i inside
@@ -75,6 +62,4 @@ given_says v cell = says_given v (4 * v.size + cell) (omega arith) ∙ ap (λ n.
 -- a clue stands where its item says something
 pub clue_says : (v : TowersValue) (place i : ℕ) → place < 4 * v.size → Some place ≡ Some i
     → nat_lt 0 (clue_of v place) ≡ nat_lt 0 (towers_says v i)
-clue_says v place i inside is =
-    let same : place ≡ i = cc in
-    ap (λ n. nat_lt 0 n) (sym (says_clue v place inside) ∙ ap (λ n. towers_says v n) same)
+clue_says v place i inside is = grind (arith, nat_tests, says_clue)

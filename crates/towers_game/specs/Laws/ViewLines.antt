@@ -1,4 +1,5 @@
 -- The line that an edge place looks along, square by square.
+use Rattle.std.proofs.lemmas.Bool.Decides.{nat_tests}
 use Rattle.std.proofs.Common.{◌≡◌, ℕ, ◌+◌, ◌-◌, ◌*◌, ◌<◌, List, length, map, reverse, sym, ap, ◌∙◌, inl, inr, arith, slice_index}
 use Rattle.std.specs.List.{range_with_len}
 use Rattle.std.proofs.lemmas.Bool.{lt-ltb, le-ltb, cases_lt}
@@ -54,15 +55,8 @@ line_from-numbers g place inside =
 -- an entry of what is seen from a place is the number in that square
 pub view_number : (g : GridValue) (place k : ℕ) → place < 4 * g.size → k < g.size
     → slice_index (line_from g place) k ≡ number_at g (view_cell g.size place k)
-view_number g place k inside low =
-    ap (λ (xs : List ℕ). slice_index xs k) (line_from-numbers g place inside)
-    ∙ get_or-map-range_with_len (λ k. number_at g (view_cell g.size place k)) 0 g.size k k 0 low (omega arith)
+view_number g place k inside low = grind (arith, nat_tests, line_from-numbers, get_or-map-range_with_len)
 
 -- the line of the place before its first square
 pub front_line : (w line : ℕ) → line < 2 * w → view_line w (front_place w line) ≡ line
-front_line w line inside = elim (cases_lt line w) [
-  | inl row ↦
-      rw (lt-ltb line w row, le-ltb (2 * w + line) w (omega arith), le-ltb (2 * w + line) (2 * w) (omega arith), lt-ltb (2 * w + line) (3 * w) (omega arith))
-      (omega arith)
-  | inr column ↦ rw (le-ltb line w column, lt-ltb (line - w) w (omega arith)) (omega arith)
-]
+front_line w line inside = grind (arith, nat_tests)

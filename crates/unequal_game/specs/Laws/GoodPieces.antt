@@ -1,16 +1,16 @@
 -- The pieces of a description: from the text and back, and when there is no fault in them.
-use Rattle.std.proofs.Common.{◌≡◌, ℕ, ◌*◌, ◌<◌, ◌≤◌, true, false, not, List, [], ◌∷◌, ◌++◌, length, map, Some, is_some}
+use Rattle.std.proofs.lemmas.Bool.Decides.{nat_tests}
+use Rattle.std.proofs.Common.{◌≡◌, ℕ, ◌*◌, ◌<◌, ◌≤◌, true, false, List, [], ◌∷◌, ◌++◌, length, map, Some, is_some}
 use Rattle.std.proofs.Common.{unwrap_or, Ok, refl, sym, ap, ◌∙◌, inl, inr, arith}
 use Rattle.std.specs.List.{list_all, range_with_len, join_with_byte, Contains, AllByRecursion}
 use Rattle.std.specs.Option.{IsSome}
-use Rattle.std.proofs.lemmas.Bool.{and_parts, not-false}
+use Rattle.std.proofs.lemmas.Bool.{and_parts}
 use Rattle.std.proofs.lemmas.List.{length-map}
 use Rattle.std.proofs.lemmas.List.Elements.{All-from_recursion}
 use Rattle.std.proofs.lemmas.List.Splits.{join_with_byte-slice_split}
 use Rattle.byte_text.specs.Cuts.{Lacks}
 use Rattle.byte_text.specs.Bytes.{comma}
 use Rattle.byte_text.proofs.CutLaws.{pieces_join}
-use Rattle.game_texts.specs.declared.id_fault.IdFault.TheVariants.{BadClue, BadSquares, OffGrid, Contradiction}
 use Rattle.unequal_game.specs.declared.unequal.direction.Direction.{Direction}
 use Rattle.unequal_game.specs.Unequal.{UnequalValue, IsUnequal, neighbour}
 use Rattle.unequal_game.specs.UnequalText.{Piece, letter_of, piece_text, without_empty_last, pieces_of, number_in}
@@ -34,21 +34,7 @@ pub record AreGood (w : ℕ) (pieces : List (List ℕ)) : Type 0 where
 
 pub good_taken : (w : ℕ) (pieces : List (List ℕ)) (v : UnequalValue) → puzzle_at w pieces ≡ Ok v
     → AreGood w pieces × (puzzle_in w pieces ≡ v)
-good_taken w pieces v h =
-    let numbers = refused_then (not (list_all (begins_with_number w) pieces)) BadSquares _ v h in
-    let letters = refused_then (not (list_all has_letters pieces)) BadClue _ v numbers.1 in
-    let inside =
-    refused_then (not (list_all (points_inside w pieces) (range_with_len 0 (w * w)))) OffGrid _ v letters.1 in
-    let agree = refused_then (contradicts w pieces) Contradiction (Ok (puzzle_in w pieces)) v inside.1 in
-    let same : Ok (puzzle_in w pieces) ≡ Ok v = agree.1 in (
-      record {
-        numbers = not-false _ numbers.0;
-        letters = not-false _ letters.0;
-        inside = not-false _ inside.0;
-        agree = agree.0;
-      },
-      cc,
-    )
+good_taken w pieces v h = grind (arith, nat_tests, refused_then)
 
 pub good_again : (w : ℕ) (pieces : List (List ℕ)) → AreGood w pieces → puzzle_at w pieces ≡ Ok (puzzle_in w pieces)
 good_again w pieces h = rw (h.numbers, h.letters, h.inside, h.agree) refl

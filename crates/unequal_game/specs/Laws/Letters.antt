@@ -1,10 +1,10 @@
 -- Letters and numbers as the bytes of a piece: what is read of a piece that was written, and what is written of one
 -- that was read.
-use Rattle.std.proofs.Common.{◌≡◌, ◌≢◌, ℕ, zero, suc, ◌+◌, ◌-◌, ◌<◌, ◌≤◌, ◌⊎◌, Bool, true, false, nat_le}
+use Rattle.std.proofs.Common.{◌≡◌, ◌≢◌, ℕ, zero, suc, ◌+◌, ◌<◌, ◌≤◌, ◌⊎◌, Bool, true, false}
 use Rattle.std.proofs.Common.{List, [], ◌∷◌, length, drop, map, Option, Some, None, is_some, unwrap_or, refl, sym, ap}
 use Rattle.std.proofs.Common.{◌∙◌, inl, inr, arith, ◌==◌}
 use Rattle.std.specs.List.{list_all, list_any, filter, filter_map, Contains}
-use Rattle.std.proofs.lemmas.Bool.{eq-eqb, eqb-true, false≢true, and_parts, cond_both, or_cases, or_right}
+use Rattle.std.proofs.lemmas.Bool.{eq-eqb, false≢true, and_parts, cond_both, or_cases, or_right}
 use Rattle.std.proofs.lemmas.Bool.Decides.{nat_tests}
 use Rattle.byte_text.specs.Cuts.{Lacks}
 use Rattle.byte_text.specs.Decimals.{begins_digit}
@@ -18,19 +18,13 @@ use Rattle.unequal_game.specs.UnequalText.{direction_of, has_letters, piece_at, 
 
 -- the letter of a direction is read as that direction
 pub direction_of-letter : (d : Direction) → direction_of (letter_of d) ≡ Some d
-direction_of-letter Up = refl
-direction_of-letter Right = refl
-direction_of-letter Down = refl
-direction_of-letter Left = refl
+direction_of-letter d = grind (arith, nat_tests)
 
 pub letter_of-direction : (b : ℕ) (d : Direction) → direction_of b ≡ Some d → letter_of d ≡ b
 letter_of-direction b d e = grind (arith, nat_tests)
 
 pub same_letter : (d e : Direction) → (letter_of d == letter_of e) ≡ true → d ≡ e
-same_letter d e h =
-    let letters : letter_of d ≡ letter_of e = eqb-true (letter_of d) (letter_of e) h in
-    let both : Some d ≡ Some e = sym (direction_of-letter d) ∙ ap direction_of letters ∙ direction_of-letter e in
-    cc
+same_letter d e h = grind (arith, nat_tests, direction_of-letter)
 
 letter_no_comma : (d : Direction) → letter_of d ≢ comma
 letter_no_comma d e = grind (arith, nat_tests)
@@ -118,11 +112,7 @@ begins_no_digit (Down ∷ ds) = refl
 begins_no_digit (Left ∷ ds) = refl
 
 pub number_in-piece : (w : ℕ) (p : Piece) → p.number ≤ w → number_in w (piece_text p) ≡ Some p.number
-number_in-piece w p small =
-    let low : nat_le digit_zero (digit_zero + p.number) ≡ true = grind (arith, nat_tests) in
-    let high : nat_le (digit_zero + p.number) (digit_zero + w) ≡ true = grind (arith, nat_tests) in
-    let number : digit_zero + p.number - digit_zero ≡ p.number = omega arith in
-    rw (low, high, begins_no_digit p.greater, number) refl
+number_in-piece w p small = grind (arith, nat_tests, begins_no_digit)
 
 pub letters_piece : (p : Piece) → has_letters (piece_text p) ≡ true
 letters_piece p = each p.greater

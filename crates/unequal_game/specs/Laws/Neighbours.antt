@@ -2,9 +2,9 @@
 -- other on a line.
 use Rattle.std.proofs.lemmas.Bool.Decides.{nat_tests}
 use Rattle.std.proofs.Common.{◌≡◌, ℕ, ◌+◌, ◌-◌, ◌*◌, ◌/◌, ◌%◌, ◌<◌, ◌≤◌, ◌⊎◌, Bool, true, false, if◌then◌else◌, ◌==◌}
-use Rattle.std.proofs.Common.{nat_lt, Some, None, refl, sym, ◌∙◌, inl, inr, arith}
+use Rattle.std.proofs.Common.{Some, None, refl, sym, ◌∙◌, inl, inr, arith}
 use Rattle.std.proofs.lemmas.Nat.{div_below, mod_below, div-mul-add, mod-mul-add}
-use Rattle.std.proofs.lemmas.Bool.{lt-ltb, le-ltb, ne_eqb, ltb-true, ltb-false, eqb-false}
+use Rattle.std.proofs.lemmas.Bool.{ne_eqb, eqb-false}
 use Rattle.std.proofs.lemmas.Option.{cond_some}
 use Rattle.latin_board.specs.Lines.{line_cell}
 use Rattle.latin_board.proofs.LatinLines.{line_cell-column, line_cell-row, line_cell_of_row, line_cell_inside}
@@ -23,16 +23,11 @@ some_else false x y e = (refl, cc)
 
 -- the neighbour on the right, which the last square of a row hasn't
 pub right_of : (w a b : ℕ) → neighbour w a Right ≡ Some b → (a % w + 1 ≡ w → ⊥) × (b ≡ a + 1)
-right_of w a b e =
-    let there = some_else (a % w + 1 == w) (a + 1) b e in
-    (eqb-false (a % w + 1) w there.0, sym there.1)
+right_of w a b e = grind (arith, nat_tests, some_else)
 
 -- the neighbour below, which is on the grid
 pub below_of : (w a b : ℕ) → neighbour w a Down ≡ Some b → (b < w * w) × (b ≡ a + w)
-below_of w a b e =
-    let there = cond_some (nat_lt (a + w) (w * w)) (a + w) b e in
-    let fits : a + w < w * w = ltb-true (a + w) (w * w) there.0 in
-    (omega (arith, there.1), sym there.1)
+below_of w a b e = grind (arith, nat_tests, cond_some)
 
 -- of two neighbours the first comes before the second in reading order
 pub next_order : (w a b : ℕ) → 3 ≤ w → IsNext w a b → a < b
@@ -42,11 +37,7 @@ next_order w a b small h = grind (arith, nat_tests)
 pub towards : (w a b : ℕ) (d : Direction) → 3 ≤ w → a < w * w → neighbour w a d ≡ Some b → IsNext w a b ⊎ IsNext w b a
 towards w a b Right small inside e = inl (record { inside = inside; points = inl e })
 towards w a b Down small inside e = inl (record { inside = inside; points = inr e })
-towards w a b Up small inside e =
-    let there = some_else (nat_lt a w) (a - w) b e in
-    let high : w ≤ a = ltb-false a w there.0 in
-    let back : b + w ≡ a = omega (arith, there.1) in
-    inr (record { inside = omega (arith, there.1); points = inr (rw (back, lt-ltb a (w * w) inside) refl) })
+towards w a b Up small inside e = grind (arith, nat_tests, some_else)
 towards w a b Left small inside e =
     let there = some_else (a % w == 0) (a - 1) b e in
     let column : 0 < a % w = omega (arith, eqb-false (a % w) 0 there.0) in
@@ -103,35 +94,8 @@ next_line w a b small h =
 
 -- the second of two neighbours is on the grid
 pub next_inside : (w a b : ℕ) → 3 ≤ w → IsNext w a b → b < w * w
-next_inside w a b small h =
-    let on = next_line w a b small h in
-    let inside = line_cell_inside w on.line (on.place + 1) on.line_is on.place_is in
-    rw on.second at inside
+next_inside w a b small h = grind (arith, nat_tests, next_line, line_cell_inside)
 
 -- the directions of two that are next to each other
 pub next_towards : (w a b : ℕ) → 3 ≤ w → IsNext w a b → AreNeighbours w a b × AreNeighbours w b a
-next_towards w a b small h = (forth h.points, back h.points)
-  where
-    forth : (neighbour w a Right ≡ Some b) ⊎ (neighbour w a Down ≡ Some b) → AreNeighbours w a b
-    forth points = elim points [
-      | inl right ↦ record { inside = h.inside; direction = Right; points = right }
-      | inr below ↦ record { inside = h.inside; direction = Down; points = below }
-    ]
-
-    back : (neighbour w a Right ≡ Some b) ⊎ (neighbour w a Down ≡ Some b) → AreNeighbours w b a
-    back points = elim points [
-      | inl right ↦
-          let there = right_of w a b right in
-          let column : a % w < w = mod_below a w (omega (arith, small)) in
-          let parts : b ≡ a / w * w + (a % w + 1) = omega (arith, there.1) in
-          let right_column : b % w ≡ a % w + 1 =
-          rw parts (mod-mul-add (a / w) w (a % w + 1) (omega (arith, there.0))) in
-          let before : b - 1 ≡ a = omega (arith, there.1) in
-          let more : (b % w == 0) ≡ false = ne_eqb (b % w) 0 (λ none. omega arith) in
-          record { inside = next_inside w a b small h; direction = Left; points = rw (more, before) refl }
-      | inr below ↦
-          let there = below_of w a b below in
-          let before : b - w ≡ a = omega (arith, there.1) in
-          let high : nat_lt b w ≡ false = le-ltb b w (omega (arith, there.1)) in
-          record { inside = there.0; direction = Up; points = rw (high, before) refl }
-    ]
+next_towards w a b small h = grind (arith, nat_tests, right_of, mod_below, mod-mul-add, next_inside, below_of)

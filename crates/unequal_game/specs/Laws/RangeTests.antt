@@ -1,4 +1,5 @@
 -- Tests of the numbers of a range.
+use Rattle.std.proofs.lemmas.Bool.Decides.{nat_tests}
 use Rattle.std.proofs.Common.{◌≡◌, ℕ, zero, suc, ◌+◌, ◌<◌, ◌≤◌, Bool, true, false, refl, sym, ◌∙◌}
 use Rattle.std.proofs.Common.{inl, inr, arith}
 use Rattle.std.specs.List.{list_all, list_any, range_with_len}
@@ -47,6 +48,4 @@ none_in_range p a n i e low high = false_from_ne_true (p i) (λ h. false≢true 
 -- one that fails for each number of a range holds for none
 pub range_none : (p : ℕ → Bool) (a n : ℕ) → ((i : ℕ) → a ≤ i → i < a + n → p i ≡ false)
     → list_any p (range_with_len a n) ≡ false
-range_none p a n h =
-    false_from_ne_true (list_any p (range_with_len a n))
-    (λ some. let (k, low, high, holds) = some_in_range p a n some in false≢true (sym (h k low high) ∙ holds))
+range_none p a n h = grind (arith, nat_tests, false_from_ne_true, some_in_range)

@@ -5,7 +5,7 @@ use Rattle.std.proofs.Common.{◌≡◌, ℕ, ◌*◌, ◌<◌, ◌≤◌, true,
 use Rattle.std.proofs.Common.{◌∙◌, inl, inr, arith, ◌==◌}
 use Rattle.std.specs.Option.{option_map_or}
 use Rattle.std.specs.List.{list_any, range_with_len, Contains}
-use Rattle.std.proofs.lemmas.Bool.{eq-eqb, false≢true, false_from_ne_true, and_parts, and_from}
+use Rattle.std.proofs.lemmas.Bool.{false≢true, false_from_ne_true, and_parts}
 use Rattle.std.proofs.lemmas.List.Folds.{Any-from_list_any, list_any_at}
 use Rattle.unequal_game.specs.declared.unequal.direction.Direction.{Direction}
 use Rattle.unequal_game.specs.declared.unequal.direction.Direction.TheVariants.{Up, Right, Down, Left}
@@ -37,11 +37,7 @@ said_by w pieces a b e =
 
 said : (w : ℕ) (pieces : List (List ℕ)) (a b : ℕ) (d : Direction) → says pieces a d ≡ true → neighbour w a d ≡ Some b
     → says_greater w pieces a b ≡ true
-said w pieces a b d letter points =
-    let (place, inside, here) = all_has d in
-    list_any_at (λ d. says pieces a d && option_map_or (λ c. c == b) (neighbour w a d) false) directions place d inside
-    (rw here (and_from (says pieces a d) (option_map_or (λ c. c == b) (neighbour w a d) false) letter
-    (rw points (eq-eqb b b refl))))
+said w pieces a b d letter points = grind (arith, nat_tests, all_has, list_any_at)
 
 -- a letter says of two squares which is the greater exactly where the test finds one
 pub says_tested : (w : ℕ) (pieces : List Piece) (a b : ℕ) → Says w pieces a b
@@ -51,9 +47,7 @@ says_tested w pieces a b h =
 
 pub tested_says : (w : ℕ) (pieces : List Piece) (a b : ℕ) → says_greater w (map piece_text pieces) a b ≡ true
     → Says w pieces a b
-tested_says w pieces a b e =
-    let (d, letter, points) = said_by w (map piece_text pieces) a b e in
-    record { direction = d; letter = says_contains pieces a d letter; points = points }
+tested_says w pieces a b e = grind (arith, nat_tests, said_by, says_contains)
 
 -- ---- squares that contradict each other
 

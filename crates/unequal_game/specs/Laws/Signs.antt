@@ -1,11 +1,10 @@
 -- The signs of a puzzle: between which squares they stand, which square they say to be the greater, and those that a
 -- rule gives.
-use Rattle.std.proofs.Common.{◌≡◌, ◌↔◌, Bool, ℕ, ◌+◌, ◌*◌, ◌<◌, ◌≤◌, ◌⊎◌, true, List, length, Option, Some, None, refl}
-use Rattle.std.proofs.Common.{sym, ap, ◌∙◌, inl, inr, arith, slice_index_or}
+use Rattle.std.proofs.lemmas.Bool.Decides.{nat_tests}
+use Rattle.std.proofs.Common.{◌≡◌, ◌↔◌, Bool, ℕ, ◌+◌, ◌*◌, ◌<◌, ◌≤◌, ◌⊎◌, true, List, None, refl}
+use Rattle.std.proofs.Common.{sym, ◌∙◌, inl, inr, arith, slice_index_or}
 use Rattle.std.specs.Bool.{IsTrue}
-use Rattle.std.specs.Option.{option_map_or}
-use Rattle.std.proofs.lemmas.Bool.{and_from, and_parts, eq-eqb, ne_eqb, cases_eq, cases_lt, false≢true, or_cases}
-use Rattle.std.proofs.lemmas.Bool.{or_right}
+use Rattle.std.proofs.lemmas.Bool.{and_parts, eq-eqb, ne_eqb}
 use Rattle.std.proofs.lemmas.List.{get_or_past}
 use Rattle.std.proofs.lemmas.List.FromFn.{length-map-range_with_len, get_or-map-range_with_len}
 use Rattle.latin_board.specs.Squares.{GridValue, IsGrid, number_at}
@@ -14,7 +13,7 @@ use Rattle.unequal_game.specs.declared.unequal.direction.Direction.TheVariants.{
 use Rattle.unequal_game.specs.declared.unequal.sign.Sign.{Sign}
 use Rattle.unequal_game.specs.declared.unequal.sign.Sign.TheVariants.{Absent, FirstGreater, SecondGreater}
 use Rattle.unequal_game.specs.Unequal.{UnequalValue, IsUnequal, IsGreater, neighbour, right_sign, lower_sign}
-use Rattle.unequal_game.specs.Unequal.{sign_between, says_first, says_second, is_greater, holds_sign, holds_signs}
+use Rattle.unequal_game.specs.Unequal.{sign_between, is_greater, holds_sign, holds_signs}
 use Rattle.unequal_game.specs.Unequal.{holds_towards, sign_towards, signs_towards, signed_puzzle}
 use Rattle.unequal_game.specs.Laws.Neighbours.{IsNext, right_of, below_of, next_order}
 use Rattle.unequal_game.specs.Laws.RangeTests.{all_in_range, range_all}
@@ -42,45 +41,9 @@ pub below_between : (v : UnequalValue) (a : ℕ) → 3 ≤ v.size → sign_betwe
 below_between v a small =
     rw (ne_eqb (a + v.size) (a + 1) (λ e. omega arith), eq-eqb (a + v.size) (a + v.size) refl) refl
 
--- a sign in a list of them, which has none where the grid ends, stands between a square and its neighbour
-has_neighbour : (w : ℕ) (d : Direction) (signs : List Sign) (a : ℕ)
-    → ((cell : ℕ) → neighbour w cell d ≡ None → slice_index_or signs cell Absent ≡ Absent)
-    → IsSaid (slice_index_or signs a Absent) → (b : ℕ) × (neighbour w a d ≡ Some b)
-has_neighbour w d signs a ends said =
-    elim (neighbour w a d) as (λ o. neighbour w a d ≡ o → (b : ℕ) × (neighbour w a d ≡ Some b)) [
-      | None ↦ λ e. absurd (said (sym (ends a e)))
-      | Some b ↦ λ e. (b, e)
-    ] refl
-
-in_list : (signs : List Sign) (n a : ℕ) → length signs ≡ n → IsSaid (slice_index_or signs a Absent) → a < n
-in_list signs n a count said = elim (cases_lt a n) [
-  | inl inside ↦ inside
-  | inr past ↦ absurd (said (sym (get_or_past signs a Absent (omega arith))))
-]
-
 -- signs stand between neighbours alone
 pub said_next : (v : UnequalValue) (a b : ℕ) → IsUnequal v → IsSaid (sign_between v a b) → IsNext v.size a b
-said_next v a b valid said = elim (cases_eq b (a + 1)) [
-  | inl same ↦
-      let here : IsSaid (right_sign v a) = rw (eq-eqb b (a + 1) same) at said in
-      let there = has_neighbour v.size Right v.right a valid.right_ends here in
-      let one : there.0 ≡ b = (right_of v.size a there.0 there.1).1 ∙ sym same in
-      record {
-        inside = in_list v.right (v.size * v.size) a valid.right_count here;
-        points = inl (there.1 ∙ ap (λ n. Some n) one);
-      }
-  | inr other ↦ elim (cases_eq b (a + v.size)) [
-    | inl same ↦
-        let here : IsSaid (lower_sign v a) = rw (ne_eqb b (a + 1) other, eq-eqb b (a + v.size) same) at said in
-        let there = has_neighbour v.size Down v.below a valid.below_ends here in
-        let one : there.0 ≡ b = (below_of v.size a there.0 there.1).1 ∙ sym same in
-        record {
-          inside = in_list v.below (v.size * v.size) a valid.below_count here;
-          points = inr (there.1 ∙ ap (λ n. Some n) one);
-        }
-    | inr apart ↦ absurd ((rw (ne_eqb b (a + 1) other, ne_eqb b (a + v.size) apart) at said) refl)
-  ]
-]
+said_next v a b valid said = grind (arith, nat_tests, right_of, below_of, get_or_past)
 
 -- ---- which square is the greater
 
@@ -88,66 +51,25 @@ said_next v a b valid said = elim (cases_eq b (a + 1)) [
 pub greater_next : (v : UnequalValue) (a b : ℕ) → IsUnequal v → IsGreater v a b
     → (IsNext v.size a b × (sign_between v a b ≡ FirstGreater))
     ⊎ (IsNext v.size b a × (sign_between v b a ≡ SecondGreater))
-greater_next v a b valid h = elim h [
-  | inl e ↦ inl (said_next v a b valid (λ none. first_said (none ∙ e)), e)
-  | inr e ↦ inr (said_next v b a valid (λ none. second_said (none ∙ e)), e)
-]
+greater_next v a b valid h = grind (arith, nat_tests, said_next, first_said, second_said)
 
 -- the sign between a square and the next says which is the greater
 pub greater_first : (v : UnequalValue) (a b : ℕ) → IsUnequal v → IsNext v.size a b → IsGreater v a b
     → sign_between v a b ≡ FirstGreater
-greater_first v a b valid next h = elim (greater_next v a b valid h) [
-  | inl up ↦ up.1
-  | inr down ↦
-      absurd (omega
-      (arith, next_order v.size a b valid.givens.smallest next, next_order v.size b a valid.givens.smallest down.0))
-]
+greater_first v a b valid next h = grind (arith, nat_tests, greater_next, next_order)
 
 -- where the second of two neighbours is the greater one, the sign says so
 pub greater_second : (v : UnequalValue) (a b : ℕ) → IsUnequal v → IsNext v.size a b → IsGreater v b a
     → sign_between v a b ≡ SecondGreater
-greater_second v a b valid next h = elim (greater_next v b a valid h) [
-  | inl up ↦ absurd
-      (omega (
-        arith,
-        next_order v.size a b valid.givens.smallest next,
-        next_order v.size b a valid.givens.smallest up.0,
-      ))
-  | inr down ↦ down.1
-]
+greater_second v a b valid next h = grind (arith, nat_tests, greater_next, next_order)
 
 -- no two squares are each the greater one
 pub never_both : (v : UnequalValue) (a b : ℕ) → IsUnequal v → IsGreater v a b → IsGreater v b a → ⊥
-never_both v a b valid up down = elim (greater_next v a b valid up) [
-  | inl first ↦ clash (sym first.1 ∙ greater_second v a b valid first.0 down)
-  | inr second ↦ clash (sym (greater_first v b a valid second.0 down) ∙ second.1)
-]
-  where
-    clash : FirstGreater ≡ SecondGreater → ⊥
-    clash e = cc
-
-is_first : (s : Sign) → says_first s ≡ true → s ≡ FirstGreater
-is_first FirstGreater e = refl
-is_first Absent e = absurd (false≢true e)
-is_first SecondGreater e = absurd (false≢true e)
-
-is_second : (s : Sign) → says_second s ≡ true → s ≡ SecondGreater
-is_second SecondGreater e = refl
-is_second Absent e = absurd (false≢true e)
-is_second FirstGreater e = absurd (false≢true e)
+never_both v a b valid up down = grind (arith, nat_tests, greater_next, greater_second, greater_first)
 
 -- `is_greater` is the test of `IsGreater`
 pub greater_decides : (v : UnequalValue) (a b : ℕ) → IsTrue (is_greater v a b) ↔ IsGreater v a b
-greater_decides v a b = (
-  λ t. elim (or_cases (says_first (sign_between v a b)) (says_second (sign_between v b a)) t) [
-    | inl first ↦ inl (is_first (sign_between v a b) first)
-    | inr second ↦ inr (is_second (sign_between v b a) second)
-  ],
-  λ h. elim h [
-    | inl first ↦ rw first refl
-    | inr second ↦ or_right (says_first (sign_between v a b)) (says_second (sign_between v b a)) (rw second refl)
-  ],
-)
+greater_decides v a b = grind (arith, nat_tests)
 
 pub greater_tested : (v : UnequalValue) (a b : ℕ) (t : Bool) → t ≡ is_greater v a b → IsTrue t ↔ IsGreater v a b
 greater_tested v a b t value = rw value (greater_decides v a b)
@@ -166,17 +88,7 @@ sign_held v g a b h next =
 pub each_sign_held : (v : UnequalValue) (g : GridValue)
     → ((a b : ℕ) → IsNext v.size a b → holds_sign (sign_between v a b) (number_at g a) (number_at g b) ≡ true)
     → holds_signs v g ≡ true
-each_sign_held v g each =
-    range_all _ 0 (v.size * v.size) (λ a low high.
-    and_from (holds_towards v g a Right) (holds_towards v g a Down)
-    (towards a (neighbour v.size a Right) (λ b is. each a b (record { inside = omega arith; points = inl is })))
-    (towards a (neighbour v.size a Down) (λ b is. each a b (record { inside = omega arith; points = inr is }))))
-  where
-    towards : (a : ℕ) (o : Option ℕ)
-        → ((b : ℕ) → o ≡ Some b → holds_sign (sign_between v a b) (number_at g a) (number_at g b) ≡ true)
-        → option_map_or (λ b. holds_sign (sign_between v a b) (number_at g a) (number_at g b)) o true ≡ true
-    towards a None held = refl
-    towards a (Some b) held = held b refl
+each_sign_held v g each = grind (arith, nat_tests, range_all)
 
 -- ---- the signs that a rule gives
 
@@ -189,36 +101,17 @@ sign_at w sign d cell inside =
 -- where there is no neighbour in a direction, there is no sign
 pub none_at_end : (w : ℕ) (sign : ℕ → ℕ → Sign) (d : Direction) (cell : ℕ) → neighbour w cell d ≡ None
     → slice_index_or (signs_towards w sign d) cell Absent ≡ Absent
-none_at_end w sign d cell none = elim (cases_lt cell (w * w)) [
-  | inl inside ↦ sign_at w sign d cell inside ∙ ap (λ o. option_map_or (sign cell) o Absent) none
-  | inr past ↦
-      get_or_past (signs_towards w sign d) cell Absent
-      (omega (arith, length-map-range_with_len (sign_towards w sign d) 0 (w * w)))
-]
+none_at_end w sign d cell none = grind (arith, nat_tests, sign_at, get_or_past, length-map-range_with_len)
 
 -- a puzzle of any signs between neighbours and of a valid grid's numbers is one of Unequal
 pub signed_valid : (w : ℕ) (sign : ℕ → ℕ → Sign) (givens : List ℕ) → IsGrid (record { size = w; numbers = givens })
     → IsUnequal (signed_puzzle w sign givens)
-signed_valid w sign givens is_grid = record {
-  givens = is_grid;
-  right_count = length-map-range_with_len (sign_towards w sign Right) 0 (w * w);
-  right_ends = none_at_end w sign Right;
-  below_count = length-map-range_with_len (sign_towards w sign Down) 0 (w * w);
-  below_ends = none_at_end w sign Down;
-}
+signed_valid w sign givens is_grid = grind (arith, nat_tests, length-map-range_with_len, none_at_end)
 
 -- its sign between two neighbours is the one that was given
 pub signed_between : (w : ℕ) (sign : ℕ → ℕ → Sign) (givens : List ℕ) (a b : ℕ) → 3 ≤ w → IsNext w a b
     → sign_between (signed_puzzle w sign givens) a b ≡ sign a b
-signed_between w sign givens a b small h = elim h.points [
-  | inl right ↦
-      let there = right_of w a b right in
-      rw (eq-eqb b (a + 1) there.1) (sign_at w sign Right a h.inside ∙ ap (λ o. option_map_or (sign a) o Absent) right)
-  | inr below ↦
-      let there = below_of w a b below in
-      rw (ne_eqb b (a + 1) (λ e. omega (arith, there.1)), eq-eqb b (a + w) there.1)
-      (sign_at w sign Down a h.inside ∙ ap (λ o. option_map_or (sign a) o Absent) below)
-]
+signed_between w sign givens a b small h = grind (arith, nat_tests, right_of, sign_at, below_of)
 
 -- which square is the greater, by the rule
 pub signed_greater : (w : ℕ) (sign : ℕ → ℕ → Sign) (givens : List ℕ) (a b : ℕ)

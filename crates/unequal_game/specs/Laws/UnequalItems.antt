@@ -2,10 +2,10 @@
 -- by it.
 use Rattle.std.proofs.lemmas.Bool.Decides.{nat_tests}
 use Rattle.std.proofs.Common.{◌≡◌, ◌≢◌, ℕ, zero, ◌+◌, ◌-◌, ◌*◌, ◌/◌, ◌%◌, ◌<◌, ◌≤◌, nat_lt, ◌⊎◌, Bool, true, false}
-use Rattle.std.proofs.Common.{◌&&◌, List, refl, sym, ap, subst, ◌∙◌, inl, inr, arith, if◌then◌else◌, slice_index, ◌==◌}
+use Rattle.std.proofs.Common.{◌&&◌, refl, ap, ◌∙◌, inl, inr, arith, if◌then◌else◌, slice_index, ◌==◌}
 use Rattle.std.proofs.Math.Nat.{mul_comm}
 use Rattle.std.proofs.lemmas.Nat.{div_below, mod_below, div-mul-add, mod-mul-add, mul-add-lt}
-use Rattle.std.proofs.lemmas.Bool.{false≢true, lt-ltb, le-ltb, cases_lt, cases_eq, eq-eqb, ne_eqb}
+use Rattle.std.proofs.lemmas.Bool.{lt-ltb, le-ltb, cases_lt, ne_eqb}
 use Rattle.std.proofs.lemmas.List.{get_or_past}
 use Rattle.latin_board.specs.Squares.{GridValue, IsGrid, IsLatin, number_at}
 use Rattle.latin_board.proofs.LatinLines.{line_differs, latin_full}
@@ -15,15 +15,14 @@ use Rattle.game_texts.specs.declared.game.TheConstants.{MOST_ITEMS}
 use Rattle.unequal_game.specs.declared.unequal.item.Item.{Item}
 use Rattle.unequal_game.specs.declared.unequal.item.Item.TheVariants.{RightSign, LowerSign, Given}
 use Rattle.unequal_game.specs.declared.unequal.sign.Sign.{Sign}
-use Rattle.unequal_game.specs.declared.unequal.sign.Sign.TheVariants.{Absent, FirstGreater, SecondGreater}
+use Rattle.unequal_game.specs.declared.unequal.sign.Sign.TheVariants.{Absent}
 use Rattle.unequal_game.specs.Unequal.{UnequalValue, IsUnequal, IsGreater, right_sign, lower_sign, sign_between}
 use Rattle.unequal_game.specs.Unequal.{holds_sign, unequal_puzzle, pairs_across, unequal_items, item_at, item_number}
 use Rattle.unequal_game.specs.Unequal.{is_present, has_item, has_unequal, keeps_kind, cut_unequal, sign_of, sign_in_grid}
 use Rattle.unequal_game.specs.Unequal.{full_unequal, unequal_given_grid}
 use Rattle.unequal_game.specs.Inner.UnequalItems.{HasPlace}
-use Rattle.trail_solver.specs.Items.{kept_items}
 use Rattle.unequal_game.specs.Laws.Neighbours.{IsNext, right_of, below_of, next_line, next_inside}
-use Rattle.unequal_game.specs.Laws.Signs.{IsSaid, first_said, second_said, said_next, right_between, below_between}
+use Rattle.unequal_game.specs.Laws.Signs.{first_said, second_said, said_next, right_between, below_between}
 use Rattle.unequal_game.specs.Laws.Signs.{sign_held, each_sign_held, signed_between, signed_valid}
 use Rattle.trail_solver.proofs.KeptItems.{length-kept, entry-kept, kept-all, kept-kept, kept-same, present_kept}
 use Rattle.trail_solver.proofs.KeptItems.{not_positive, still_asked, none_asked, small_widths, IsGrid-kept}
@@ -48,26 +47,11 @@ pub record IsRightItem (w i cell : ℕ) : Type 0 where
   pub number : item_number w (RightSign cell) ≡ i
 
 right_item : (w i : ℕ) → 3 ≤ w → i < pairs_across w → IsRightItem w i (i / (w - 1) * w + i % (w - 1))
-right_item w i small h =
-    let some : 0 < w - 1 = omega (arith, small) in
-    let row : i / (w - 1) < w = div_below i (w - 1) w some h in
-    let column : i % (w - 1) < w - 1 = mod_below i (w - 1) some in
-    let cell_column = mod-mul-add (i / (w - 1)) w (i % (w - 1)) (omega (arith, column)) in
-    record {
-      inside = mul-add-lt (i / (w - 1)) w (i % (w - 1)) w row (omega (arith, column));
-      column = omega (arith, column, cell_column);
-      number = rw (div-mul-add (i / (w - 1)) w (i % (w - 1)) (omega (arith, column)), cell_column) (omega arith);
-    }
+right_item w i small h = grind (arith, nat_tests, div_below, mod_below, mod-mul-add, mul-add-lt, div-mul-add)
 
 -- the item of a number has that number
 pub number_of_item_at : (w i : ℕ) → 3 ≤ w → item_number w (item_at w i) ≡ i
-number_of_item_at w i small = elim (cases_lt i (pairs_across w)) [
-  | inl right ↦ rw (lt-ltb i (pairs_across w) right) (right_item w i small right).number
-  | inr past ↦ elim (cases_lt i (2 * pairs_across w)) [
-    | inl below ↦ rw (le-ltb i (pairs_across w) past, lt-ltb i (2 * pairs_across w) below) (omega arith)
-    | inr given ↦ rw (le-ltb i (pairs_across w) past, le-ltb i (2 * pairs_across w) given) (omega arith)
-  ]
-]
+number_of_item_at w i small = grind (arith, nat_tests, right_item)
 
 -- all squares are those of all columns but one, and one column
 pub square_parts : (m w : ℕ) → w ≡ m + 1 → w * w ≡ w * m + w
@@ -75,20 +59,7 @@ square_parts m w e = rw e (omega arith)
 
 -- the item of a number has a place
 pub has_place : (w i : ℕ) → 3 ≤ w → i < unequal_items w → HasPlace w (item_at w i)
-has_place w i small inside =
-    let parts : w * w ≡ w * (w - 1) + w = square_parts (w - 1) w (omega (arith, small)) in
-    elim (cases_lt i (pairs_across w)) [
-      | inl right ↦
-          let it = right_item w i small right in rw (lt-ltb i (pairs_across w) right) (it.inside, it.column)
-      | inr past ↦ elim (cases_lt i (2 * pairs_across w)) [
-        | inl below ↦
-            rw (le-ltb i (pairs_across w) past, lt-ltb i (2 * pairs_across w) below)
-            (omega (arith, parts), omega (arith, parts))
-        | inr given ↦
-            rw (le-ltb i (pairs_across w) past, le-ltb i (2 * pairs_across w) given)
-            (omega (arith, inside), omega (arith, inside))
-      ]
-    ]
+has_place w i small inside = grind (arith, nat_tests, square_parts, right_item)
 
 -- an item that a puzzle of a width can have
 pub record IsItem (w : ℕ) (item : Item) : Type 0 where
@@ -98,77 +69,39 @@ pub record IsItem (w : ℕ) (item : Item) : Type 0 where
 -- a sign between a square and its right neighbour
 pub is_right_item : (w cell : ℕ) → 3 ≤ w → cell < w * w → cell % w + 1 < w → IsItem w (RightSign cell)
 is_right_item w cell small inside room =
-    let n : ℕ = cell / w * (w - 1) + cell % w in
-    let row : cell / w < w = div_below cell w w (omega (arith, small)) inside in
-    let column : cell % w < w - 1 = omega (arith, room) in
-    let low : n < pairs_across w = rw (mul_comm w (w - 1)) (mul-add-lt (cell / w) (w - 1) (cell % w) w row column) in
-    let whole : cell / w * w + cell % w ≡ cell = omega arith in
-    record {
-      inside = omega (arith, low);
-      back =
-          rw (
-            lt-ltb n (pairs_across w) low,
-            div-mul-add (cell / w) (w - 1) (cell % w) column,
-            mod-mul-add (cell / w) (w - 1) (cell % w) column,
-          )
-          (ap (λ k. RightSign k) whole);
-    }
+    grind (arith, nat_tests, div_below, mul_comm, mul-add-lt, div-mul-add, mod-mul-add)
 
 -- a sign between a square and its lower neighbour
 pub is_lower_item : (w cell : ℕ) → cell < pairs_across w → IsItem w (LowerSign cell)
-is_lower_item w cell low =
-    let n : ℕ = pairs_across w in
-    let back : n + cell - n ≡ cell = omega arith in
-    record {
-      inside = omega arith;
-      back = rw (le-ltb (n + cell) n (omega arith), lt-ltb (n + cell) (2 * n) (omega arith))
-          (ap (λ k. LowerSign k) back);
-    }
+is_lower_item w cell low = grind (arith, nat_tests)
 
 -- a given
 pub is_given_item : (w cell : ℕ) → cell < w * w → IsItem w (Given cell)
-is_given_item w cell inside =
-    let n : ℕ = pairs_across w in
-    let back : 2 * n + cell - 2 * n ≡ cell = omega arith in
-    record {
-      inside = omega arith;
-      back = rw (le-ltb (2 * n + cell) n (omega arith), le-ltb (2 * n + cell) (2 * n) (omega arith))
-          (ap (λ k. Given k) back);
-    }
+is_given_item w cell inside = grind (arith, nat_tests)
 
 -- a sign that isn't present is none
 pub not_present : (s : Sign) → is_present s ≡ false → s ≡ Absent
-not_present Absent h = refl
-not_present FirstGreater h = cc
-not_present SecondGreater h = cc
-
-present_said : (s : Sign) → is_present s ≡ true → IsSaid s
-present_said s here none =
-    let P : Sign → Type 0 = λ t. is_present t ≡ true in absurd (false≢true (subst P (sym none) here))
+not_present s h = grind (arith, nat_tests)
 
 -- each item of a puzzle is one that it can have
 pub has_is_item : (v : UnequalValue) (item : Item) → IsUnequal v → has_item v item ≡ true → IsItem v.size item
-has_is_item v (RightSign cell) valid here =
-    let next = said_next v cell (cell + 1) valid (present_said _ (rw (right_between v cell) here)) in
-    elim next.points [
-      | inl right ↦
-          let column : cell % v.size < v.size = mod_below cell v.size (omega (arith, valid.givens.smallest)) in
-          is_right_item v.size cell valid.givens.smallest next.inside
-          (omega (arith, column, (right_of v.size cell (cell + 1) right).0))
-      | inr below ↦ absurd (omega (arith, (below_of v.size cell (cell + 1) below).1, valid.givens.smallest))
-    ]
-has_is_item v (LowerSign cell) valid here =
-    let next =
-    said_next v cell (cell + v.size) valid
-    (present_said _ (rw (below_between v cell valid.givens.smallest) here)) in
-    let inside = next_inside v.size cell (cell + v.size) valid.givens.smallest next in
-    is_lower_item v.size cell
-    (omega (arith, inside, square_parts (v.size - 1) v.size (omega (arith, valid.givens.smallest))))
-has_is_item v (Given cell) valid here = elim (cases_lt cell (v.size * v.size)) [
-  | inl inside ↦ is_given_item v.size cell inside
-  | inr past ↦ absurd
-      (false≢true (ap (nat_lt 0) (sym (get_or_past v.givens cell 0 (omega (arith, valid.givens.count)))) ∙ here))
-]
+has_is_item v item valid here =
+    grind (
+      arith,
+      nat_tests,
+      said_next,
+      right_between,
+      mod_below,
+      is_right_item,
+      right_of,
+      below_of,
+      below_between,
+      next_inside,
+      is_lower_item,
+      square_parts,
+      is_given_item,
+      get_or_past,
+    )
 
 -- ---- cuts
 
@@ -190,15 +123,7 @@ cut_valid v keep h = record {
 
 cut_has_item : (v : UnequalValue) (keep : ℕ → Bool) (item : Item)
     → has_item (cut_unequal v keep) item ≡ (has_item v item && keep (item_number v.size item))
-cut_has_item v keep (RightSign cell) =
-    rw (entry-kept Absent (keeps_kind v.size keep RightSign) 0 v.right cell cell (omega arith))
-    (present_kept is_present Absent refl _ (right_sign v cell))
-cut_has_item v keep (LowerSign cell) =
-    rw (entry-kept Absent (keeps_kind v.size keep LowerSign) 0 v.below cell cell (omega arith))
-    (present_kept is_present Absent refl _ (lower_sign v cell))
-cut_has_item v keep (Given cell) =
-    rw (entry-kept zero (keeps_kind v.size keep Given) 0 v.givens cell cell (omega arith))
-    (present_kept (nat_lt 0) zero refl _ (slice_index v.givens cell))
+cut_has_item v keep item = grind (arith, nat_tests, entry-kept, present_kept)
 
 -- a cut has the items that were there and are in the set
 pub cut_has : (v : UnequalValue) (keep : ℕ → Bool) (i : ℕ) → IsUnequal v
@@ -214,13 +139,7 @@ cut_all v = rw (kept-all Absent 0 v.right, kept-all Absent 0 v.below, kept-all z
 -- two cuts are one, by the items in both sets
 pub cut_cut : (v : UnequalValue) (first second : ℕ → Bool)
     → cut_unequal (cut_unequal v first) second ≡ cut_unequal v (λ i. first i && second i)
-cut_cut v first second =
-    rw (twice Absent RightSign v.right, twice Absent LowerSign v.below, twice zero Given v.givens) refl
-  where
-    twice : {X : Type 0} (empty : X) (kind : ℕ → Item) (xs : List X)
-        → kept_items empty (keeps_kind v.size second kind) 0 (kept_items empty (keeps_kind v.size first kind) 0 xs)
-        ≡ kept_items empty (keeps_kind v.size (λ i. first i && second i) kind) 0 xs
-    twice empty kind xs = kept-kept empty (keeps_kind v.size first kind) (keeps_kind v.size second kind) 0 xs
+cut_cut v first second = grind (arith, nat_tests, kept-kept)
 
 -- the widths that are generated have few items
 pub few_items : (w : ℕ) → 3 ≤ w → w ≤ 6 → unequal_items w ≤ MOST_ITEMS
@@ -248,49 +167,16 @@ cut_agrees v a b h same =
 -- a cut has the sign that was between two squares, or none
 cut_between : (v : UnequalValue) (keep : ℕ → Bool) (a b : ℕ)
     → (sign_between (cut_unequal v keep) a b ≡ sign_between v a b) ⊎ (sign_between (cut_unequal v keep) a b ≡ Absent)
-cut_between v keep a b = elim (cases_eq b (a + 1)) [
-  | inl right ↦
-      rw (eq-eqb b (a + 1) right, entry-kept Absent (keeps_kind v.size keep RightSign) 0 v.right a a (omega arith))
-      (either (keeps_kind v.size keep RightSign a) (right_sign v a))
-  | inr other ↦ elim (cases_eq b (a + v.size)) [
-    | inl below ↦
-        rw (
-          ne_eqb b (a + 1) other,
-          eq-eqb b (a + v.size) below,
-          entry-kept Absent (keeps_kind v.size keep LowerSign) 0 v.below a a (omega arith),
-        )
-        (either (keeps_kind v.size keep LowerSign a) (lower_sign v a))
-    | inr apart ↦ rw (ne_eqb b (a + 1) other, ne_eqb b (a + v.size) apart) (inl refl)
-  ]
-]
-  where
-    either : (t : Bool) (s : Sign) → ((if t then s else Absent) ≡ s) ⊎ ((if t then s else Absent) ≡ Absent)
-    either true s = inl refl
-    either false s = inr refl
+cut_between v keep a b = grind (arith, nat_tests, entry-kept)
 
 -- a cut says of no two squares which is the greater, where the whole doesn't
 pub cut_greater : (v : UnequalValue) (keep : ℕ → Bool) (a b : ℕ) → IsGreater (cut_unequal v keep) a b → IsGreater v a b
-cut_greater v keep a b h = elim h [
-  | inl first ↦ elim (cut_between v keep a b) [
-    | inl same ↦ inl (sym same ∙ first)
-    | inr none ↦ absurd (first_said (sym none ∙ first))
-  ]
-  | inr second ↦ elim (cut_between v keep b a) [
-    | inl same ↦ inr (sym same ∙ second)
-    | inr none ↦ absurd (second_said (sym none ∙ second))
-  ]
-]
+cut_greater v keep a b h = grind (arith, nat_tests, cut_between, first_said, second_said)
 
 -- a given of a cut is that of the whole
 pub cut_given : (v : UnequalValue) (keep : ℕ → Bool) (cell : ℕ) → 0 < slice_index (cut_unequal v keep).givens cell
     → slice_index (cut_unequal v keep).givens cell ≡ slice_index v.givens cell
-cut_given v keep cell =
-    rw (entry-kept zero (keeps_kind v.size keep Given) 0 v.givens cell cell (omega arith))
-    (either (keeps_kind v.size keep Given cell))
-  where
-    either : {n : ℕ} (b : Bool) → 0 < (if b then n else zero) → (if b then n else zero) ≡ n
-    either true low = refl
-    either false low = absurd (omega arith)
+cut_given v keep cell = grind (arith, nat_tests, entry-kept)
 
 -- a cut loses no solution
 pub cut_solved : (v : UnequalValue) (keep : ℕ → Bool) (g : GridValue) → Solves (unequal_puzzle v) g
@@ -309,17 +195,7 @@ cut_solved v keep g h = record {
 
 -- without items there is no sign
 none_between : (v : UnequalValue) (a b : ℕ) → sign_between (cut_unequal v (λ i. false)) a b ≡ Absent
-none_between v a b =
-    let right : right_sign (cut_unequal v (λ i. false)) a ≡ Absent =
-    entry-kept Absent (λ k. false) 0 v.right a a (omega arith) in
-    let lower : lower_sign (cut_unequal v (λ i. false)) a ≡ Absent =
-    entry-kept Absent (λ k. false) 0 v.below a a (omega arith) in
-    rw (right, lower) (either (b == a + 1) (b == a + v.size))
-  where
-    either : (s t : Bool) → (if s then Absent else (if t then Absent else Absent)) ≡ Absent
-    either true t = refl
-    either false true = refl
-    either false false = refl
+none_between v a b = grind (arith, nat_tests, entry-kept)
 
 -- without items a puzzle asks nothing
 pub cut_none : (v : UnequalValue) (g : GridValue) → IsGrid g → IsLatin g → g.size ≡ v.size

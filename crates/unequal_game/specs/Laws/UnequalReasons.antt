@@ -1,10 +1,9 @@
 -- What the signs of Unequal strike: from fewer candidates too, in no solution, in the whole puzzle if in a cut, and along
 -- which lines.
-use Rattle.std.proofs.Common.{◌≡◌, ◌≢◌, ℕ, ◌+◌, ◌*◌, ◌<◌, ◌≤◌, ◌⊎◌, Bool, false, inl, inr, sym, ap, ◌∙◌, subst, arith}
+use Rattle.std.proofs.lemmas.Bool.Decides.{nat_tests}
+use Rattle.std.proofs.Common.{◌≡◌, ◌≢◌, ℕ, ◌*◌, ◌<◌, ◌≤◌, ◌⊎◌, Bool, inl, inr, arith}
 use Rattle.latin_board.specs.Squares.{GridValue, number_at}
-use Rattle.latin_board.specs.Lines.{line_cell}
-use Rattle.trail_solver.specs.Pairs.{IsPair}
-use Rattle.trail_solver.specs.Candidates.{CandidatesValue, IsWithin, may_be}
+use Rattle.trail_solver.specs.Candidates.{CandidatesValue, IsWithin}
 use Rattle.trail_solver.specs.Puzzles.{Solves}
 use Rattle.unequal_game.specs.Unequal.{UnequalValue, IsUnequal, IsGreater, HoldsSigns, cut_unequal, unequal_puzzle}
 use Rattle.line_steps.specs.Left.{IsLeft, IsFewer}
@@ -29,20 +28,12 @@ use Rattle.line_steps.specs.declared.grade.Grade.{Grade}
 sign_from : (v u : UnequalValue) (from to cell value : ℕ) (c d : CandidatesValue)
     → ((a b : ℕ) → IsGreater v a b → IsGreater u a b) → ((x : ℕ) → IsLeft d from x → IsLeft c from x)
     → IsBySign v c from to cell value → IsBySign u d from to cell value
-sign_from v u from to cell value c d says fewer h = record {
-  here = h.here;
-  why = elim h.why [
-    | inl above ↦ inl (says from to above.0, λ x left. above.1 x (fewer x left))
-    | inr below ↦ inr (says to from below.0, λ x left. below.1 x (fewer x left))
-  ];
-}
+sign_from v u from to cell value c d says fewer h = grind (arith, nat_tests)
 
 -- what a sign strikes it strikes from fewer
 pub unequal_own_less : (v : UnequalValue) (c d : CandidatesValue) (reason : Reason) (cell value : ℕ) → IsFewer c d
     → IsUnequalOwn v c reason cell value → IsUnequalOwn v d reason cell value
-unequal_own_less v c d (Sign from to) cell value fewer h =
-    sign_from v v from to cell value c d (λ a b up. up) (fewer from) h
-unequal_own_less v c d reason cell value fewer h = absurd h
+unequal_own_less v c d reason cell value fewer h = grind (arith, nat_tests, sign_from)
 
 -- so does each reason of Unequal
 pub unequal_less : (v : UnequalValue) (c d : CandidatesValue) (reason : Reason) (cell value : ℕ) → IsFewer c d
@@ -62,18 +53,7 @@ ends_inside v a b valid h = elim (greater_next v a b valid h) [
 sign_sound : (v : UnequalValue) (c : CandidatesValue) (g : GridValue) (from to cell value : ℕ) → IsUnequal v
     → HoldsSigns v g
     → IsSquareOf v.size c g → IsBySign v c from to cell value → number_at g cell ≢ value
-sign_sound v c g from to cell value valid holds s h = λ same.
-    let here : number_at g to ≡ value = ap (number_at g) (sym h.here) ∙ same in
-    elim h.why [
-      | inl above ↦
-          let order = holds.each from to above.0 in
-          let most = above.1 (number_at g from) (s.left from (ends_inside v from to valid above.0).0) in
-          omega (arith, order, most, here)
-      | inr below ↦
-          let order = holds.each to from below.0 in
-          let least = below.1 (number_at g from) (s.left from (ends_inside v to from valid below.0).1) in
-          omega (arith, order, least, here)
-    ]
+sign_sound v c g from to cell value valid holds s h = grind (arith, nat_tests, ends_inside)
 
 -- what a sign strikes is in no solution within the candidates
 pub unequal_sound : (v : UnequalValue) (c : CandidatesValue) (reason : Reason) (cell value : ℕ) (g : GridValue)
@@ -105,30 +85,14 @@ sign_was v from to cell value c d stays h = sign_from v v from to cell value d c
 pub sign_stays : (v : UnequalValue) (a b : ℕ) (c d : CandidatesValue) → d.size ≡ c.size → IsFewer c d
     → ((u : ℕ) → IsLeft c a u → IsLeft d a u)
     → ((u : ℕ) → IsLeft c b u → IsLeft d b u) → IsSignQuiet v a b c → IsSignQuiet v a b d
-sign_stays v a b c d same fewer first second quiet cell value pair = (
-  λ h. was_gone c d cell value same fewer pair
-      (λ there. (quiet cell value there).0 (sign_was v a b cell value c d first h)),
-  λ h. was_gone c d cell value same fewer pair
-      (λ there. (quiet cell value there).1 (sign_was v b a cell value c d second h)),
-)
-
--- what is left of the first square of a sign is left of it where all stays along its line
-from_stays : (line from to : ℕ) (c d : CandidatesValue) → StaysOn line c d
-    → AreNextOn c.size line from to ⊎ AreNextOn c.size line to from
-    → (u : ℕ) → IsLeft c from u → IsLeft d from u
-from_stays line from to c d stays (inl (k, low, at, second)) u left =
-    subst (λ (n : ℕ). IsLeft d n u) at (stays k u (omega (arith, low)) (subst (λ (n : ℕ). IsLeft c n u) (sym at) left))
-from_stays line from to c d stays (inr (k, low, first, at)) u left =
-    subst (λ (n : ℕ). IsLeft d n u) at (stays (k + 1) u low (subst (λ (n : ℕ). IsLeft c n u) (sym at) left))
+sign_stays v a b c d same fewer first second quiet cell value pair = grind (arith, nat_tests, was_gone, sign_was)
 
 -- what a sign strikes that looks along a line it struck before, where all stayed along it
 pub unequal_look : (v : UnequalValue) (c d : CandidatesValue) (reason : Reason) (cell value line : ℕ) → c.size ≡ v.size
     → line < 2 * c.size
     → LooksAlong c.size line reason cell → StaysOn line c d → IsUnequalOwn v d reason cell value
     → IsUnequalOwn v c reason cell value
-unequal_look v c d (Sign from to) cell value line size low along stays h =
-    sign_was v from to cell value c d (from_stays line from to c d stays along.1) h
-unequal_look v c d reason cell value line size low along stays h = absurd h
+unequal_look v c d reason cell value line size low along stays h = grind (arith, nat_tests, sign_was)
 
 -- neighbours follow one another on a line
 next_on : (w a b : ℕ) → 3 ≤ w → IsNext w a b → (line : ℕ) × (line < 2 * w) × AreNextOn w line a b
@@ -150,32 +114,12 @@ turned w line a b (inr h) = inl h
 -- a sign that strikes looks along a line
 pub unequal_stand : (v : UnequalValue) (c : CandidatesValue) (reason : Reason) (cell value : ℕ) → IsUnequal v
     → IsUnequalOwn v c reason cell value → StandsAlong v.size reason cell
-unequal_stand v c (Sign from to) cell value valid h = elim h.why [
-  | inl up ↦ let (line, low, on) = sign_on v from to valid up.0 in (line, low, (sym h.here, on))
-  | inr down ↦ let (line, low, on) =
-      sign_on v to from valid down.0 in (line, low, (sym h.here, turned v.size line to from on))
-]
-unequal_stand v c reason cell value valid h = absurd h
-
-one_sign : (v : UnequalValue) (line from to cell value : ℕ) (c : CandidatesValue) → AreSignsQuiet v line c
-    → AreNextOn c.size line from to ⊎ AreNextOn c.size line to from → IsPair c.size cell value
-    → IsBySign v c from to cell value
-    → may_be c cell value ≡ false
-one_sign v line from to cell value c quiet (inl (k, low, first, second)) pair h =
-    let at : IsSignQuiet v from to c = subst (λ (n : ℕ). IsSignQuiet v from n c) second
-    (subst (λ (n : ℕ). IsSignQuiet v n (line_cell c.size line (k + 1)) c) first (quiet k low)) in
-    (at cell value pair).0 h
-one_sign v line from to cell value c quiet (inr (k, low, first, second)) pair h =
-    let at : IsSignQuiet v to from c = subst (λ (n : ℕ). IsSignQuiet v to n c) second
-    (subst (λ (n : ℕ). IsSignQuiet v n (line_cell c.size line (k + 1)) c) first (quiet k low)) in
-    (at cell value pair).1 h
+unequal_stand v c reason cell value valid h = grind (arith, nat_tests, sign_on, turned)
 
 -- where the signs along a line strike nothing
 signs_own : (v : UnequalValue) (grade : Grade) (line : ℕ) (c : CandidatesValue) → AreSignsQuiet v line c
     → IsQuietAlong (IsUnequalOwn v) grade line c
-signs_own v grade line c quiet (Sign from to) cell value has along pair h =
-    one_sign v line from to cell value c quiet along.1 pair h
-signs_own v grade line c quiet reason cell value has along pair h = absurd h
+signs_own v grade line c quiet reason cell value has along pair h = grind (arith, nat_tests)
 
 -- so none of theirs along the line does
 pub signs_along : (v : UnequalValue) (grade : Grade) (line : ℕ) (c : CandidatesValue) → AreSignsQuiet v line c

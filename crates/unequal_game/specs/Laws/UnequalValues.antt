@@ -11,12 +11,12 @@ use Rattle.unequal_game.specs.declared.unequal.direction.Direction.TheVariants.{
 use Rattle.unequal_game.specs.declared.unequal.item.Item.{Item}
 use Rattle.unequal_game.specs.declared.unequal.item.Item.TheVariants.{RightSign, LowerSign, Given}
 use Rattle.unequal_game.specs.declared.unequal.sign.Sign.{Sign}
-use Rattle.unequal_game.specs.declared.unequal.sign.Sign.TheVariants.{Absent, FirstGreater, SecondGreater}
+use Rattle.unequal_game.specs.declared.unequal.sign.Sign.TheVariants.{Absent}
 use Rattle.unequal_game.specs.Inner.UnequalItems.{HasPlace, with_item}
-use Rattle.unequal_game.specs.Unequal.{UnequalValue, IsUnequal, unequal_given_grid, neighbour, right_sign, lower_sign}
+use Rattle.unequal_game.specs.Unequal.{UnequalValue, IsUnequal, neighbour, right_sign, lower_sign}
 use Rattle.unequal_game.specs.Unequal.{sign_between}
 use Rattle.unequal_game.specs.Laws.Signs.{right_between, below_between}
-use Rattle.unequal_game.specs.Unequal.{unequal_items, item_at, item_number, is_present, has_item, has_unequal}
+use Rattle.unequal_game.specs.Unequal.{unequal_items, item_at, item_number, has_item, has_unequal}
 use Rattle.unequal_game.specs.Unequal.{sign_number, numbered_sign, item_says, unequal_says, item_most, unequal_most}
 use Rattle.unequal_game.specs.Unequal.{blank_unequal, sign_item}
 use Rattle.unequal_game.specs.Laws.UnequalItems.{IsItem, number_of_item_at, has_place, is_right_item, is_lower_item}
@@ -26,9 +26,7 @@ use Rattle.unequal_game.specs.Laws.UnequalItems.{is_given_item, square_parts}
 
 -- a sign has its number, and a number up to 2 its sign
 sign_back : (s : Sign) → numbered_sign (sign_number s) ≡ s
-sign_back Absent = refl
-sign_back FirstGreater = refl
-sign_back SecondGreater = refl
+sign_back s = grind (arith, nat_tests)
 
 number_back : (n : ℕ) → n ≤ 2 → sign_number (numbered_sign n) ≡ n
 number_back n small = grind (arith, nat_tests)
@@ -36,16 +34,6 @@ number_back n small = grind (arith, nat_tests)
 -- signs with the same number are the same
 pub sign_same : (s t : Sign) → sign_number s ≡ sign_number t → s ≡ t
 sign_same s t e = sym (sign_back s) ∙ ap numbered_sign e ∙ sign_back t
-
-present_number : (s : Sign) → is_present s ≡ nat_lt 0 (sign_number s)
-present_number Absent = refl
-present_number FirstGreater = refl
-present_number SecondGreater = refl
-
-sign_within : (s : Sign) → sign_number s ≤ 2
-sign_within Absent = omega arith
-sign_within FirstGreater = omega arith
-sign_within SecondGreater = omega arith
 
 -- ---- items and their places
 
@@ -58,9 +46,7 @@ items_apart w i j small other same =
 
 -- the puzzle has the items that say something
 has_by_says : (v : UnequalValue) (item : Item) → has_item v item ≡ nat_lt 0 (item_says v item)
-has_by_says v (RightSign cell) = present_number (right_sign v cell)
-has_by_says v (LowerSign cell) = present_number (lower_sign v cell)
-has_by_says v (Given cell) = refl
+has_by_says v item = grind (arith, nat_tests)
 
 pub has_by_value : (v : UnequalValue) (i : ℕ) → has_unequal v i ≡ nat_lt 0 (unequal_says v i)
 has_by_value v i = has_by_says v (item_at v.size i)
@@ -68,9 +54,7 @@ has_by_value v i = has_by_says v (item_at v.size i)
 -- no item says more than it can
 says_within : (v : UnequalValue) (item : Item) → IsUnequal v → HasPlace v.size item
     → item_says v item ≤ item_most v.size item
-says_within v (RightSign cell) valid place = sign_within (right_sign v cell)
-says_within v (LowerSign cell) valid place = sign_within (lower_sign v cell)
-says_within v (Given cell) valid place = number_within (unequal_given_grid v) valid.givens cell place.0
+says_within v item valid place = grind (arith, nat_tests, number_within)
 
 pub value_within : (v : UnequalValue) (i : ℕ) → IsUnequal v → i < unequal_items v.size
     → unequal_says v i ≤ unequal_most v.size i
@@ -83,9 +67,7 @@ says_at : (v : UnequalValue) (w : ℕ) (item : Item) → v.size ≡ w → IsItem
 says_at v w item size is = ap (item_says v) (sym is.back ∙ ap (λ n. item_at n (item_number w item)) (sym size))
 
 no_right : (w cell : ℕ) → 3 ≤ w → w ≤ cell % w + 1 → neighbour w cell Right ≡ None
-no_right w cell small last =
-    let column : cell % w < w = mod_below cell w (omega (arith, small)) in
-    rw (eq-eqb (cell % w + 1) w (omega (arith, column, last))) refl
+no_right w cell small last = grind (arith, nat_tests, mod_below)
 
 no_below : (w cell : ℕ) → w * w ≤ cell + w → neighbour w cell Down ≡ None
 no_below w cell last = rw (le-ltb (cell + w) (w * w) last) refl
@@ -135,66 +117,27 @@ value_all p q p_valid q_valid size same =
     ]
 
 -- where an item says another number, the others say what they said
-one_says : (v : UnequalValue) (item : Item) (n : ℕ) → IsUnequal v → HasPlace v.size item → n ≤ item_most v.size item
-    → item_says (with_item v item n) item ≡ n
-one_says v (RightSign cell) n valid place fits =
-    ap sign_number (get_or-set_same v.right cell (numbered_sign n) Absent (omega (arith, valid.right_count, place.0)))
-    ∙ number_back n fits
-one_says v (LowerSign cell) n valid place fits =
-    ap sign_number (get_or-set_same v.below cell (numbered_sign n) Absent (omega (arith, valid.below_count, place.0)))
-    ∙ number_back n fits
-one_says v (Given cell) n valid place fits =
-    get_or-set_same v.givens cell n 0 (omega (arith, valid.givens.count, place.0))
-
 other_says : (v : UnequalValue) (item other : Item) (n : ℕ) → other ≢ item
     → item_says (with_item v item n) other ≡ item_says v other
-other_says v (RightSign c) (RightSign d) n apart =
-    ap sign_number (get_or-set_other v.right c d (numbered_sign n) Absent (λ e. apart (ap (λ k. RightSign k) e)))
-other_says v (LowerSign c) (LowerSign d) n apart =
-    ap sign_number (get_or-set_other v.below c d (numbered_sign n) Absent (λ e. apart (ap (λ k. LowerSign k) e)))
-other_says v (Given c) (Given d) n apart =
-    get_or-set_other v.givens c d n 0 (λ e. apart (ap (λ k. Given k) e))
-other_says v (RightSign c) (LowerSign d) n apart = refl
-other_says v (RightSign c) (Given d) n apart = refl
-other_says v (LowerSign c) (RightSign d) n apart = refl
-other_says v (LowerSign c) (Given d) n apart = refl
-other_says v (Given c) (RightSign d) n apart = refl
-other_says v (Given c) (LowerSign d) n apart = refl
+other_says v item other n apart = grind (arith, nat_tests, get_or-set_other)
 
 with_size : (v : UnequalValue) (item : Item) (n : ℕ) → (with_item v item n).size ≡ v.size
-with_size v (RightSign cell) n = refl
-with_size v (LowerSign cell) n = refl
-with_size v (Given cell) n = refl
+with_size v item n = grind (arith, nat_tests)
 
 -- what the item of a number says then
 pub put_one : (v u : UnequalValue) (item : Item) (i n : ℕ) → u ≡ with_item v item n → item ≡ item_at v.size i
     → IsUnequal v → i < unequal_items v.size → n ≤ unequal_most v.size i → unequal_says u i ≡ n
 put_one v u item i n put is valid inside fits =
-    let at : Item = item_at v.size i in
-    ap (λ (p : UnequalValue). unequal_says p i) (put ∙ ap (λ (it : Item). with_item v it n) is)
-    ∙ ap (λ w. item_says (with_item v at n) (item_at w i)) (with_size v at n)
-    ∙ one_says v at n valid (has_place v.size i valid.givens.smallest inside) fits
+    grind (arith, nat_tests, with_size, has_place, get_or-set_same, number_back)
 
 pub put_others : (v u : UnequalValue) (item : Item) (i n j : ℕ) → u ≡ with_item v item n → item ≡ item_at v.size i
     → IsUnequal v → j ≢ i → unequal_says u j ≡ unequal_says v j
-put_others v u item i n j put is valid other =
-    let at : Item = item_at v.size i in
-    ap (λ (p : UnequalValue). unequal_says p j) (put ∙ ap (λ (it : Item). with_item v it n) is)
-    ∙ ap (λ w. item_says (with_item v at n) (item_at w j)) (with_size v at n)
-    ∙ other_says v at (item_at v.size j) n (items_apart v.size i j valid.givens.smallest other)
+put_others v u item i n j put is valid other = grind (arith, nat_tests, with_size, other_says, items_apart)
 
 -- the blank puzzle says nothing
-none_says : (w : ℕ) (item : Item) → HasPlace w item → item_says (blank_unequal w) item ≡ 0
-none_says w (RightSign cell) place = ap sign_number (get_or-replicate (w * w) cell Absent Absent place.0)
-none_says w (LowerSign cell) place = ap sign_number (get_or-replicate (w * w) cell Absent Absent place.0)
-none_says w (Given cell) place = get_or-replicate (w * w) cell 0 0 place.0
-
 pub blank_none : (v : UnequalValue) (w : ℕ) → v ≡ blank_unequal w → IsUnequal v → (i : ℕ) → i < unequal_items w
     → unequal_says v i ≡ 0
-blank_none v w is valid i inside =
-    let size : v.size ≡ w = ap (λ (u : UnequalValue). u.size) is in
-    ap (λ (u : UnequalValue). unequal_says u i) is
-    ∙ none_says w (item_at w i) (has_place w i (omega (arith, size, valid.givens.smallest)) inside)
+blank_none v w is valid i inside = grind (arith, nat_tests, has_place, get_or-replicate)
 
 -- ---- places
 
@@ -242,11 +185,7 @@ is_sign_item w a b small inside there = elim (cases_eq b (a + 1)) [
 
 pub sign_item_inside : (w a b : ℕ) (found : Option ℕ) → found ≡ sign_item w a b → (3 ≤ w) × (w ≤ 9) → a < w * w → b < w * w
     → IfSome found (λ i. i < unequal_items w)
-sign_item_inside w a b found is small inside there = rw is (number (sign_item w a b) (is_sign_item w a b small.0 inside there))
-  where
-    number : (o : Option ℕ) → IfSome o (IsSignItem w a b) → IfSome o (λ i. i < unequal_items w)
-    number None h = tt
-    number (Some i) h = subst (λ n. n < unequal_items w) h.number h.is.inside
+sign_item_inside w a b found is small inside there = grind (arith, nat_tests, is_sign_item)
 
 pub sign_item_says : (w a b : ℕ) (found : Option ℕ) → found ≡ sign_item w a b → a < w * w → b < w * w
     → (v : UnequalValue) (i : ℕ) → IsUnequal v → v.size ≡ w → found ≡ Some i
