@@ -122,6 +122,38 @@ pub(crate) fn looked_at(size: Size, reason: &Reason) -> ArrayVec<u8, 9> {
     }
 }
 
+/// Steps whose reasons look at a square, or at others of its row or column: those of clues, which are dear to ask for, or the others.
+#[derive(Clone, Copy, Debug)]
+pub(crate) struct Asked {
+    pub(crate) cell: u8,
+    pub(crate) is_dear: bool,
+}
+
+impl Asked {
+    /// Whether steps by the reason are among them.
+    pub(crate) fn has(self, size: Size, reason: &Reason) -> bool {
+        let width = size.get() as usize;
+        let cell = self.cell as usize;
+        let (row, column) = (cell / width, width + cell % width);
+        match *reason {
+            Reason::Given { .. } | Reason::Bound { .. } => false,
+            Reason::Peer { cell: at } | Reason::Sign { from: at, .. } => !self.is_dear
+                && at == cell,
+            Reason::Place { line, .. } | Reason::Set { line, .. } => {
+                !self.is_dear && (line == row || line == column)
+            }
+            Reason::Stand { place } | Reason::Clue { place } => {
+                let end = if place < 2 * width {
+                    column
+                } else {
+                    width + row
+                };
+                self.is_dear && width + place % width == end
+            }
+        }
+    }
+}
+
 fn just(cell: usize) -> ArrayVec<u8, 9> {
     let mut cells = ArrayVec::new();
     if cell < CELLS {
