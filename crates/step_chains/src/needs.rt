@@ -23,6 +23,15 @@ impl Values {
         }
     }
 
+    /// What is left of each square.
+    pub(crate) fn left(candidates: &Candidates) -> Values {
+        let mut values = Values::none();
+        for cell in 0..CELLS {
+            values.add(cell, left(candidates, cell));
+        }
+        values
+    }
+
     /// The values of a square; none where there is no such square.
     pub(crate) fn of(&self, cell: usize) -> NumberSet {
         if cell < CELLS {
