@@ -9,9 +9,7 @@ use crate::kinds::{KINDS, Kind, Sought, is_dear, is_done, is_of_use};
 use crate::needs::{Values, left, single, squares_from, squares_of};
 use crate::reasons::{Part, group};
 use crate::replays::{struck, take};
-use crate::seen::{
-    Looks, PLACES, last_place, row_of, shared_numbers, sharing, struck_along, union_of,
-};
+use crate::seen::{Looks, PLACES, last_place, row_of, shared_numbers, sharing, struck_along};
 use arrayvec::ArrayVec;
 use latin_board::{CELLS, Grid, OutOfMemory};
 use named_steps::{Grade, Reason, Steps};
@@ -21,6 +19,9 @@ use trail_solver::{Candidates, Mark, Rules};
 
 // No more rounds than pairs that can be struck.
 const ROUNDS: usize = 729;
+
+// How many sets of squares a row or column has.
+const GROUPS: usize = 512;
 
 // A contradiction that isn't found after so many steps is a long one. From then on clues and groups are looked at only where nothing
 // cheaper strikes: it is found sooner, and has somewhat more steps.
@@ -42,6 +43,8 @@ pub(crate) struct Rounds<'a, P: Steps> {
     peers: Values,
     // Whether there are signs, which strike something whatever is left.
     has_signs: bool,
+    // What was left of each square when the signs were looked at last: what they strike by it is listed.
+    signs: Values,
     // From which places a clue strikes something by itself: from the others there is none.
     has_clue: [bool; PLACES],
     places: Looks,
@@ -70,6 +73,7 @@ impl<'a, P: Steps> Rounds<'a, P> {
             open: None,
             peers: Values::none(),
             has_signs: true,
+            signs: Values::none(),
             has_clue: [false; PLACES],
             places: Looks::none(),
             stands: Looks::none(),
@@ -301,7 +305,9 @@ impl<'a, P: Steps> Rounds<'a, P> {
         }
         self.has_signs = false;
         self.look_at_signs(p, grade, true)?;
-        self.look_at_signs(p, grade, false)
+        self.look_at_signs(p, grade, false)?;
+        self.signs = Values::left(&self.now);
+        Ok(())
     }
 
     // The steps of the signs at the lesser ends, which strike the greatest number there, or at the
@@ -311,6 +317,11 @@ impl<'a, P: Steps> Rounds<'a, P> {
         for place in 0..Part::Signs.count(self.now.size()) {
             if let Some(Reason::Sign { from, to }) = Part::Signs.nth(&self.now, place) {
                 let (from, to) = if at_lesser { (to, from) } else { (from, to) };
+                let seen = self.signs.of(from);
+                if !seen.is_empty() && seen == left(&self.now, from) {
+                    self.has_signs = true;
+                    continue;
+                }
                 let reason = Reason::Sign { from, to };
                 let values = struck(p, &self.now, &reason, to, self.cache);
                 self.has_signs |= !values.is_empty();
@@ -324,6 +335,7 @@ impl<'a, P: Steps> Rounds<'a, P> {
 
     // The steps of groups of squares, of rows and columns that aren't what they were. A square that
     // shares no value with another is in no group that strikes anything.
+    #[inline(never)]
     fn look_at_groups(&mut self, p: &P, grade: Grade) -> Result<(), OutOfMemory> {
         let size = self.now.size();
         for line in 0..2 * size.get() as usize {
@@ -346,12 +358,19 @@ impl<'a, P: Steps> Rounds<'a, P> {
         row: &[NumberSet; 9],
     ) -> Result<(), OutOfMemory> {
         let among = sharing(row);
-        for squares in 1..NumberSet::up_to(self.now.size().get()).lowered().bits() {
-            let squares = NumberSet::from_bits(squares);
-            if squares.is_subset(among) {
-                if let Some(reason) = group(line, squares, union_of(row, squares)) {
-                    self.look_among(p, grade, &reason, cells)?;
-                }
+        let mut unions = [NumberSet::empty(); GROUPS];
+        let mut squares = 0u16;
+        for _ in 1..GROUPS {
+            // The next greater number that stands for some of the squares, or 0 after the last.
+            squares = squares.wrapping_sub(among.bits()) & among.bits();
+            let rest = (squares & squares.wrapping_sub(1)) as usize;
+            let (at, place) = (squares as usize, squares.trailing_zeros() as usize);
+            if at >= GROUPS || rest >= GROUPS || place >= 9 {
+                return Ok(());
+            }
+            unions[at] = unions[rest].union(row[place]);
+            if let Some(reason) = group(line, NumberSet::from_bits(squares), unions[at]) {
+                self.look_among(p, grade, &reason, cells)?;
             }
         }
         Ok(())

@@ -23,6 +23,15 @@ impl Values {
         }
     }
 
+    /// What is left of each square.
+    pub(crate) fn left(candidates: &Candidates) -> Values {
+        let mut values = Values::none();
+        for cell in 0..CELLS {
+            values.add(cell, left(candidates, cell));
+        }
+        values
+    }
+
     /// The values of a square; none where there is no such square.
     pub(crate) fn of(&self, cell: usize) -> NumberSet {
         if cell < CELLS {
@@ -119,6 +128,38 @@ pub(crate) fn looked_at(size: Size, reason: &Reason) -> ArrayVec<u8, 9> {
         Reason::Clue { place } => squares_from(size, place),
         Reason::Sign { from, .. } => just(from),
         Reason::Set { line, squares, .. } => squares_among(size, line, squares),
+    }
+}
+
+/// Steps whose reasons look at a square, or at others of its row or column: those of clues, which are dear to ask for, or the others.
+#[derive(Clone, Copy, Debug)]
+pub(crate) struct Asked {
+    pub(crate) cell: u8,
+    pub(crate) is_dear: bool,
+}
+
+impl Asked {
+    /// Whether steps by the reason are among them.
+    pub(crate) fn has(self, size: Size, reason: &Reason) -> bool {
+        let width = size.get() as usize;
+        let cell = self.cell as usize;
+        let (row, column) = (cell / width, width + cell % width);
+        match *reason {
+            Reason::Given { .. } | Reason::Bound { .. } => false,
+            Reason::Peer { cell: at } | Reason::Sign { from: at, .. } => !self.is_dear
+                && at == cell,
+            Reason::Place { line, .. } | Reason::Set { line, .. } => {
+                !self.is_dear && (line == row || line == column)
+            }
+            Reason::Stand { place } | Reason::Clue { place } => {
+                let end = if place < 2 * width {
+                    column
+                } else {
+                    width + row
+                };
+                self.is_dear && width + place % width == end
+            }
+        }
     }
 }
 

@@ -26,17 +26,15 @@ pub(crate) fn few_premises<P: Steps>(
     if strikes_by(p, candidates, &cells, &rest, step, cache) {
         return rest;
     }
-    rest = *gone;
+    rest = needed_in(&cells, gone, gone);
     for i in 0..before.len() {
         let made = &before[before.len() - 1 - i];
-        if cells.as_slice().contains(&made.cell) {
-            leave_out(p, candidates, &cells, &mut rest, needs, step, made, cache);
-        }
+        leave_out(p, candidates, &cells, &mut rest, needs, step, made, cache);
     }
     rest
 }
 
-// Leaves out what one step made, value by value, where the other step still strikes what it strikes.
+// Leaves out what one step made, all of it or value by value, where the other step still strikes what it strikes.
 fn leave_out<P: Steps>(
     p: &P,
     candidates: &mut Candidates,
@@ -48,7 +46,18 @@ fn leave_out<P: Steps>(
     cache: &mut P::Cache,
 ) {
     let cell = made.cell as usize;
-    let spare = made.values.difference(needs.of(cell));
+    let spare = made
+        .values
+        .intersection(rest.of(cell))
+        .difference(needs.of(cell));
+    if spare.is_empty() {
+        return;
+    }
+    rest.remove(cell, spare);
+    if strikes_by(p, candidates, cells, rest, step, cache) {
+        return;
+    }
+    rest.add(cell, spare);
     for value in 1..10 {
         if spare.has(value) {
             rest.remove(cell, NumberSet::one(value));

@@ -1,6 +1,6 @@
 //! Chains followed step by step.
 ghost use Rattle.line_steps.specs.Reasons.{StruckBy};
-ghost use Rattle.std.specs.Prelude.{◌≡◌, ◌↔◌, ℕ, true, IsTrue};
+ghost use Rattle.std.specs.Prelude.{◌≡◌, ◌↔◌, ℕ, true, None, IsTrue};
 ghost use Rattle.std.specs.Bool.{OnTrue, OnFalse};
 ghost use Rattle.number_sets.specs.Sets.{has_number};
 ghost use Rattle.trail_solver.specs.Pairs.{IsPair, has_pair, pairs_of};
@@ -15,7 +15,7 @@ ghost use Rattle.step_chains.specs.Inner.Replays.{AreTimely, IsGradeStep, IsGrad
 
 use crate::aims::{Aim, first_empty};
 use crate::chain::Step;
-use crate::needs::Values;
+use crate::needs::{Asked, Values};
 use arrayvec::ArrayVec;
 use named_steps::{Grade, Reason, Steps, strike};
 use number_sets::NumberSet;
@@ -41,6 +41,42 @@ pub(crate) fn come_to<P: Steps>(
     let shows = leads_to(p, grade, candidates, steps, aim, cache);
     candidates.give_back(mark);
     shows
+}
+
+/// The same as `come_to`, of steps that may miss something in a square: first the steps that look there are asked for, and of these the
+/// cheaper ones.
+pub(crate) fn still_come_to<P: Steps>(
+    p: &P,
+    grade: Grade,
+    candidates: &mut Candidates,
+    steps: &[Step],
+    cell: u8,
+    aim: Aim,
+    cache: &mut P::Cache,
+) -> bool
+    requires size { candidates.old.size ≡ (P.puzzle p.now).size }
+    requires aim { IsAimOf candidates.old.size aim }
+    ensures same { candidates.new ≡ candidates.old }
+    ensures shows { IsTrue result
+        ↔ Shows (StruckBy P.puzzle P.own p.now) grade candidates.old (steps_of steps.now) (aim_goal aim) }
+{
+    let cheap = Asked {
+        cell,
+        is_dear: false,
+    };
+    let dear = Asked {
+        cell,
+        is_dear: true,
+    };
+    let mark = candidates.mark();
+    let are_cheap_left = follow(p, grade, candidates, steps, Some(cheap), cache);
+    candidates.give_back(mark);
+    if !are_cheap_left {
+        return false;
+    }
+    let are_dear_left = follow(p, grade, candidates, steps, Some(dear), cache);
+    candidates.give_back(mark);
+    are_dear_left && come_to(p, grade, candidates, steps, aim, cache)
 }
 
 /// Takes away what the steps list.
@@ -69,54 +105,56 @@ fn leads_to<P: Steps>(
     ensures shows { IsTrue result
         ↔ Shows (StruckBy P.puzzle P.own p.now) grade candidates.old (steps_of steps.now) (aim_goal aim) }
 {
-    if !follow(p, grade, candidates, steps, cache) {
+    if !follow(p, grade, candidates, steps, None, cache) {
         return false;
     }
     aim.is_met(candidates)
 }
 
-// Follows the steps, and tells whether they are a chain of the grade's.
+// Follows the steps, and tells whether those that are asked for are steps of the grade's where they stand: some of them, or all.
 fn follow<P: Steps>(
     p: &P,
     grade: Grade,
     candidates: &mut Candidates,
     steps: &[Step],
+    some: Option<Asked>,
     cache: &mut P::Cache,
 ) -> bool
     requires { candidates.old.size ≡ (P.puzzle p.now).size }
     ensures earlier { IsEarlier candidates.old candidates.new }
-    ensures leads { OnTrue result
-        (Leads (StruckBy P.puzzle P.own p.now) grade candidates.old (steps_of steps.now) candidates.new) }
+    ensures leads { OnTrue result (some ≡ None
+        → Leads (StruckBy P.puzzle P.own p.now) grade candidates.old (steps_of steps.now) candidates.new) }
     ensures breaks { OnFalse result
         (IsGradeChain (StruckBy P.puzzle P.own p.now) grade candidates.old (steps_of steps.now) → ⊥) }
 {
     for step in steps {
-        if !follow_one(p, grade, candidates, step, cache) {
+        if !passes(p, grade, candidates, step, some, cache) {
             return false;
         }
+        take(candidates, step);
     }
     true
 }
 
-// Takes away what a step strikes, where it is one of the grade's.
-fn follow_one<P: Steps>(
+// Whether a step is one of the grade's by the candidates, or isn't asked for.
+fn passes<P: Steps>(
     p: &P,
     grade: Grade,
-    candidates: &mut Candidates,
+    candidates: &Candidates,
     step: &Step,
+    some: Option<Asked>,
     cache: &mut P::Cache,
 ) -> bool
-    requires { candidates.old.size ≡ (P.puzzle p.now).size }
-    ensures earlier { IsEarlier candidates.old candidates.new }
-    ensures is { IsTrue result ↔ IsGradeStep (StruckBy P.puzzle P.own p.now) grade candidates.old (step_value step.now) }
-    ensures takes { OnTrue result
-        (Takes (λ cell v. has_pair (step_value step.now).strikes cell v ≡ true) candidates.old candidates.new) }
+    requires { candidates.now.size ≡ (P.puzzle p.now).size }
+    ensures is { OnTrue result (some ≡ None → IsGradeStep (StruckBy P.puzzle P.own p.now) grade candidates.now (step_value step.now)) }
+    ensures none { OnFalse result (IsGradeStep (StruckBy P.puzzle P.own p.now) grade candidates.now (step_value step.now) → ⊥) }
 {
-    if !is_step(p, grade, candidates, step, cache) {
-        return false;
+    if let Some(asked) = some {
+        if !asked.has(candidates.size(), &step.reason) {
+            return true;
+        }
     }
-    take(candidates, step);
-    true
+    is_step(p, grade, candidates, step, cache)
 }
 
 /// Whether a step is one of the grade's by the candidates.

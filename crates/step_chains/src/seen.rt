@@ -96,17 +96,6 @@ pub(crate) fn last_place(row: &[NumberSet; 9], number: u8) -> usize {
     last
 }
 
-/// The numbers of the sets at some places.
-pub(crate) fn union_of(row: &[NumberSet; 9], places: NumberSet) -> NumberSet {
-    let mut union = NumberSet::empty();
-    for place in 0..9 {
-        if places.has(place as u8) {
-            union = union.union(row[place]);
-        }
-    }
-    union
-}
-
 /// The places whose sets share a number with another one's.
 pub(crate) fn sharing(row: &[NumberSet; 9]) -> NumberSet {
     let shared = shared_numbers(row);

@@ -9,7 +9,7 @@ ghost use Rattle.step_chains.specs.Inner.Tight.{IsDoneFrom, IsNarrowedTo, IsLeft
 
 use crate::aims::Aim;
 use crate::chain::Step;
-use crate::replays::{come_to, take_all};
+use crate::replays::{still_come_to, take_all};
 use named_steps::{Grade, Steps};
 use trail_solver::{Candidates, Rules};
 
@@ -123,7 +123,8 @@ fn shows_on<P: Steps>(
 {
     let mark = candidates.mark();
     take_all(candidates, &steps[..index]);
-    let shows = come_to(p, grade, candidates, &steps[index..], aim, cache);
+    let cell = steps[index].cell;
+    let shows = still_come_to(p, grade, candidates, &steps[index..], cell, aim, cache);
     candidates.give_back(mark);
     shows
 }

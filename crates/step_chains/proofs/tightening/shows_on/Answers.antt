@@ -12,6 +12,6 @@ returns-clause-shows g c = λ chain.
     let Struck = StruckBy g.P.Rules.puzzle g.P.Steps.own c.args.p.now in
     let start = c.args.candidates.now in
     rest_tested Struck (all_less (g.P.Rules.puzzle c.args.p.now) (g.P.Steps.own c.args.p.now) (g.met.P.Steps.own_less c.args.p.now)) c.args.grade start c.take_all.new.candidates
-    c.args.steps.now c.args.index (aim_goal c.args.aim) c.come_to-shows.result
+    c.args.steps.now c.args.index (aim_goal c.args.aim) c.still_come_to-shows.result
     (leads_known Struck c.args.grade start c.take_all.new.candidates (steps_of (take c.args.index c.args.steps.now)) chain c.take_all.ensures.size c.take_all.ensures.alike)
-    c.come_to-shows.ensures.shows
+    c.still_come_to-shows.ensures.shows
