@@ -11,10 +11,9 @@ import time
 from typing import Sequence, TextIO
 
 from bodies.kit import Kit, NoKit
-from building.crates import BUILD, ROOT, own
 from building.kit import command, kit_of
-from building.listing import all_of, listed
-from building.record import BUILT, CRATE, NAMES, Record, put, sum_of_sources
+from building.listing import BUILD, ROOT, all_of, listed, own
+from building.record import BUILT, CRATE, NAMES, put, sum_of_sources
 from gating.in_turn import clean_up_at_signals
 
 #: What the prover says.
@@ -48,7 +47,7 @@ def make() -> int:
         return 130
     # Where a file has been changed meanwhile the programs are of sources that nobody has any more, and no record is right.
     if sum_of_sources() == sources:
-        BUILT.write(Record(kit, sources, BUILT.sums()))
+        BUILT.write([kit, sources])
     return 0
 
 
