@@ -161,13 +161,14 @@ fn begun_again<P: Draw>(alloc: Global, session: &Session<P>) -> Result<Made<P>, 
         size: puzzle.size(),
         letter: None,
     };
+    let next_params = params;
     let extras = Extras {
         seed: None,
         auxinfo: None,
         ui: None,
         time: None,
     };
-    match Session::new(alloc, params, params, puzzle, extras) {
+    match Session::new(alloc, params, next_params, puzzle, extras) {
         Ok(session) => Ok(Made::Session(session)),
         Err(fault) => Err(fault.name()),
     }
