@@ -4,8 +4,8 @@ mod calls;
 mod runs;
 
 use crate::tests::third_game::calls::{
-    Said, begun, begun_by_words, changed, described, facts, first_record, generated, id_read, kept,
-    listed, moved, params_written, reloaded, solved,
+    Said, begun, begun_by_words, changed, described, facts, first_record, generated, id_read,
+    is_solved_by, kept, listed, moved, params_written, reloaded,
 };
 use crate::tests::third_game::runs::{ran, ran_in_memory, ran_over_std};
 use client::Latin;
@@ -135,8 +135,7 @@ fn puzzles_are_solved_and_made(rt: HostRuntime) {
     assert!(rt; says(described(rt.alloc(), puzzle), Ok("123000000")));
     assert!(rt; !puzzle.clue_at(0, -1) && puzzle.same(puzzle));
     assert!(rt; says(listed(rt.alloc(), puzzle), Ok("123231312;123312231;")));
-    assert!(rt; says(solved(rt.alloc(), puzzle, b"S123231312"), Ok("yes")));
-    assert!(rt; says(solved(rt.alloc(), puzzle, b"S132213321"), Ok("no")));
+    assert!(rt; is_solved_by(puzzle, "123231312") && !is_solved_by(puzzle, "132213321"));
     assert!(rt; says(generated(rt.alloc(), 4, 7), Ok("one")));
 }
 

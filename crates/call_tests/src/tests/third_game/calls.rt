@@ -1,9 +1,10 @@
 //! The calls on a session or a puzzle, each with what it says as text.
 
+use crate::tests::worked::grid_of;
 use client::Latin;
 use clue_rules::{Game, GameId, Params, read_id};
 use latin_board::{Grid, Size};
-use play_midend::{Extras, Move, Session, change_of, read_move, write_move};
+use play_midend::{Extras, Session, change_of, read_move, write_move};
 use play_save::{load, next_record, save};
 use puzzle_cli::{Draw, begin, read_words};
 use puzzle_gen::{generate, square};
@@ -19,15 +20,12 @@ pub(crate) fn copied(alloc: Global, bytes: &[u8]) -> Said<Vec<u8>> {
     Vec::from_slice(alloc, bytes).map_err(|_| MEMORY)
 }
 
-// The parts, each with a bar after it.
-fn joined(alloc: Global, parts: &[&[u8]]) -> Said<Vec<u8>> {
-    let mut text = Vec::new(alloc);
-    for part in parts {
-        if text.extend_from_slice(part).is_err() || text.push(b'|').is_err() {
-            return Err(MEMORY);
-        }
+// One more part, with a bar after it.
+fn add(text: &mut Vec<u8>, part: &[u8]) -> Said<()> {
+    if text.extend_from_slice(part).is_err() || text.push(b'|').is_err() {
+        return Err(MEMORY);
     }
-    Ok(text)
+    Ok(())
 }
 
 pub(crate) fn begun(alloc: Global, id: &str) -> Said<Session<Latin>> {
@@ -112,19 +110,28 @@ pub(crate) fn reloaded(alloc: Global, session: &Session<Latin>) -> Said<Session<
 
 // The game's name and letters, the session's parameters, those of the next game, and the seed that is kept.
 pub(crate) fn facts(alloc: Global, session: &Session<Latin>) -> Said<Vec<u8>> {
-    let params = session.params().write();
-    let next = session.next_params().write();
-    let Some(seed) = &session.extras().seed else {
-        return Err("no seed");
-    };
-    let (name, letters) = (Latin::name().as_bytes(), Latin::letters().as_bytes());
-    joined(alloc, &[name, letters, &params, &next, seed])
+    let mut text = Vec::new(alloc);
+    add(&mut text, Latin::name().as_bytes())?;
+    add(&mut text, Latin::letters().as_bytes())?;
+    add(&mut text, &session.params().write())?;
+    add(&mut text, &session.next_params().write())?;
+    match &session.extras().seed {
+        Some(seed) => add(&mut text, seed)?,
+        None => add(&mut text, b"none")?,
+    }
+    Ok(text)
 }
 
 // The key, the value and what follows.
 pub(crate) fn first_record(alloc: Global, text: &[u8]) -> Said<Vec<u8>> {
     match next_record(text) {
-        Ok(Some((record, rest))) => joined(alloc, &[record.key, record.value, rest]),
+        Ok(Some((record, rest))) => {
+            let mut told = Vec::new(alloc);
+            add(&mut told, record.key)?;
+            add(&mut told, record.value)?;
+            add(&mut told, rest)?;
+            Ok(told)
+        }
         Ok(None) => copied(alloc, b"none"),
         Err(fault) => Err(fault.name()),
     }
@@ -145,14 +152,11 @@ pub(crate) fn listed(alloc: Global, puzzle: &Latin) -> Said<Vec<u8>> {
     Ok(text)
 }
 
-// Whether the grid of a solution's text solves the puzzle.
-pub(crate) fn solved(alloc: Global, puzzle: &Latin, text: &[u8]) -> Said<Vec<u8>> {
-    match read_move(text) {
-        Ok(Move::Solve(grid)) if grid.size().get() == puzzle.size().get() => {
-            let answer = if solves(puzzle, &grid) { "yes" } else { "no" };
-            copied(alloc, answer.as_bytes())
-        }
-        _ => Err("no grid"),
+// Whether the grid of width 3 with these digits solves the puzzle.
+pub(crate) fn is_solved_by(puzzle: &Latin, digits: &str) -> bool {
+    match grid_of(digits) {
+        Some(grid) if grid.size().get() == puzzle.size().get() => solves(puzzle, &grid),
+        _ => false,
     }
 }
 
