@@ -107,8 +107,13 @@ def cells(size: int, square: Sequence[int]) -> List[List[int]]:
     return [[*divmod(cell, size), number] for cell, number in enumerate(square)]
 
 
-def holes_and_clues(random: Random, size: int) -> TowersPuzzle:
+def holes(random: Random, size: int) -> TowersPuzzle:
     """A random square with a third of its numbers given, and a few clues, one off at times."""
     square = random_square(random, size)
     clues = some_of(random, clues_of(size, square), random.uniform(0, 0.3))
     return puzzle(size, nudged(random, size, clues, 2), some_of(random, square, random.uniform(0.2, 0.45)))
+
+
+MAKERS = [
+    random_clues, nudged_clues, swapped_clues, loose_clues, tight_clues, waving_clues, two_squares, one_side, alike_clues, diagonals, holes,
+]

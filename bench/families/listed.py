@@ -13,30 +13,10 @@ Maker = Callable[[Random, int], Puzzle]
 #: Most puzzles are as large as can be.
 SIZES = [7, 8, 9, 9]
 
-#: The makers by game and family.
+#: The makers by game and family, which has the name of its maker.
 MAKERS: Dict[Tuple[str, str], Maker] = {
-    ('unequal', 'checkerboard'): signs.checkerboard,
-    ('unequal', 'broken-checkerboard'): signs.broken_checkerboard,
-    ('unequal', 'crowded'): signs.crowded,
-    ('unequal', 'stripes'): signs.stripes,
-    ('unequal', 'landscape'): signs.landscape,
-    ('unequal', 'waves'): signs.waves,
-    ('unequal', 'chains'): signs.chains,
-    ('unequal', 'peaks'): signs.peaks,
-    ('unequal', 'turned-signs'): signs.turned_signs,
-    ('unequal', 'sparse-signs'): signs.sparse_signs,
-    ('unequal', 'holes'): signs.holes,
-    ('towers', 'random-clues'): clues.random_clues,
-    ('towers', 'nudged-clues'): clues.nudged_clues,
-    ('towers', 'swapped-clues'): clues.swapped_clues,
-    ('towers', 'loose-clues'): clues.loose_clues,
-    ('towers', 'tight-clues'): clues.tight_clues,
-    ('towers', 'waving-clues'): clues.waving_clues,
-    ('towers', 'two-squares'): clues.two_squares,
-    ('towers', 'one-side'): clues.one_side,
-    ('towers', 'alike-clues'): clues.alike_clues,
-    ('towers', 'diagonals'): clues.diagonals,
-    ('towers', 'holes'): clues.holes_and_clues,
+    **{('unequal', maker.__name__.replace('_', '-')): maker for maker in signs.MAKERS},
+    **{('towers', maker.__name__.replace('_', '-')): maker for maker in clues.MAKERS},
 }
 
 

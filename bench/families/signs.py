@@ -125,3 +125,6 @@ def holes(random: Random, size: int) -> UnequalPuzzle:
     square = random_square(random, size)
     signs = kept(random, signs_of(size, square), random.uniform(0, 0.2))
     return puzzle(size, turned(random, signs, 1) if random.random() < 0.5 else signs, some_of(random, square, random.uniform(0.2, 0.45)))
+
+
+MAKERS = [checkerboard, broken_checkerboard, crowded, stripes, landscape, waves, chains, peaks, turned_signs, sparse_signs, holes]

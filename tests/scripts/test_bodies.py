@@ -53,7 +53,7 @@ ROUNDS = [
     Bodies('a function without a name for the prover', ['2 checks of a whole crate', '2 passed, 0 failed'], {8: 'false'}, {8: 'right'}),
     Bodies(
         'those of the gate',
-        ['3 at an open goal', 'no log of a run', '6 passed, 0 failed'],
+        ['3 at an open goal', '6 passed, 0 failed'],
         {0: 'doubtful', 10: 'right', 1: 'doubtful', 2: 'doubtful'},
         {0: 'too', 10: 'false', 1: 'too', 2: 'too'},
         words=['--gate'],
@@ -189,20 +189,6 @@ def test_what_is_kept(words: Words) -> None:
     words.write(Bodies('', [], {0: 'right', 2: 'false'}, {0: 'right too', 2: 'right as well'}))
     for _ in range(2):
         words.expect(['3 kept', 'FAILED: words/wrong_0: NOT refused', '3 passed, 1 failed'], 1, XDG_CACHE_HOME=cache)
-
-
-def test_the_log(words: Words) -> None:
-    """A run over all crates leaves a log, and the gate says whether that is of these sources."""
-    words.write(ROUNDS[0])
-    words.expect(['4 passed'], 0, [], ANEW='1')
-    log = words.place.file('build/bodies.log').decode()
-    for text in ('commit ', 'prover a kit of words\ncrates ', '4 passed, 0 failed, 0 skipped\n'):
-        assert text in log
-    few = {0: 'false', 2: 'doubtful'}
-    words.write(Bodies('', [], few, {0: 'right too', 2: 'right as well'}))
-    words.expect(['all wrong bodies of these sources: 4 passed'], 1, ['--gate'], ANEW='1')
-    words.write(Bodies('', [], {0: 'false'}, {0: 'too'}, gate=[0]))
-    words.expect(['build/bodies.log is of other sources than these', '2 passed, 0 failed'], 0, ['--gate'], ANEW='1')
 
 
 @pytest.fixture(name='words')

@@ -9,14 +9,14 @@ from pathlib import Path
 
 from building.kit import command, kit_of
 from building.listing import TOP, sum_of
-from building.record import NAMES, Programs, put
+from building.record import NAMES, Files, put
 from web_build.module import over_libraries, run
 from web_build.scripts import Unfit
 
 KIT_C = 'tools/arm_build/kit.c'
 
 #: Where the programs are left, without a record.
-MADE = Programs('build/arm', 'build/arm/RECORD')
+MADE = Files('build/arm', '', [])
 
 C_LIBRARY = '/usr/aarch64-linux-gnu'
 GCC = '/usr/lib/gcc-cross/aarch64-linux-gnu/12'

@@ -7,5 +7,4 @@ trial     the edits of a crate, tried together, and what the prover said
 outcomes  what comes of wrong bodies and twins, with what earlier runs have found
 kept      where that is kept
 asked     what is to be tried of the crates, side by side
-log       the log of a run over all, and what the gate says of it
 """

@@ -11,7 +11,7 @@ from pathlib import Path
 from typing import Any, Collection, Iterator, List, NamedTuple, Sequence, Set
 
 from bodies.edits import Texts
-from building.crates import PARTS, all_of, copy_folder, listed, own, write_list
+from building.listing import PARTS, all_of, copy_folder, listed, own, write_list
 from building.kit import command, kit_of
 from gating.proofs import when_left
 

@@ -1,14 +1,14 @@
-"""The programs in the tree: they are stored there, and compared with others. The record has `# arm makers: ` above those for ARM: the line of `rt version`, and a sum
-over what they are linked with."""
+"""The programs in the tree: they are stored there, and compared with others."""
 
 from __future__ import annotations
 
 import sys
 from typing import Callable, Iterator
 
+from arm_build.program import MADE, build, makers
 from building.kit import command, kit_of
 from building.listing import sum_of
-from building.record import AMD, ARM, BUILT, LINKS, NAMES, Programs, sum_of_sources
+from building.record import AMD, ARM, BUILT, LINKS, NAMES, Files, sum_of_sources
 from building.run import make
 from gating.counts import compared
 from web_build.scripts import Unfit
@@ -19,15 +19,13 @@ ADVICE = 'make programs, and commit'
 
 def store() -> int:
     """Proves and builds, and stores the programs for PCs and for ARM with their record in the tree, as far as they aren't there yet. Gives the status to end with."""
-    from arm_build.program import MADE, build, makers
-
     try:
         made_by = makers()
         status = make()
         if status != 0:
             return status
-        record, fault = BUILT.read(), BUILT.fault(sum_of_sources())
-        if not record or fault:
+        fault = BUILT.fault(sum_of_sources())
+        if fault:
             raise Unfit(fault)
         build()
     except Unfit as unfit:
@@ -37,7 +35,7 @@ def store() -> int:
         for name in NAMES:
             if tree.take(made, name):
                 print(f'stored: {tree.folder}/{name}')
-    if AMD.write(record, f'# arm makers: {made_by}\n{ARM.lines(ARM.sums())}'):
+    if any([AMD.write([BUILT.fact('kit'), BUILT.fact('sources')]), ARM.write([made_by])]):
         print(f'stored: {AMD.record}')
     return 0
 
@@ -50,19 +48,17 @@ def compare(built: str) -> int:
 
 def compare_arm() -> int:
     """The same for ARM, for which the program is built."""
-    from arm_build.program import build, makers
-
     try:
         return as_in_tree(ARM, 'arm makers', makers(), build)
     except Unfit as unfit:
         return as_in_tree(ARM, 'arm makers', str(unfit), build)
 
 
-def as_in_tree(tree: Programs, makers: str, here: str, build: Callable[[], str]) -> int:
+def as_in_tree(tree: Files, makers: str, here: str, build: Callable[[], str]) -> int:
     """Says how many cases have passed, which are the record, the program and its other names, and gives the status to end with."""
     fault = tree.fault(sum_of_sources())
     faults = [f'{fault}: {ADVICE}'] if fault else []
-    if tree.text() and tree.fact(makers) != here:
+    if tree.lines() and tree.fact(makers) != here:
         print(f"the programs in {tree.folder} were built by '{tree.fact(makers)}', and the kit here is '{here}': so nothing is compared")
         return compared(1, faults)
     sums = tree.sums()
@@ -70,7 +66,7 @@ def as_in_tree(tree: Programs, makers: str, here: str, build: Callable[[], str])
     return compared(1 + len(NAMES), [*faults, *difference(tree, build), *others])
 
 
-def difference(tree: Programs, build: Callable[[], str]) -> Iterator[str]:
+def difference(tree: Files, build: Callable[[], str]) -> Iterator[str]:
     """How a program differs from that in the tree, with both sums; nothing where they are the same bytes."""
     try:
         built = build()

@@ -3,6 +3,7 @@
 from __future__ import annotations
 
 import os
+import subprocess
 from typing import Optional
 
 
@@ -20,15 +21,17 @@ def kit_of(rt: str) -> str:
     if os.path.isfile(line):
         with open(line, encoding='utf-8', errors='replace') as file:
             return first_line(file.read())
-    return first_line(asked_for_its_line(rt))
+    return first_line(answer(rt, 'version'))
 
 
-def asked_for_its_line(rt: str) -> str:
-    # Mostly the file is there, and then this module need not be read.
-    import subprocess
-
-    asked = subprocess.run([rt, 'version'], stdin=subprocess.DEVNULL, stdout=subprocess.PIPE, encoding='utf-8', errors='replace', check=False)
-    return asked.stdout
+def answer(*words: str) -> str:
+    """What a command says; nothing where it isn't there."""
+    try:
+        return subprocess.run(
+            words, stdin=subprocess.DEVNULL, stdout=subprocess.PIPE, stderr=subprocess.DEVNULL, encoding='utf-8', errors='replace', check=False
+        ).stdout
+    except OSError:
+        return ''
 
 
 def first_line(text: str) -> str:

@@ -1,79 +1,82 @@
-"""The crates of the repository: what each stands on, and the files that it is proved from.
-
-It is read whenever `make` is asked for something, mostly to find that nothing has changed. So it takes little of Python's library, whose modules
-would cost more than the work; nor do `kit`, `record` and `ready`.
-"""
+"""The crates of the repository: what each stands on, the files that it is proved from, and copies of them, in which something is tried or proved."""
 
 from __future__ import annotations
 
 import os
+import shutil
 from hashlib import sha256
+from pathlib import Path
 from typing import Dict, Iterable, Iterator, List, Set
 
 #: The crates of the repository, each with the libraries that it stands on, the kit's too.
 Listed = Dict[str, List[str]]
 
 #: The top of the repository, whatever the working folder is.
-TOP = os.path.dirname(os.path.dirname(os.path.dirname(os.path.realpath(__file__))))
+ROOT = Path(__file__).resolve().parent.parent.parent
+TOP = str(ROOT)
 
-#: What the proof of a crate is made from.
+#: What is built lies there.
+BUILD = ROOT / 'build'
+
+#: What the proof of a crate is made from, and what its files end in.
 PARTS = ('src', 'specs', 'proofs')
+READ = ('.rt', '.antt')
+
+
+def lines_of_crates() -> Dict[str, str]:
+    """What crates.txt says of each crate."""
+    lines = (ROOT / 'crates.txt').read_text(encoding='utf-8').splitlines()
+    plain = [line.partition('#')[0].strip() for line in lines]
+    return {line.partition(':')[0].split()[0]: line for line in plain if ':' in line}
 
 
 def listed() -> Listed:
-    """What crates.txt says."""
-    crates: Listed = {}
-    with open(f'{TOP}/crates.txt', encoding='utf-8') as file:
-        for line in file:
-            name, colon, libraries = line.partition('#')[0].partition(':')
-            if colon:
-                crates[name.split()[0]] = libraries.split()
-    return crates
-
-
-def heads() -> Dict[str, str]:
-    """What crates.txt has before the colon: the name of a crate, and after it `staticlib` where it is a static library."""
-    with open(f'{TOP}/crates.txt', encoding='utf-8') as file:
-        found = [line.partition('#')[0].partition(':')[0].strip() for line in file]
-    return {head.split()[0]: head for head in found if head}
-
-
-def below(crate: str, crates: Listed) -> Set[str]:
-    """The crates of the repository that a crate stands on, and those below them."""
-    found: Set[str] = set()
-    left = list(crates[crate])
-    while left:
-        library = left.pop()
-        if library in crates and library not in found:
-            found.add(library)
-            left += crates[library]
-    return found
+    """All crates."""
+    return {name: line.partition(':')[2].split() for name, line in lines_of_crates().items()}
 
 
 def all_of(names: Iterable[str], crates: Listed) -> Set[str]:
     """These crates, and all below them."""
-    found = set(names)
-    return found.union(*(below(name, crates) for name in found))
+    found: Set[str] = set()
+    left = list(names)
+    while left:
+        name = left.pop()
+        if name not in found:
+            found.add(name)
+            left += [library for library in crates[name] if library in crates]
+    return found
+
+
+def own(name: str) -> Path:
+    """The folder of a crate."""
+    return ROOT / 'crates' / name
 
 
 def files_of(crate: str) -> Iterator[str]:
-    """The files that a crate is proved from, by their paths from the top."""
-    folders = [f'crates/{crate}/{part}' for part in PARTS]
-    while folders:
-        folder = folders.pop()
-        try:
-            with os.scandir(f'{TOP}/{folder}') as entries:
-                inside = list(entries)
-        except FileNotFoundError:
-            continue
-        for entry in inside:
-            if entry.is_dir(follow_symlinks=False):
-                folders.append(f'{folder}/{entry.name}')
-            else:
-                yield f'{folder}/{entry.name}'
+    """The files that a crate is proved from, by their paths from the top, in order."""
+    found = (os.path.relpath(path, TOP) for part in PARTS for path in (own(crate) / part).rglob('*') if path.suffix in READ)
+    return iter(sorted(found, key=os.fsencode))
 
 
 def sum_of(path: str) -> str:
     """The sum of a file."""
-    with open(path, 'rb') as file:
-        return sha256(file.read()).hexdigest()
+    return sha256(Path(path).read_bytes()).hexdigest()
+
+
+def write_list(folder: Path, names: Iterable[str], crates: Listed) -> None:
+    """Writes crates.txt for a copy of these crates and of all below them."""
+    wanted = all_of(names, crates)
+    (folder / 'crates.txt').write_text(''.join(f'{line}\n' for name, line in lines_of_crates().items() if name in wanted), encoding='utf-8')
+
+
+def copy_folder(source: Path, target: Path, linked: bool = False) -> None:
+    """Copies a folder where there is one; `linked` files are the same file in both, where the disk allows it."""
+    if not source.is_dir():
+        return
+    if linked:
+        try:
+            shutil.copytree(source, target, copy_function=os.link)
+            return
+        except (OSError, shutil.Error):
+            shutil.rmtree(target, ignore_errors=True)
+    shutil.copytree(source, target)

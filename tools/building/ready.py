@@ -4,8 +4,8 @@ from __future__ import annotations
 
 import sys
 
-from building.record import BUILT, STRANGE, TREE, Programs, sum_of_sources
-
+from building.record import BUILT, STRANGE, TREE, Files, sum_of_sources
+from building.run import make
 
 #: What to type if there are none.
 ADVICE = 'run make, which proves and builds them: that needs the kit, and may take an hour'
@@ -25,9 +25,6 @@ def where() -> int:
         print(TREE.folder)
         return 0
     print(f'{fault}: they are proved and built', file=sys.stderr)
-    # Mostly the programs are there, and then this need not be read.
-    from building.run import make
-
     status = make()
     if status == 0:
         print(BUILT.folder)
@@ -44,7 +41,7 @@ def tell() -> int:
         return 1
 
 
-def ready() -> Programs:
+def ready() -> Files:
     """The programs that are there, where nothing is built for it."""
     if STRANGE:
         raise NotReady(STRANGE)
@@ -52,7 +49,7 @@ def ready() -> Programs:
     in_tree = TREE.fault(sources)
     if not in_tree:
         return TREE
-    fault = BUILT.fault(sources) if BUILT.read() else in_tree
+    fault = BUILT.fault(sources) if BUILT.lines() else in_tree
     if fault:
         raise NotReady(f'{fault}: {ADVICE}')
     return BUILT

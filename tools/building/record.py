@@ -1,10 +1,13 @@
-"""The programs that lie in a folder, with the record of what they are: by which kit they were proved and built, of which sources, and their sums.
+"""The programs and the page, with the records of what they are: by which kit they were proved and built, of which sources, and their sums.
 
-The record is a text that `sha256sum --check` reads, too:
+A record is a text that `sha256sum --check` reads, too:
 
     # kit: the line of `rt version`
     # sources: the sum over what a build reads
     ..the sum of a program..  its name, from the folder of the record
+
+That of the tree has such lines for the programs for ARM, too, with `# arm makers: ` for their kit and a sum over what they are linked with, and for the page, with
+`# page kit: `, `# page binaryen: ` (the line of `wasm-opt --version`) and `# page sources: ` (the sum over what the module is built from).
 
 What a build reads is told by lines: one of crates.txt for each crate that the programs stand on, as `NAME: LIBRARIES`, and one for each file of their
 src/, specs/ and proofs/ that ends in .rt or .antt, as `sha256sum` writes it for its path from the top; each in order. The sum of the sources is that of these lines.
@@ -16,7 +19,7 @@ from __future__ import annotations
 import os
 import sys
 from hashlib import sha256
-from typing import Dict, Iterable, Iterator, Optional
+from typing import Dict, Iterable, Iterator, List, Optional, Sequence
 
 from building.listing import TOP, all_of, files_of, listed, sum_of
 
@@ -28,80 +31,58 @@ NAMES = ['puzzles', 'puzzles-json']
 #: build/ each is a file; where they are packed or installed they are links.
 LINKS = {name: NAMES[0] for name in NAMES[1:]}
 
-#: What the files that a build reads end in.
-READ = ('.rt', '.antt')
-
-HEAD = "# What the programs are: 'make programs' writes this text, and 'make build' the one in build/. sha256sum --check reads it.\n"
+HEAD = "# What the programs are: 'make programs' writes this text, and 'make build' the one in build/. sha256sum --check reads it."
 
 
-#: What is said of the page begins so.
-PAGE = '# page '
+class Files:
+    """Files of a folder, and what a record says of them: facts by name, and their sums. Folder and record are paths from the top."""
 
-
-class Record:
-    """What is told of programs; the sums are those of their names."""
-
-    def __init__(self, kit: str, sources: str, sums: Dict[str, str]) -> None:
-        self.kit = kit
-        self.sources = sources
-        self.sums = sums
-
-
-class Programs:
-    """A folder with the programs, and their record: paths from the top."""
-
-    def __init__(self, folder: str, record: str) -> None:
+    def __init__(self, folder: str, record: str, facts: Sequence[str], names: Sequence[str] = tuple(NAMES), what: str = 'program') -> None:
         self.folder = folder
         self.record = record
+        self._facts, self._names, self._what = facts, names, what
 
     def path(self, name: str) -> str:
-        """The whole path of a program."""
+        """The whole path of a file."""
         return f'{TOP}/{self.folder}/{name}'
 
-    def take(self, other: Programs, name: str) -> bool:
+    def take(self, other: Files, name: str) -> bool:
         """Takes a program from another folder, where it isn't here already. Says whether it wasn't."""
         with open(other.path(name), 'rb') as file:
             return put(self.path(name), file.read(), 0o755)
 
-    def sums(self) -> Dict[str, str]:
-        """Those of the programs that are there."""
-        return {name: sum_of(self.path(name)) for name in NAMES if os.path.isfile(self.path(name))}
-
-    def text(self) -> str:
-        """The whole record; nothing where there is none."""
+    def lines(self) -> List[str]:
+        """The lines of the record, of other files, too; none where there is no record."""
         try:
             with open(f'{TOP}/{self.record}', encoding='utf-8', errors='replace') as file:
-                return file.read()
+                return file.read().splitlines()
         except OSError:
-            return ''
+            return []
 
     def fact(self, name: str) -> str:
         """What the record says by this name; nothing where it doesn't."""
-        return next((line.partition(': ')[2] for line in self.text().splitlines() if line.startswith(f'# {name}: ')), '')
+        return next((line.partition(': ')[2] for line in self.lines() if line.startswith(f'# {name}: ')), '')
 
-    def read(self) -> Optional[Record]:
-        """What the record says; nothing where there is none."""
-        text = self.text()
-        sums = dict(line.split('  ', 1)[::-1] for line in text.splitlines() if '  ' in line and not line.startswith('#'))
-        own = {name: sums.get(self.named(name), '') for name in NAMES}
-        return Record(self.fact('kit'), self.fact('sources'), own) if text else None
+    def sums(self) -> Dict[str, str]:
+        """The sums of these files that the record says."""
+        said = dict(line.split('  ', 1)[::-1] for line in self.lines() if '  ' in line and not line.startswith('#'))
+        return {name: said.get(self._named(name), '') for name in self._names}
 
-    def named(self, name: str) -> str:
-        """The path of a program from the folder of the record."""
+    def _named(self, name: str) -> str:
+        """The path of a file from the folder of the record."""
         return os.path.relpath(f'{self.folder}/{name}', os.path.dirname(self.record))
 
-    def lines(self, sums: Dict[str, str]) -> str:
-        """What the record has of the sums of the programs."""
-        return ''.join(f'{sums[name]}  {self.named(name)}\n' for name in NAMES)
+    def own_lines(self) -> List[str]:
+        """The lines of the record that are of these files."""
+        heads, names = tuple(f'# {name}: ' for name in self._facts), [self._named(name) for name in self._names]
+        return [line for line in self.lines() if line.startswith(heads) or line.partition('  ')[2] in names]
 
-    def write(self, record: Record, more: str = '') -> bool:
-        """Writes the record, with lines of other programs below, where it isn't there already. Says whether it wasn't."""
-        text = f'{HEAD}# kit: {record.kit}\n# sources: {record.sources}\n{self.lines(record.sums)}{more}{self.of_page()}'
-        return put(f'{TOP}/{self.record}', text.encode(), 0o644)
-
-    def of_page(self) -> str:
-        """What the record says of the page, below what it says of the programs: `web_build.kept` writes it."""
-        return ''.join(self.text().partition(PAGE)[1:])
+    def write(self, facts: Sequence[str]) -> bool:
+        """Writes these facts, in the order of their names, and the sums of the files into the record, where they aren't there already. Says whether they weren't."""
+        own = [f'# {name}: {fact}' for name, fact in zip(self._facts, facts)]
+        own += [f'{sum_of(self.path(name))}  {self._named(name)}' for name in self._names]
+        all_lines = [own if files is self else files.own_lines() for files in RECORDED if files.record == self.record]
+        return put(f'{TOP}/{self.record}', ''.join(f'{line}\n' for line in [HEAD, *sum(all_lines, [])]).encode(), 0o644)
 
     def forget(self) -> None:
         """Takes the record away."""
@@ -110,24 +91,31 @@ class Programs:
 
     def fault(self, sources: str) -> str:
         """Why these are not programs of the sources with this sum, those of the record, and ready to run; nothing where they are."""
-        record = self.read()
-        if not record:
+        if not self.lines():
             return f'there is no {self.record}'
-        if record.sources != sources:
+        if self.fact('sources') != sources:
             return f'the programs in {self.folder} are of other sources than those that are here'
-        found = self.sums()
-        for name in NAMES:
-            if found.get(name) != record.sums.get(name, ''):
-                return f'{self.folder}/{name} is not the program that {self.record} names'
-            if not os.access(self.path(name), os.X_OK):
-                return f'{self.folder}/{name} may not be run'
-        return ''
+        not_to_run = (f'{self.folder}/{name} may not be run' for name in self._names if not os.access(self.path(name), os.X_OK))
+        return self.sum_fault(*self._names) or next(not_to_run, '')
+
+    def sum_fault(self, *names: str) -> str:
+        """Which of these files isn't the one that the record names; nothing where all are."""
+        said = self.sums()
+        others = (name for name in names if not os.path.isfile(self.path(name)) or sum_of(self.path(name)) != said[name])
+        return next((f'{self.folder}/{name} is not the {self._what} that {self.record} names' for name in others), '')
 
 
 #: The programs that git keeps, by the machines that run them, as `uname -sm` names these; and those that were proved and built here.
-AMD, ARM = (Programs(f'programs/linux-{name}', 'programs/RECORD') for name in ('amd64', 'arm64'))
+AMD = Files('programs/linux-amd64', 'programs/RECORD', ['kit', 'sources'])
+ARM = Files('programs/linux-arm64', 'programs/RECORD', ['arm makers'])
 TREES = {'Linux x86_64': AMD, 'Linux aarch64': ARM}
-BUILT = Programs('build', 'build/RECORD')
+BUILT = Files('build', 'build/RECORD', ['kit', 'sources'])
+
+#: The page and its module, which git keeps, too.
+PAGE = Files('programs/web', 'programs/RECORD', ['page kit', 'page binaryen', 'page sources'], ['puzzles.html', 'puzzles.wasm'], 'file')
+
+#: All of which a record says something, in its order.
+RECORDED = [AMD, ARM, PAGE, BUILT]
 
 #: This machine, or the one that PUZZLES_MACHINE names. Below a kernel of 64 bits all else may have 32, as this Python then has, and `getconf LONG_BIT` says.
 MACHINE = os.environ.get('PUZZLES_MACHINE') or f'{os.uname().sysname} {os.uname().machine}{"" if sys.maxsize >> 32 else " of 32 bits"}'
@@ -148,8 +136,7 @@ def lines_of_sources(tops: Iterable[str]) -> Iterator[str]:
     names = sorted(all_of(tops, crates))
     yield from (f'{name}: {" ".join(crates[name])}\n' for name in names)
     for name in names:
-        paths = (path for path in files_of(name) if path.endswith(READ))
-        yield from (f'{sum_of(f"{TOP}/{path}")}  {path}\n' for path in sorted(paths, key=os.fsencode))
+        yield from (f'{sum_of(f"{TOP}/{path}")}  {path}\n' for path in files_of(name))
 
 
 def put(path: str, content: bytes, mode: int) -> bool:

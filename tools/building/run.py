@@ -8,13 +8,12 @@ import re
 import subprocess
 import sys
 import time
-from typing import Dict, List, Sequence, TextIO
+from typing import Sequence, TextIO
 
 from bodies.kit import Kit, NoKit
-from building.crates import BUILD, ROOT, own
 from building.kit import command, kit_of
-from building.listing import all_of, listed
-from building.record import BUILT, CRATE, NAMES, Record, put, sum_of_sources
+from building.listing import BUILD, ROOT, all_of, listed, own
+from building.record import BUILT, CRATE, NAMES, put, sum_of_sources
 from gating.in_turn import clean_up_at_signals
 
 #: What the prover says.
@@ -48,7 +47,7 @@ def make() -> int:
         return 130
     # Where a file has been changed meanwhile the programs are of sources that nobody has any more, and no record is right.
     if sum_of_sources() == sources:
-        BUILT.write(Record(kit, sources, BUILT.sums()))
+        BUILT.write([kit, sources])
     return 0
 
 
@@ -59,10 +58,10 @@ def build(rt: str) -> None:
     say(f'proving {len(crates)} crates, {lanes} side by side, which takes half an hour or more if nothing is proved yet')
     BUILD.mkdir(exist_ok=True)
     with LOG.open('w', buffering=1, encoding='utf-8') as log:
-        prover = Prover(log, len(crates))
         # The program also runs, on an empty input, which it ends at once with status 0.
-        if prover.run([rt, 'all', 'check', '--jobs', str(lanes)]) or prover.run([rt, 'run', '--', 'towers']):
-            raise NotBuilt(prover.fault())
+        for words in ([rt, 'all', 'check', '--jobs', str(lanes)], [rt, 'run', '--', 'towers']):
+            if logged(words, log):
+                raise NotBuilt(fault())
     # One that is being played stays as it is until it ends.
     program = (own(CRATE) / 'out' / CRATE).read_bytes()
     for name in NAMES:
@@ -70,48 +69,31 @@ def build(rt: str) -> None:
     say(f'built in {in_words(time.monotonic() - began)}')
 
 
-class Prover:
-    """Passes on to a log what `rt` says, and to standard error which crate it says it of."""
+def logged(words: Sequence[str], log: TextIO) -> int:
+    """Runs a command in the folder of the program's crate, and gives its status. What it says goes to a log, and to standard error of which crate it says it."""
+    with subprocess.Popen(
+        words, cwd=own(CRATE), stdin=subprocess.DEVNULL, stdout=subprocess.PIPE, stderr=subprocess.STDOUT, encoding='utf-8', errors='replace'
+    ) as process:
+        assert process.stdout
+        try:
+            for line in process.stdout:
+                log.write(line)
+                if re.match('== (?!summary)|rt: waiting', line):
+                    say(line.rstrip())
+        except BaseException:
+            process.terminate()
+            raise
+    return process.returncode
 
-    def __init__(self, log: TextIO, crates: int) -> None:
-        self._log, self._crates = log, crates
-        self._began = time.monotonic()
-        #: What was said of each crate, and before of none.
-        self._said: Dict[str, List[str]] = {CRATE: []}
-        self._of = CRATE
 
-    def run(self, words: Sequence[str]) -> int:
-        """Runs a command in the folder of the program's crate, and gives its status."""
-        self._of = CRATE
-        quiet = subprocess.DEVNULL
-        with subprocess.Popen(
-            words, cwd=own(CRATE), stdin=quiet, stdout=subprocess.PIPE, stderr=subprocess.STDOUT, encoding='utf-8', errors='replace'
-        ) as process:
-            assert process.stdout
-            try:
-                for line in process.stdout:
-                    self._line(line)
-            except BaseException:
-                process.terminate()
-                raise
-        return process.returncode
-
-    def _line(self, line: str) -> None:
-        self._log.write(line)
-        head = re.fullmatch(r'== (\w+)\n', line)
-        if head:
-            self._of = head[1]
-            if self._of != 'summary':
-                say(f'crate {len(self._said)} of {self._crates}: {self._of}, {in_words(time.monotonic() - self._began)} after the start')
-        elif line.startswith('rt: waiting'):
-            say(line.rstrip())
-        self._said.setdefault(self._of, []).append(line)
-
-    def fault(self) -> str:
-        """What isn't proved, and the end of what was said of it."""
-        failed = re.findall(r'^(\w+): failed', ''.join(self._said.get('summary', [])), re.MULTILINE)
-        name = failed[0] if failed else CRATE
-        return f'{name} is not proved; the end of what {LOG.relative_to(ROOT)} has of it:\n{"".join(self._said[name][-LAST:])}'.rstrip()
+def fault() -> str:
+    """What isn't proved, and the end of what was said of it."""
+    said = LOG.read_text(encoding='utf-8')
+    of_crates = dict(re.findall(r'^== (\w+)\n(.*?)(?=^== |\Z)', said, re.MULTILINE | re.DOTALL))
+    failed = re.findall(r'^(\w+): failed', of_crates.get('summary', ''), re.MULTILINE)
+    name = failed[0] if failed else CRATE
+    last = '\n'.join(of_crates.get(name, said).splitlines()[-LAST:])
+    return f'{name} is not proved; the end of what {LOG.relative_to(ROOT)} has of it:\n{last}'
 
 
 def say(text: str) -> None:

@@ -7,7 +7,7 @@ from collections import defaultdict
 from pathlib import Path
 from typing import Dict, Iterable, List, NamedTuple, Set, Tuple
 
-from building.crates import ROOT, own
+from building.listing import ROOT, own
 from citing.declared import Declared, parts_of, words_of
 from trusting.names import imports
 

@@ -6,7 +6,7 @@ import re
 from pathlib import Path
 from typing import Iterator, List, NamedTuple, Set, Tuple
 
-from building.crates import ROOT
+from building.listing import ROOT
 
 #: The words that may stand before the name of a definition.
 DEFINING = {'abbrev', 'unfoldable', 'record', 'data'}

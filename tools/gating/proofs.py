@@ -4,12 +4,11 @@ from __future__ import annotations
 
 import contextlib
 import shutil
-import subprocess
 from pathlib import Path
 from typing import Sequence
 
-from building.crates import BUILD, ROOT
-from building.listing import listed
+from building.kit import answer
+from building.listing import BUILD, ROOT, listed
 from building.record import sum_of_sources
 from gating.counts import counted
 from gating.in_turn import Turns
@@ -32,22 +31,12 @@ def prove(turns: Turns, name: str, rt: str, prover: str, programs: Sequence[str]
     # The libraries that other parts check with are those that are built here, too: `rt ci` would bring back those that it finds.
     for library in ROOT.glob(LIBRARIES):
         shutil.rmtree(library)
-    said = turns.part(name, [rt, 'ci', *([ALL_ANEW] if is_anew and ALL_ANEW in help_of(rt) else [])])
+    said = turns.part(name, [rt, 'ci', *([ALL_ANEW] if is_anew and ALL_ANEW in answer(rt, 'help') else [])])
     counts, odd = counted(*said)
     has_passed = said.status == 0 and not odd and counts.passed > 0 and counts.failed == counts.skipped == 0
     # What was changed meanwhile may not be what was proved.
     if has_passed and sum_of_libraries(prover) == before:
         NOTE.write_text(before, encoding='ascii')
-
-
-def help_of(rt: str) -> str:
-    """What the command says of itself; nothing where it isn't there."""
-    try:
-        return subprocess.run(
-            [rt, 'help'], stdin=subprocess.DEVNULL, stdout=subprocess.PIPE, stderr=subprocess.STDOUT, encoding='utf-8', errors='replace', check=False
-        ).stdout
-    except OSError:
-        return ''
 
 
 def when_left(prover: str) -> float:

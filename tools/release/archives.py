@@ -10,11 +10,11 @@ import tarfile
 import tempfile
 from typing import Iterator, NamedTuple
 
-from building.listing import sum_of
+from building.listing import ROOT, sum_of
 from building.record import BUILT, TREE, TREES
 from release import installing, places
 from release.note import Ready, commit, fit, fit_to_install, git, sums_in
-from release.places import TOP, Folders
+from release.places import Folders
 from web_build.scripts import Unfit
 
 #: The folders of the tarball of programs, which are those below PREFIX. The documents lie at its top.
@@ -73,7 +73,7 @@ def packed(programs: Ready, name: str) -> bytes:
 
 def log_of(programs: Ready) -> bytes:
     """What the gate said, where it has passed with these programs, at this commit; else nothing."""
-    path = TOP / 'build' / 'gate.log'
+    path = ROOT / 'build' / 'gate.log'
     if not path.is_file():
         return b''
     log = path.read_bytes()

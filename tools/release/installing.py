@@ -8,9 +8,10 @@ import subprocess
 import tempfile
 from typing import Iterable, Iterator, List, NamedTuple, Sequence, Tuple
 
+from building.listing import ROOT
 from building.record import put_link
 from release import places
-from release.places import NOTE, OURS, TOP, Folders, Item
+from release.places import NOTE, OURS, Folders, Item
 
 #: The line of a command in Python that says where its package lies from there.
 PACKAGE_LINE = "PACKAGE = '..'\n"
@@ -39,7 +40,7 @@ def put_item(item: Item, folders: Folders, note: str) -> None:
     if item.link:
         put_link(place, item.link)
         return
-    content = note.encode() if item.source == NOTE else (TOP / item.source).read_bytes()
+    content = note.encode() if item.source == NOTE else (ROOT / item.source).read_bytes()
     if item.source in places.SCRIPTS.values():
         content = with_package(item.source, content, folders)
     put_file(place, content, item.mode)

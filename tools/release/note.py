@@ -6,14 +6,16 @@ import re
 import subprocess
 from typing import Dict, List, NamedTuple, Optional
 
+from building.listing import ROOT
 from building.ready import NotReady, ready
-from building.record import BUILT, NAMES, Programs, sum_of_sources
-from release.places import TOP, version
+from building.record import BUILT, NAMES, Files, sum_of_sources
+from release.places import version
+from web_build.kept import made_fault
 from web_build.scripts import Unfit
 
 
 class Ready(NamedTuple):
-    """Programs of the sources that are here, and what is told of them."""
+    """Files of the sources that are here, and what is told of them."""
 
     #: From the top.
     folder: str
@@ -22,37 +24,36 @@ class Ready(NamedTuple):
     note: str
 
 
-def fit(at: str, programs: Optional[Programs] = None) -> Ready:
+def fit(at: str, programs: Optional[Files] = None) -> Ready:
     """The programs that are ready, or these, at this commit. Raises Unfit where there are none of the sources."""
     try:
         programs = programs or ready()
     except NotReady as error:
         raise Unfit(str(error)) from None
-    record, fault = programs.read(), programs.fault(sum_of_sources())
-    if not record or fault:
+    fault, kit, own = programs.fault(sum_of_sources()), programs.fact('kit'), programs.sums()
+    if fault:
         raise Unfit(fault)
     origin = 'taken from a build' if programs is BUILT else 'taken from the repository'
-    sums = ''.join(f'{record.sums[name]}  {name}\n' for name in NAMES)
-    return Ready(programs.folder, at, record.sums, f'{head(at)}proved by {record.kit}\n{origin}\n{sums}')
+    sums = ''.join(f'{own[name]}  {name}\n' for name in NAMES)
+    return Ready(programs.folder, at, own, f'{head(at)}proved by {kit}\n{origin}\n{sums}')
 
 
 def fit_to_install(at: str) -> Ready:
     """The same, where the page is ready, too."""
-    from web_build.kept import made_fault
-
     programs, wrong = fit(at), made_fault()
     if wrong:
         raise Unfit(f'{wrong}: run make web')
     return programs
 
 
-def note() -> str:
-    """What is told, where there are no programs, too."""
+def tell() -> int:
+    """Prints what is told, where there are no programs, too. Gives the status to end with."""
     at = commit()
     try:
-        return fit(at).note
+        print(fit(at).note, end='')
     except Unfit:
-        return head(at)
+        print(head(at), end='')
+    return 0
 
 
 def head(at: str) -> str:
@@ -66,12 +67,12 @@ def sums_in(text: str) -> Dict[str, str]:
 
 def commit() -> str:
     """The commit that the repository is at, with ' and changes' where files differ from it."""
-    return subprocess.run([TOP / 'tools' / 'commit'], stdout=subprocess.PIPE, check=True).stdout.decode().strip()
+    return subprocess.run([ROOT / 'tools' / 'commit'], stdout=subprocess.PIPE, check=True).stdout.decode().strip()
 
 
 def git(*words: str) -> bytes:
     """What git answers here. Raises Unfit where it can't."""
-    command: List[str] = ['git', '-C', str(TOP), *words]
+    command: List[str] = ['git', '-C', str(ROOT), *words]
     try:
         return subprocess.run(command, stdout=subprocess.PIPE, stderr=subprocess.PIPE, check=True).stdout
     except FileNotFoundError:

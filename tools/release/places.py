@@ -5,10 +5,8 @@ from __future__ import annotations
 import os
 from typing import Iterator, List, Mapping, NamedTuple
 
-from building.crates import ROOT
+from building.listing import ROOT
 from building.record import LINKS, NAMES
-
-TOP = ROOT
 
 #: The folder below `datadir` that is ours alone.
 OURS = 'verified-puzzles'
@@ -116,10 +114,10 @@ def completions() -> Iterator[Item]:
 
 def below(folder: str, pattern: str) -> List[str]:
     """The files below a folder of the repository that a pattern names, in order, from that folder."""
-    top = TOP / folder
+    top = ROOT / folder
     return sorted(str(path.relative_to(top)) for path in top.glob(pattern) if path.is_file())
 
 
 def version() -> str:
     """The version, from the one place where it is written."""
-    return (TOP / 'VERSION').read_text(encoding='utf-8').strip()
+    return (ROOT / 'VERSION').read_text(encoding='utf-8').strip()

@@ -6,7 +6,7 @@ import re
 from pathlib import Path
 from typing import Iterator
 
-from trusting.definitions import ROOT
+from building.listing import ROOT
 
 #: The folders of what a player runs besides the programs.
 FOLDERS = ('board', 'check', 'page', 'playing', 'sheet')

@@ -6,7 +6,8 @@ import re
 from pathlib import Path
 from typing import Dict, Iterator, List, NamedTuple, Optional, Tuple
 
-from trusting.definitions import ROOT, Meaning, Part
+from building.listing import ROOT
+from trusting.definitions import Meaning, Part
 from trusting.names import imports, modules
 
 #: Crates whose impls are for tests, measurements and examples alone.

@@ -6,9 +6,8 @@ import re
 from pathlib import Path
 from typing import Dict, Iterator, List, NamedTuple, Optional, Tuple
 
+from building.listing import ROOT
 from trusting.names import NAME, Source, imports, modules, passed_on
-
-ROOT = Path(__file__).resolve().parent.parent.parent
 
 #: The head of a definition: a name, or an operator with the places of what it stands between.
 HEAD = re.compile(rf'^(?:(?:abbrev|unfoldable|record|data|pub) )*({NAME}|◌\S+◌)')

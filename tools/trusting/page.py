@@ -7,10 +7,11 @@ import textwrap
 from pathlib import Path
 from typing import Dict, Iterable, Iterator, List, Optional, Set
 
+from building.listing import ROOT
 from trusting.around import around
 from trusting.closure import Closure, in_reading_order
 from trusting.contracts import Function, Rust
-from trusting.definitions import ROOT, Part
+from trusting.definitions import Part
 from trusting.kit import Kit, folder, lines_of
 from trusting.names import Source
 from trusting.parts import called, parts

@@ -5,8 +5,9 @@ from __future__ import annotations
 import re
 from typing import Iterator, List, NamedTuple, Set, Tuple
 
+from building.listing import ROOT
 from trusting.contracts import Function, Rust, crate_of
-from trusting.definitions import ROOT, Part, definitions
+from trusting.definitions import Part, definitions
 from trusting.names import Unknown
 
 #: The document.

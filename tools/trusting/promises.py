@@ -6,7 +6,7 @@ import re
 from typing import Iterator, List, NamedTuple, Tuple
 
 from trusting.contracts import Function, Rust
-from trusting.definitions import ROOT
+from building.listing import ROOT
 
 PAGE = ROOT / 'docs' / 'TRUST.md'
 

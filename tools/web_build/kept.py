@@ -1,20 +1,16 @@
-"""The module and the page that lie in programs/web, with their lines in programs/RECORD, below those of the programs:
-
-    # page kit: the line of `rt version`
-    # page binaryen: that of `wasm-opt --version`
-    # page sources: the sum over what the module is built from
-    ..the sum of a file..  its name, from the folder of the record
-"""
+"""The module and the page that lie in programs/web: they are stored there with their lines in programs/RECORD, and compared with others."""
 
 from __future__ import annotations
 
 import sys
-from typing import Dict, TextIO
+from typing import List, TextIO
 
 from building.kit import command, kit_of
-from building.listing import TOP, sum_of
-from building.record import PAGE, TREE, put, sum_of_sources
+from building.listing import TOP
+from building.record import PAGE, put, sum_of_sources
+from building.run import make
 from gating.counts import compared
+from web_build.module import binaryen, built
 from web_build.page import packed, packed_in, page_of, unpacked
 from web_build.scripts import Unfit
 
@@ -33,22 +29,6 @@ ADVICE = 'make web, and commit'
 RUN = 'run make web, which proves and builds it: that needs the kit, and may take an hour'
 
 
-#: What the record says that a module was made with, and from what.
-MAKERS = ('kit', 'binaryen', 'sources')
-
-
-def noted(name: str) -> str:
-    """What the record says of the page by this name; nothing where it doesn't."""
-    return TREE.fact(f'page {name}')
-
-
-def write(makers: Dict[str, str]) -> bool:
-    """Writes the makers of the module, and the sums of both files, below what the record says of the programs. Says whether that wasn't there yet."""
-    facts = ''.join(f'{PAGE}{name}: {makers[name]}\n' for name in MAKERS)
-    sums = ''.join(f'{sum_of(f"{TOP}/{path}")}  {path.partition("/")[2]}\n' for path in (PAGE_FILE, MODULE_FILE))
-    return put(f'{TOP}/{TREE.record}', (TREE.text().partition(PAGE)[0] + facts + sums).encode(), 0o644)
-
-
 def sources() -> str:
     """The sum over what the module is built from."""
     return sum_of_sources([CRATE], SCRIPTS)
@@ -56,16 +36,16 @@ def sources() -> str:
 
 def module_fault() -> str:
     """Why the module in the tree is not one of the sources that are here; nothing where it is."""
-    if not noted('sources'):
-        return f'{TREE.record} says nothing of the page'
-    if noted('sources') != sources():
+    if not PAGE.fact('page sources'):
+        return f'{PAGE.record} says nothing of the page'
+    if PAGE.fact('page sources') != sources():
         return f'{MODULE_FILE} is of other sources than those that are here'
-    return sum_fault(MODULE_FILE)
+    return PAGE.sum_fault('puzzles.wasm')
 
 
 def page_fault() -> str:
     """Why the page in the tree is not the one that the record names, or not one of that module and of the sources that are here; nothing where it is."""
-    return sum_fault(PAGE_FILE) or made_fault()
+    return PAGE.sum_fault('puzzles.html') or made_fault()
 
 
 def made_fault() -> str:
@@ -80,14 +60,6 @@ def made_fault() -> str:
     return '' if page_of(as_packed) == found else f'{PAGE_FILE} is of other sources than those that are here'
 
 
-def sum_fault(path: str) -> str:
-    try:
-        is_same = f'{sum_of(f"{TOP}/{path}")}  {path.partition("/")[2]}' in TREE.of_page().splitlines()
-    except OSError as error:
-        return f'{path}: {error.strerror}'
-    return '' if is_same else f'{path} is not the file that {TREE.record} names'
-
-
 def where() -> None:
     """Prints the path of the page of these sources, which is made where there is none. Raises Unfit, also where its module would have to be built."""
     wrong = module_fault()
@@ -100,11 +72,8 @@ def where() -> None:
 
 def store(said: TextIO = sys.stdout) -> None:
     """Builds the module where that in the tree isn't of these sources, makes the page, and stores both with their lines. Raises Unfit."""
-    makers, wrong = {name: noted(name) for name in MAKERS}, module_fault()
+    makers, wrong = [PAGE.fact(name) for name in ('page kit', 'page binaryen', 'page sources')], module_fault()
     if wrong:
-        # Mostly the module is there, and then none of this need be read.
-        from building.run import make
-
         print(f'{wrong}: it is proved and built', file=sys.stderr)
         if make():
             raise Unfit('the programs are not built, and so neither is the page')
@@ -112,7 +81,7 @@ def store(said: TextIO = sys.stdout) -> None:
         tell(put(f'{TOP}/{MODULE_FILE}', built_by(makers), 0o644), MODULE_FILE, said)
     if wrong or page_fault():
         tell(put(f'{TOP}/{PAGE_FILE}', page_of(packed_there() or packed(read(MODULE_FILE))), 0o644), PAGE_FILE, said)
-    tell(write(makers), TREE.record, said)
+    tell(PAGE.write(makers), PAGE.record, said)
 
 
 def packed_there() -> str:
@@ -129,18 +98,15 @@ def tell(is_new: bool, path: str, said: TextIO) -> None:
         print(f'stored: {path}', file=said)
 
 
-def makers_here() -> Dict[str, str]:
-    from web_build.module import binaryen
-
+def makers_here() -> List[str]:
+    """What a module would be made with here, and from what: the kit, Binaryen and the sources."""
     rt = command()
-    return {'kit': kit_of(rt) if rt else '', 'binaryen': binaryen(), 'sources': sources()}
+    return [kit_of(rt) if rt else '', binaryen(), sources()]
 
 
-def built_by(makers: Dict[str, str]) -> bytes:
+def built_by(makers: List[str]) -> bytes:
     """The module, built over the libraries that are there. Raises Unfit."""
-    from web_build.module import built
-
-    if not makers['binaryen']:
+    if not makers[1]:
         raise Unfit("there is no command wasm-opt: Debian's package binaryen has it")
     return built(CRATE)
 
@@ -148,9 +114,9 @@ def built_by(makers: Dict[str, str]) -> bytes:
 def compare() -> int:
     """Builds the module anew, and compares. Says how many cases have passed, which are the record, the page and the module, and gives the status to end with."""
     faults = [f'{wrong}: {ADVICE}' for wrong in (module_fault(), page_fault()) if wrong]
-    here = makers_here()
-    if (noted('kit'), noted('binaryen')) != (here['kit'], here['binaryen']):
-        print(f"{MODULE_FILE} was built by '{noted('kit')}' and '{noted('binaryen')}', and here are '{here['kit']}' and '{here['binaryen']}': so it isn't compared")
+    then, here = [PAGE.fact('page kit'), PAGE.fact('page binaryen')], makers_here()
+    if then != here[:2]:
+        print(f"{MODULE_FILE} was built by '{then[0]}' and '{then[1]}', and here are '{here[0]}' and '{here[1]}': so it isn't compared")
         return compared(2, faults)
     try:
         if built_by(here) != read(MODULE_FILE):

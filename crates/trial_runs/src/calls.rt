@@ -12,16 +12,14 @@
 
 mod call;
 mod fixture;
-mod made;
+pub(crate) mod made;
 mod twins;
 
-use crate::calls::call::{CALLS, Call, NotMade, call_named, make};
+use crate::calls::call::{CALLS, Call, FIXTURE, call_named, make};
 use crate::calls::fixture::{Start, session_at};
 use crate::calls::twins::are_equal;
 use clue_rules::{Towers, Unequal};
-use play_midend::Session;
 use puzzle_cli::Draw;
-use std::alloc::Global;
 use std::io;
 use std::io::Write;
 
@@ -53,19 +51,6 @@ fn list_calls_of(rt: &impl Print, game: &str) -> io::Result<()> {
     Ok(())
 }
 
-/// What came of a call.
-#[derive(Drop)]
-enum Told {
-    /// Memory was refused before it.
-    Fixture,
-    /// It was refused, by this name; and how the session is after it.
-    Refused(&'static str, &'static str),
-    /// How the session is after it, and what the call made.
-    Made(&'static str, Vec<u8>),
-    /// Memory was refused after it.
-    Afterwards,
-}
-
 // Makes a call in one of two sessions that are equal, and says what came of it.
 fn tell<P: Draw>(
     rt: &(impl Print + AllocGlobal),
@@ -73,57 +58,26 @@ fn tell<P: Draw>(
     start: Start,
     call: &Call,
 ) -> io::Result<()> {
-    print_told(rt, &call_told::<P>(rt.alloc(), id, start, call))
-}
-
-fn print_told(rt: &impl Print, told: &Told) -> io::Result<()> {
-    match told {
-        Told::Fixture => println!(rt; "fixture"),
-        Told::Refused(name, likeness) => print_answer(rt, name, likeness, b""),
-        Told::Made(likeness, text) => print_answer(rt, "ok", likeness, text),
-        Told::Afterwards => println!(rt; "afterwards"),
+    let (Some(mut session), Some(mut twin)) = (
+        session_at::<P>(rt.alloc(), id, start),
+        session_at::<P>(rt.alloc(), id, start),
+    ) else {
+        return println!(rt; "{FIXTURE}");
+    };
+    let made = make(rt.alloc(), id, &mut session, call);
+    let is_same = are_equal(&mut session, &mut twin);
+    match made {
+        Err(name) if name == FIXTURE => println!(rt; "{FIXTURE}"),
+        Err(name) => print_answer(rt, name, is_same, b""),
+        Ok(made) => match made.text(rt.alloc()) {
+            Ok(text) => print_answer(rt, "ok", is_same, &text),
+            Err(_) => println!(rt; "afterwards"),
+        },
     }
 }
 
-fn print_answer(rt: &impl Print, name: &str, likeness: &str, text: &[u8]) -> io::Result<()> {
+fn print_answer(rt: &impl Print, name: &str, is_same: bool, text: &[u8]) -> io::Result<()> {
+    let likeness = if is_same { "same" } else { "changed" };
     println!(rt; "{name}\n{likeness}")?;
     io::writer(rt).write_all(text)
-}
-
-fn call_told<P: Draw>(alloc: Global, id: &str, start: Start, call: &Call) -> Told {
-    let (Some(mut session), Some(mut twin)) = (
-        session_at::<P>(alloc, id, start),
-        session_at::<P>(alloc, id, start),
-    ) else {
-        return Told::Fixture;
-    };
-    made_told(alloc, id, call, &mut session, &mut twin)
-}
-
-fn made_told<P: Draw>(
-    alloc: Global,
-    id: &str,
-    call: &Call,
-    session: &mut Session<P>,
-    twin: &mut Session<P>,
-) -> Told {
-    match make(alloc, id, session, call) {
-        Err(NotMade::Fixture) => Told::Fixture,
-        Err(NotMade::Refused(name)) => Told::Refused(name, likeness(session, twin)),
-        Ok(made) => {
-            let likeness = likeness(session, twin);
-            match made.text(alloc) {
-                Ok(text) => Told::Made(likeness, text),
-                Err(_) => Told::Afterwards,
-            }
-        }
-    }
-}
-
-fn likeness<P: Draw>(session: &mut Session<P>, twin: &mut Session<P>) -> &'static str {
-    if are_equal(session, twin) {
-        "same"
-    } else {
-        "changed"
-    }
 }

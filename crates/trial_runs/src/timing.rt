@@ -45,20 +45,13 @@ pub(crate) fn time_lines<R: Clock + Alloc<A = Global> + Input + Print>(
     task: Task,
 ) -> io::Result<()> {
     for line in rt.lines(rt.alloc()) {
-        time_line(rt, task, line?.as_str())?;
+        let line = line?;
+        match timing_of_line(rt, task, line.as_str())? {
+            Some(timing) => println!(rt; "{} {}", timing.nanoseconds, timing.solutions)?,
+            None => println!(rt; "cannot read {line}")?,
+        }
     }
     Ok(())
-}
-
-fn time_line<R: Clock + Alloc<A = Global> + Print>(
-    rt: &R,
-    task: Task,
-    line: &str,
-) -> io::Result<()> {
-    match timing_of_line(rt, task, line)? {
-        Some(timing) => println!(rt; "{} {}", timing.nanoseconds, timing.solutions),
-        None => println!(rt; "cannot read {line}"),
-    }
 }
 
 // None where the line has no puzzle.

@@ -106,44 +106,56 @@ pub(crate) fn call_named(name: &str) -> Option<(Start, &'static Call)> {
     None
 }
 
-/// Why a call made nothing.
-#[derive(Clone, Copy)]
-pub(crate) enum NotMade {
-    /// Memory was refused before the call.
-    Fixture,
-    /// The call was refused, by this name.
-    Refused(&'static str),
-}
+/// Stands for the name of a refusal where memory was refused before the call.
+pub(crate) const FIXTURE: &str = "fixture";
 
-/// Makes a call in a session of the puzzle of a game ID.
+/// Makes a call in a session of the puzzle of a game ID, or gives the name of its refusal.
 pub(crate) fn make<P: Draw>(
     alloc: Global,
     id: &str,
     session: &mut Session<P>,
     call: &Call,
-) -> Result<Made<P>, NotMade> {
+) -> Result<Made<P>, &'static str> {
     match call {
-        Call::Play(text) => done(play(session, text.as_bytes())),
-        Call::Restart => done(session.restart()),
-        Call::Solve => done(session.solve()),
-        Call::New => begin_again(alloc, session),
+        Call::Play(text) => play(session, text.as_bytes()).map_err(|fault| fault.name())?,
+        Call::Restart => session.restart().map_err(|fault| fault.name())?,
+        Call::Solve => session.solve().map_err(|fault| fault.name())?,
+        call => return made(alloc, id, session, call),
+    }
+    Ok(Made::Nothing)
+}
+
+// The calls that leave the session as it is.
+fn made<P: Draw>(
+    alloc: Global,
+    id: &str,
+    session: &Session<P>,
+    call: &Call,
+) -> Result<Made<P>, &'static str> {
+    match call {
+        Call::New => begun_again(alloc, session),
         Call::Begin => first_session(alloc, id.as_bytes()),
         Call::BeginSeed => first_session(alloc, b"4!7"),
         Call::BeginFile => session_of_file(alloc, session),
         Call::Load => loaded(alloc, session),
-        Call::ReadWords => words(alloc),
-        call => read_of(alloc, session, call),
+        Call::ReadWords => match read_words(alloc, WORDS.as_slice()) {
+            Ok(args) => Ok(Made::Words(args)),
+            Err(fault) => Err(fault.name()),
+        },
+        Call::ChangeOf(text) => changed(alloc, session, text),
+        Call::Whole => match Change::whole(alloc, *session.board()) {
+            Ok(_change) => Ok(Made::Nothing),
+            Err(fault) => Err(fault.name()),
+        },
+        Call::Solutions => match solutions(alloc, session.puzzle(), 12) {
+            Ok(grids) => Ok(Made::Grids(grids)),
+            Err(fault) => Err(fault.name()),
+        },
+        call => Ok(Made::Text(text_of(alloc, session, call)?)),
     }
 }
 
-fn done<P: Draw>(answer: Result<(), PlayFault>) -> Result<Made<P>, NotMade> {
-    match answer {
-        Ok(()) => Ok(Made::Nothing),
-        Err(fault) => Err(NotMade::Refused(fault.name())),
-    }
-}
-
-fn begin_again<P: Draw>(alloc: Global, session: &Session<P>) -> Result<Made<P>, NotMade> {
+fn begun_again<P: Draw>(alloc: Global, session: &Session<P>) -> Result<Made<P>, &'static str> {
     let puzzle = *session.puzzle();
     let params = Params {
         size: puzzle.size(),
@@ -158,79 +170,42 @@ fn begin_again<P: Draw>(alloc: Global, session: &Session<P>) -> Result<Made<P>, 
     };
     match Session::new(alloc, params, next_params, puzzle, extras) {
         Ok(session) => Ok(Made::Session(session)),
-        Err(fault) => Err(NotMade::Refused(fault.name())),
+        Err(fault) => Err(fault.name()),
     }
 }
 
-fn first_session<P: Draw>(alloc: Global, id: &[u8]) -> Result<Made<P>, NotMade> {
+fn first_session<P: Draw>(alloc: Global, id: &[u8]) -> Result<Made<P>, &'static str> {
     match begin::<P>(alloc, Some(id), None) {
         Ok(session) => Ok(Made::First(session)),
-        Err(fault) => Err(NotMade::Refused(fault.name())),
+        Err(fault) => Err(fault.name()),
     }
 }
 
-fn first_of_file<P: Draw>(alloc: Global, file: &[u8]) -> Result<Made<P>, NotMade> {
-    match begin::<P>(alloc, None, Some(file)) {
+fn session_of_file<P: Draw>(alloc: Global, session: &Session<P>) -> Result<Made<P>, &'static str> {
+    let file = save(alloc, session).map_err(|_| FIXTURE)?;
+    match begin::<P>(alloc, None, Some(&file)) {
         Ok(session) => Ok(Made::First(session)),
-        Err(fault) => Err(NotMade::Refused(fault.name())),
+        Err(fault) => Err(fault.name()),
     }
 }
 
-fn session_of_file<P: Draw>(alloc: Global, session: &Session<P>) -> Result<Made<P>, NotMade> {
-    match save(alloc, session) {
-        Ok(file) => first_of_file(alloc, &file),
-        Err(_) => Err(NotMade::Fixture),
-    }
-}
-
-fn loaded<P: Draw>(alloc: Global, session: &Session<P>) -> Result<Made<P>, NotMade> {
-    match save(alloc, session) {
-        Ok(file) => session_loaded(alloc, &file),
-        Err(_) => Err(NotMade::Fixture),
-    }
-}
-
-fn session_loaded<P: Draw>(alloc: Global, file: &[u8]) -> Result<Made<P>, NotMade> {
-    match load::<P>(alloc, file) {
+fn loaded<P: Draw>(alloc: Global, session: &Session<P>) -> Result<Made<P>, &'static str> {
+    let file = save(alloc, session).map_err(|_| FIXTURE)?;
+    match load::<P>(alloc, &file) {
         Ok(session) => Ok(Made::Session(session)),
-        Err(fault) => Err(NotMade::Refused(fault.name())),
+        Err(fault) => Err(fault.name()),
     }
 }
 
-fn words<P: Draw>(alloc: Global) -> Result<Made<P>, NotMade> {
-    match read_words(alloc, WORDS.as_slice()) {
-        Ok(args) => Ok(Made::Words(args)),
-        Err(fault) => Err(NotMade::Refused(fault.name())),
-    }
-}
-
-// The calls that only read the session.
-fn read_of<P: Draw>(alloc: Global, session: &Session<P>, call: &Call) -> Result<Made<P>, NotMade> {
-    match call {
-        Call::ChangeOf(text) => changed(alloc, session, text),
-        Call::Whole => match Change::whole(alloc, *session.board()) {
-            Ok(_change) => Ok(Made::Nothing),
-            Err(fault) => Err(NotMade::Refused(fault.name())),
-        },
-        Call::Solutions => match solutions(alloc, session.puzzle(), 12) {
-            Ok(grids) => Ok(Made::Grids(grids)),
-            Err(fault) => Err(NotMade::Refused(fault.name())),
-        },
-        call => match text_of(alloc, session, call) {
-            Ok(text) => Ok(Made::Text(text)),
-            Err(name) => Err(NotMade::Refused(name)),
-        },
-    }
-}
-
-fn changed<P: Draw>(alloc: Global, session: &Session<P>, text: &str) -> Result<Made<P>, NotMade> {
-    let m = match read_move(text.as_bytes()) {
-        Ok(m) => m,
-        Err(fault) => return Err(NotMade::Refused(fault.name())),
-    };
+fn changed<P: Draw>(
+    alloc: Global,
+    session: &Session<P>,
+    text: &str,
+) -> Result<Made<P>, &'static str> {
+    let m = read_move(text.as_bytes()).map_err(|fault| fault.name())?;
     match change_of(alloc, session.puzzle(), session.board(), &m) {
         Ok(_change) => Ok(Made::Nothing),
-        Err(fault) => Err(NotMade::Refused(fault.name())),
+        Err(fault) => Err(fault.name()),
     }
 }
 
@@ -240,14 +215,11 @@ fn text_of<P: Draw>(
     session: &Session<P>,
     call: &Call,
 ) -> Result<Vec<u8>, &'static str> {
+    let puzzle = session.puzzle();
     match call {
         Call::WriteMove(text) => written(alloc, text).map_err(|fault| fault.name()),
-        Call::WriteDesc => session
-            .puzzle()
-            .write_desc(alloc)
-            .map_err(|fault| fault.name()),
-        Call::Draw => session
-            .puzzle()
+        Call::WriteDesc => puzzle.write_desc(alloc).map_err(|fault| fault.name()),
+        Call::Draw => puzzle
             .draw(alloc, session.board())
             .map_err(|fault| fault.name()),
         Call::Picture => picture(alloc, session).map_err(|fault| fault.name()),
@@ -257,8 +229,5 @@ fn text_of<P: Draw>(
 }
 
 fn written(alloc: Global, text: &str) -> Result<Vec<u8>, PlayFault> {
-    match read_move(text.as_bytes()) {
-        Ok(m) => write_move(alloc, &m),
-        Err(fault) => Err(fault),
-    }
+    write_move(alloc, &read_move(text.as_bytes())?)
 }

@@ -34,16 +34,10 @@ impl<P: Draw> Made<P> {
 
 fn words_text(alloc: Global, args: &Args) -> Result<Vec<u8>, AllocError> {
     let mut text = Vec::new(alloc);
-    match add_words(&mut text, args) {
-        Ok(()) => Ok(text),
-        Err(error) => Err(error),
-    }
-}
-
-fn add_words(text: &mut Vec<u8>, args: &Args) -> Result<(), AllocError> {
-    add_word(text, &args.id)?;
-    add_word(text, &args.load)?;
-    add_word(text, &args.save)
+    add_word(&mut text, &args.id)?;
+    add_word(&mut text, &args.load)?;
+    add_word(&mut text, &args.save)?;
+    Ok(text)
 }
 
 // A word on a line of its own.
@@ -58,25 +52,18 @@ fn add_word(text: &mut Vec<u8>, word: &Option<String>) -> Result<(), AllocError>
 
 fn digits_of(alloc: Global, grids: &[Grid]) -> Result<Vec<u8>, AllocError> {
     let mut text = Vec::new(alloc);
-    match add_grids(&mut text, grids) {
-        Ok(()) => Ok(text),
-        Err(error) => Err(error),
-    }
-}
-
-fn add_grids(text: &mut Vec<u8>, grids: &[Grid]) -> Result<(), AllocError> {
     for grid in grids {
-        add_digits(text, grid)?;
+        add_digits(&mut text, grid)?;
+        text.push(b'\n')?;
     }
-    Ok(())
+    Ok(text)
 }
 
-// The numbers of a grid on a line of their own.
-fn add_digits(text: &mut Vec<u8>, grid: &Grid) -> Result<(), AllocError> {
+/// Adds the numbers of a grid.
+pub(crate) fn add_digits(text: &mut Vec<u8>, grid: &Grid) -> Result<(), AllocError> {
     let width = usize::from(grid.size().get());
     for cell in 0..width * width {
         text.push(b'0'.wrapping_add(grid.get(cell)))?;
     }
-    text.push(b'\n')?;
     Ok(())
 }

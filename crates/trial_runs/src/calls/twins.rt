@@ -1,8 +1,7 @@
 //! Whether two sessions are equal, found out without memory.
 
-use latin_board::Board;
 use play_midend::Session;
-use puzzle_cli::{Draw, done_text};
+use puzzle_cli::Draw;
 
 /// Whether two sessions are equal: in their puzzles, parameters and kept bytes, in all moves, the later ones included, and in the
 /// boards of all states. Equal ones are left at their last states.
@@ -57,26 +56,5 @@ fn go_on_alike<P: Draw>(one: &mut Session<P>, other: &mut Session<P>) -> bool {
 }
 
 fn show_the_same<P: Draw>(one: &Session<P>, other: &Session<P>) -> bool {
-    are_equal_boards(one.board(), other.board())
-        && done_text(one).as_slice() == done_text(other).as_slice()
-}
-
-fn are_equal_boards(one: &Board, other: &Board) -> bool {
-    if one.size() != other.size()
-        || one.completed() != other.completed()
-        || one.cheated() != other.cheated()
-        || one.grid() != other.grid()
-    {
-        return false;
-    }
-    let width = one.size().get();
-    let squares = usize::from(width) * usize::from(width);
-    for cell in 0..squares {
-        for n in 1..=width {
-            if one.marks(cell).has(n) != other.marks(cell).has(n) {
-                return false;
-            }
-        }
-    }
-    true
+    *one.board() == *other.board()
 }

@@ -1,9 +1,9 @@
 //! Answers to texts of saves, and what is kept of many of them.
 
 use clue_rules::Game;
-use latin_board::Board;
 use play_midend::Session;
 use play_save::{LoadFault, load, save};
+use puzzle_cli::status_text;
 use std::alloc::{AllocError, Global};
 
 /// How many different answers there are: a text loads, and the refusals by their numbers.
@@ -38,27 +38,17 @@ impl Answer {
     /// The answer to a text.
     pub(crate) fn of<P: Game>(alloc: Global, text: &[u8]) -> Result<Answer, AllocError> {
         match load::<P>(alloc, text) {
-            Ok(session) => Answer::loaded(alloc, &session),
-            Err(fault) => Answer::refused(alloc, fault),
+            Ok(session) => Ok(Answer {
+                number: 0,
+                name: "loads",
+                in_full: status_and_save(alloc, &session)?,
+            }),
+            Err(fault) => Ok(Answer {
+                number: fault.number(),
+                name: fault.name(),
+                in_full: refusal(alloc, fault)?,
+            }),
         }
-    }
-
-    fn refused(alloc: Global, fault: LoadFault) -> Result<Answer, AllocError> {
-        let in_full = refusal(alloc, fault)?;
-        Ok(Answer {
-            number: fault.number(),
-            name: fault.name(),
-            in_full,
-        })
-    }
-
-    fn loaded<P: Game>(alloc: Global, session: &Session<P>) -> Result<Answer, AllocError> {
-        let in_full = status_and_save(alloc, session)?;
-        Ok(Answer {
-            number: 0,
-            name: "loads",
-            in_full,
-        })
     }
 }
 
@@ -73,58 +63,21 @@ fn refusal(alloc: Global, fault: LoadFault) -> Result<Vec<u8>, AllocError> {
 
 // The status of a session as a line, and its save.
 fn status_and_save<P: Game>(alloc: Global, session: &Session<P>) -> Result<Vec<u8>, AllocError> {
-    let mut text = status_line(alloc, session)?;
-    match add_save(alloc, &mut text, session) {
-        Ok(()) => Ok(text),
-        Err(error) => Err(error),
+    let mut text = Vec::new(alloc);
+    text.extend_from_slice(status_text(session).as_bytes())?;
+    text.push(b'\n')?;
+    if let Ok(own) = save(alloc, session) {
+        text.extend_from_slice(&own)?;
     }
+    Ok(text)
 }
 
-fn add_save<P: Game>(
-    alloc: Global,
-    text: &mut Vec<u8>,
-    session: &Session<P>,
-) -> Result<(), AllocError> {
-    match save(alloc, session) {
-        Ok(own) => text.extend_from_slice(&own),
-        Err(_) => Ok(()),
-    }
-}
-
-fn status_line<P: Game>(alloc: Global, session: &Session<P>) -> Result<Vec<u8>, AllocError> {
-    let word = word(session);
-    let (position, states) = (session.position(), session.states());
-    Ok(format!(in alloc; "{word} {position}/{states}\n")?.into_bytes())
-}
-
-/// The word of the status line.
-pub(crate) fn word<P: Game>(session: &Session<P>) -> &'static str {
-    word_of(session.board())
-}
-
-fn word_of(board: &Board) -> &'static str {
-    if board.cheated() {
-        "helped"
-    } else if board.completed() {
-        "solved"
-    } else {
-        "playing"
-    }
-}
-
-/// How often an answer came.
-#[derive(Clone, Copy)]
-pub(crate) struct Count {
-    pub(crate) name: &'static str,
-    pub(crate) texts: u64,
-}
-
-/// What is kept of answers: a digest of them in order, and how often each came, by its number.
+/// What is kept of answers: how many there were, a digest of them in order, and by its number each one's name and how often it came.
 #[derive(Drop)]
 pub(crate) struct Block {
-    texts: u64,
+    pub(crate) texts: u64,
     digest: Digest,
-    counts: [Option<Count>; ANSWERS],
+    pub(crate) counts: [(&'static str, u64); ANSWERS],
 }
 
 impl Block {
@@ -133,13 +86,8 @@ impl Block {
         Block {
             texts: 0,
             digest: Digest::new(),
-            counts: [None; ANSWERS],
+            counts: [("", 0); ANSWERS],
         }
-    }
-
-    /// How many there were.
-    pub(crate) fn texts(&self) -> u64 {
-        self.texts
     }
 
     /// The digest of all of them in full.
@@ -151,21 +99,8 @@ impl Block {
     pub(crate) fn take(&mut self, answer: &Answer) {
         self.texts = self.texts.saturating_add(1);
         self.digest.take(&answer.in_full);
-        let number = usize::from(answer.number);
-        let before = match self.counts.get(number) {
-            Some(Some(count)) => count.texts,
-            _ => 0,
-        };
-        if let Some(count) = self.counts.get_mut(number) {
-            *count = Some(Count {
-                name: answer.name,
-                texts: before.saturating_add(1),
-            });
+        if let Some(count) = self.counts.get_mut(usize::from(answer.number)) {
+            *count = (answer.name, count.1.saturating_add(1));
         }
-    }
-
-    /// How often each answer came, if it did, by its number.
-    pub(crate) fn counts(&self) -> &[Option<Count>] {
-        &self.counts
     }
 }

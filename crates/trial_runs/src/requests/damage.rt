@@ -42,27 +42,20 @@ impl<'a> SaveText<'a> {
     /// The records are those up to the first place where none can be read.
     pub(crate) fn new(alloc: Global, text: &'a [u8]) -> Result<SaveText<'a>, AllocError> {
         let mut records = Vec::new(alloc);
-        match add_records(&mut records, text) {
-            Ok(()) => Ok(SaveText { text, records }),
-            Err(error) => Err(error),
+        let mut rest = text;
+        for _ in 0..text.len() {
+            let Ok(Some((_, behind))) = next_record(rest) else {
+                break;
+            };
+            let length = rest.len().saturating_sub(behind.len());
+            let Some(record) = rest.get(..length) else {
+                break;
+            };
+            records.push(record)?;
+            rest = behind;
         }
+        Ok(SaveText { text, records })
     }
-}
-
-fn add_records<'a>(records: &mut Vec<&'a [u8]>, text: &'a [u8]) -> Result<(), AllocError> {
-    let mut rest = text;
-    for _ in 0..text.len() {
-        let Ok(Some((_, behind))) = next_record(rest) else {
-            break;
-        };
-        let length = rest.len().saturating_sub(behind.len());
-        let Some(record) = rest.get(..length) else {
-            break;
-        };
-        records.push(record)?;
-        rest = behind;
-    }
-    Ok(())
 }
 
 impl Damage {

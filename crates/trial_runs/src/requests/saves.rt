@@ -1,10 +1,11 @@
 //! What is printed of a save: what becomes of it, or of the texts that damage makes of it.
 
-use crate::requests::answers::{Answer, Block, Count, word};
+use crate::requests::answers::{Answer, Block};
 use crate::requests::damage::{DAMAGES, Damage, SaveText};
 use clue_rules::Game;
 use play_midend::Session;
 use play_save::{load, save};
+use puzzle_cli::status_text;
 use std::alloc::Global;
 use std::io;
 use std::io::Write;
@@ -27,13 +28,17 @@ fn print_session<P: Game>(
     bytes: &[u8],
     session: &Session<P>,
 ) -> io::Result<()> {
-    let Some(respelled) = respelled(rt.alloc(), bytes, session) else {
+    let (Some(respelled), Ok(desc)) = (
+        respelled(rt.alloc(), bytes, session),
+        session.puzzle().write_desc(rt.alloc()),
+    ) else {
         return println!(rt; "{name}; no memory");
     };
-    match session.puzzle().write_desc(rt.alloc()) {
-        Ok(desc) => print_id(rt, name, session, &desc, respelled),
-        Err(_) => println!(rt; "{name}; no memory"),
-    }
+    print!(rt; "{name}; ok; {}; ", status_text(session).as_str())?;
+    io::writer(rt).write_all(session.params().write().as_slice())?;
+    print!(rt; ":")?;
+    io::writer(rt).write_all(&desc)?;
+    println!(rt; ";{respelled}")
 }
 
 // What is told where the session is written otherwise; None where memory is refused.
@@ -43,21 +48,6 @@ fn respelled<P: Game>(alloc: Global, bytes: &[u8], session: &Session<P>) -> Opti
         Ok(_) => Some(" respelled"),
         Err(_) => None,
     }
-}
-
-fn print_id<P: Game>(
-    rt: &impl Print,
-    name: &str,
-    session: &Session<P>,
-    desc: &[u8],
-    respelled: &'static str,
-) -> io::Result<()> {
-    let (position, states) = (session.position(), session.states());
-    print!(rt; "{name}; ok; {} {position}/{states}; ", word(session))?;
-    io::writer(rt).write_all(session.params().write().as_slice())?;
-    print!(rt; ":")?;
-    io::writer(rt).write_all(desc)?;
-    println!(rt; ";{respelled}")
 }
 
 /// Prints of each kind of damage what came of the texts that it makes of a save file.
@@ -86,16 +76,13 @@ fn print_kind<P: Game>(
     print!(rt;
         "{}; {}; {:016x}",
         damage.name(),
-        block.texts(),
+        block.texts,
         block.digest()
     )?;
-    print_counts(rt, block.counts())
-}
-
-// The rest of the line: how often each answer came.
-fn print_counts(rt: &impl Print, counts: &[Option<Count>]) -> io::Result<()> {
-    for count in counts.iter().flatten() {
-        print!(rt; "; {} {}", count.name, count.texts)?;
+    for (name, texts) in block.counts.iter() {
+        if *texts > 0 {
+            print!(rt; "; {name} {texts}")?;
+        }
     }
     println!(rt; "")
 }

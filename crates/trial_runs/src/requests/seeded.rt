@@ -1,27 +1,18 @@
 //! Squares and games of seeds, fair ones too.
 
+use crate::calls::made::add_digits;
 use clue_rules::{Game, Params, Towers, Unequal};
 use fair_games::{FairFault, FairGame, fair, grade_of_letter};
-use latin_board::{Grid, Size};
+use latin_board::Size;
 use puzzle_gen::{generate, square};
-use std::alloc::{AllocError, Global};
+use std::alloc::Global;
 use std::io;
 
 /// The numbers of the seed's square.
 fn square_text(alloc: Global, size: Size, seed: u64) -> io::Result<Vec<u8>> {
     let mut text = Vec::new(alloc);
-    match add_digits(&mut text, &square(size, seed)) {
-        Ok(()) => Ok(text),
-        Err(error) => Err(error.into()),
-    }
-}
-
-fn add_digits(text: &mut Vec<u8>, grid: &Grid) -> Result<(), AllocError> {
-    let width = grid.size().get() as usize;
-    for cell in 0..width * width {
-        text.push(b'0'.saturating_add(grid.get(cell)))?;
-    }
-    Ok(())
+    add_digits(&mut text, &square(size, seed))?;
+    Ok(text)
 }
 
 /// The ID of the seed's game, or the name of the refusal.
@@ -37,24 +28,12 @@ fn game_text<P: Game>(alloc: Global, size: Size, seed: u64) -> io::Result<Vec<u8
 /// The ID of a puzzle.
 fn id_text<P: Game>(alloc: Global, params: &Params, puzzle: &P) -> io::Result<Vec<u8>> {
     let mut text = Vec::new(alloc);
-    match add_id(alloc, &mut text, params, puzzle) {
-        Ok(()) => Ok(text),
-        Err(error) => Err(error.into()),
-    }
-}
-
-fn add_id<P: Game>(
-    alloc: Global,
-    text: &mut Vec<u8>,
-    params: &Params,
-    puzzle: &P,
-) -> Result<(), AllocError> {
     text.extend_from_slice(params.write().as_slice())?;
     text.push(b':')?;
-    match puzzle.write_desc(alloc) {
-        Ok(desc) => text.extend_from_slice(&desc),
-        Err(_) => Ok(()),
+    if let Ok(desc) = puzzle.write_desc(alloc) {
+        text.extend_from_slice(&desc)?;
     }
+    Ok(text)
 }
 
 /// The ID of the seed's fair game, or the name of the refusal.
