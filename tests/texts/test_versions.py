@@ -25,14 +25,10 @@ SOURCES = [
 ]
 
 
-def test_version() -> None:
-    assert re.fullmatch(r'[0-9]+(\.[0-9]+)+', VERSION)
-
-
 def test_changes() -> None:
     """Each version has a date, none is later than the one above, and the last one is VERSION's. What is new since then may stand above."""
     matches = [HEADING.fullmatch(heading) for heading in re.findall(r'^## .*', read('CHANGELOG.md'), re.MULTILINE)]
-    assert None not in matches
+    assert None not in matches and re.fullmatch(r'[0-9]+(\.[0-9]+)+', VERSION)
     rows = [match.groups() for match in matches if match]
     if rows[0][2]:
         assert rows.pop(0)[2] == VERSION
