@@ -9,10 +9,10 @@ from typing import Dict, Iterator, List, NamedTuple, Sequence, Tuple
 
 import pytest
 
-from tests.harness import Room, run
+from tests.harness import Room
 from tests.objects.boards import puzzle_of
 from tests.objects.forms import expect_known
-from tests.objects.reading import Object, read_answers
+from tests.objects.reading import Object, told
 from tests.objects.solutions import expect_hint
 from tests.objects.steps import expect_steps
 from tests.second_implementation.grades import HARD, LETTERS
@@ -45,13 +45,6 @@ ONE_BY_ONE = [
 ]
 
 
-def answers(objects: str, room: Room, game: str, lines: Sequence[str]) -> List[Object]:
-    script = ''.join(f'{line}\n' for line in lines).encode()
-    ended = run([objects, game], room, input=script, seconds=100)
-    assert (ended.status, ended.error) == (0, b'')
-    return [answer.found for answer in read_answers(script, ended.output)]
-
-
 def expect_hint_of(game: str, board: Object, hint: Object) -> None:
     puzzle = puzzle_of(game.title(), board['session']['id'])
     numbers = tuple(board['board']['numbers'])
@@ -62,10 +55,10 @@ def expect_hint_of(game: str, board: Object, hint: Object) -> None:
 
 @pytest.mark.parametrize('asked', ONE_BY_ONE, ids=lambda asked: f'{asked.lines[0]}')
 def test_one_by_one(objects: str, room: Room, asked: Asked) -> None:
-    *_, board, hint = answers(objects, room, asked.game, [*asked.lines, 'board', 'hint'])
+    *_, board, hint = told(objects, room, asked.game, [*asked.lines, 'board', 'hint'])
     expect_hint_of(asked.game, board, hint)
-    told = [{strike['cell']: strike['numbers'] for strike in step['strikes']} for step in hint['hint']['steps']]
-    assert any(told[at:at + len(asked.ends)] == asked.ends for at in range(len(told))), told
+    steps = [{strike['cell']: strike['numbers'] for strike in step['strikes']} for step in hint['hint']['steps']]
+    assert any(steps[at:at + len(asked.ends)] == asked.ends for at in range(len(steps))), steps
 
 
 def runs() -> Iterator[Tuple[str, int, str, int]]:
@@ -79,12 +72,12 @@ def test_boards(objects: str, room: Room, game: str, size: int, letter: str, see
     """Parts of the solution, with some wrong numbers; and the boards between, as they come in play."""
     random = Random(seed)
     begun = f'fair {size} {letter} {seed}'
-    solution = [int(digit) for digit in answers(objects, room, game, [begun, 'solve'])[1]['reply'][0][1:]]
+    solution = [int(digit) for digit in told(objects, room, game, [begun, 'solve'])[1]['reply'][0][1:]]
     lines = [begun]
     for _ in range(EACH):
         lines += ['restart', *moves_to(random, size, solution), 'board', 'hint']
-    told = answers(objects, room, game, lines)
-    for board, hint in zip(told, told[1:]):
+    answers = told(objects, room, game, lines)
+    for board, hint in zip(answers, answers[1:]):
         if 'hint' in hint:
             expect_hint_of(game, board, hint)
 
