@@ -1,12 +1,15 @@
-"""First games: the input, the replies, and what becomes of a stream that fails."""
+"""Games: transcripts line by line, the input and its end, what becomes of a stream that fails, and lines at a terminal."""
 
+import os
 from typing import Any, Dict
 
 import pytest
 
-from tests.harness import by_name
+from tests.harness import Room, by_name
 from tests.harness.game import ID
+from tests.harness.terminal import Terminal
 from tests.lines.runs import Player, Run
+from tests.lines.transcripts import Transcript, transcripts
 
 ONE_MOVE = b'move R0,0,1\n'
 
@@ -29,6 +32,16 @@ FAILS = Run('a stream fails', ['towers', '--id', ID, '--save', 'old.sav'], ONE_M
 OUTPUT = b'cannot write the output\n'
 NO_ERROR = Run('standard error is closed', ['towers', '--id', ''], status=3)
 
+#: What is told once, before the first line, where lines are typed.
+TOLD = 'puzzles --help has the lines that can be typed; puzzles-play is the board'
+
+ENV = {'PATH': os.defpath, 'TERM': 'xterm', 'LC_ALL': 'C'}
+
+
+@pytest.mark.parametrize('played', transcripts(), ids=by_name)
+def test_played(player: Player, played: Transcript) -> None:
+    player.play(played.run)
+
 
 @pytest.mark.parametrize('row', [*GAMES, *REFUSED], ids=by_name)
 def test_game(player: Player, row: Run) -> None:
@@ -43,3 +56,18 @@ def test_stream_fails(player: Player, stream: Dict[str, Any], error: bytes) -> N
 
 def test_closed_error(player: Player) -> None:
     player.play(NO_ERROR, closed=[2])
+
+
+def test_terminal(program: str, objects: str, room: Room) -> None:
+    """It tells once, before the first line, which lines there are; puzzles-json tells nothing."""
+    with Terminal([program, 'towers', '--id', ID], ENV, (24, 80), cwd=room.path) as window:
+        window.look('', [TOLD])
+        window.look('help<enter>?<enter>id<enter>', [ID])
+        # Ctrl-D at the beginning of a line is the end.
+        window.send('\x04')
+        assert window.status() == 0, 'the status'
+        assert (window.shown.count(TOLD), window.shown.count('refused: BadCommand')) == (1, 2), window.shown
+    with Terminal([objects, 'towers', '--id', ID], ENV, (24, 80), cwd=room.path) as window:
+        window.look('quit<enter>')
+        assert window.status() == 0, 'the status of puzzles-json'
+        assert 'puzzles --help' not in window.shown, 'puzzles-json'

@@ -1,4 +1,4 @@
-"""The file to load: saves, files that are none, and files that can't be read."""
+"""The file to load: saves, with what is written of each, texts that are none, and files that can't be read."""
 
 import os
 
@@ -8,6 +8,8 @@ from tests.harness import by_name
 from tests.harness.game import save_text
 from tests.harness.users import plain_user
 from tests.lines.runs import Player, Run
+from tests.lines.save_files import ROWS, longest
+from tests.lines.save_files.sample import Loaded, run_of
 
 LOAD = ['towers', '--load', 'game.sav']
 UNDONE = save_text(2, 2)
@@ -37,6 +39,17 @@ PIPED = Run(
 )
 FOLDER = Run('a folder in place of the file', LOAD, status=1, error=b'cannot read the file\n')
 UNREAD = Run('a file that may not be read', LOAD, status=1, error=b'cannot read the file\n')
+
+
+@pytest.mark.parametrize('row', ROWS, ids=by_name)
+def test_text(player: Player, row: Loaded) -> None:
+    player.play(run_of(row))
+
+
+def test_longest(player: Player) -> None:
+    """The longest history, saved and loaded."""
+    for row in (longest.FILLED, longest.GONE_BACK, longest.AGAIN):
+        player.play(row)
 
 
 @pytest.mark.parametrize('row', [*LOADED, *REFUSED], ids=by_name)

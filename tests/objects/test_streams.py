@@ -1,19 +1,25 @@
-"""Words, files and streams, as the plain program has them; a game line by line; a long game."""
+"""Words, files and streams, as the plain program has them; the games of tests/lines/played, a game line by line, a long game and a long answer."""
 
 import os
+import resource
 import select
 import subprocess
+from itertools import takewhile
 
 import pytest
 
 from tests.harness import Room, by_name, run
 from tests.harness.game import ID, save_text
-from tests.objects.agreement import Pair, expect_alike
+from tests.lines.transcripts import Transcript, transcripts
+from tests.objects.agreement import BOARD, SESSION, Pair, Script, expect_agreement, expect_alike
 from tests.objects.reading import read_answers
 from tests.lines import test_games, test_words
 from tests.lines.runs import Run
 
 PLAYED = ['towers', '--id', ID, '--save', 'old.sav']
+
+#: A line that is typed more often than that is typed so often.
+MOST = 3
 
 #: As many as a history has; and lines behind those that fill it, of which three are refused.
 MOST_STATES = 100_000
@@ -28,6 +34,15 @@ def test_words_alike(pair: Pair, room: Room, row: Run) -> None:
     found, wanted = (run([program, *row.words], room) for program in (pair.objects, pair.plain))
     assert (found.status, found.error.replace(b'puzzles-json', b'puzzles')) == (wanted.status, wanted.error)
     assert bool(found.output) == bool(wanted.output) and ('puzzles-json' in found.said) == ('puzzles' in wanted.said)
+
+
+@pytest.mark.parametrize('played', transcripts(), ids=by_name)
+def test_played(pair: Pair, played: Transcript) -> None:
+    """After each line all that it tells agrees with the plain program and a second implementation."""
+    lines = takewhile(lambda line: line.typed != 'quit', played.lines)
+    typed = [line.typed.encode() for line in lines for _ in range(min(line.times, MOST))]
+    groups = [[line, *SESSION, *BOARD, b'completable', b'hint', b'grade'] for line in typed]
+    expect_agreement(pair, Script(played.game, [played.game], b'', groups, [b'quit', b'undo']))
 
 
 def test_closed_input(pair: Pair, room: Room) -> None:
@@ -81,3 +96,16 @@ def test_long_game(pair: Pair) -> None:
     found, _ = pair.run(['towers', '--id', ID], b'move P0,0,1\n' * (MOST_STATES - 1) + BEHIND)
     answers = read_answers(BEHIND, b'\n'.join(found.ended.output.split(b'\n')[MOST_STATES - 1:]))
     assert [(answer.found['refused'], answer.found['session']['position']) for answer in answers] == [('HistoryFull', MOST_STATES)] * 3 + [(None, MOST_STATES - 1)]
+
+
+def test_memory(objects: str, room: Room) -> None:
+    """A reply of 16 million lines, in four times the memory that its object has bytes."""
+    # As many bytes as a kept value can have in a save that may be loaded.
+    seed = b'\n' * (16_777_216 - 1000)
+    text = save_text(0).replace(b'DESC    ', b'SEED    :%d:%s\nDESC    ' % (len(seed), seed))
+    room.put('long.sav', text)
+    session = b'{"game":"Towers","id":"%s","position":1,"states":1,"status":"playing"}' % ID.encode()
+    wanted = b'{"refused":null,"reply":["%s"],"session":%s}\n' % (b'","'.join(text.split(b'\n')[:-1]), session)
+    ended = run([objects, 'towers', '--load', 'long.sav'], room, input=b'save\n', limits={resource.RLIMIT_AS: 4 * len(wanted)}, seconds=100)
+    assert ended.status == 0, 'the status'
+    assert ended.output == wanted, f'the object has {len(ended.output)} bytes and begins with {ended.output[:60]!r}'

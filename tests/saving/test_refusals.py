@@ -7,10 +7,10 @@ from typing import Any, Optional
 import pytest
 
 from tests.harness import Folder, need_root
-from tests.harness.game import NEW_NAME, left_files, save_text
+from tests.harness.game import left_files, save_text
 from tests.harness.mounts import bound_file, fill, small_disk
 from tests.harness.users import ANNA, BERT, GAMES
-from tests.saving.game import Saver, expect_none_left, expect_refused, expect_saved
+from tests.saving.game import Saver, expect_none_left, expect_refused, expect_saved, expect_whole_left
 
 #: Longer than any save here, so that a rest of it would show.
 OLD = b'an old file\n' * 100
@@ -63,14 +63,5 @@ def test_mounted_file_on_a_full_disk(saver: Saver) -> None:
         with bound_file(f'{room.path}/disk/old', f'{room.path}/s.sav'):
             fill(disk)
             expect_refused(saver.save(room, 's.sav', 1), 1, room)
-    expect_left(room, save_text(1))
-
-
-def expect_left(folder: Folder, content: bytes) -> None:
-    """One new file is left beside, whole, and for nobody who couldn't read the old one."""
-    left = left_files(folder)
-    assert len(left) == 1, 'how many files are left'
-    for name in left:
-        assert bool(NEW_NAME.fullmatch(name)), f'it is called {name}'
-        assert folder.read(name) == content, 'what is left'
-        assert (folder.mode(name) or 0) & ~0o644 == 0, f'its mode is {folder.mode(name) or 0:o}'
+    assert len(left_files(room)) == 1, 'how many files are left'
+    expect_whole_left(room, save_text(1))

@@ -56,7 +56,6 @@ OF_THE_TREE = [
     Make('make play, a game with an apostrophe', ['make', 'play', "GAME=it's"], 2, ['GAME is towers or unequal']),
     Make('make play, an ID with an apostrophe', ['make', 'play', "ID=it's"], 2, ['refused: BadSize']),
     Make('make install', ['sh', '-c', 'make install DESTDIR="$PWD/.." && make installcheck DESTDIR="$PWD/.."'], says=['is there and plays']),
-    Make('puzzles-play --version', ['board/puzzles-play', '--version'], says=['taken from the repository']),
     Make('make build', ['make', 'build'], 2, ['not built: there is no command /no kit']),
 ]
 

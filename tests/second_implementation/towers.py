@@ -91,25 +91,14 @@ class TowersPuzzle(Puzzle):
 
 def written_squares(givens: Numbers) -> str:
     """The square part: runs of empty squares as letters, and `_` between two givens side by side."""
-    text, empty, is_behind_given = '', 0, False
-    for given in givens:
-        if given == 0:
-            empty += 1
-            continue
-        if empty == 0 and is_behind_given:
-            text += '_'
-        text += run_of_empty(empty) + str(given)
-        empty, is_behind_given = 0, True
-    return text + run_of_empty(empty)
+    pieces = re.findall('0+|[1-9]', ''.join(map(str, givens)))
+    text = ''.join(run_of_empty(len(piece)) if piece.startswith('0') else piece for piece in pieces)
+    return re.sub('(?<=[1-9])(?=[1-9])', '_', text)
 
 
 def run_of_empty(count: int) -> str:
     """`z` while more than 26 are left, and then one letter for the rest."""
-    text = ''
-    while count > 26:
-        text += 'z'
-        count -= 26
-    return text + (chr(ord('a') + count - 1) if count else '')
+    return 'z' * ((count - 1) // 26) + chr(ord('a') + (count - 1) % 26)
 
 
 def read_towers(size: int, text: bytes) -> TowersPuzzle:

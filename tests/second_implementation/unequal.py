@@ -18,9 +18,6 @@ STEPS: Dict[str, Tuple[int, int]] = {'U': (0, -1), 'R': (1, 0), 'D': (0, 1), 'L'
 class UnequalPuzzle(Puzzle):
     signs: FrozenSet[Sign]
 
-    def is_clued(self, x: int, y: int) -> bool:
-        return False
-
     def keeps_clues(self, numbers: Numbers) -> bool:
         return all(numbers[greater] > numbers[smaller] for greater, smaller in self.signs)
 

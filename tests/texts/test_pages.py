@@ -1,15 +1,14 @@
 """The manual pages name what the programs have, and can be read: without a warning, and in 80 columns."""
 
 import re
-from typing import Iterable, List
+from typing import List
 
 import pytest
 
-from tests.harness import Room, Skip, named, need, run
-from tests.objects import schema
+from tests.harness import Room, Skip, need, run
 from tests.texts.parts import ROOT, found, part, read
 from tests.texts.test_completions import FRONTS, front_options
-from tests.texts.test_users import OWN, wanted
+from tests.texts.test_users import wanted
 
 #: What a page may have at most, in its source and on a terminal.
 COLUMNS = 80
@@ -35,15 +34,11 @@ def pages() -> List[str]:
     return sorted(f'man/{path.name}' for path in (ROOT / 'man').iterdir())
 
 
-def named_options(page: str) -> List[str]:
-    return found(r'Fl -([\w-]+)', '\n'.join(found(r'^\.It (.*)$', part(page, '.Ss Options', r'^\.S[hs]'))))
-
-
 @pytest.mark.parametrize('script', ['manual', 'texts', 'trust'])
 def test_made(room: Room, script: str) -> None:
     """What these make by --write is what they make now: the pages that are documents, sentences of the page, and numbers of lines to read."""
     need('pandoc')
-    made = run([str(ROOT / 'tools' / script)], room)
+    made = run([str(ROOT / 'tools' / script)], room, seconds=600)
     if made.status == 77:
         raise Skip('another pandoc made the pages', 'that of Debian 12')
     assert (made.status, made.error) == (0, b'')
@@ -58,29 +53,11 @@ def test_document(room: Room, page: str, document: str) -> None:
     assert sorted(set(re.findall(r'\w+', document.casefold())).difference(re.findall(r'\w+', shown.casefold()))) == []
 
 
-OBJECTS = read('man/puzzles-json.6')
-
-#: What a page is to name, and what it names; and whether that is all.
-NAMED = [
-    ('options of puzzles-json', wanted()[1], named_options(OBJECTS), True),
-    ('lines of puzzles-json', OWN, found(r'^\.It Cm (\w+)', OBJECTS), False),
-    ('members', schema.names(), found(r'\w+', OBJECTS), False),
-    (
-        'the line mode', set(found(r'^    \'  ([a-z]{4,})\b', part(read('board/manual.py'), 'LINES', 'and the program'))) - {'pencil'},
-        found(r'\w+', part(read('man/puzzles-play.6'), '.Ss The line mode', r'^\.Sh')), False,
-    ),
-]
-
-
-@pytest.mark.parametrize(('owed', 'told', 'is_all'), named(NAMED))
-def test_named(owed: Iterable[str], told: List[str], is_all: bool) -> None:
-    assert not set(owed) - set(told)
-    assert not is_all or set(told) == set(owed) != set()
-
-
-@pytest.mark.parametrize('name', FRONTS)
+@pytest.mark.parametrize('name', [*FRONTS, 'puzzles-json'])
 def test_options(room: Room, name: str) -> None:
-    assert set(named_options(read(f'man/{name}.6'))) == set(front_options(room, name)) != set()
+    options = part(read(f'man/{name}.6'), '.Ss Options', r'^\.S[hs]')
+    told = found(r'Fl -([\w-]+)', '\n'.join(found(r'^\.It (.*)$', options)))
+    assert set(told) == set(front_options(room, name) if name in FRONTS else wanted()[1]) != set()
 
 
 @pytest.mark.parametrize('page', pages())

@@ -90,6 +90,12 @@ NAMED = [
     ),
     ('members', schema.names(), found(r'`(\w+)`', read('docs/JSON.md'))),
     ('own lines', OWN, found(r'\w+', ' '.join(found(r'^### (.*)', read('docs/JSON.md'))))),
+    ('members in the manual', schema.names(), found(r'\w+', read('man/puzzles-json.6'))),
+    ('own lines in the manual', OWN, found(r'^\.It Cm (\w+)', read('man/puzzles-json.6'))),
+    (
+        'the line mode in the manual', set(found(r'^    \'  ([a-z]{4,})\b', part(read('board/manual.py'), 'LINES', 'and the program'))) - {'pencil'},
+        found(r'\w+', part(read('man/puzzles-play.6'), '.Ss The line mode', r'^\.Sh')),
+    ),
 ]
 
 
