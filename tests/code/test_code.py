@@ -1,13 +1,12 @@
-"""All Python passes mypy and pylint, all shell shellcheck, and all Rattle is laid out."""
+"""All Python passes mypy and pylint, and all shell shellcheck. `rt ci` says whether all Rattle is laid out."""
 
 import os
-import shutil
 import subprocess
 import sys
 from pathlib import Path
 from typing import List, Sequence
 
-from tests.harness import TOP, Room, need
+from tests.harness import TOP, need
 
 SETTINGS = TOP / 'tests' / 'code'
 
@@ -60,18 +59,3 @@ def test_pylint() -> None:
 
 def test_shellcheck() -> None:
     assert said(['shellcheck', '-x', *scripts('bash', 'sh'), 'board/completion.bash']) == ''
-
-
-def test_rt_fmt(room: Room) -> None:
-    """It has nothing to lay out in a copy. `rt ci` asks for that too, but after many proofs."""
-    rt = os.environ.get('RT') or 'rt'
-    need(rt)
-    shutil.copyfile(TOP / 'crates.txt', Path(room.path, 'crates.txt'))
-    changed = []
-    for source in sorted(TOP.glob('crates/*/src')):
-        crate = Path(room.path, 'crates', source.parent.name)
-        shutil.copytree(source, crate / 'src')
-        before = {path: path.read_bytes() for path in crate.rglob('*.rt')}
-        subprocess.run([rt, 'fmt'], cwd=crate, stdout=subprocess.DEVNULL, check=True)
-        changed += [str(path.relative_to(room.path)) for path in sorted(before) if path.read_bytes() != before[path]]
-    assert changed == []

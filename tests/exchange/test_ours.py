@@ -8,14 +8,14 @@ import pytest
 
 from playing import fair
 from tests.exchange.sides import Sides
-from tests.harness import TOP, run
+from tests.harness import made, run
 
 GAMES = ['towers', 'unequal']
 SIZES = range(3, 10)
 SEEDED_SIZES = range(3, 7)
 
-#: How many of the stored puzzles of each game and size are taken.
-STORED = 2
+#: How many of the stored puzzles of each game and size are taken, and their grades.
+STORED, GRADES = 2, {'towers': 'ehxu', 'unequal': 'tekxr'}
 
 #: Records that are kept as bytes, each with the record after which it stands. The usual program reads them all.
 KEPT: List[Tuple[str, str]] = [
@@ -26,15 +26,8 @@ KEPT: List[Tuple[str, str]] = [
 ]
 
 
-def stored_puzzles(game: str, size: int) -> List[str]:
-    """The first of the stored puzzles of that size."""
-    lines = (TOP / 'bench' / 'puzzles.txt').read_text(encoding='ascii').splitlines()
-    puzzles = [words[2] for words in map(str.split, lines) if words[:1] == [game] and words[2].startswith(str(size))]
-    return puzzles[:STORED]
-
-
 @pytest.mark.parametrize(('game', 'size', 'number', 'puzzle'), [
-    (game, size, number, puzzle) for game in GAMES for size in SIZES for number, puzzle in enumerate(stored_puzzles(game, size))
+    (game, size, number, puzzle) for game in GAMES for size in SIZES for number, puzzle in enumerate(made(game, size, GRADES[game])[:STORED])
 ])
 def test_saves(sides: Sides, game: str, size: int, number: int, puzzle: str) -> None:
     """A puzzle's saves: fresh, with every kind of move, solved by hand and by the program, restarted, and with later states."""

@@ -2,10 +2,8 @@
 
 import contextlib
 import os
-import resource
-import signal
 import stat
-from typing import Any, List, NamedTuple, Optional, Sequence
+from typing import Any, List, NamedTuple, Optional
 
 from tests.harness import FaultLibrary, Met, Room, Skip, is_root, run
 from tests.harness.game import told_left
@@ -86,13 +84,12 @@ class Rounds:
         if not self.run('memory').met.calls:
             raise Skip('the program asks for memory past the library')
 
-    def run(self, call: str = 'none', at: int = 0, error: str = 'EIO', most_bytes: Optional[int] = None, ignored: Sequence[signal.Signals] = (), **how: Any) -> Round:
-        """One run, in which no file may have more bytes. The words after these are those of `FaultLibrary.env`."""
+    def run(self, call: str = 'none', at: int = 0, error: str = 'EIO', **how: Any) -> Round:
+        """One run. The words are those of `FaultLibrary.env`."""
         self._furnish()
         before = self._state(self._file())
         env = self._library.env(call, at, error, **how)
-        limits = {} if most_bytes is None else {resource.RLIMIT_FSIZE: most_bytes}
-        ended = run([self._program, *self.words], self._room, input=self.input, env=env, limits=limits, ignored=ignored)
+        ended = run([self._program, *self.words], self._room, input=self.input, env=env)
         left = self._left_names()
         return Round(
             ended.status,

@@ -1,6 +1,5 @@
 """The save fails, call by call, or the program is killed there. The old file stands, or the save does, or a new file is whole."""
 
-import signal
 from typing import List, NamedTuple, Tuple
 
 from tests.faults.rounds import OLD_SAVE, Round, Rounds, State, Target
@@ -26,13 +25,14 @@ SAVES = [
 #: What rename answers where the old file can't be replaced, and may be written.
 REFUSALS = ['EBUSY', 'EPERM', 'EACCES', 'EXDEV']
 
-#: What each call fails with, beside EIO, EINTR, ENOSPC and a kill; and whether each save makes the call.
+#: What each call fails with, beside EIO, EINTR, ENOSPC and a kill; and whether each save makes the call: a folder is flushed
+#: for a name that is new in it.
 CALLS: List[Tuple[str, List[str], bool]] = [
     ('open', ['EACCES', 'EMFILE'], True),
     ('write', ['ZERO'], True),
     ('fsync', ['EINVAL'], True),
     ('rename', REFUSALS, True),
-    ('folder', ['EINVAL'], False),
+    ('folder', ['EINVAL'], True),
     ('close', [], True),
     ('stat', ['EACCES'], False),
     ('chmod', ['EPERM'], False),
@@ -67,7 +67,7 @@ def calls_fail(rounds: Rounds, save: Save, whole: Round, call: str, piece: int, 
     found = rounds.run(call, piece=piece, also=also)
     wrong = found.wrong_end(0, '') + found.wrong_left()
     assert (wrong if is_whole(found.after, whole) else [*wrong, 'the save file is another']) == [], title
-    if is_sure:
+    if is_sure and not (call == 'folder' and save.refuses):
         assert found.met.calls, f'{title}, is met'
     for error in errors:
         for at in range(1, found.met.calls + 1):
@@ -160,12 +160,3 @@ def must_pass(save: Save, call: str, error: str) -> bool:
     if call == 'rename':
         return error in REFUSALS and save.target.old is not None
     return (call, error) in (('folder', 'EINVAL'), ('chown', 'EPERM')) or call == 'close'
-
-
-def size_limited(rounds: Rounds, whole: Round, is_ignored: bool) -> None:
-    """No file may have a byte. A signal says so, which ends the program in the midst of the file, or is ignored."""
-    ignored = [signal.SIGXFSZ] if is_ignored else []
-    limited = rounds.run(most_bytes=0, ignored=ignored)
-    assert limited.stands, 'the old file does not stand'
-    found = rounds.run()
-    assert is_whole(found.after, whole), 'it is not whole'

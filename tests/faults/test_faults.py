@@ -66,13 +66,6 @@ def test_save(rounds: Rounds, save: saves.Save, call: str, errors: List[str], is
         saves.calls_fail(rounds, save, whole, call, piece, saves.errors_of(errors, save, piece), is_sure)
 
 
-@pytest.mark.parametrize('save', saves.SAVES[:4], ids=by_name)
-@pytest.mark.parametrize('is_ignored', [True, False])
-def test_size_limited(rounds: Rounds, save: saves.Save, is_ignored: bool) -> None:
-    rounds.input, rounds.target = devices.FIRST, save.target
-    saves.size_limited(rounds, devices.whole_run(rounds), is_ignored)
-
-
 def test_another_users_file() -> None:
     """Where there are other users, all files that are saved over are another one's."""
     need_root()

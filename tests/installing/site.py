@@ -5,6 +5,8 @@ from typing import Dict, List, Mapping, Optional, Sequence, Tuple
 
 import pytest
 
+from tests.board.line_games import SAVES
+from tests.board.playing import BoardFront
 from tests.conftest import Programs
 from tests.scripts.place import Place
 from tests.harness import Ended, Room
@@ -51,15 +53,17 @@ ANSWERS: Dict[str, Tuple[Sequence[str], bytes, bytes]] = {
 
 
 def expect_plays(site: Site, folder: str) -> None:
-    """Both programs in a folder play, puzzles-play and puzzles-page say how they are used, puzzles-sheet makes a page, and puzzles-check checks a puzzle, in an
-    environment with next to nothing."""
+    """Both programs in a folder play, puzzles-page says how it is used, puzzles-sheet makes a page, and puzzles-check checks a puzzle, in an environment with
+    next to nothing; and puzzles-play finds its program by itself, and plays, saves and loads."""
     for program, (words, typed, written) in ANSWERS.items():
         ended = site.run([os.path.join(folder, program), *words], cwd='..', input=typed)
         assert ended == Ended(0, written, b''), program
     one = b'3:3//////3/////\n'
-    for words, typed in (['puzzles-play', '--help'], b''), (['puzzles-page', '--help'], b''), (['puzzles-sheet', '--ids', '-'], one), (['puzzles-check'], one):
+    for words, typed in (['puzzles-page', '--help'], b''), (['puzzles-sheet', '--ids', '-'], one), (['puzzles-check'], one):
         ended = site.run([os.path.join(folder, words[0]), *words[1:]], cwd='..', input=typed)
         assert (ended.status, ended.error) == (0, b''), words
+    with Room() as room:
+        BoardFront(os.path.join(folder, 'puzzles-play'), '', room).play_in_lines(SAVES[0])
 
 
 @pytest.fixture

@@ -50,14 +50,6 @@ def test_metainfo_is_true() -> None:
     assert [(one.get('version'), one.get('date')) for one in told.iter('release')] == released
 
 
-@pytest.mark.parametrize(('name', 'width'), [('icon-180.png', 180), ('icon-192.png', 192), ('icon-512.png', 512)])
-def test_icon(name: str, width: int) -> None:
-    """A picture says its width and its height behind the first 16 bytes."""
-    head = (TOP / 'page' / name).read_bytes()[:24]
-    assert head[:8] == b'\x89PNG\r\n\x1a\n'
-    assert [int.from_bytes(head[at:at + 4], 'big') for at in (16, 20)] == [width, width]
-
-
 def test_page_opens(room: Room) -> None:
     """The command opens the file that it prints, where there is a screen; where there is none it says so, and prints it."""
     command, page = str(TOP / 'page' / 'puzzles-page'), f'{TOP}/programs/web/puzzles.html\n'

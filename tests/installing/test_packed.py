@@ -3,8 +3,7 @@ were unpacked."""
 
 import os
 
-from tests.board.playing import PROMPT
-from tests.harness import ID, Ended, Terminal, need, run
+from tests.harness import ID, Ended, need, run
 from tests.installing.site import Site, expect_plays, files
 
 #: Who commits, and when, in the copy.
@@ -108,19 +107,6 @@ def unpacked(site: Site) -> None:
     expect_plays(site, os.path.join(place, 'bin'))
     version = site.run([os.path.join(place, 'bin', 'puzzles-play'), '--version'], cwd='..').output.decode().splitlines()
     assert version[1:] == [f'commit {head(site)}', 'proved by a kit that proves nothing', 'taken from the repository']
-    first_game(site, place)
-
-
-def first_game(site: Site, place: str) -> None:
-    """A game in a terminal, with next to nothing in the environment."""
-    env = {'PATH': os.environ.get('PATH', os.defpath), 'TERM': 'dumb', 'HOME': place}
-    with Terminal(['bin/puzzles-play', 'towers', ID], env, cwd=place, user=site.user) as terminal:
-        first = terminal.wait_for(PROMPT)
-        answer = terminal.answer('r1c1 1', PROMPT)
-        terminal.answer('quit', PROMPT)
-        assert terminal.status() == 0, 'unpacked: a game ends well'
-    assert '1 3 . . . -' in first
-    assert 'r1c1 is 1' in answer
 
 
 def of_sources(site: Site) -> None:
@@ -140,7 +126,6 @@ def with_log(site: Site) -> None:
     for case, log, is_packed in [
         ('has passed', good, True),
         ('has failed', good.replace('0 failed', '1 failed'), False),
-        ('has broken off', good.rpartition('9 passed')[0], False),
         ('was at another commit', good.replace(head(site), 'f' * 40), False),
         ('had another program', good.replace(sums[:64], 'f' * 64), False),
     ]:

@@ -3,9 +3,7 @@
 import os
 from typing import List
 
-from tests.board.line_games import GAMES, REFUSED, SAVES
-from tests.board.playing import BoardFront
-from tests.harness import TOP, Room
+from tests.harness import TOP
 from tests.installing.site import Site, expect_plays, files, snapshot, words_of
 
 OURS = 'share/verified-puzzles'
@@ -58,9 +56,7 @@ def test_staged(site: Site) -> None:
         assert any(line.startswith('9dx') for line in file), 'its puzzles: some of Towers of size 9'
     site.expect(['make', 'installcheck', *where], says='is there and plays')
     expect_completes(site, place)
-    expect_pages(place)
     expect_damage_is_seen(site, where, place)
-    expect_games(os.path.join(place, 'games', 'puzzles-play'))
     site.expect(['make', 'uninstall', *where])
     assert snapshot(root) == [], 'nothing is left'
     site.expect(['make', 'uninstall', *where])
@@ -90,17 +86,6 @@ def expect_completes(site: Site, place: str) -> None:
         assert (ended.status, ended.error) == (0, b''), f'completion of {name}'
 
 
-def expect_pages(place: str) -> None:
-    """A manual page that is another one's name leads to one that is there."""
-    folder = os.path.join(place, 'share', 'man')
-    there = files(folder)
-    for page in there:
-        with open(os.path.join(folder, page), encoding='utf-8') as file:
-            first = file.readline().rstrip()
-        if first.startswith('.so '):
-            assert first[4:] in there, f'{page}: where it leads is there'
-
-
 def expect_damage_is_seen(site: Site, where: List[str], place: str) -> None:
     """`make installcheck` tells a file that lacks, and a command that doesn't play."""
     page = os.path.join(place, 'share', 'man', 'man6', 'puzzles.6')
@@ -112,14 +97,3 @@ def expect_damage_is_seen(site: Site, where: List[str], place: str) -> None:
     os.symlink('/bin/true', program)
     site.expect(['make', 'installcheck', *where], 2, 'puzzles towers: status 0')
     os.rename(program + '.away', program)
-
-
-def expect_games(front: str) -> None:
-    """The line mode finds its program by itself; the last games go on in one folder."""
-    with Room() as room:
-        for words, says in REFUSED:
-            BoardFront(front, '', room).refuses(words, says)
-    for games in [*([game] for game in GAMES), SAVES]:
-        with Room() as room:
-            for game in games:
-                BoardFront(front, '', room).play_in_lines(game)

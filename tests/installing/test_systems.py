@@ -73,20 +73,3 @@ def test_elsewhere(site: Site) -> None:
     names = ['gamesdir', 'datadir', 'mandir', 'docdir', 'bashcompdir', 'zshcompdir', 'fishcompdir']
     with installed(site, [], place, **{name: os.path.join(place, f"{name}'s \"own\"", 'a\\b;c') for name in names}) as where:
         site.expect(['make', 'installcheck', *where], says='is there and plays')
-
-
-def test_from_the_tree(site: Site) -> None:
-    """The programs that lie there, where nothing is built and no kit is at hand."""
-    prefix = ready(site, 'from the tree', [])
-    site.expect(['make', 'programs'], says='stored: programs/linux-amd64/puzzles-json')
-    site.expect(['make', 'clean'])
-    site.expect(['make', 'RT=/no kit'])
-    assert not os.path.isdir(os.path.join(site.path, 'build'))
-    with installed(site, [], prefix, PREFIX=prefix, RT='/no kit') as where:
-        site.expect(['make', 'installcheck', *where], says='is there and plays')
-        version = site.run([os.path.join(prefix, 'bin', 'puzzles-play'), '--version'], cwd='..').output.decode().splitlines()
-        assert version[1:] == ['commit unknown', 'proved by a kit that proves nothing', 'taken from the repository']
-        version = site.run(['board/puzzles-play', '--version'], cwd='').output.decode().splitlines()
-        assert version[3:] == ['taken from the repository']
-        site.put('programs/linux-amd64/puzzles', b'#!/bin/sh\n')
-        site.expect(['make', 'install', *where], 2, 'linux-amd64/puzzles is not the program that programs/RECORD names: run make')

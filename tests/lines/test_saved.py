@@ -41,7 +41,6 @@ SAVED = [
         output=b'refused: NoGame\n',
         absent=['new.sav'],
     ),
-    Run('an empty input leaves no session', ['towers', '--save', 'new.sav'], absent=['new.sav']),
     Run('empty lines leave no session', ['towers', '--save', 'new.sav'], b'\n\n', absent=['new.sav']),
     Run('without a session nothing is changed', ['towers', '--save', 'old.sav'], given=GIVEN, holds=GIVEN),
     Run(
@@ -62,8 +61,6 @@ SAVED = [
     ),
     Run('a missing folder', ['towers', '--id', ID, '--save', 'none/new.sav'], status=1, error=REFUSED, absent=['none']),
     Run('an empty name', ['towers', '--id', ID, '--save', ''], status=1, error=REFUSED, left=FRESH),
-    Run('a full device', ['towers', '--id', ID, '--save', '/dev/full'], status=1, error=REFUSED),
-    Run('a device that takes all', ['towers', '--id', ID, '--save', '/dev/null']),
 ]
 
 UNWRITTEN = Run('a file that may not be written', OLD, status=1, error=REFUSED, holds=GIVEN, left=FRESH)

@@ -5,7 +5,7 @@ from typing import Dict, List, NamedTuple, Sequence, Set
 from tests.objects.reading import Object
 from tests.second_implementation.games import GAMES
 from tests.second_implementation.puzzles import Numbers, Puzzle
-from tests.second_implementation.towers import TowersPuzzle, edge_line, in_fillings
+from tests.second_implementation.towers import TowersPuzzle, edge_line, edge_xy, in_fillings
 from tests.second_implementation.unequal import UnequalPuzzle
 
 
@@ -80,8 +80,7 @@ def clues_of(puzzle: Puzzle, numbers: Numbers, done: Sequence[str]) -> List[Obje
     size = puzzle.size
     told: List[Object] = []
     for place, clue in enumerate(puzzle.clues):
-        side, at = divmod(place, size)
-        x, y = [(at, -1), (at, size), (-1, at), (size, at)][side]
+        x, y = edge_xy(size, place)
         if clue:
             may = tuple(frozenset([found] if found else range(1, size + 1)) for found in edge_line(size, numbers, place))
             has_error = not any(in_fillings(clue, may))

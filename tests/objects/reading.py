@@ -4,6 +4,7 @@ import json
 import re
 from typing import Any, Dict, List, NamedTuple, Sequence, Tuple
 
+from tests.harness import Room, run
 from tests.objects.schema import LOST, unfit, wrong_object
 from tests.second_implementation.desk import begun
 from tests.second_implementation.fair_lines import fair_words, plain_lines
@@ -133,3 +134,11 @@ def read_answers(script: bytes, output: bytes, may_lose: bool = False) -> List[A
 
 def shortened(line: bytes) -> str:
     return repr(line if len(line) <= 60 else line[:57] + b'..')
+
+
+def told(program: str, room: Room, game: str, lines: Sequence[str]) -> List[Object]:
+    """The objects that answer lines of a run that ends well."""
+    script = ''.join(f'{line}\n' for line in lines).encode('latin-1')
+    ended = run([program, game], room, input=script, seconds=100)
+    assert (ended.status, ended.error) == (0, b'')
+    return [answer.found for answer in read_answers(script, ended.output)]

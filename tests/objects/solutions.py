@@ -21,13 +21,9 @@ def latin_squares(size: int) -> List[Numbers]:
     squares: List[Tuple[Tuple[int, ...], ...]] = [()]
     for _ in range(size):
         squares = [
-            (*square, row) for square in squares for row in rows if all(map(differ, zip(*square, row))) or not square
+            (*square, row) for square in squares for row in rows if all(len(set(column)) == len(column) for column in zip(*square, row))
         ]
     return [tuple(chain.from_iterable(square)) for square in squares]
-
-
-def differ(column: Tuple[int, ...]) -> bool:
-    return len(set(column)) == len(column)
 
 
 @lru_cache(maxsize=4096)

@@ -4,7 +4,8 @@ import json
 import os
 import re
 import sys
-from typing import List, NamedTuple
+from operator import itemgetter
+from typing import List, Tuple
 
 import pytest
 
@@ -18,14 +19,8 @@ from tests.second_implementation.fair import fair
 CLIENTS = TOP / 'docs' / 'clients'
 
 
-class Client(NamedTuple):
-    file: str
-    #: The command that runs it, and what else it needs.
-    command: str
-    needs: str
-
-
-HINTS = [Client('hints.py', sys.executable, sys.executable), Client('hints.bash', 'bash', 'jq')]
+#: The clients that play by hints, each with the command that runs it and what else it needs.
+HINTS = [('hints.py', sys.executable, sys.executable), ('hints.bash', 'bash', 'jq')]
 
 #: The one document that lies above the others.
 README = '../README.md'
@@ -51,30 +46,22 @@ def unfolded(block: str) -> str:
     return re.sub(r'\n +', '', block)
 
 
-class Worked(NamedTuple):
-    """A run: its words, its lines, and the objects that it has to write."""
-
-    words: List[str]
-    lines: List[str]
-    objects: List[str]
-
-
-def worked(block: str) -> Worked:
-    """The run of an example: `$ ` its words, `> ` a line, and objects."""
+def worked(block: str) -> Tuple[List[str], List[str], List[str]]:
+    """The run of an example: its words behind `$ `, its lines, each behind `> `, and the objects that it has to write."""
     head, *rest = unfolded(block).splitlines()
-    return Worked(head.split()[2:], [line[2:] for line in rest if line.startswith('>')], [line for line in rest if not line.startswith('>')])
+    return head.split()[2:], [line[2:] for line in rest if line.startswith('>')], [line for line in rest if not line.startswith('>')]
 
 
 BLOCKS = {name: blocks_of(name) for name in ('JSON.md', 'SCRIPTING.md', README)}
 WORKED = [worked(block) for block in BLOCKS['JSON.md'] if block.startswith('$ puzzles-json ')]
 
 
-@pytest.fixture(params=HINTS, ids=[client.file for client in HINTS])
+@pytest.fixture(params=HINTS, ids=itemgetter(0))
 def client(request: pytest.FixtureRequest) -> List[str]:
     """The words that run it."""
-    found: Client = request.param
-    need(found.needs)
-    return [found.command, str(CLIENTS / found.file)]
+    file, command, needs = request.param
+    need(needs)
+    return [command, str(CLIENTS / file)]
 
 
 @pytest.mark.parametrize(('game', 'id', 'wanted'), PLAYED)
@@ -100,12 +87,12 @@ def test_fair(pair: Pair, room: Room) -> None:
     assert (room.names(), room.read('unequal-5dk-3'), room.read('unequal-5dk-4')) == (['unequal-5dk-3', 'unequal-5dk-4'], made.encode(), b'kept\n')
 
 
-@pytest.mark.parametrize('run_of', WORKED, ids=lambda run_of: f'{" ".join(run_of.words)} > {run_of.lines[0]}')
-def test_objects(pair: Pair, room: Room, run_of: Worked) -> None:
+@pytest.mark.parametrize(('words', 'lines', 'objects'), WORKED, ids=[f'{" ".join(words)} > {lines[0]}' for words, lines, _ in WORKED])
+def test_objects(pair: Pair, room: Room, words: List[str], lines: List[str], objects: List[str]) -> None:
     """Byte for byte."""
-    ended = run([pair.objects, *run_of.words], room, input=''.join(f'{line}\n' for line in run_of.lines).encode())
+    ended = run([pair.objects, *words], room, input=''.join(f'{line}\n' for line in lines).encode())
     assert (ended.status, ended.error) == (0, b'')
-    assert ended.output.decode(errors='replace').splitlines() == run_of.objects
+    assert ended.output.decode(errors='replace').splitlines() == objects
 
 
 @pytest.mark.parametrize('block', [block for name in ('SCRIPTING.md', README) for block in BLOCKS[name] if block.startswith('$ ')])

@@ -5,14 +5,14 @@ It is a sample of boards. HINT_BOARDS in the environment says how many there are
 
 import os
 from random import Random
-from typing import Dict, Iterator, List, NamedTuple, Sequence, Tuple
+from typing import Iterator, List, Sequence, Tuple
 
 import pytest
 
-from tests.harness import Room, run
+from tests.harness import Room
 from tests.objects.boards import puzzle_of
 from tests.objects.forms import expect_known
-from tests.objects.reading import Object, read_answers
+from tests.objects.reading import Object, told
 from tests.objects.solutions import expect_hint
 from tests.objects.steps import expect_steps
 from tests.second_implementation.grades import HARD, LETTERS
@@ -28,28 +28,12 @@ BOARDS = int(os.environ.get('HINT_BOARDS', '400'))
 EACH, WRONG = 20, [0, 0, 0, 1, 2, 3]
 
 
-class Asked(NamedTuple):
-    """A board, by the line that begins its game and its moves; and the numbers of the steps that are looked at, square by square."""
-
-    game: str
-    lines: List[str]
-    ends: List[Dict[int, List[int]]]
-
-
-#: Numbers that a clue strikes with what stands, and only when an earlier one of them is struck: they are steps of their own. Of the first board each step
-#: has to hold, whichever they are.
+#: Numbers that a clue strikes with what stands, and only when an earlier one of them is struck: they are steps of their own.
 ONE_BY_ONE = [
-    Asked('towers', ['new 4:////2///////////2,c2b4i'], []),
-    Asked('towers', ['new 6dh://4////3/////2/2//2///4////3//,a1i1b3u', 'move R2,4,5'], [{32: [1, 2]}, {2: [2]}]),
-    Asked('towers', ['new 7dh:2/2//2/2/5///2/3/3///3//4/////2///5/2//4/,b1r4_1z', 'move R5,5,5'], [{5: [3]}, {26: [3]}]),
+    ('towers', ['new 4:////2///////////2,c2b4i']),
+    ('towers', ['new 6dh://4////3/////2/2//2///4////3//,a1i1b3u', 'move R2,4,5']),
+    ('towers', ['new 7dh:2/2//2/2/5///2/3/3///3//4/////2///5/2//4/,b1r4_1z', 'move R5,5,5']),
 ]
-
-
-def answers(objects: str, room: Room, game: str, lines: Sequence[str]) -> List[Object]:
-    script = ''.join(f'{line}\n' for line in lines).encode()
-    ended = run([objects, game], room, input=script, seconds=100)
-    assert (ended.status, ended.error) == (0, b'')
-    return [answer.found for answer in read_answers(script, ended.output)]
 
 
 def expect_hint_of(game: str, board: Object, hint: Object) -> None:
@@ -60,12 +44,10 @@ def expect_hint_of(game: str, board: Object, hint: Object) -> None:
     expect_steps(puzzle, numbers, hint['hint'])
 
 
-@pytest.mark.parametrize('asked', ONE_BY_ONE, ids=lambda asked: f'{asked.lines[0]}')
-def test_one_by_one(objects: str, room: Room, asked: Asked) -> None:
-    *_, board, hint = answers(objects, room, asked.game, [*asked.lines, 'board', 'hint'])
-    expect_hint_of(asked.game, board, hint)
-    told = [{strike['cell']: strike['numbers'] for strike in step['strikes']} for step in hint['hint']['steps']]
-    assert any(told[at:at + len(asked.ends)] == asked.ends for at in range(len(told))), told
+@pytest.mark.parametrize(('game', 'lines'), ONE_BY_ONE)
+def test_one_by_one(objects: str, room: Room, game: str, lines: List[str]) -> None:
+    *_, board, hint = told(objects, room, game, [*lines, 'board', 'hint'])
+    expect_hint_of(game, board, hint)
 
 
 def runs() -> Iterator[Tuple[str, int, str, int]]:
@@ -79,12 +61,12 @@ def test_boards(objects: str, room: Room, game: str, size: int, letter: str, see
     """Parts of the solution, with some wrong numbers; and the boards between, as they come in play."""
     random = Random(seed)
     begun = f'fair {size} {letter} {seed}'
-    solution = [int(digit) for digit in answers(objects, room, game, [begun, 'solve'])[1]['reply'][0][1:]]
+    solution = [int(digit) for digit in told(objects, room, game, [begun, 'solve'])[1]['reply'][0][1:]]
     lines = [begun]
     for _ in range(EACH):
         lines += ['restart', *moves_to(random, size, solution), 'board', 'hint']
-    told = answers(objects, room, game, lines)
-    for board, hint in zip(told, told[1:]):
+    answers = told(objects, room, game, lines)
+    for board, hint in zip(answers, answers[1:]):
         if 'hint' in hint:
             expect_hint_of(game, board, hint)
 

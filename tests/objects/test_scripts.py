@@ -8,8 +8,9 @@ import pytest
 from hypothesis import HealthCheck, given, seed, settings
 from hypothesis import strategies as st
 
-from tests.harness.builds import TOP
+from tests.harness import made
 from tests.objects.agreement import BOARD, SESSION, Pair, Script, expect_agreement
+from tests.objects.test_refused import BEGINNING, OTHER
 from tests.second_implementation.games import GAMES
 from tests.second_implementation.grades import LETTERS
 from tests.second_implementation.saves import COLLECTION, written
@@ -33,22 +34,15 @@ BAD_IDS = [
 #: Lines that no random choice would meet soon.
 ODD: List[bytes] = [
     b'', b'\r', b'\r\r', b' ', b'undo ', b'undo x', b'Undo', b'move', b'move ', b'new', b'list', b'list 0', b'list 101', b'list 05',
-    b'fair', b'fair ', b'fair 3 e', b'fair 3 e 7 ', b'fair 3  e 7', b'fair 3 e 7 8', b'fair\t3 e 7', b'Fair 3 e 7',
-    b'blank', b'blank ', b'blank 3 4', b'item', b'item 0,0', b'item 0,0,1,1', b'item 0,0,-1', b'solutions 2', b'spare ', b'spare  e', b'thin ', b'Thin',
-    b'board ', b'board x', b'BOARD', b'hint ', b'hint 1', b'grade ', b'grade 1', b'completable x', b'{"line":"undo"}', b'"', b'\\', b'\x00', b'\x7f',
-    b'\x1b[A', b'\xff\xfe', b'move R0,0,\xb2', b'new 3:\xc3\xa9', b'undo\x00', b'\xc3\xa9' * 300, b'x' * 1024, b'x' * 1025,
-    b'x' * 1024 + b'\r', b'x' * 1023 + b'\r', b'y' * 5000, b'move R01,0,1', b'move H0,0,1', b'move F0,0,1', b'move S123',
-    b'move D-0,1', b'quit ',
+    *(line.encode() for line in OTHER), b'{"line":"undo"}', b'"', b'\\', b'\x00', b'\x7f', b'\x1b[A', b'\xff\xfe', b'move R0,0,\xb2', b'new 3:\xc3\xa9',
+    b'undo\x00', b'\xc3\xa9' * 300, b'x' * 1024, b'x' * 1025, b'x' * 1024 + b'\r', b'x' * 1023 + b'\r', b'y' * 5000, b'move R01,0,1', b'move H0,0,1',
+    b'move F0,0,1', b'move S123', b'move D-0,1', b'quit ',
 ]
 
-#: Lines for fair games, some of which are refused: seeds of which the second implementation has every game soon.
+#: Lines for fair games: seeds of which the second implementation has every game soon.
 FAIR: Dict[str, List[str]] = {
-    game: [f'{size} {letter} {seed}' for size in (3, 4) for letter in letters for seed in (1, 9, 20261126)] for game, letters in LETTERS.items()
+    game: [f'fair {size} {letter} {seed}' for size in (3, 4) for letter in letters for seed in (1, 9, 20261126)] for game, letters in LETTERS.items()
 }
-BAD_FAIR = [
-    '2 e 7', '10 e 7', '03 e 7', 'e e 7', '3 h 7', '3 k 7', '4 x 7', '4 E 7', '4 ee 7', '9 e 07', '9 e -1', '9 e 18446744073709551616', '0 0 x',
-    '4 0 x', '4 e \xb2',
-]
 
 #: The numbers of the only solution of `3:3//////3/////`.
 SOLVED = [b'move R%d,%d,%s' % (at % 3, at // 3, b'123231312'[at:at + 1]) for at in range(9)]
@@ -63,10 +57,7 @@ PARTS, EACH = 20, 50
 @lru_cache(maxsize=None)
 def stored(game: str) -> List[str]:
     """Puzzles of all sizes that are soon solved."""
-    letters = 'de' if game == 'towers' else 'te'
-    rows = [line.split() for line in (TOP / 'bench' / 'puzzles.txt').read_text(encoding='ascii').splitlines()]
-    found = [row[2] for row in rows if len(row) == 3 and row[0] == game]
-    return [id for id in found if id[1:2] == ':' or id[2:3] in letters]
+    return [id for size in range(3, 10) for id in made(game, size, 'eh' if game == 'towers' else 'tek')]
 
 
 def number_move(words: Tuple[bytes, int, int, int]) -> bytes:
@@ -100,7 +91,7 @@ BYTES = st.lists(st.one_of(st.sampled_from(CAREFUL), st.binary(min_size=1, max_s
 @lru_cache(maxsize=None)
 def lines(game: str) -> st.SearchStrategy[bytes]:
     new = st.sampled_from([b'new ' + id.encode('latin-1') for id in [*SMALL[game], *BAD_IDS]])
-    fair = st.sampled_from([b'fair ' + words.encode('latin-1') for words in [*FAIR[game], *BAD_FAIR]])
+    fair = st.sampled_from([line.encode('latin-1') for line in [*FAIR[game], *(line for of_game, line, _ in BEGINNING if of_game == game)]])
     line = st.one_of(MOVE, MOVE, MOVE, CALL, CALL, new, fair, st.sampled_from(ODD))
     one_in_twenty = st.sampled_from([b'\r', *[b''] * 19])
     return st.tuples(line, one_in_twenty).map(b''.join)

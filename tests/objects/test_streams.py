@@ -1,65 +1,52 @@
-"""Words, files and streams, as the plain program has them; a game line by line; a long game."""
+"""Words, files and streams, as the plain program has them; the games of tests/lines/played, a game line by line, a long game and a long answer."""
 
-import json
 import os
+import resource
 import select
 import subprocess
-from typing import Any, Dict, Iterator, List
+from itertools import takewhile
 
 import pytest
 
-from tests.harness import Ended, Room, by_name, run
-from tests.harness.game import ID, left_files, save_text
-from tests.objects.agreement import Pair, expect_alike
+from tests.harness import Room, by_name, run
+from tests.harness.game import ID, save_text
+from tests.lines.transcripts import Transcript, transcripts
+from tests.objects.agreement import BOARD, SESSION, Pair, Script, expect_agreement, expect_alike
 from tests.objects.reading import read_answers
 from tests.lines import test_games, test_words
 from tests.lines.runs import Run
 
 PLAYED = ['towers', '--id', ID, '--save', 'old.sav']
-LINES = b'move R0,0,1\nboard\nundo\nsave\nhint\n'
 
-#: As many as a history has, and three that are refused.
+#: A line that is typed more often than that is typed so often.
+MOST = 3
+
+#: As many as a history has; and lines behind those that fill it, of which three are refused.
 MOST_STATES = 100_000
-MOVE = b'move P0,0,1\n'
-BEHIND = b'move P0,0,1\nrestart\nsolve\nmarks\nstatus\nsave\nboard\ncompletable\nhint\nundo\nredo\nredo\nstatus\n'
+BEHIND = b'move P0,0,1\nrestart\nsolve\nundo\n'
 
 
 @pytest.mark.parametrize('row', [*test_words.REFUSED, *test_words.ASKED, *test_games.REFUSED], ids=by_name)
-def test_words_alike(pair: Pair, row: Run) -> None:
+def test_words_alike(pair: Pair, room: Room, row: Run) -> None:
     """What it says of its words is what the plain program says, but for the name."""
-    ends: List[Ended] = []
-    for program in (pair.objects, pair.plain):
-        with Room() as room:
-            for name, content in row.given.items():
-                room.put(name, content)
-            ends.append(run([program, *row.words], room))
-            for name, content in row.holds.items():
-                assert room.read(name) == content, f'the file {name}'
-    found, wanted = ends
-    for told, plain in ((found.output, wanted.output), (found.error, wanted.error)):
-        assert b'puzzles-json' in told or b'puzzles' not in plain
-        assert bool(told) == bool(plain)
+    for name, content in row.given.items():
+        room.put(name, content)
+    found, wanted = (run([program, *row.words], room) for program in (pair.objects, pair.plain))
     assert (found.status, found.error.replace(b'puzzles-json', b'puzzles')) == (wanted.status, wanted.error)
+    assert bool(found.output) == bool(wanted.output) and ('puzzles-json' in found.said) == ('puzzles' in wanted.said)
 
 
-OUTPUT = b'cannot write the output\n'
-
-
-@pytest.mark.parametrize(('stream', 'error'), [('unread', b'cannot read the input\n'), ('full', OUTPUT), ('closed', OUTPUT), ('gone', OUTPUT)], indirect=['stream'])
-def test_stream_fails(pair: Pair, room: Room, stream: Dict[str, Any], error: bytes) -> None:
-    """The status and the line are those of the plain program, and no file is touched."""
-    room.put('old.sav', b'old')
-    assert run([pair.objects, *PLAYED], room, input=LINES, **stream) == (1, b'', error)
-    assert room.read('old.sav') == b'old'
-    assert left_files(room) == []
+@pytest.mark.parametrize('played', transcripts(), ids=by_name)
+def test_played(pair: Pair, played: Transcript) -> None:
+    """After each line all that it tells agrees with the plain program and a second implementation."""
+    lines = takewhile(lambda line: line.typed != 'quit', played.lines)
+    typed = [line.typed.encode() for line in lines for _ in range(min(line.times, MOST))]
+    groups = [[line, *SESSION, *BOARD, b'completable', b'hint', b'grade'] for line in typed]
+    expect_agreement(pair, Script(played.game, [played.game], b'', groups, [b'quit', b'undo']))
 
 
 def test_closed_input(pair: Pair, room: Room) -> None:
     assert run([pair.objects, *PLAYED], room, closed=[0]) == run([pair.plain, *PLAYED], room, closed=[0])
-
-
-def test_closed_error(pair: Pair, room: Room) -> None:
-    assert run([pair.objects, 'towers', '--id', ''], room, closed=[2]).status == 3
 
 
 def test_loaded(pair: Pair) -> None:
@@ -105,21 +92,20 @@ def first_line(fd: int) -> bytes:
 
 
 def test_long_game(pair: Pair) -> None:
-    """A history that is full: each object is its line's, and the rest agrees with the plain program."""
-    words = ['towers', '--id', ID, '--save', 'new.sav']
-    script = MOVE * (MOST_STATES - 1) + BEHIND
-    found, plain = pair.run(words, script)
-    lines = found.ended.output.split(b'\n')
-    assert [(line, owed) for line, owed in zip(lines, moved()) if line != owed][:5] == []
-    answers = read_answers(BEHIND, b'\n'.join(lines[MOST_STATES - 1:]))
-    behind = plain.ended._replace(output=plain.ended.output[3 * (MOST_STATES - 1):])
-    expect_alike(found, plain._replace(ended=behind), answers)
-    assert [answer.found['refused'] for answer in answers] == ['HistoryFull'] * 3 + [None] * 8 + ['NothingToRedo', None]
+    """A history that is full."""
+    found, _ = pair.run(['towers', '--id', ID], b'move P0,0,1\n' * (MOST_STATES - 1) + BEHIND)
+    answers = read_answers(BEHIND, b'\n'.join(found.ended.output.split(b'\n')[MOST_STATES - 1:]))
+    assert [(answer.found['refused'], answer.found['session']['position']) for answer in answers] == [('HistoryFull', MOST_STATES)] * 3 + [(None, MOST_STATES - 1)]
 
 
-def moved() -> Iterator[bytes]:
-    """The objects of the moves that fill a history."""
-    session = {'game': 'Towers', 'id': ID, 'position': '?', 'states': '?', 'status': 'playing'}
-    text = json.dumps({'refused': None, 'reply': ['ok'], 'session': session}, separators=(',', ':'))
-    front, middle, end = text.encode().split(b'"?"')
-    return (b'%s%d%s%d%s' % (front, state, middle, state, end) for state in range(2, MOST_STATES + 1))
+def test_memory(objects: str, room: Room) -> None:
+    """A reply of 16 million lines, in four times the memory that its object has bytes."""
+    # As many bytes as a kept value can have in a save that may be loaded.
+    seed = b'\n' * (16_777_216 - 1000)
+    text = save_text(0).replace(b'DESC    ', b'SEED    :%d:%s\nDESC    ' % (len(seed), seed))
+    room.put('long.sav', text)
+    session = b'{"game":"Towers","id":"%s","position":1,"states":1,"status":"playing"}' % ID.encode()
+    wanted = b'{"refused":null,"reply":["%s"],"session":%s}\n' % (b'","'.join(text.split(b'\n')[:-1]), session)
+    ended = run([objects, 'towers', '--load', 'long.sav'], room, input=b'save\n', limits={resource.RLIMIT_AS: 4 * len(wanted)}, seconds=100)
+    assert ended.status == 0, 'the status'
+    assert ended.output == wanted, f'the object has {len(ended.output)} bytes and begins with {ended.output[:60]!r}'

@@ -7,8 +7,9 @@ from typing import Callable, ContextManager, Iterator, Optional, Tuple
 import pytest
 
 from tests.harness import Folder, Room, User
+from tests.harness.game import save_text
 from tests.harness.users import plain_user
-from tests.saving.game import Saver
+from tests.saving.game import Saver, expect_none_left, expect_saved
 
 #: Ways to write the path of a file in a room with a folder `sub` and a link `way` to it, and where the file then lies.
 PATHS = [
@@ -81,3 +82,19 @@ def test_hard_folder(saver: Saver, make: Callable[[Room], ContextManager[Hard]],
         folder.link('down', 'sub/s.sav')
         saver.save_twice(folder, path, file, user)
         assert [folder.link_text('link'), folder.link_text('down')] == ['s.sav', 'sub/s.sav'], 'the links'
+
+
+@pytest.mark.parametrize(('path', 'file'), [('s.sav', 's.sav'), ('link', 's.sav'), ('new.sav', 'new.sav')])
+@pytest.mark.parametrize('mode', [0o300, 0o1300])
+def test_folder_unread(saver: Saver, path: str, file: str, mode: int) -> None:
+    """Only who may read a folder may ask for its flush; that it can't be asked is not told."""
+    user = plain_user()
+    owner = user and user.owner
+    with saver.room.make_folder('unread', owner=owner) as folder:
+        folder.put('s.sav', b'an old file', 0o640, owner)
+        folder.link('link', 's.sav')
+        os.fchmod(folder.fd, mode)
+        expect_saved(saver.save(folder, path, 1, user=user), 1)
+        os.fchmod(folder.fd, 0o700)
+        assert folder.read(file) == save_text(1), 'the save'
+        expect_none_left(folder)

@@ -1,15 +1,16 @@
-"""5. Where the new file can't take the old one's place, the old one is written; where that fails too, the new file is left."""
+"""5. Where the new file can't take the old one's place, the old one is written; where that fails too, the new file is left. So it is, too, where a call is
+made to fail (tests/faults)."""
 
 import os
 from typing import Any, Optional
 
 import pytest
 
-from tests.harness import Folder, Room, need_root
-from tests.harness.game import NEW_NAME, left_files, save_text
+from tests.harness import Folder, need_root
+from tests.harness.game import left_files, save_text
 from tests.harness.mounts import bound_file, fill, small_disk
 from tests.harness.users import ANNA, BERT, GAMES
-from tests.saving.game import Saver, expect_none_left, expect_refused, expect_saved
+from tests.saving.game import Saver, expect_none_left, expect_refused, expect_saved, expect_whole_left
 
 #: Longer than any save here, so that a rest of it would show.
 OLD = b'an old file\n' * 100
@@ -62,59 +63,5 @@ def test_mounted_file_on_a_full_disk(saver: Saver) -> None:
         with bound_file(f'{room.path}/disk/old', f'{room.path}/s.sav'):
             fill(disk)
             expect_refused(saver.save(room, 's.sav', 1), 1, room)
-    expect_left(room, save_text(1))
-
-
-def expect_left(folder: Folder, content: bytes) -> None:
-    """One new file is left beside, whole, and for nobody who couldn't read the old one."""
-    left = left_files(folder)
-    assert len(left) == 1, 'how many files are left'
-    for name in left:
-        assert bool(NEW_NAME.fullmatch(name)), f'it is called {name}'
-        assert folder.read(name) == content, 'what is left'
-        assert (folder.mode(name) or 0) & ~0o644 == 0, f'its mode is {folder.mode(name) or 0:o}'
-
-
-def furnish(room: Room) -> Room:
-    room.put('s.sav', OLD, 0o640)
-    room.link('link', 's.sav')
-    return room
-
-
-@pytest.mark.parametrize('path', ['s.sav', 'link'])
-@pytest.mark.parametrize('number', ['EBUSY', 'EPERM', 'EACCES', 'EXDEV'])
-def test_rename_refused(saver: Saver, path: str, number: str) -> None:
-    expect_written(saver, furnish(saver.room), path, env=saver.faults().env('rename', 1, number, on=True))
-
-
-@pytest.mark.parametrize('path', ['s.sav', 'link'])
-@pytest.mark.parametrize('number', ['EBUSY', 'EPERM', 'EACCES', 'EXDEV'])
-def test_nothing_works(saver: Saver, path: str, number: str) -> None:
-    """Each flush of a file from the second on fails: the new file is whole by then, and the old one is not."""
-    room = furnish(saver.room)
-    env = saver.faults().env('fsync', 2, 'EIO', on=True, also=f'rename:{number}')
-    expect_refused(saver.save(room, path, 1, env=env), 1, room)
-    expect_left(room, save_text(1))
-
-
-@pytest.mark.parametrize('path', ['s.sav', 'link', 'new.sav'])
-@pytest.mark.parametrize('number', ['EIO', 'ENOSPC', 'EROFS'])
-def test_rename_failed(saver: Saver, path: str, number: str) -> None:
-    room = furnish(saver.room)
-    env = saver.faults().env('rename', 1, number, on=True)
-    expect_refused(saver.save(room, path, 1, env=env), 1, room)
-    assert room.read('s.sav') == OLD, 'the old file'
-    assert room.read('new.sav') is None, 'a new name'
-    expect_left(room, save_text(1))
-
-
-@pytest.mark.parametrize('path', ['s.sav', 'link', 'new.sav'])
-def test_many_left(saver: Saver, path: str) -> None:
-    """What earlier runs left is no obstacle, and stays as it was."""
-    room = furnish(saver.room)
-    left = {f'.puzzles.{number}.tmp': b'left %d' % number for number in range(100)}
-    for name, content in left.items():
-        room.put(name, content)
-    expect_saved(saver.save(room, path, 1), 1)
-    assert room.read('new.sav' if path == 'new.sav' else 's.sav') == save_text(1), 'the content'
-    assert {name: room.read(name) for name in left_files(room)} == left, 'what was left'
+    assert len(left_files(room)) == 1, 'how many files are left'
+    expect_whole_left(room, save_text(1))

@@ -1,12 +1,11 @@
 """2. Who may read and write a file is as it was: its group, its owner, its mode. Never may more."""
 
 import os
-import struct
 from typing import NamedTuple, Optional
 
 import pytest
 
-from tests.harness import Folder, Skip, User, by_name, need_root
+from tests.harness import Folder, User, by_name, need_root
 from tests.harness.game import save_text
 from tests.harness.room import Owner
 from tests.harness.users import ANNA, BERT, CARL, CHESS, GAMES
@@ -115,16 +114,6 @@ def test_new_mode(saver: Saver, umask: int, path: str) -> None:
     assert oct(saver.room.mode('s.sav') or 0) == oct(0o666 & ~umask), 'the mode'
 
 
-def test_and_back(saver: Saver) -> None:
-    need_root()
-    with saver.room.make_folder('shared', 0o2770, (ANNA.uid, GAMES)) as folder:
-        folder.put('s.sav', b'old', 0o660, ANNAS)
-        for moves, user in enumerate((BERT, ANNA, BERT)):
-            expect_saved(saver.save(folder, 's.sav', moves, user=user), moves)
-            assert folder.read('s.sav') == save_text(moves), 'the content'
-            expect_owner(folder, (user.uid, GAMES), 0o660)
-
-
 @pytest.mark.parametrize(('mode', 'call', 'number'), [(0o600, 'chmod', 'EPERM'), (0o600, 'chown', 'EPERM'), (0o600, 'chown', 'EINVAL'), (0o640, 'chown', 'EPERM')])
 def test_mode_not_set(saver: Saver, mode: int, call: str, number: str) -> None:
     """Some folders refuse that a mode is set, or an owner. Where nothing differs, nothing need be set."""
@@ -132,45 +121,3 @@ def test_mode_not_set(saver: Saver, mode: int, call: str, number: str) -> None:
     expect_saved(saver.save(saver.room, 's.sav', env=saver.faults().env(call, 1, number, on=True)))
     assert saver.room.read('s.sav') == save_text(0), 'the content'
     assert oct(saver.room.mode('s.sav') or 0) == oct(mode), 'the mode'
-
-
-def test_owner_not_set(saver: Saver) -> None:
-    need_root()
-    saver.room.put('s.sav', b'old', 0o664, ANNAS)
-    expect_saved(saver.save(saver.room, 's.sav', env=saver.faults().env('chown', 1, 'EPERM', on=True)))
-    expect_owner(saver.room, ROOTS, 0o604)
-
-
-# Access lists, as Linux keeps them: a version, and then a kind, permissions and a number for each entry.
-NO_NUMBER = 0xFFFFFFFF
-ACCESS, DEFAULT = 'system.posix_acl_access', 'system.posix_acl_default'
-
-
-def access_list(owner: int, berts: int, group: int, mask: int, others: int) -> bytes:
-    """A list with an entry for Bert."""
-    entries = [(1, owner, NO_NUMBER), (2, berts, BERT.uid), (4, group, NO_NUMBER), (16, mask, NO_NUMBER), (32, others, NO_NUMBER)]
-    return struct.pack('<I', 2) + b''.join(struct.pack('<HHI', *entry) for entry in entries)
-
-
-LISTS = [
-    # A file whose list gives Bert more than its group.
-    (access_list(6, 6, 0, 6, 0), None),
-    # A folder whose list gives Bert each new file.
-    (None, access_list(6, 6, 4, 6, 0)),
-]
-
-
-@pytest.mark.parametrize(('access', 'default'), LISTS)
-def test_access_list(saver: Saver, access: Optional[bytes], default: Optional[bytes]) -> None:
-    """Nothing is promised of lists but that the file is saved."""
-    with saver.room.make_folder('shared', 0o777) as folder:
-        folder.put('s.sav', b'old', 0o640)
-        try:
-            if access:
-                os.setxattr(f'{folder.path}/s.sav', ACCESS, access)
-            if default:
-                os.setxattr(folder.path, DEFAULT, default)
-        except OSError as error:
-            raise Skip(f'no access lists here: {error.strerror}', 'a TMPDIR on a disk that has them') from error
-        expect_saved(saver.save(folder, 's.sav'))
-        assert folder.read('s.sav') == save_text(0), 'the content'

@@ -116,16 +116,6 @@ def test_another_stream(saver: Saver, path: str, flag: int) -> None:
     expect_none_left(room)
 
 
-@pytest.mark.parametrize('path', STREAM_PATHS)
-def test_another_pipe(saver: Saver, path: str) -> None:
-    reading, writing = os.pipe()
-    saver.room.link('link', f'/dev/fd/{writing}')
-    with os.fdopen(reading, 'rb') as file:
-        expect_saved(saver.save(saver.room, named(path, saver.room, writing), 1, kept=[writing]), 1)
-        os.close(writing)
-        assert file.read() == save_text(1), 'what the stream has'
-
-
 @pytest.mark.parametrize('path', PLAIN_PATHS)
 def test_plain(saver: Saver, path: str) -> None:
     """It is replaced as any file, or made."""

@@ -5,7 +5,6 @@ from typing import Dict, NamedTuple, Sequence
 
 import pytest
 
-from bodies.sources import functions
 from tests.harness import by_name
 from tests.scripts.place import Place
 
@@ -69,28 +68,6 @@ ROUNDS = [
 #: The line of the kit that stands for the prover's.
 KIT = 'a kit of words'
 
-#: By what the prover knows a function: its file, what stands above it, how far in it is, and its path, or nothing.
-PATHS = [
-    ('src/lib.rt', '', 0, 'words::f'),
-    ('src/a/b.rt', 'pub struct Other;\n', 0, 'words::a::b::f'),
-    ('src/a/mod.rt', 'pub struct Size {\n}\n\nimpl Size {\n', 4, 'words::a::Size::f'),
-    ('src/a.rt', 'pub(crate) enum Size<P> {\n}\n\nimpl<P: Draw> Size<P> {\n    fn g() {\n    }\n\n', 4, 'words::a::Size::f'),
-    ('src/a/b.rt', 'impl Size {\n', 4, 'Size::f'),
-    ('src/a.rt', 'impl PartialEq for Size {\n', 4, 'words::a::SizePartialEq::f'),
-    ('src/a.rt', "impl<'a, W: Write> fmt::Write for Log<'a, W> {\n", 4, 'words::a::LogWrite::f'),
-    ('src/a.rt', 'impl<T: Drop> From<AllocFailed<T>> for Fault {\n', 4, 'words::a::FaultFromAllocFailed::f'),
-    ('src/a.rt', 'impl<P: Draw> Format<P> for Plain {\n', 4, 'words::a::PlainFormat::f'),
-    ('src/a.rt', 'pub trait Rules {\n', 4, 'words::a::Rules::f'),
-    ('src/a.rt', 'mod inner {\n', 4, ''),
-    ('src/a.rt', 'impl Size {\n    fn g() {\n', 8, ''),
-]
-
-
-@pytest.mark.parametrize(('file', 'above', 'blanks', 'path'), PATHS)
-def test_path(file: str, above: str, blanks: int, path: str) -> None:
-    assert functions('words', file, f'{above}{" " * blanks}fn f() {{\n{" " * blanks}}}\n')[-1].path == path
-
-
 class Words:
     """A crate of words over one of letters, with the kit that goes by them."""
 
@@ -150,13 +127,6 @@ def test_libraries(words: Words) -> None:
     rests_on = words.place.run(['python3', '-Bc', RESTS_ON, KIT]).output
     note = put('build/libraries', rests_on, 0o644)
     words.expect(['4 passed, 0 failed'], ANEW='1')
-    # A wrong body is none of them.
-    others = put('crates/letters/wrong-bodies.edits', b'', 0o644)
-    words.expect(['4 passed, 0 failed'], ANEW='1')
-    os.remove(others)
-    put('crates/letters/src/lib.rt', b'more letters\n', 0o644)
-    words.expect(lacks, 1, ANEW='1')
-    put('crates/letters/src/lib.rt', b'other letters\n', 0o644)
     os.utime(note, (0, 0))
     words.expect(lacks, 1, ANEW='1')
     os.utime(made)

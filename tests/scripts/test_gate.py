@@ -34,7 +34,6 @@ SKIPPED = ('2 passed, 0 failed, 3 skipped', 0)
 
 ROUNDS = [
     Gate('all passes'),
-    Gate('a part that skips nothing says no more', part=('1 passed, 0 failed', 0)),
     Gate('proofs fail', proofs=('3 passed, 2 failed', 1), counts=(4, 2, 0), status=1),
     Gate('proofs say that none failed, and end badly', proofs=(PROVED, 1), counts=(6, 1, 0), status=1),
     Gate('proofs break off', proofs=('out of memory', 3), counts=(1, 1, 0), status=1),
@@ -47,9 +46,7 @@ ROUNDS = [
     Gate('a part takes a skip for a failure', part=(SKIPPED[0], 1), counts=(7, 0, 3), status=1),
     Gate('a part skips, which is allowed', part=SKIPPED, env=ALLOWED, counts=(7, 0, 3)),
     Gate('a part skips, which is allowed, and ends badly', part=(SKIPPED[0], 1), env=ALLOWED, counts=(7, 1, 3), status=1),
-    Gate('a part skips, which is not allowed', part=SKIPPED, env={'SKIPS_FAIL': '1'}, counts=(7, 0, 3), status=1),
     Gate('a part skips and fails', part=('2 passed, 1 failed, 3 skipped', 1), env=ALLOWED, counts=(7, 1, 3), status=1),
-    Gate('a part is skipped whole', part=('0 passed, 0 failed, 1 skipped', 0), env=ALLOWED, counts=(5, 0, 1)),
 ]
 
 #: Ways to start the gate, each with the folder from which; and what a stranger's machine runs: the tests, which are a part of the gate too, and then the gate.

@@ -55,6 +55,7 @@ OF_THE_TREE = [
     Make('make play, the other game', ['make', 'play', 'GAME=unequal', 'ID=4!7'], says=['playing 1/1\n'], input=b'status\n'),
     Make('make play, a game with an apostrophe', ['make', 'play', "GAME=it's"], 2, ['GAME is towers or unequal']),
     Make('make play, an ID with an apostrophe', ['make', 'play', "ID=it's"], 2, ['refused: BadSize']),
+    Make('make install', ['sh', '-c', 'make install DESTDIR="$PWD/.." && make installcheck DESTDIR="$PWD/.."'], says=['is there and plays']),
     Make('make build', ['make', 'build'], 2, ['not built: there is no command /no kit']),
 ]
 

@@ -55,25 +55,3 @@ def test_lists(place: Place, row: Row) -> None:
     assert (ended.status, ended.error.decode().rstrip('\n')) == (int(bool(row.fault)), row.fault)
     assert [text in listed for text in ('-- whether it is a vowel', 'ensures { result ≡ is_vowel b }')] == [not row.fault] * 2
     assert '    b == 97' not in listed
-
-
-#: What a kit has of the words that the definition and the contract take from it: the standard library passes on those of a crate below it.
-KIT = {
-    'core/specs/Prelude.antt': 'pub use mathlib.Core.Bool.{Bool}\npub use mathlib.Core.Path.{◌≡◌}\npub use Prim.Native.Nat.{ℕ}\npub use Rattle.core.specs.Bool.{◌==◌}\n',
-    'core/specs/Bool.antt': 'use lib.Dec.{eqb}\n\n-- equal\nabbrev pub ◌==◌ : ℕ → ℕ → Bool\n◌==◌ = eqb\n\nabbrev pub other : Bool\nother = true\n',
-    'logic/Lib/Dec.antt': 'module _ where\n  abbrev pub eqb : ℕ → ℕ → Bool\n  eqb m n = compare m n\n',
-    'antt/port/mathlib/src/Core/Bool.antt': 'pub data Bool : Type 0 where\n  false true : Bool\n',
-    'antt/port/mathlib/src/Core/Path.antt': 'abbrev pub ◌≡◌ {ℓ} : {A : Type ℓ} → A → A → Type ℓ\n◌≡◌ a b = Path a b\n',
-}
-
-
-@pytest.mark.parametrize('lacking, told', [('', '4 words of the kit, with 9 lines behind them: Bool'), ('core/specs/Bool.antt', 'the kit has no ◌==◌ of Rattle.core.specs.Bool')])
-def test_kit(place: Place, lacking: str, told: str) -> None:
-    """Its definitions are counted, to what the prover itself knows."""
-    for path, text in KIT.items():
-        place.put(f'../kit/rattle/{path}', text.encode() if path != lacking else b'', 0o644)
-    place.put(CODE, CONTRACT.encode(), 0o644)
-    place.put(SPECS, (USES + VOWEL).encode(), 0o644)
-    ended = place.run(['tools/trust', 'letters::vowel'])
-    assert told in (ended.error if lacking else ended.output).decode()
-    assert ended.status == int(bool(lacking))

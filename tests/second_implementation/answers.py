@@ -1,5 +1,9 @@
-"""What `crates/trial_runs` answers to each request of its input."""
+"""What `crates/trial_runs` answers to each request of its input.
 
+    python3 -Bm tests.second_implementation.answers < crates/trial_runs/stdin     prints crates/trial_runs/stdout, but for its last two lines
+"""
+
+import sys
 from pathlib import Path
 from typing import Dict, Iterator, Tuple
 
@@ -15,6 +19,8 @@ NAMES = [
     'loads', 'NotASave', 'Malformed', 'Version', 'WrongGame', 'Repeated', 'EarlyState', 'Unsupported', 'BadParams', 'BadDesc',
     'BadCount', 'Missing', 'BadState', 'TooLarge', 'OutOfMemory',
 ]
+
+DATA = Path(__file__).resolve().parents[2] / 'crates' / 'trial_runs' / 'data'
 
 FNV_START = 0xCBF29CE484222325
 FNV_PRIME = 0x100000001B3
@@ -106,3 +112,8 @@ def fair_game(argument: str) -> str:
         return f'{size}d{letter}:{fair(game, int(size), letter, int(seed)).description()}'
     except Refused as refused:
         return refused.name
+
+
+if __name__ == '__main__':
+    for asked in sys.stdin.read().splitlines():
+        print(*answers(asked, DATA), sep='\n')

@@ -61,11 +61,7 @@ def drawn_rows(size: int, words: Iterator[int]) -> Numbers:
         if chosen is not None:
             rows.append([number for _, number in sorted(zip(columns, chosen))])
     drawn = tuple(number for row in rows for number in row)
-    return drawn if is_square(size, drawn) else square(size, 0)
-
-
-def is_square(size: int, numbers: Numbers) -> bool:
-    return len(numbers) == size * size and is_latin(size, numbers)
+    return drawn if len(rows) == size and is_latin(size, drawn) else square(size, 0)
 
 
 def first_that_fits(rows: Sequence[Sequence[int]], columns: Sequence[int], numbers: Sequence[int], chosen: Tuple[int, ...]) -> Optional[Tuple[int, ...]]:

@@ -4,36 +4,19 @@ from __future__ import annotations
 
 import re
 from functools import lru_cache
-from typing import List, Optional, Tuple
+from typing import List, Optional, Sequence
 
-from tests.second_implementation.fair import fair, offered
-from tests.second_implementation.words import Refused, number
+from tests.second_implementation.fair import fair
+from tests.second_implementation.grades import HARD, LETTERS
+from tests.second_implementation.words import number
 
 MOST_SEED = 2 ** 64 - 1
 
-Words = Tuple[bytes, bytes, bytes]
 
-
-def fair_words(line: bytes) -> Optional[Words]:
+def fair_words(line: bytes) -> Optional[Sequence[bytes]]:
     """The words of a line that is `fair` and three of them, with one space between each; or nothing."""
     found = re.fullmatch(rb'fair ([^ ]+) ([^ ]+) ([^ ]+)', line)
-    return (found[1], found[2], found[3]) if found else None
-
-
-def asked(game: str, words: Words) -> Tuple[int, str, int]:
-    """The size, the letter and the seed that words ask for; the first of them that says nothing is refused."""
-    size = number(words[0], 3, 9)
-    if size is None:
-        raise Refused('BadSize')
-    letter = words[1].decode('latin-1')
-    try:
-        offered(game, size, letter)
-    except Refused:
-        raise Refused('BadLetter') from None
-    seed = number(words[2], 0, MOST_SEED)
-    if seed is None:
-        raise Refused('BadSeed')
-    return size, letter, seed
+    return found.groups() if found else None
 
 
 @lru_cache(maxsize=None)
@@ -47,7 +30,7 @@ def plain_lines(game: str, line: bytes) -> List[bytes]:
     words = fair_words(line)
     if words is None:
         return [line]
-    try:
-        return [b'new ' + fair_id(game, *asked(game, words)).encode()]
-    except Refused:
+    size, letter, seed = number(words[0], 3, 9), words[1].decode('latin-1'), number(words[2], 0, MOST_SEED)
+    if size is None or seed is None or letter not in LETTERS[game] or (LETTERS[game][letter] == HARD and size == 3):
         return []
+    return [b'new ' + fair_id(game, size, letter, seed).encode()]

@@ -36,8 +36,6 @@ NUMBERED = [
 
 def read_move(text: bytes) -> Move:
     """The move of a text."""
-    if text[:1] in (b'H', b'F'):
-        raise Refused('Unsupported')
     if text == b'M':
         return Move('M', 'M')
     for pattern, most in NUMBERED:
@@ -48,7 +46,7 @@ def read_move(text: bytes) -> Move:
     digits = tuple(map(int, text[1:].decode())) if re.fullmatch(rb'S[1-9]+', text) else ()
     if digits and max(digits) <= SIZES.get(len(digits), 0):
         return Move('S', text.decode(), digits=digits)
-    raise Refused('BadMove')
+    raise Refused('BadState')
 
 
 @dataclass(frozen=True)
@@ -80,28 +78,24 @@ def played(puzzle: Puzzle, board: Board, move: Move) -> Board:
         return replace(board, marks={cell: each for cell, found in enumerate(board.numbers) if found == 0})
     if move.letter == 'S':
         if not puzzle.solved_by(move.digits):
-            raise Refused('BadSolution')
+            raise Refused('BadState')
         return Board(move.digits, {}, True, True, board.done)
     if not puzzle.is_clued(move.x, move.y):
-        raise Refused('OffGrid')
+        raise Refused('BadState')
     return replace(board, done=board.done ^ {(move.x, move.y)})
 
 
 def with_entry(puzzle: Puzzle, board: Board, move: Move) -> Board:
     """A number, a cleared square, or a pencil mark put or taken."""
-    if move.x >= puzzle.size or move.y >= puzzle.size:
-        raise Refused('OffGrid')
-    if move.n > puzzle.size:
-        raise Refused('OffRange')
     cell = move.y * puzzle.size + move.x
-    if puzzle.givens[cell]:
-        raise Refused('GivenSquare')
+    if max(move.x, move.y) >= puzzle.size or move.n > puzzle.size or puzzle.givens[cell]:
+        raise Refused('BadState')
     marks = {at: found for at, found in board.marks.items() if at != cell}
     if move.letter == 'R' or move.n == 0:
         numbers = board.numbers[:cell] + (move.n,) + board.numbers[cell + 1:]
         is_completed = board.is_completed or puzzle.solved_by(numbers)
         return replace(board, numbers=numbers, marks=marks, is_completed=is_completed)
     if board.numbers[cell]:
-        raise Refused('FilledSquare')
+        raise Refused('BadState')
     changed = board.marks.get(cell, frozenset()) ^ {move.n}
     return replace(board, marks={**marks, cell: changed} if changed else marks)

@@ -88,10 +88,7 @@ class Met:
         if record.name == 'GAME' and record.value != game.name.encode():
             raise Refused('WrongGame')
         if record.name in ('PARAMS', 'CPARAMS'):
-            try:
-                game.read_parameters(record.value)
-            except Refused:
-                raise Refused('BadParams') from None
+            game.read_parameters(record.value)
         if record.name in COUNTS:
             states, position = self.count('NSTATES'), self.count('STATEPOS')
             if self.count(record.name) is None or (states and position and position > states):
@@ -152,10 +149,7 @@ def session_of(game: Game, met: Met) -> Session:
     if any(name not in met.values for name in NEEDED):
         raise Refused('Missing')
     params = game.read_parameters(met.values['CPARAMS'])
-    try:
-        puzzle = game.read_description(params.size, met.values['DESC'])
-    except Refused:
-        raise Refused('BadDesc') from None
+    puzzle = game.read_description(params.size, met.values['DESC'])
     moves: List[Move] = []
     boards = [first_board(puzzle)]
     for index, (name, value) in enumerate(met.states, 1):
@@ -173,14 +167,12 @@ def session_of(game: Game, met: Met) -> Session:
 def state_move(game: Game, puzzle: Puzzle, name: str, value: bytes, is_first: bool) -> Move:
     """The move of a state record."""
     if name == 'RESTART':
-        if game.read_description(puzzle.size, value) != puzzle:
-            raise Refused('BadMove')
-        if is_first:
-            raise Refused('NothingToRestart')
+        if is_first or game.read_description(puzzle.size, value) != puzzle:
+            raise Refused('BadState')
         return RESTART
     move = read_move(value)
     if name == 'SOLVE' and move.letter != 'S':
-        raise Refused('BadMove')
+        raise Refused('BadState')
     return move
 
 

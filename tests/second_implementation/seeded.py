@@ -32,18 +32,22 @@ def full_puzzle(game: str, size: int, numbers: Numbers) -> Tuple[Puzzle, int]:
 
 def without_item(puzzle: Puzzle, item: int) -> Puzzle:
     """The puzzle without a clue, a sign or a given."""
-    size = puzzle.size
-    if isinstance(puzzle, TowersPuzzle) and item < 4 * size:
-        return replace(puzzle, clues=without(puzzle.clues, item))
-    if isinstance(puzzle, UnequalPuzzle) and item < 2 * size * (size - 1):
-        first, second = all_neighbours(size)[item]
-        return replace(puzzle, signs=puzzle.signs - {(first, second), (second, first)})
-    firsts = 4 * size if isinstance(puzzle, TowersPuzzle) else 2 * size * (size - 1)
-    return replace(puzzle, givens=without(puzzle.givens, item - firsts))
+    if item >= first_given(puzzle):
+        return replace(puzzle, givens=put(puzzle.givens, item - first_given(puzzle), 0))
+    if isinstance(puzzle, TowersPuzzle):
+        return replace(puzzle, clues=put(puzzle.clues, item, 0))
+    assert isinstance(puzzle, UnequalPuzzle)
+    pair = all_neighbours(puzzle.size)[item]
+    return replace(puzzle, signs=puzzle.signs - {pair, pair[::-1]})
 
 
-def without(numbers: Tuple[int, ...], place: int) -> Tuple[int, ...]:
-    return numbers[:place] + (0,) + numbers[place + 1:]
+def first_given(puzzle: Puzzle) -> int:
+    """How many items are clues or signs; the givens come after them."""
+    return 4 * puzzle.size if isinstance(puzzle, TowersPuzzle) else 2 * puzzle.size * (puzzle.size - 1)
+
+
+def put(numbers: Tuple[int, ...], place: int, number: int) -> Tuple[int, ...]:
+    return numbers[:place] + (number,) + numbers[place + 1:]
 
 
 def generate(game: str, size: int, seed: int) -> Puzzle:

@@ -6,7 +6,7 @@ from functools import lru_cache
 from typing import Dict, FrozenSet, List, Sequence, Set, Tuple
 
 from tests.second_implementation.puzzles import Numbers, Puzzle, column, row
-from tests.second_implementation.words import Refused, one_digit
+from tests.second_implementation.words import Refused, digit
 
 
 def seen(line: Sequence[int]) -> int:
@@ -21,13 +21,15 @@ def edge_line(size: int, numbers: Sequence[int], place: int) -> List[int]:
     return line[::-1] if side in (1, 3) else line
 
 
+def edge_xy(size: int, place: int) -> Tuple[int, int]:
+    """The coordinates of an edge place."""
+    side, at = divmod(place, size)
+    return [(at, -1), (at, size), (-1, at), (size, at)][side]
+
+
 def edge_place(size: int, x: int, y: int) -> int:
     """The number of the edge place with these coordinates, or -1."""
-    sides = [(y == -1, x), (y == size, x), (x == -1, y), (x == size, y)]
-    for side, (is_there, at) in enumerate(sides):
-        if is_there and 0 <= at < size:
-            return side * size + at
-    return -1
+    return next((place for place in range(4 * size) if edge_xy(size, place) == (x, y)), -1)
 
 
 @lru_cache(maxsize=1 << 16)
@@ -89,60 +91,32 @@ class TowersPuzzle(Puzzle):
 
 def written_squares(givens: Numbers) -> str:
     """The square part: runs of empty squares as letters, and `_` between two givens side by side."""
-    text, empty, is_behind_given = '', 0, False
-    for given in givens:
-        if given == 0:
-            empty += 1
-            continue
-        if empty == 0 and is_behind_given:
-            text += '_'
-        text += run_of_empty(empty) + str(given)
-        empty, is_behind_given = 0, True
-    return text + run_of_empty(empty)
+    pieces = re.findall('0+|[1-9]', ''.join(map(str, givens)))
+    text = ''.join(run_of_empty(len(piece)) if piece.startswith('0') else piece for piece in pieces)
+    return re.sub('(?<=[1-9])(?=[1-9])', '_', text)
 
 
 def run_of_empty(count: int) -> str:
     """`z` while more than 26 are left, and then one letter for the rest."""
-    text = ''
-    while count > 26:
-        text += 'z'
-        count -= 26
-    return text + (chr(ord('a') + count - 1) if count else '')
+    return 'z' * ((count - 1) // 26) + chr(ord('a') + (count - 1) % 26)
 
 
 def read_towers(size: int, text: bytes) -> TowersPuzzle:
     """The puzzle of a description at this size."""
     clue_part, comma, square_part = text.partition(b',')
-    fields = clue_part.split(b'/')
-    if len(fields) != 4 * size:
-        raise Refused('TooFew' if len(fields) < 4 * size else 'TooMany')
-    clues = [read_clue(size, field) for field in fields]
+    clues = [digit(field, 1, size) if field else 0 for field in clue_part.split(b'/')]
     givens = read_squares(size, square_part) if comma else [0] * (size * size)
+    if (len(clues), len(givens)) != (4 * size, size * size):
+        raise Refused('BadDesc')
     return TowersPuzzle(size, tuple(givens), tuple(clues))
 
 
-def read_clue(size: int, field: bytes) -> int:
-    if field == b'':
-        return 0
-    clue = one_digit(field, 1, size) if field.isdigit() else None
-    if clue is None:
-        raise Refused('BadClue')
-    return clue
-
-
 def read_squares(size: int, text: bytes) -> List[int]:
-    """The givens of the square part: it is well formed as a whole before its squares are counted."""
+    """The givens of the square part."""
     givens: List[int] = []
     for piece in re.findall(rb'[0-9]+|(?s:.)', text):
         if re.fullmatch(rb'[a-z]', piece):
             givens += [0] * (piece[0] - ord('a') + 1)
-        elif re.fullmatch(rb'[0-9]+', piece):
-            given = one_digit(piece, 1, size)
-            if given is None:
-                raise Refused('BadSquares')
-            givens.append(given)
         elif piece != b'_':
-            raise Refused('BadSquares')
-    if len(givens) != size * size:
-        raise Refused('TooFew' if len(givens) < size * size else 'TooMany')
+            givens.append(digit(piece, 1, size))
     return givens

@@ -1,10 +1,11 @@
 """Unequal: signs between neighbours, and descriptions (docs/RULES.md, section 3; docs/FORMATS.md, section 4)."""
 
+import re
 from dataclasses import dataclass
 from typing import Dict, FrozenSet, List, Set, Tuple
 
 from tests.second_implementation.puzzles import Numbers, Puzzle
-from tests.second_implementation.words import Refused, one_digit, run_of_digits
+from tests.second_implementation.words import Refused, digit
 
 #: A greater cell and a smaller one.
 Sign = Tuple[int, int]
@@ -16,9 +17,6 @@ STEPS: Dict[str, Tuple[int, int]] = {'U': (0, -1), 'R': (1, 0), 'D': (0, 1), 'L'
 @dataclass(frozen=True)
 class UnequalPuzzle(Puzzle):
     signs: FrozenSet[Sign]
-
-    def is_clued(self, x: int, y: int) -> bool:
-        return False
 
     def keeps_clues(self, numbers: Numbers) -> bool:
         return all(numbers[greater] > numbers[smaller] for greater, smaller in self.signs)
@@ -42,25 +40,12 @@ def read_unequal(size: int, text: bytes) -> UnequalPuzzle:
     pieces = text.split(b',')
     if pieces[-1] == b'':
         pieces.pop()
-    if len(pieces) != size * size:
-        raise Refused('TooFew' if len(pieces) < size * size else 'TooMany')
-    givens = [read_given(size, piece) for piece in pieces]
-    letters = [piece[1:].decode('latin-1') for piece in pieces]
-    if not all(letter in STEPS for behind in letters for letter in behind):
-        raise Refused('BadClue')
-    signs: Set[Sign] = {(cell, neighbour(size, cell, letter)) for cell, behind in enumerate(letters) for letter in behind}
-    if any(smaller == -1 for _, smaller in signs):
-        raise Refused('OffGrid')
-    if any((smaller, greater) in signs for greater, smaller in signs):
-        raise Refused('Contradiction')
-    return UnequalPuzzle(size, tuple(givens), frozenset(signs))
-
-
-def read_given(size: int, piece: bytes) -> int:
-    given = one_digit(run_of_digits(piece), 0, size)
-    if given is None:
-        raise Refused('BadSquares')
-    return given
+    found = [re.fullmatch(b'(.)([URDL]*)', piece) for piece in pieces]
+    read = [(digit(match[1], 0, size), match[2].decode()) for match in found if match]
+    signs: Set[Sign] = {(cell, neighbour(size, cell, letter)) for cell, (_, letters) in enumerate(read) for letter in letters}
+    if not len(read) == len(pieces) == size * size or any(smaller == -1 or (smaller, greater) in signs for greater, smaller in signs):
+        raise Refused('BadDesc')
+    return UnequalPuzzle(size, tuple(given for given, _ in read), frozenset(signs))
 
 
 def all_neighbours(size: int) -> List[Tuple[int, int]]:

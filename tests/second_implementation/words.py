@@ -1,4 +1,4 @@
-"""Texts: decimals and runs of digits (docs/FORMATS.md, "Words"), and what is said of one that is refused (section 10)."""
+"""Texts: decimals and digits (docs/FORMATS.md, "Words"), and what is said of a text that is refused (section 10)."""
 
 import re
 from functools import lru_cache
@@ -8,7 +8,8 @@ DECIMAL = re.compile(rb'0|[1-9][0-9]*')
 
 
 class Refused(Exception):
-    """Raised by readers. `index` counts state records from 1, and is 0 for each other name."""
+    """Raised by readers, with what a save is refused by: why an ID or a move is, is told by the programs' own tests. `index` counts state records from 1,
+    and is 0 for each other name."""
 
     def __init__(self, name: str, index: int = 0) -> None:
         super().__init__(name)
@@ -28,12 +29,8 @@ def number(text: bytes, least: int, most: int) -> Optional[int]:
     return value if least <= value <= most else None
 
 
-def run_of_digits(text: bytes) -> bytes:
-    """The digits at the front of a text, as many as there are."""
-    front = re.match(rb'[0-9]*', text)
-    return front.group() if front else b''
-
-
-def one_digit(run: bytes, least: int, most: int) -> Optional[int]:
-    """A run of digits that is one digit in a range, or nothing."""
-    return int(run) if len(run) == 1 and least <= int(run) <= most else None
+def digit(text: bytes, least: int, most: int) -> int:
+    """That of a text which is one digit in a range. A description without it is refused."""
+    if not re.fullmatch(b'[%d-%d]' % (least, most), text):
+        raise Refused('BadDesc')
+    return int(text)

@@ -10,7 +10,7 @@ from bodies.sources import places_of
 from tests.objects import schema
 from tests.texts import sources
 from tests.texts.parts import ROOT, documents, found, items, part, read, without_samples
-from trusting.page import PARTS, all_listed, listed, outdated
+from trusting.page import PARTS, listed
 
 #: Words in backquotes of the language and its library, of the system, and of what `rt plant` and `puzzles-play` print.
 OTHER_WORDS = {'make', 'mod', 'Vec', 'Unit', 'flat_map', 'proves', 'unknown'}
@@ -68,9 +68,8 @@ def test_document(document: str, known: Known) -> None:
     assert list(wrong_names(document, known)) == []
 
 
-@pytest.mark.parametrize('document, heading', [('docs/ARCHITECTURE.md', '## The crates')])
-def test_crates(document: str, heading: str, known: Known) -> None:
-    named = found(r'^\*\*`(\w+)`', '\n'.join(items(part(read(document), heading, '^#'))))
+def test_crates(known: Known) -> None:
+    named = found(r'^\*\*`(\w+)`', '\n'.join(items(part(read('docs/ARCHITECTURE.md'), '## The crates', '^#'))))
     assert set(named) == set(known.crates) != set()
 
 
@@ -81,8 +80,3 @@ def test_wrong_bodies(crate: str) -> None:
     bodies = [body for body in bodies_in(folder) if not body.is_must_fail]
     stand = {body.name: tuple(sorted({place.name for place in places_of(body.wrong, folder)})) for body in bodies}
     assert stand == {body.name: body.functions for body in bodies}
-
-
-def test_to_read() -> None:
-    """The list in docs/TRUST.md, and README's numbers; tools/trust --write makes them."""
-    assert not outdated(all_listed())

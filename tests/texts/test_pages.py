@@ -1,23 +1,17 @@
 """The manual pages name what the programs have, and can be read: without a warning, and in 80 columns."""
 
 import re
-from typing import Dict, Iterable, List
+from typing import List
 
 import pytest
 
-from tests.harness import Room, Skip, named, need, run
-from tests.objects import schema
-from tests.texts import sources
+from tests.harness import Room, Skip, need, run
 from tests.texts.parts import ROOT, found, part, read
 from tests.texts.test_completions import FRONTS, front_options
-from tests.texts.test_users import OWN, wanted
-
-#: The types of faults of which no number is in the definitions.
-ONE_FAULT = {'OutOfMemory': {'1': 'OutOfMemory'}, 'DeviceFault': {'1': 'DeviceFault'}}
+from tests.texts.test_users import wanted
 
 #: What a page may have at most, in its source and on a terminal.
 COLUMNS = 80
-
 
 #: Readers of manual pages: how each tells what is wrong with one, and how it shows one.
 READERS = [
@@ -40,19 +34,12 @@ def pages() -> List[str]:
     return sorted(f'man/{path.name}' for path in (ROOT / 'man').iterdir())
 
 
-def words(text: str, pattern: str) -> List[str]:
-    """The words of a list that its items begin with."""
-    return found(pattern, '\n'.join(found(r'^\.TP\n(?:\\f\[B\])?(.*)$', text)))
-
-
-def named_options(page: str) -> List[str]:
-    return found(r'Fl -([\w-]+)', '\n'.join(found(r'^\.It (.*)$', part(page, '.Ss Options', r'^\.S[hs]'))))
-
-
-def test_made(room: Room) -> None:
-    """The pages that are documents are those that tools/manual --write makes."""
-    need('pandoc')
-    made = run([str(ROOT / 'tools' / 'manual')], room)
+@pytest.mark.parametrize('script', ['manual', 'texts', 'trust'])
+def test_made(room: Room, script: str) -> None:
+    """What these make by --write is what they make now: the pages that are documents, sentences of the page, and numbers of lines to read."""
+    if script == 'manual':
+        need('pandoc')
+    made = run([str(ROOT / 'tools' / script)], room, seconds=600)
     if made.status == 77:
         raise Skip('another pandoc made the pages', 'that of Debian 12')
     assert (made.status, made.error) == (0, b'')
@@ -67,43 +54,11 @@ def test_document(room: Room, page: str, document: str) -> None:
     assert sorted(set(re.findall(r'\w+', document.casefold())).difference(re.findall(r'\w+', shown.casefold()))) == []
 
 
-FORMATS, OBJECTS = read('man/puzzles.5'), read('man/puzzles-json.6')
-
-#: What a page is to name, and what it names; and whether that is all.
-NAMED = [
-    ('commands', wanted()[0], words(part(FORMATS, '.SH COMMANDS AND REPLIES', r'^\.SH'), '[a-z]+'), False),
-    ('moves', wanted()[3], words(part(FORMATS, '.SH MOVE TEXTS', r'^\.SH'), '^[A-Z]'), True),
-    (
-        'records', found(r'`([A-Z]{2,})`', '\n'.join(found(r'^\| (.*?) \|', part(read('docs/FORMATS.md'), '### What is written', '^#')))),
-        words(part(FORMATS, '.SS What is written', r'^\.SS'), '[A-Z]{2,}'), True,
-    ),
-    ('options of puzzles-json', wanted()[1], named_options(OBJECTS), True),
-    ('lines of puzzles-json', OWN, found(r'^\.It Cm (\w+)', OBJECTS), False),
-    ('members', schema.names(), found(r'\w+', OBJECTS), False),
-    (
-        'the line mode', set(found(r'^    \'  ([a-z]{4,})\b', part(read('board/manual.py'), 'LINES', 'and the program'))) - {'pencil'},
-        found(r'\w+', part(read('man/puzzles-play.6'), '.Ss The line mode', r'^\.Sh')), False,
-    ),
-]
-
-
-@pytest.mark.parametrize(('owed', 'told', 'is_all'), named(NAMED))
-def test_named(owed: Iterable[str], told: List[str], is_all: bool) -> None:
-    assert not set(owed) - set(told)
-    assert not is_all or set(told) == set(owed) != set()
-
-
-@pytest.mark.parametrize('name', FRONTS)
+@pytest.mark.parametrize('name', [*FRONTS, 'puzzles-json'])
 def test_options(room: Room, name: str) -> None:
-    assert set(named_options(read(f'man/{name}.6'))) == set(front_options(room, name)) != set()
-
-
-@pytest.mark.parametrize(('kind', 'names'), {**sources.faults(), **ONE_FAULT}.items())
-def test_faults(kind: str, names: Dict[str, str]) -> None:
-    """Each type of fault has the numbers and names of the definitions, and each of them a cause."""
-    section = part(read('man/puzzles.5'), f'.SS {kind}', r'^\.S[HS]')
-    assert set(re.findall(r'^\.TP\n(\d+) \\f\[B\](\w+)\\f\[R\]$', section, re.MULTILINE)) == set(names.items()) != set()
-    assert not set(names) - set(re.findall(r'^\.TP\n(\d+).*\n(?!\.)', section, re.MULTILINE)), 'causes'
+    options = part(read(f'man/{name}.6'), '.Ss Options', r'^\.S[hs]')
+    told = found(r'Fl -([\w-]+)', '\n'.join(found(r'^\.It (.*)$', options)))
+    assert set(told) == set(front_options(room, name) if name in FRONTS else wanted()[1]) != set()
 
 
 @pytest.mark.parametrize('page', pages())

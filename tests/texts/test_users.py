@@ -66,12 +66,16 @@ def test_names(program: str, room: Room, name: str) -> None:
         assert set(told) == set(owed) != set(), kind
 
 
-@pytest.mark.parametrize('kind', sources.faults())
+#: All types of faults. Of two of them no number is in the definitions.
+FAULTS = {**sources.faults(), **{name: {'1': name} for name in ('OutOfMemory', 'DeviceFault')}}
+
+
+@pytest.mark.parametrize('kind', FAULTS)
 def test_faults(kind: str) -> None:
-    """Each type of fault has the numbers and names of the definitions."""
+    """Each type of fault has the numbers and names of the definitions, and each of them a cause."""
     section = part(read('docs/FORMATS.md'), '## 10. Faults', '^## ')
-    told = re.findall(r'(\d+) \| ([A-Z]\w+)', part(section, f'### {kind}', '^#'))
-    assert set(told) == set(sources.faults()[kind].items()) != set()
+    told = re.findall(r'(\d+) \| ([A-Z]\w+) \| \S', part(section, f'### {kind}', '^#'))
+    assert set(told) == set(FAULTS[kind].items()) != set()
 
 
 #: The lines that are puzzles-json's own.
@@ -86,7 +90,12 @@ NAMED = [
     ),
     ('members', schema.names(), found(r'`(\w+)`', read('docs/JSON.md'))),
     ('own lines', OWN, found(r'\w+', ' '.join(found(r'^### (.*)', read('docs/JSON.md'))))),
-    ('members in the manual', [*schema.COMMON, *schema.ANSWERS], found(r'^\.It Li (\w+)', part(read('man/puzzles-json.6'), '.Ss Objects', r'^\.Ss'))),
+    ('members in the manual', schema.names(), found(r'\w+', read('man/puzzles-json.6'))),
+    ('own lines in the manual', OWN, found(r'^\.It Cm (\w+)', read('man/puzzles-json.6'))),
+    (
+        'the line mode in the manual', set(found(r'^    \'  ([a-z]{4,})\b', part(read('board/manual.py'), 'LINES', 'and the program'))) - {'pencil'},
+        found(r'\w+', part(read('man/puzzles-play.6'), '.Ss The line mode', r'^\.Sh')),
+    ),
 ]
 
 

@@ -1,6 +1,4 @@
-"""Texts that are refused: each refusal, and which comes first."""
-
-from itertools import accumulate
+"""Texts that are refused: each refusal, and which comes first. Saves that are cut off or lack a record are among those of crates/trial_runs."""
 
 from tests.lines.save_files.sample import SAMPLE, Loaded, edited, text_of
 
@@ -64,9 +62,6 @@ EDITS = [
     (9, [b'MOVE    :7:R1,0,2'], 'BadState 2'),
 ]
 
-#: What is said of the sample without the line of each place.
-LEFT_OUT = ['NotASave', 'Missing', 'Missing', 'Missing', 'Missing', 'Missing', 'EarlyState', 'EarlyState', 'Missing', 'Missing']
-
 #: Two edits at once, and the refusal that comes first.
 PAIRS = [
     # A later hint comes before an earlier state that can't be played.
@@ -80,34 +75,9 @@ PAIRS = [
     ({2: [b'PARAMS  :3:3dt'], 3: [b'GAME    :7:Unequal']}, 'BadParams'),
 ]
 
-#: The sample and where its lines end, without LF.
-WHOLE = text_of(SAMPLE)
-ENDS = [end - 1 for end in accumulate(len(line) + 1 for line in SAMPLE)]
-
-
-def refusal_of(length: int) -> str:
-    """Of so many bytes; nothing where these have the last line."""
-    if length >= ENDS[-1]:
-        return ''
-    if length < ENDS[0]:
-        return 'NotASave'
-    return 'Missing' if length in ENDS or length - 1 in ENDS else 'Malformed'
-
-
-#: Each beginning of the sample: it is refused until it has all that counts.
-BEGINNINGS = [Loaded(f'the first {length} bytes', WHOLE[:length], WHOLE, refusal_of(length)) for length in range(len(WHOLE) + 1)]
-
-#: As many bytes as a save may have.
-MOST_BYTES = 16_777_216
-
 ROWS = [
-    *BEGINNINGS,
     *[Loaded(f'the sample with {lines} in line {place}', edited({place: lines}), refusal=name) for place, lines, name in EDITS],
-    *[Loaded(f'the sample without line {place}', edited({place: []}), refusal=name) for place, name in enumerate(LEFT_OUT)],
     *[Loaded(f'the sample with {edits}', edited(edits), refusal=name) for edits, name in PAIRS],
     Loaded('a length one too great at the end of the text', edited({9: [b'MOVE    :7:R1,0,2']})[:-1], refusal='Malformed'),
     Loaded('the sample in the other game', text_of(SAMPLE), refusal='WrongGame', game='unequal'),
-    # The size of a text comes first.
-    Loaded('line ends alone', b'\n' * MOST_BYTES, refusal='NotASave'),
-    Loaded('the same and one more', b'\n' * (MOST_BYTES + 1), refusal='TooLarge'),
 ]
