@@ -137,7 +137,7 @@ def test_lock(front: BoardFront, room: Room) -> None:
     for at, (make, why) in enumerate(THINGS[:3]):
         room.lay(f'{at}/puzzles/towers.lock', make)
         room.put(f'{at}/puzzles/towers.sav', save_text(2))
-        env = {**front.env(), 'XDG_STATE_HOME': os.path.join(room.path, str(at))}
+        env = front.env(XDG_STATE_HOME=os.path.join(room.path, str(at)))
         with front.window(['--lines'], LOW, env, leave='q<enter>') as window:
             told = f"FOLDER/{at}/puzzles/towers.sav can't be locked ({why}): a file that can't be read stays as it is, and this game is kept in towers-2.sav."
             window.look('', [told, 'towers 1/1>'])
@@ -164,7 +164,7 @@ def test_no_text(front: BoardFront, room: Room) -> None:
     folder = os.path.join(room.path, os.fsdecode(b'st\xffte'))
     os.utime(room.lay(f'{folder}/puzzles/towers.sav', os.mkfifo), (2e9, 2e9))
     for face in (SCREEN, LINES):
-        with front.window([*face.words, 'towers', ID], LOW, {**front.env(), 'XDG_STATE_HOME': folder}, leave=face.leave) as window:
+        with front.window([*face.words, 'towers', ID], LOW, front.env(XDG_STATE_HOME=folder), leave=face.leave) as window:
             window.look('', ["towers.sav is a named pipe: a file that can't be read stays as it is"])
 
 

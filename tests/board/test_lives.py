@@ -38,6 +38,8 @@ CLICKS = [
     (16, 9, 2, '1', 'PENCIL'),
 ]
 
+LEARN = b"'learn' takes the name of a game and --lines, and nothing else"
+
 #: A shell with jobs: it says when the front has stopped, and how the terminal is then.
 STOPS = """\
 set -m
@@ -161,27 +163,12 @@ def test_mouse(front: BoardFront, room: Room) -> None:
             window.look(keys, [text])
 
 
-def test_unknown_keys(front: BoardFront, room: Room) -> None:
-    """What a terminal sends for a key that isn't known puts no number in."""
-    with front.window(['towers', ID], env=front.env('vt100')) as window:
-        window.look('', ['move 0/0'])
-        window.send('\x1b[1;5C')
-        window.look('', ['That key does nothing', 'move 0/0'])
-        window.look('3', ['1 of 9', 'move 1/1', '|     3     |'])
-        window.send('\x1b[3~')
-        window.look('', ['0 of 9', 'move 2/2'])
-        window.send('\x1b[C')
-        window.look('2', ['|     2     |'])
-        window.send('\x1b[15~')
-        window.look('', ['That key does nothing', 'move 3/3'])
-
-
 def test_without_modules(front: BoardFront, room: Room) -> None:
     """Without `curses` it is the line mode, and without `readline` it is one, too."""
     room.lay('modules')
     for module in ('curses', 'readline'):
         room.put(f'modules/{module}.py', b'raise ImportError\n')
-    env = {**front.env(), 'PYTHONPATH': os.path.join(room.path, 'modules')}
+    env = front.env(PYTHONPATH=os.path.join(room.path, 'modules'))
     with front.window(['towers', ID], env=env) as window:
         window.look('1 1 1<enter>', ['r1c1 is 1; row 1 lacks 2 and 3', 'towers 2/2>'])
         window.look('q<enter>', ['towers 2/2> q'])
@@ -197,13 +184,6 @@ def test_to_lines(front: BoardFront, room: Room) -> None:
         window.look('<ctrl-z>', ['STOPPED modes=3'])
         window.look('<enter>1 3 3<enter>', ['r1c3 is 3'])
         window.look('q<enter>', ['OVER'])
-
-
-def test_narrow_lines(front: BoardFront, room: Room) -> None:
-    """Sentences are broken between words."""
-    with front.window(['--lines', 'towers', ID], (20, 40)) as window:
-        window.look('1 1 3<enter>', ['Contradicted: clue 3 above column 1;', 'clue 3 left of row 1.'])
-        window.look('q<enter>', ['> q'])
 
 
 def test_words(front: BoardFront, room: Room) -> None:
@@ -232,6 +212,14 @@ def test_words(front: BoardFront, room: Room) -> None:
         (['--ids', 'towers', 'number', 'x'], 2, b'A number goes from 0 to 18446744073709551615'),
         (['--ids', 'towers', 'today', '5', '2'], 2, b'There are only 1 of them.'),
         (['--ids', 'towers', '9', 'extreme', '21'], 2, b'There are only 20 of them.'),
+        (['learn', 'chess'], 2, LEARN),
+        (['learn', '5'], 2, LEARN),
+        (['--ids', 'learn'], 2, LEARN),
+        (['towers', '5', 'learn'], 2, LEARN),
+        (['--lines', 'towers', '3:3'], 3, b"Too few parts: a description has 4 x size clues separated by '/', then ',' and the squares."),
+        (['--lines', 'towers', f'{ID}\nstatus'], 3, b'Each clue is nothing, or one digit'),
+        (['--lines', 'unequal', 'nothing.sav'], 3, b"There is no file 'nothing.sav', and no puzzle with that ID."),
+        ([], 2, b'the board is for a terminal; in a pipe use --lines'),
         (['towers', ID], 2, b'the board is for a terminal; in a pipe use --lines, or the program itself, puzzles towers'),
     ]:
         found = run([front.path, *line], room, env=front.env())

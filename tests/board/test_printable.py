@@ -21,7 +21,7 @@ def test_faces(front: BoardFront, room: Room) -> None:
     """Words, names that are typed, and the name of the folder for games, in both faces and on standard error."""
     folder = os.path.join(room.path, f'st{STEERING}te')
     room.lay(f'{folder}/puzzles/towers.sav', os.mkfifo)
-    env = {**front.env(), 'XDG_STATE_HOME': folder}
+    env = front.env(XDG_STATE_HOME=folder)
     with front.window(['towers', STEERING], (24, 200), env) as window:
         window.look('', ["There is no file 'x?]0;steered?y'"])
         assert b'steered\x07' not in window.came, 'a refused word'
