@@ -82,7 +82,7 @@ class BoardFront:
         with contextlib.ExitStack() as stack:
             for kind, does, seen in lines:
                 if kind == '!':
-                    assert run(['sh', '-c', does], self.room).expect().output.decode().splitlines() == seen, does
+                    assert run(['sh', '-ec', does], self.room).expect().output.decode().splitlines() == seen, does
                     continue
                 if kind == '$':
                     stack.close()

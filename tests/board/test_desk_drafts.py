@@ -65,19 +65,6 @@ def test_kept(front: BoardFront, room: Room) -> None:
     assert room.read('state/puzzles/towers.sav') == save_text(1)
 
 
-@pytest.mark.parametrize('content', [UNREAD[2], b'draft 1, puzzle 1\n3:/x\n'], ids=['another version', 'no puzzle'])
-def test_set_aside(front: BoardFront, room: Room, content: bytes) -> None:
-    """A draft that can't be read stays and is named; the next one is kept beside it, and goes on later."""
-    room.lay('state/puzzles')
-    room.put(DRAFT, content)
-    with front.window(['towers', ID], leave='qq') as window:
-        window.look('E', ['Check or set a puzzle', "towers-draft.ids can't be read as a draft, and stays as it is."])
-        window.look('<escape>1', ['0 clues, 1 given'])
-    assert (room.read(DRAFT), room.read('state/puzzles/towers-draft-2.ids')) == (content, Draft((PUZZLES[0], '3:///////////,1h'), 1).content)
-    with front.window([], leave='qq') as window:
-        window.look('E', ['This is your draft', 'change 1/1'])
-
-
 def test_windows(front: BoardFront, room: Room) -> None:
     """Another window keeps a draft of its own."""
     with front.window(['towers', ID], leave='qq') as window, front.window(['towers', '5!7']) as other:

@@ -8,7 +8,7 @@ import pytest
 from playing.beside import Beside, beside_in, content_of
 from playing.moves import Joined, Pair
 from tests.board.playing import BoardFront
-from tests.harness import ID, Room, moves_of, save_text
+from tests.harness import ID, Room, save_text
 
 #: Pairs as they were kept, how many states the game has, and those of them that fit it.
 KEPT: List[Tuple[Sequence[Pair], int, List[Pair]]] = [
@@ -48,16 +48,3 @@ def test_all_or_none(front: BoardFront, room: Room) -> None:
         window.look('M', ['move 99998/99999', 'marks go'])
         window.look('1', ['A game has at most 100,000 states. Undo some moves first.', 'move 99998/99999', '│ 1   2   3 │ 1   2   3 │'])
         window.look('r', ['move 99999/99999', '│     2     │'])
-
-
-def test_order(front: BoardFront, room: Room) -> None:
-    """Marks that go with a number go before it, in reading order; possible marks begin with all marks where that is shorter."""
-    with front.window(['towers', ID], leave='q') as window:
-        window.look('Mm<right><down>2', ['1 of 9'])
-        window.look('P', ['1 of 9'])
-    with front.window(['towers', '3:///////////,1h'], leave='q') as window:
-        window.look('P', ['move 5/5'])
-    first = [b'M', b'P1,0,2', b'P0,1,2', b'P2,1,2', b'P1,2,2', b'R1,1,2']
-    (old,) = [path for path in room.paths() if '/old/' in path and path.endswith('.sav')]
-    assert moves_of(room.read(old)) == first
-    assert moves_of(room.read('state/puzzles/towers.sav')) == [b'M', b'P1,0,1', b'P2,0,1', b'P0,1,1', b'P0,2,1']

@@ -194,13 +194,3 @@ def test_no_save(front: BoardFront, room: Room) -> None:
         window.look('x', ['The present game stays.', 'Towers 3x3'])
         window.look('<right>', ['0 of 9'], ['not kept'])
         assert room.read(KEPT) == save_text(0), 'what is kept'
-
-
-def test_full_history(front: BoardFront, room: Room) -> None:
-    """A game with as many states as there may be."""
-    moves = b'MOVE    :6:P0,0,1\n' * 99_999
-    room.put('long.sav', save_text(0).replace(b'NSTATES :1:1\nSTATEPOS:1:1\n', b'NSTATES :6:100000\nSTATEPOS:6:100000\n') + moves)
-    with front.window(['towers', os.path.join(room.path, 'long.sav')]) as window:
-        window.look('', ['move 99999/99999'])
-        window.look('1', ['A game has at most 100,000 states. Undo some moves first.'])
-        window.look('u', ['move 99998/99999'])

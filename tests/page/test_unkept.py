@@ -58,16 +58,6 @@ def test_room_again(player: Player) -> None:
     assert found == [3]
 
 
-def test_full_at_once(player: Player) -> None:
-    """A game that begins without room for it says so, and not with its first move."""
-    player.sit(TOWERS, PHONE)
-    player.value(f'{FILL}(200)')
-    player.begin('Unequal 3×3', id=UNEQUAL)
-    player.look('', told=NO_ROOM)
-    player.begin('Towers 4×4', game='towers', size='4', grade='e')
-    player.look('', told=NO_ROOM)
-
-
 @pytest.mark.parametrize('script, asked', [('', []), (REFUSED, ['beforeunload']), (FULL, ['beforeunload'])], ids=['kept', 'refused', 'full'])
 def test_asks_before_it_closes(scripted: Scripted, browser: Browser, script: str, asked: List[str]) -> None:
     """While something isn't kept, and never otherwise."""
