@@ -6,7 +6,7 @@ from typing import List, Sequence, Tuple
 import pytest
 
 from tests.harness import Browser, Room
-from tests.page.playing import LAPTOP, PHONE, TOWERS, Player
+from tests.page.playing import PHONE, TOWERS, Player
 from tests.page.seen import at
 from tests.sheet.printing import need_tools, said
 
