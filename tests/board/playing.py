@@ -20,6 +20,9 @@ from tests.harness.played import Line
 #: Lines and columns.
 USUAL = (24, 80)
 
+#: Where something is to be typed in the line mode: at the prompt, or after a question.
+PROMPT = re.compile(r'(towers|unequal) [0-9]+/[0-9]+> |.* y/N ')
+
 
 class BoardFront:
     """The front that is tested, in a room, over a program. Where this has no name it has to find it by itself."""

@@ -8,7 +8,7 @@ import os
 import re
 import signal
 import time
-from typing import Callable, Dict, List, Mapping, Optional, Sequence, Tuple
+from typing import Callable, Dict, List, Mapping, Optional, Pattern, Sequence, Tuple
 
 import pexpect
 
@@ -152,6 +152,27 @@ class Terminal:
     def reads(self, text: List[str], start: int = 0) -> bool:
         """Whether the lines of the screen from one on come to be these in time."""
         return self.wait_until(lambda screen: screen.text()[start : start + len(text)] == text)
+
+    def wait_for(self, prompt: Pattern[str], start: int = 0) -> str:
+        """What is shown from a place on, up to a prompt ahead of the cursor, or to the end of the program."""
+
+        def is_there(screen: Screen) -> bool:
+            while len(self.shown) > start and prompt.fullmatch(screen.display[screen.cursor.y][: screen.cursor.x]):
+                if not self._read(0.02):
+                    return True
+            return False
+
+        self.wait_until(is_there)
+        return self.shown[start:]
+
+    def answer(self, line: str, prompt: Pattern[str]) -> str:
+        """Types a line, and gives what is shown then. After a Ctrl-C in it there is a prompt first."""
+        *dropped, last = line.split('\x03')
+        for keys in [*(f'{text}\x03' for text in dropped), f'{last}\n']:
+            start = len(self.shown)
+            self.send(keys)
+            shown = self.wait_for(prompt, start)
+        return shown
 
     def status(self) -> Optional[int]:
         """How the program ends; nothing where it doesn't in time."""
