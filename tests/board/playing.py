@@ -5,58 +5,23 @@ from __future__ import annotations
 import contextlib
 import os
 import re
+import shlex
 import shutil
-from typing import Dict, Iterator, List, NamedTuple, Optional, Sequence, Set, Tuple
+from itertools import takewhile
+from pathlib import Path
+from typing import Dict, Iterator, List, Optional, Sequence, Set, Tuple
 
 from playing.naming import Place
 from playing.program import Program
-from tests.harness import ID, TOP, Look, Room, Terminal, User, bytecode, run
+from tests.harness import ID, TOP, Room, Terminal, User, bytecode, run, save_text
 from tests.harness.builds import copy
-from tests.harness.terminal import SIZE
+from tests.harness.played import Line
 
 #: Lines and columns.
 USUAL = (24, 80)
 
-
-class BoardGame(NamedTuple):
-    """The words of the front, what is seen, and how it ends."""
-
-    name: str
-    words: Sequence[str]
-    looks: Sequence[Look]
-    size: Tuple[int, int] = USUAL
-    term: str = 'xterm-256color'
-    locale: str = 'C.UTF-8'
-    last: str = 'q'
-    status: int = 0
-
-
-#: Where something is to be typed: at the prompt, or after a question.
+#: Where something is to be typed in the line mode: at the prompt, or after a question.
 PROMPT = re.compile(r'(towers|unequal) [0-9]+/[0-9]+> |.* y/N ')
-
-
-class Step(NamedTuple):
-    """Lines that are typed one after the other, and what the answer to the last one shows, and doesn't."""
-
-    lines: Sequence[str]
-    shows: Sequence[str] = ()
-    hides: Sequence[str] = ()
-
-
-class Game(NamedTuple):
-    """The words of the front, what is seen at first, the steps, and how it ends."""
-
-    name: str
-    words: Sequence[str]
-    steps: Sequence[Step]
-    first: Sequence[str] = ()
-    #: The last line. Where there is none the front ends by itself, at once.
-    last: Optional[str] = 'quit'
-    status: int = 0
-    #: What has to stand in a file of the folder then.
-    saved: Optional[bytes] = None
-    #: What the environment hasn't.
-    without: Sequence[str] = ()
 
 
 class BoardFront:
@@ -75,23 +40,24 @@ class BoardFront:
         path = os.path.join(self.room.path, 'board', 'puzzles-play')
         return BoardFront(path, copy(self.room, self.program, 'puzzles-json'), self.room, user)
 
-    def env(self, term: str = 'xterm-256color', locale: str = 'C.UTF-8') -> Dict[str, str]:
+    def env(self, **more: str) -> Dict[str, str]:
         return {
             'PATH': os.environ.get('PATH', os.defpath),
-            'TERM': term,
-            'LC_ALL': locale,
+            'TERM': 'xterm-256color',
+            'LC_ALL': 'C.UTF-8',
             'HOME': self.room.path,
             'XDG_STATE_HOME': os.path.join(self.room.path, 'state'),
             **({'PUZZLES_JSON': self.program} if self.program else {}),
             **bytecode(),
+            **more,
         }
 
     @contextlib.contextmanager
     def window(self, words: Sequence[str], size: Tuple[int, int] = USUAL, env: Optional[Dict[str, str]] = None, leave: str = '') -> Iterator[Terminal]:
-        """With these words. At the end it is left by these keys, if by any, and has to end well."""
+        """With these words. At the end it is left by these keys, if by any and it wasn't before, and has to end well."""
         with Terminal([self.path, *words], self.env() if env is None else env, size, cwd=self.room.path, user=self._user) as window:
             yield window
-            if leave:
+            if leave and not window.is_left:
                 window.leave(leave)
 
     @contextlib.contextmanager
@@ -109,38 +75,31 @@ class BoardFront:
             window.look('', texts)
             window.leave(leave, status)
 
-    def play(self, game: BoardGame) -> None:
-        """In what is pressed and seen FOLDER is the path of the room."""
-        words = [word.replace('FOLDER', self.room.path) for word in game.words]
-        with self.window(words, game.size, self.env(game.term, game.locale)) as window:
-            for look in game.looks:
-                window.look(*look)
-            window.leave(game.last, game.status)
-
-    def refuses(self, words: Sequence[str], says: str = '') -> None:
-        """Without a terminal."""
-        run([self.path, *words], self.room, env=self.env('dumb', 'C')).expect(says, status=2)
-
-    def play_in_lines(self, game: Game) -> None:
-        """In what is typed and seen FOLDER is the path of the room."""
-
-        def here(text: str) -> str:
-            return text.replace('FOLDER', self.room.path)
-
-        env = {name: text for name, text in self.env('dumb', 'C').items() if name not in game.without}
-        with self.window([here(word) for word in game.words], SIZE, env) as terminal:
-            answer = terminal.wait_for(PROMPT)
-            assert [text for text in game.first if here(text) not in answer] == []
-            for step in game.steps:
-                for line in step.lines:
-                    answer = terminal.answer(here(line), PROMPT)
-                assert [text for text in step.shows if here(text) not in answer] == [], (step.lines, answer)
-                assert [text for text in step.hides if here(text) in answer] == [], (step.lines, answer)
-            if game.last is not None:
-                terminal.answer(game.last, PROMPT)
-            assert terminal.status() == game.status
-        if game.saved is not None:
-            assert self.room.read('a game.sav') == game.saved
+    def play(self, lines: Sequence[Line]) -> None:
+        """A transcript. Ahead of the words of a run stands what differs of the environment, and the SIZE of the window. What is seen has `¦` between its
+        texts: `¬` ahead of one that isn't seen, and behind one its attributes, and those that it hasn't, as in `{1 91 -31}`. Where the program ends its
+        status stands in brackets; a run that doesn't end so is ended well by `q`. The folder `.saves` has the saves of the small game by their moves.
+        """
+        for moves in range(4):
+            self.room.lay(f'.saves/{moves}.sav', lambda path, moves=moves: Path(path).write_bytes(save_text(moves)))  # type: ignore[misc]
+        with contextlib.ExitStack() as stack:
+            for kind, does, seen in lines:
+                if kind == '!':
+                    assert run(['sh', '-ec', does], self.room).expect().output.decode().splitlines() == seen, does
+                    continue
+                if kind == '$':
+                    stack.close()
+                    words = shlex.split(does)
+                    how = dict(word.split('=') for word in takewhile(lambda word: '=' in word, words))
+                    size = how.pop('SIZE', '24x80').split('x')
+                    window = stack.enter_context(self.window([word for word in words if '=' not in word], (int(size[0]), int(size[1])), self.env(**how), 'q'))
+                texts = [text.rstrip('}').partition(' {') for line in seen for text in line.split(' ¦ ')]
+                status = re.fullmatch(r'\((\d)\)', texts.pop()[0]) if texts and texts[-1][0].startswith('(') else None
+                shows, hides = ([text.lstrip('¬') for text, *_ in texts if text.startswith('¬') is is_hidden] for is_hidden in (False, True))
+                styles = [(text, [int(word) for word in style.split()]) for text, _, style in texts if style]
+                window.look(does if kind == '>' else '', shows, hides, styles)
+                if status:
+                    window.leave('', int(status[1]))
 
 
 def solution(program: str, game: str, id: str) -> Tuple[List[int], Set[Place]]:

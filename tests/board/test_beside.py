@@ -1,13 +1,15 @@
-"""What lies in the place of a kept file and can't be read: it stays as it is, it is told, and the game is kept beside it."""
+"""What lies in the place of a kept file and can't be read: it stays as it is, it is told, and the game is kept beside it. And files and folders that other
+users have."""
 
 import os
 import socket
+import stat
 from typing import Callable, List, NamedTuple, Optional, Sequence, Tuple
 
 import pytest
 
 from tests.board.playing import BoardFront
-from tests.harness import ANNA, CARL, ID, Folder, Room, left_files, need_root, save_text
+from tests.harness import ANNA, CARL, ID, Folder, Room, left_files, need_root, run, save_text
 from tests.harness.room import Owner
 
 FOLDER = 'state/puzzles'
@@ -93,95 +95,6 @@ def known(room: Room, path: str) -> Optional[Tuple[int, ...]]:
     return found.st_ino, found.st_mode, found.st_uid, found.st_size, found.st_mtime_ns
 
 
-def test_damaged(front: BoardFront, room: Room) -> None:
-    """What is no save and can't be put away either stays, too."""
-    room.lay(f'{FOLDER}/old', os.mkfifo)
-    room.put(KEPT, save_text(2)[:150])
-    for face in (SCREEN, LINES):
-        with front.window([*face.words, 'towers'], LOW, leave=face.leave) as window:
-            if face is SCREEN:
-                told = f"FOLDER/{KEPT} can't be read, nor put away (FOLDER/{FOLDER}/old is a named pipe), and stays as it is: That save is damaged (Missing)."
-                window.look('', [told])
-            window.look(face.back, ['Towers 5x5' if face is SCREEN else 'towers 1/1>'])
-        assert room.read(KEPT) == save_text(2)[:150], f'{face.name}: what was there'
-        assert (room.read(BESIDE) or b'').startswith(b'SAVEFILE'), room.paths()
-
-
-def test_damaged_in_lines(front: BoardFront, room: Room) -> None:
-    """What is no save is put away, and told."""
-    room.lay(FOLDER)
-    room.put(KEPT, b'no save\n')
-    with front.window(['--lines', 'towers'], LOW, leave='q<enter>') as window:
-        told = "The game that was kept is put away, as it can't be read: This is not a save file of the collection: one begins with 'SAVEFILE:41:'."
-        window.look('', [told, 'towers 1/1>'])
-    old = [path for path in room.paths() if path.startswith(f'{FOLDER}/old/')]
-    assert [room.read(path) for path in old] == [b'no save\n'], 'it is put away'
-
-
-def test_new_file(front: BoardFront, room: Room) -> None:
-    """A link in the way of a new file, as its name was before, is not followed; nor is the link at the place of the lock."""
-    room.lay(FOLDER)
-    room.put('notes.txt', b'notes\n')
-    for path in (KEPT, f'{FOLDER}/towers.played'):
-        room.link(f'{path}.new', os.path.join(room.path, 'notes.txt'))
-    room.link(f'{FOLDER}/towers.lock', os.path.join(room.path, 'made.txt'))
-    with front.window(['towers'], leave='q') as window:
-        window.look('m', ['move 1/1'])
-    assert room.read('notes.txt') == b'notes\n', 'what the link leads to'
-    assert [path for path in room.paths() if not path.startswith('state/')] == ['notes.txt'], 'nothing else is made'
-    assert b'MOVE    :1:M\n' in (room.read(BESIDE) or b''), room.paths()
-
-
-def test_lock(front: BoardFront, room: Room) -> None:
-    """A kept game whose lock can't be opened stays."""
-    for at, (make, why) in enumerate(THINGS[:3]):
-        room.lay(f'{at}/puzzles/towers.lock', make)
-        room.put(f'{at}/puzzles/towers.sav', save_text(2))
-        env = {**front.env(), 'XDG_STATE_HOME': os.path.join(room.path, str(at))}
-        with front.window(['--lines'], LOW, env, leave='q<enter>') as window:
-            told = f"FOLDER/{at}/puzzles/towers.sav can't be locked ({why}): a file that can't be read stays as it is, and this game is kept in towers-2.sav."
-            window.look('', [told, 'towers 1/1>'])
-        assert room.read(f'{at}/puzzles/towers.sav') == save_text(2), f'{why}: the kept game'
-
-
-def test_other_game(front: BoardFront, room: Room) -> None:
-    """A game of the other kind begins where what is kept of it can't be read."""
-    path = f'{FOLDER}/unequal.sav'
-    whole = room.lay(path, os.mkfifo)
-    before = known(room, path)
-    told = f"FOLDER/{path} is a named pipe: a file that can't be read stays as it is, and this game is kept in unequal-2.sav."
-    with front.begun('q', size=LOW) as window:
-        window.look('n<up><up><right><enter>', [told])
-        window.look('x', ['Unequal 3x3'], ['named pipe'])
-    assert known(room, path) == before, 'what was there'
-    with front.window(['--lines', 'towers', ID], LOW, leave='q<enter>') as window:
-        os.utime(whole, (2e9, 2e9))
-        window.look('new unequal 4<enter>', [told, 'new 4 easy number '])
-
-
-def test_no_text(front: BoardFront, room: Room) -> None:
-    """What is said of a file can be shown, whatever its name is."""
-    folder = os.path.join(room.path, os.fsdecode(b'st\xffte'))
-    os.utime(room.lay(f'{folder}/puzzles/towers.sav', os.mkfifo), (2e9, 2e9))
-    for face in (SCREEN, LINES):
-        with front.window([*face.words, 'towers', ID], LOW, {**front.env(), 'XDG_STATE_HOME': folder}, leave=face.leave) as window:
-            window.look('', ["towers.sav is a named pipe: a file that can't be read stays as it is"])
-
-
-def test_third_game(front: BoardFront, room: Room) -> None:
-    """Three games are kept. Where one of them can't be put away, the present one stays where it is, and takes no other's place."""
-    room.lay(f'{FOLDER}/old', os.mkfifo)
-    kept = [(KEPT, save_text(0)), (BESIDE, save_text(2)), (f'{FOLDER}/unequal.sav', b'kept\n')]
-    for at, (path, content) in enumerate(kept):
-        room.put(path, content)
-        os.utime(os.path.join(room.path, path), (1e9 - at, 1e9 - at))
-    with front.window(['towers'], LOW, leave='q') as window:
-        window.look('', ['Towers 3x3', '0 of 9'])
-        window.look('n<up><up><right><enter>', ['is a named pipe). Lose it? y/N'])
-        window.look('x', ['The present game stays.', 'Towers 3x3'])
-    assert [room.read(path) for path, _ in kept] == [content for _, content in kept], 'what is kept'
-
-
 @pytest.mark.parametrize(('make', 'why', 'face'), [
     # Both faces meet pipes; the others differ in what is said alone.
     (make, why, face) for at, (make, why) in enumerate(THINGS) for face in ([SCREEN, LINES] if make is os.mkfifo else [[SCREEN, LINES][at % 2]])
@@ -201,3 +114,75 @@ def test_closed(front: BoardFront, room: Room, owner: Owner, mode: int, why: str
     own_folder(room)
     room.put(KEPT, save_text(2), mode, owner)
     beside(front.of(ANNA), room, face, f"can't be read {why}")
+
+
+def test_no_bank(front: BoardFront, room: Room) -> None:
+    """Then there are fair games alone, and the menu says why."""
+    copied = front.of(None)
+    bank = os.path.join(room.path, 'playing', 'bank', 'towers.txt')
+    os.remove(bank)
+    os.mkfifo(bank)
+    with copied.window(['towers'], LOW, leave='qq') as window:
+        window.look('', ['Towers 5x5'])
+        window.look('n', ['[easy] hard  by an ID', f'{bank} is a named pipe.'])
+
+
+def test_closed_folder(front: BoardFront, room: Room) -> None:
+    """A folder that another user has, and one of one's own in which nothing can be made."""
+    need_root()
+    front = front.of(ANNA)
+    room.make_folder('state', 0o755, ANNA.owner).close()
+    for owner, mode in ((CARL.owner, 0o700), (ANNA.owner, 0o500)):
+        room.make_folder(FOLDER, mode, owner).close()
+        for face in (SCREEN, LINES):
+            with front.window([*face.words, 'towers', ID], LOW, leave='y' if face is SCREEN else 'y<enter>') as window:
+                told = f'The game is not kept: nothing can be written to FOLDER/{FOLDER} (Permission denied).'
+                window.look('', [told])
+                window.look(face.leave, ['Quit and lose it? y/N'])
+        assert os.listdir(os.path.join(room.path, FOLDER)) == [], f'{oct(mode)}: what was there'
+        os.rmdir(os.path.join(room.path, FOLDER))
+
+
+def test_closed_kept(front: BoardFront, room: Room) -> None:
+    """A kept game goes on where its folder can't be written to, and stays as it is."""
+    need_root()
+    front = front.of(ANNA)
+    own_folder(room)
+    for path, content in ((KEPT, save_text(2)), (f'{FOLDER}/towers.lock', b'')):
+        room.put(path, content, 0o600, ANNA.owner)
+    os.chmod(os.path.join(room.path, FOLDER), 0o500)
+    with front.window([], LOW, leave='qy') as window:
+        window.look('', ['2 of 9', 'The game is not kept: Permission denied.'])
+        window.look('u', ['1 of 9'])
+    assert room.read(KEPT) == save_text(2), 'what is kept'
+
+
+def test_closed_files(front: BoardFront, room: Room) -> None:
+    """Files of another user that a player names, and a folder of old games that he may not read."""
+    need_root()
+    front = front.of(ANNA)
+    own_folder(room)
+    room.put('game.sav', save_text(2), 0o600, CARL.owner)
+    room.make_folder(f'{FOLDER}/old', stat.S_IWUSR | stat.S_IXUSR, ANNA.owner).close()
+    why = "can't be read (Permission denied; it is user 60003's)."
+    with front.window(['towers', ID], LOW, leave='q') as window:
+        window.look('o0FOLDER/game.sav<enter>', [f'FOLDER/game.sav {why}', '0 of 9'])
+        window.look('wFOLDER/game.sav<enter>', ["game.sav exists, and can't be read. Overwrite it? y/N"])
+        window.look('x', ['Nothing was saved.'])
+        window.look('oq', [f"FOLDER/{FOLDER}/old can't be read (Permission denied)."])
+    front.shows(['--lines', os.path.join(room.path, 'game.sav')], f'FOLDER/game.sav {why}', size=LOW, leave='', status=3)
+
+
+def test_closed_program(front: BoardFront, room: Room) -> None:
+    """A program that may be run and not read plays, and nobody knows whether it is the proved one."""
+    need_root()
+    front = front.of(ANNA)
+    os.chmod(front.program, 0o711)
+    room.put('VERSION', b'version 1.1\ncommit none\nproved by some kit\n')
+    ended = run([front.path, '--version'], room, env=front.env(), user=ANNA)
+    assert (ended.status, ended.error) == (0, b''), 'the status'
+    assert b'not known to be proved' in ended.output, ended
+    room.remove('VERSION')
+    os.mkfifo(os.path.join(room.path, 'VERSION'))
+    ended = run([front.path, '--version'], room, env=front.env(), user=ANNA)
+    assert (ended.status, ended.output.splitlines()[:1]) == (0, [b'puzzles of no known version']), 'with a pipe as VERSION'

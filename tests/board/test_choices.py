@@ -1,7 +1,6 @@
 """New games by words of the command line, IDs that are printed, and what is remembered of either; and the stored puzzles, of the grades that have no fair
 games: each has one solution, by the program's own solver."""
 
-import os
 import re
 import time
 from pathlib import Path
@@ -78,45 +77,12 @@ def test_words(front: BoardFront, room: Room) -> None:
         window.look('n', ['[Towers]', '[7]', '[hard]', '[random]'])
         window.look('<up><up><right>', ['[Unequal]', '[6]', '[extreme]', '200 puzzles, 199 of them new to you'])
         window.look('q', ['Towers 7x7'], ['A new game'])
+    with front.window(['--lines'], leave='q<enter>') as window:
+        window.look('new today<enter>', [f'new 7 hard number {TODAY}'])
     for path in [path for path in room.paths() if path.endswith('.sav')]:
         room.remove(path)
     for words, shows in [(['unequal'], ['Unequal 6x6', 'extreme']), (['towers'], ['Towers 7x7', 'hard', 'Hard 7, number '])]:
         front.shows(words, *shows, 'A new game. Arrows move, 1-9 put a number in. h: a hint, ?: all keys.')
-
-
-def test_first(front: BoardFront) -> None:
-    """On a machine where nothing was played yet."""
-    front.shows([], 'Towers 5x5', 'easy', 'Easy 5, number ', 'A new game. Arrows move, 1-9 put a number in. h: a hint, ?: all keys.')
-
-
-def test_words_in_lines(front: BoardFront, room: Room) -> None:
-    with front.window(['--lines', 'unequal', '4', 'trivial'], leave='q<enter>') as window:
-        window.look('', ['To play it again:', 'new 4 trivial number ', 'unequal 1/1>'])
-        window.look('id<enter>', ['4dt:'])
-        window.look('new 3<enter>', ['To play it again:', 'new 3 trivial number '])
-        window.look('new today<enter>', [f'new 3 trivial number {TODAY}'])
-        window.look('new 9 recursive<enter>', ['Of size 9 there are puzzles of the grades trivial, easy, tricky and extreme.'])
-        window.look('new 8<enter>', ['new 8 trivial number '])
-    front.shows(['unequal', '9', 'hard'], "Unequal has no grade 'hard': trivial, easy, tricky, extreme or recursive.", size=(24, 120), leave='', status=2)
-
-
-def test_a_file_first(front: BoardFront, room: Room) -> None:
-    """A word that is the name of a file is the file."""
-    room.put('6', b'no save')
-    front.shows(['towers', '6'], "This is not a save file of the collection", leave='', status=3)
-    room.remove('6')
-    front.shows(['towers', '6'], 'Towers 6x6', 'easy')
-
-
-def test_no_place_for_choices(front: BoardFront, room: Room) -> None:
-    """What is in the place of the choices stays, and they hold until the board is left."""
-    choices = room.lay('state/puzzles/choices')
-    with front.window(['towers', '4', 'hard'], leave='qq') as window:
-        window.look('', ['Towers 4x4', 'hard'])
-        window.look('M', ['From now on, marks go when'])
-        window.look('M', ['From now on, marks stay'])
-        window.look('n', ['[4]', '[hard]'])
-    assert os.listdir(choices) == [], 'what was there'
 
 
 #: One run takes so many.

@@ -1,38 +1,48 @@
-"""The line mode: what is typed to it, and what has to be seen then."""
+"""The line mode: games as transcripts in the folder `lines`, each line beside its answer.
 
-from typing import List
+`…` is any text, and on a line of its own any lines. What is said at the beginning, up to the line that tells of help, may be left out.
+"""
+
+import re
+import shlex
+from pathlib import Path
+from typing import List, Tuple
 
 import pytest
 
-from tests.board.playing import BoardFront, Game
-from tests.board.line_games import BOARD, GAMES, PIPED, REFUSED, SAVES
-from tests.harness import ID, Room, by_name, run, save_text
+from tests.board.playing import BoardFront
+from tests.harness import ID, Room, run, save_text
+from tests.harness.played import Line, transcripts
+
+GREETING = '(?:(?:.*\n)*.*help lists the rest\\.\n)?'
 
 
-@pytest.mark.parametrize(('words', 'says'), REFUSED)
-def test_refused(front: BoardFront, words: List[str], says: str) -> None:
-    front.refuses(words, says)
+@pytest.mark.parametrize('lines', transcripts(Path(__file__).with_name('lines')))
+def test_lines(front: BoardFront, room: Room, lines: List[Line]) -> None:
+    """What other tools write and read, too: no prompt, and no line is broken."""
+    begins = [at for at, line in enumerate(lines) if line.kind == '$']
+    for first, end in zip(begins, [*begins[1:], len(lines)]):
+        words, typed = lines[first].does, '\n'.join(line.does for line in lines[first + 1 : end])
+        wanted = ''.join(f'{text}\n' for line in lines[first:end] for text in line.seen)
+        pattern = re.sub('^…\n', '(?:.*\n)*?', re.escape(wanted).replace('\\\n', '\n'), flags=re.MULTILINE).replace('…', '.*')
+        ended = run([front.path, '--lines', *shlex.split(words)], room, input=f'{typed}\n'.encode(), env=front.env())
+        said = ended.expect().output.decode()
+        if not re.fullmatch(GREETING + pattern, said):
+            assert said == wanted
 
 
-@pytest.mark.parametrize('game', GAMES, ids=by_name)
-def test_game(front: BoardFront, game: Game) -> None:
-    front.play_in_lines(game)
-
-
-def test_saves(front: BoardFront) -> None:
-    """Games in one folder: the others load what the first one saved."""
-    for game in SAVES:
-        front.play_in_lines(game)
+#: Lines as they may come, and all that is answered. A question is answered by the next line; at the end of the input the game is kept.
+PIPED: List[Tuple[str, str]] = [
+    ('solve\nn\nstatus', 'Fill in the solution? u takes it back. y/N\nplaying 1/1\n'),
+    ('\n  id\r\nquit\nid\n', f'{ID}\n'),
+    ('\xff\n', "There is no such command; 'help' lists them all.\n"),
+]
 
 
 @pytest.mark.parametrize(('lines', 'wanted'), PIPED)
 def test_piped(front: BoardFront, room: Room, lines: str, wanted: str) -> None:
-    """What other tools write and read: the board, and an answer to each line; no prompt, and no line is broken."""
     ended = run([front.path, '--lines', 'towers', ID], room, input=lines.encode('latin-1'), env=front.env())
-    assert (ended.status, ended.error) == (0, b'')
-    greeting, _, answers = ended.output.decode().partition('help lists the rest.\n')
-    assert greeting.startswith(BOARD)
-    assert answers == wanted
+    assert (ended.status, ended.error, ended.output.decode().partition('help lists the rest.\n')[2]) == (0, b'', wanted)
 
 
 def test_piped_end(front: BoardFront, room: Room) -> None:

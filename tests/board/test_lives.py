@@ -38,6 +38,8 @@ CLICKS = [
     (16, 9, 2, '1', 'PENCIL'),
 ]
 
+LEARN = b"'learn' takes the name of a game and --lines, and nothing else"
+
 #: A shell with jobs: it says when the front has stopped, and how the terminal is then.
 STOPS = """\
 set -m
@@ -113,24 +115,6 @@ def test_without_home(front: BoardFront, room: Room) -> None:
         window.look('x', ['The present game stays.', '1 of 9'])
 
 
-def test_no_folder(front: BoardFront, room: Room) -> None:
-    """Where games should be kept there is a file."""
-    room.put('state', b'')
-    with front.window(['towers', ID], leave='qy') as window:
-        window.look('1', ['The game is not kept: nothing can be written to', '1 of 9'])
-
-
-def test_damaged(front: BoardFront, room: Room) -> None:
-    """What is kept and can't be read isn't lost either."""
-    room.lay('state/puzzles')
-    room.put(KEPT, save_text(2)[:150])
-    with front.window(['towers'], (30, 100), leave='qq') as window:
-        window.look('', ["can't be read: That save is damaged (Missing)", 'Towers 5x5'])
-        window.look('o', ["0 ", "towers, can't be read", 'a file ..'])
-    old = [path for path in room.paths() if path.startswith('state/puzzles/old/')]
-    assert [room.read(path) for path in old] == [save_text(2)[:150]], 'it is put away'
-
-
 def test_two_windows(front: BoardFront, room: Room) -> None:
     with front.window(['towers', ID], leave='q') as first:
         first.look('1', ['1 of 9'])
@@ -138,18 +122,6 @@ def test_two_windows(front: BoardFront, room: Room) -> None:
             second.look('', ['Another window has the last game; this one is kept in towers-2.sav.'])
             second.look('1<right>2', ['2 of 9'], ['Another window'])
     assert [room.read(KEPT), room.read('state/puzzles/towers-2.sav')] == [save_text(1), save_text(2)], 'both games'
-
-
-def test_place_taken(front: BoardFront, room: Room) -> None:
-    """A folder or a pipe that takes the place of the kept file while one plays stays, and the game is kept beside it."""
-    with front.begun('q') as window:
-        for at, make in enumerate((os.mkdir, os.mkfifo), 2):
-            kept = KEPT if at == 2 else f'state/puzzles/towers-{at - 1}.sav'
-            os.remove(os.path.join(room.path, kept))
-            make(os.path.join(room.path, kept))
-            window.look(f'<right>{at}', [f"a file that can't be read stays as it is, and this game is kept in towers-{at}.sav.", f'{at} of 9'])
-            assert room.read(f'state/puzzles/towers-{at}.sav') == save_text(at), 'what is kept'
-    front.shows([], '3 of 9')
 
 
 def test_mouse(front: BoardFront, room: Room) -> None:
@@ -161,27 +133,12 @@ def test_mouse(front: BoardFront, room: Room) -> None:
             window.look(keys, [text])
 
 
-def test_unknown_keys(front: BoardFront, room: Room) -> None:
-    """What a terminal sends for a key that isn't known puts no number in."""
-    with front.window(['towers', ID], env=front.env('vt100')) as window:
-        window.look('', ['move 0/0'])
-        window.send('\x1b[1;5C')
-        window.look('', ['That key does nothing', 'move 0/0'])
-        window.look('3', ['1 of 9', 'move 1/1', '|     3     |'])
-        window.send('\x1b[3~')
-        window.look('', ['0 of 9', 'move 2/2'])
-        window.send('\x1b[C')
-        window.look('2', ['|     2     |'])
-        window.send('\x1b[15~')
-        window.look('', ['That key does nothing', 'move 3/3'])
-
-
 def test_without_modules(front: BoardFront, room: Room) -> None:
     """Without `curses` it is the line mode, and without `readline` it is one, too."""
     room.lay('modules')
     for module in ('curses', 'readline'):
         room.put(f'modules/{module}.py', b'raise ImportError\n')
-    env = {**front.env(), 'PYTHONPATH': os.path.join(room.path, 'modules')}
+    env = front.env(PYTHONPATH=os.path.join(room.path, 'modules'))
     with front.window(['towers', ID], env=env) as window:
         window.look('1 1 1<enter>', ['r1c1 is 1; row 1 lacks 2 and 3', 'towers 2/2>'])
         window.look('q<enter>', ['towers 2/2> q'])
@@ -199,44 +156,48 @@ def test_to_lines(front: BoardFront, room: Room) -> None:
         window.look('q<enter>', ['OVER'])
 
 
-def test_narrow_lines(front: BoardFront, room: Room) -> None:
-    """Sentences are broken between words."""
-    with front.window(['--lines', 'towers', ID], (20, 40)) as window:
-        window.look('1 1 3<enter>', ['Contradicted: clue 3 above column 1;', 'clue 3 left of row 1.'])
-        window.look('q<enter>', ['> q'])
+#: Words, the status, and what is told: help, the version, and why words can't be read.
+WORDS: List[Tuple[List[str], int, bytes]] = [
+    (['--help'], 0, b'usage: '),
+    (['-h'], 0, b'usage: '),
+    (['towers', '-h'], 0, b'usage: '),
+    (['--version'], 0, b''),
+    (['--nothing'], 2, b"\n\npuzzles-play: there is no option '--nothing'\n"),
+    (['chess'], 2, b"'chess' is not a game, a size, a grade or a file\n"),
+    (['/nowhere'], 2, b"there is no file '/nowhere'\n"),
+    (['unequal', '6', 'chess'], 2, b"'chess' is not a size or a grade\n"),
+    (['5!7'], 2, b"'5!7' fits both games"),
+    (['5!7'], 2, b"towers '5!7'?"),
+    (['towers', ID, 'more'], 2, b"'more' is not a size or a grade\n"),
+    (['towers', '6', 'more'], 2, b"'more' is not a size or a grade\n"),
+    (['--ids', '--lines'], 2, b'--ids plays no game'),
+    (['--ids', ID], 2, b'usage: '),
+    (['--ids', 'towers', '6', 'easy', '0'], 2, b"'0' is not a number of IDs\n"),
+    (['--ids', 'towers', '6', 'tricky'], 2, b"Towers has no grade 'tricky': easy, hard, extreme or unreasonable."),
+    (['--ids', 'towers', '10'], 2, b'A size is one digit from 3 to 9'),
+    (['--ids', 'unequal', '9', 'recursive'], 2, b'Of size 9 there are puzzles of the grades trivial, easy, tricky and extreme.'),
+    (['--ids', 'towers', '3', 'hard'], 2, b'Of size 3 there are puzzles of the grades easy, extreme and unreasonable.'),
+    (['--ids', 'towers', '7', 'extreme', 'today'], 2, b'Of size 7 the grades easy and hard have numbers.'),
+    (['--ids', 'towers', 'number', 'x'], 2, b'A number goes from 0 to 18446744073709551615'),
+    (['--ids', 'towers', 'today', '5', '2'], 2, b'There are only 1 of them.'),
+    (['--ids', 'towers', '9', 'extreme', '21'], 2, b'There are only 20 of them.'),
+    (['learn', 'chess'], 2, LEARN),
+    (['learn', '5'], 2, LEARN),
+    (['--ids', 'learn'], 2, LEARN),
+    (['towers', '5', 'learn'], 2, LEARN),
+    (['--lines', 'towers', '3:3'], 3, b"Too few parts: a description has 4 x size clues separated by '/', then ',' and the squares."),
+    (['--lines', 'towers', f'{ID}\nstatus'], 3, b'Each clue is nothing, or one digit'),
+    (['--lines', 'unequal', 'nothing.sav'], 3, b"There is no file 'nothing.sav', and no puzzle with that ID."),
+    ([], 2, b'the board is for a terminal; in a pipe use --lines'),
+    (['towers', ID], 2, b'the board is for a terminal; in a pipe use --lines, or the program itself, puzzles towers'),
+]
 
 
 def test_words(front: BoardFront, room: Room) -> None:
-    """Help, the version, and words that can't be read."""
-    for line, status, text in [
-        (['--help'], 0, b'usage: '),
-        (['-h'], 0, b'usage: '),
-        (['towers', '-h'], 0, b'usage: '),
-        (['--version'], 0, b''),
-        (['--nothing'], 2, b"\n\npuzzles-play: there is no option '--nothing'\n"),
-        (['chess'], 2, b"'chess' is not a game, a size, a grade or a file\n"),
-        (['/nowhere'], 2, b"there is no file '/nowhere'\n"),
-        (['unequal', '6', 'chess'], 2, b"'chess' is not a size or a grade\n"),
-        (['5!7'], 2, b"'5!7' fits both games"),
-        (['5!7'], 2, b"towers '5!7'?"),
-        (['towers', ID, 'more'], 2, b"'more' is not a size or a grade\n"),
-        (['towers', '6', 'more'], 2, b"'more' is not a size or a grade\n"),
-        (['--ids', '--lines'], 2, b'--ids plays no game'),
-        (['--ids', ID], 2, b'usage: '),
-        (['--ids', 'towers', '6', 'easy', '0'], 2, b"'0' is not a number of IDs\n"),
-        (['--ids', 'towers', '6', 'tricky'], 2, b"Towers has no grade 'tricky': easy, hard, extreme or unreasonable."),
-        (['--ids', 'towers', '10'], 2, b'A size is one digit from 3 to 9'),
-        (['--ids', 'unequal', '9', 'recursive'], 2, b'Of size 9 there are puzzles of the grades trivial, easy, tricky and extreme.'),
-        (['--ids', 'towers', '3', 'hard'], 2, b'Of size 3 there are puzzles of the grades easy, extreme and unreasonable.'),
-        (['--ids', 'towers', '7', 'extreme', 'today'], 2, b'Of size 7 the grades easy and hard have numbers.'),
-        (['--ids', 'towers', 'number', 'x'], 2, b'A number goes from 0 to 18446744073709551615'),
-        (['--ids', 'towers', 'today', '5', '2'], 2, b'There are only 1 of them.'),
-        (['--ids', 'towers', '9', 'extreme', '21'], 2, b'There are only 20 of them.'),
-        (['towers', ID], 2, b'the board is for a terminal; in a pipe use --lines, or the program itself, puzzles towers'),
-    ]:
+    for line, status, text in WORDS:
         found = run([front.path, *line], room, env=front.env())
         assert found.status == status, f'{line}: the status'
         assert text in found.output + found.error, found
         assert not text.endswith(b'\n') or found.error.endswith(text), f'{line}: the reason is not the last line'
-        assert max(map(len, found.output.splitlines()), default=0) < 80, f'{line}: a wide line'
+        assert status == 3 or max(map(len, found.output.splitlines()), default=0) < 80, f'{line}: a wide line'
     assert max(map(len, [*manual.LINES, *manual.KEYS])) < 80, 'a wide line of help'

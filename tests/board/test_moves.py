@@ -7,8 +7,8 @@ import pytest
 
 from playing.beside import Beside, beside_in, content_of
 from playing.moves import Joined, Pair
-from tests.board.playing import BoardFront, BoardGame
-from tests.harness import ID, Look, Room, by_name, moves_of, save_text
+from tests.board.playing import BoardFront
+from tests.harness import ID, Room, save_text
 
 #: Pairs as they were kept, how many states the game has, and those of them that fit it.
 KEPT: List[Tuple[Sequence[Pair], int, List[Pair]]] = [
@@ -18,19 +18,6 @@ KEPT: List[Tuple[Sequence[Pair], int, List[Pair]]] = [
     ([(3, 0), (3, 3), (2, 4), (10**8, 1), (4, 1)], 9, [(4, 1)]),
     ([(6, 2), (7, 5)], 9, [(6, 2)]),
 ]
-
-#: Moves that change nothing: keys before, and those that are pressed then; and what stands there before and after.
-SAME = [
-    ('m', 'm', 'move 1/1'),
-    ('m<right>1u', 'm', 'move 1/2'),
-    ('1', '1', 'move 1/1'),
-    ('1', ':move R0,0,1<enter>', 'move 1/1'),
-    ('1<right>2u', ':move R1,1,0<enter>', 'move 1/2'),
-    ('1<space>', ':restart<enter>', 'move 2/2'),
-    ('Sy', ':solve<enter>', 'move 1/1'),
-    ('P', ':move M<enter>', 'move 1/1'),
-]
-
 
 @pytest.mark.parametrize(('pairs', 'states', 'wanted'), KEPT)
 def test_kept_pairs(pairs: Sequence[Pair], states: int, wanted: List[Pair]) -> None:
@@ -52,43 +39,6 @@ def test_joined() -> None:
     assert joined.pairs == [(5, 2)]
 
 
-@pytest.mark.parametrize(('before', 'keys', 'shows'), SAME)
-def test_same(front: BoardFront, before: str, keys: str, shows: str) -> None:
-    """What changes nothing is no move, and what could be redone stays."""
-    with front.window(['towers', ID], leave='q') as window:
-        window.look(before, [shows])
-        window.look(keys, ['Nothing changes: the board has that already.', shows])
-
-
-GAMES = [
-    BoardGame('a number that is refused takes no marks with it', ['towers', '3:///////////,1c3c2'], [
-        Look('mM', ['marks go when their number']),
-        Look('3', ['was given with the puzzle', 'move 1/1', '│ 1   2   3 │']),
-        Look('<right>3', ['│     1     │     3!    │', 'move 4/4']),
-        Look('3', ['Nothing changes', 'move 4/4']),
-        Look('u', ['move 1/4']),
-    ]),
-    BoardGame(
-        'a solved board is not solved again',
-        ['towers', ID],
-        [Look('Sy', ['Filled in by the program.', 'move 1/1']), Look('S', ['The board is solved.', 'move 1/1'])],
-    ),
-    BoardGame('possible marks are one move, by the shortest way', ['towers', ID], [
-        Look('1P', ['move 6/6', '│           │     2   3 │     2   3 │']),
-        Look('<right>p2', ['move 7/7', '│           │         3 │     2   3 │']),
-        Look('P', ['move 8/8', '│           │     2   3 │     2   3 │']),
-        Look('u', ['move 7/8']),
-        Look('uu', ['move 1/8']),
-        Look('r', ['move 6/8']),
-    ]),
-]
-
-
-@pytest.mark.parametrize('game', GAMES, ids=by_name)
-def test_game(front: BoardFront, game: BoardGame) -> None:
-    front.play(game)
-
-
 def test_all_or_none(front: BoardFront, room: Room) -> None:
     """A number that has no room in the game any more leaves its marks, and what could be redone."""
     moves = [b'M', *[b'P2,2,1'] * 99_997, b'R2,2,2']
@@ -98,16 +48,3 @@ def test_all_or_none(front: BoardFront, room: Room) -> None:
         window.look('M', ['move 99998/99999', 'marks go'])
         window.look('1', ['A game has at most 100,000 states. Undo some moves first.', 'move 99998/99999', '│ 1   2   3 │ 1   2   3 │'])
         window.look('r', ['move 99999/99999', '│     2     │'])
-
-
-def test_order(front: BoardFront, room: Room) -> None:
-    """Marks that go with a number go before it, in reading order; possible marks begin with all marks where that is shorter."""
-    with front.window(['towers', ID], leave='q') as window:
-        window.look('Mm<right><down>2', ['1 of 9'])
-        window.look('P', ['1 of 9'])
-    with front.window(['towers', '3:///////////,1h'], leave='q') as window:
-        window.look('P', ['move 5/5'])
-    first = [b'M', b'P1,0,2', b'P0,1,2', b'P2,1,2', b'P1,2,2', b'R1,1,2']
-    (old,) = [path for path in room.paths() if '/old/' in path and path.endswith('.sav')]
-    assert moves_of(room.read(old)) == first
-    assert moves_of(room.read('state/puzzles/towers.sav')) == [b'M', b'P1,0,1', b'P2,0,1', b'P0,1,1', b'P0,2,1']

@@ -61,7 +61,7 @@ def text_of(screen: Screen) -> str:
 
 def seen(front: BoardFront, picture: Picture, wanted: str) -> str:
     """What stands on the screen at the end, as soon as that is what is wanted, or when it stays otherwise."""
-    env = front.env(picture.term, picture.locale)
+    env = front.env(TERM=picture.term, LC_ALL=picture.locale)
     id = picture.desk[1] or made(picture.game, picture.size, 'e')[0]
     keys = f'E<left><enter>{picture.desk[2]}' if picture.desk[1] else KEYS + LAST
     with front.window([picture.game, id], picture.screen, env) as window:

@@ -2,9 +2,6 @@
 
 import os
 
-import pytest
-
-from playing.printable import printable
 from tests.board.playing import BoardFront
 from tests.harness import ID, Room, run
 
@@ -12,25 +9,20 @@ from tests.harness import ID, Room, run
 STEERING = 'x\x1b]0;steered\x07y'
 
 
-@pytest.mark.parametrize(('text', 'wanted'), [('a b', 'a b'), (STEERING, 'x?]0;steered?y'), ('\udcff\n', '??'), ('é√', 'é√')])
-def test_printable(text: str, wanted: str) -> None:
-    assert printable(text) == wanted
-
-
 def test_faces(front: BoardFront, room: Room) -> None:
     """Words, names that are typed, and the name of the folder for games, in both faces and on standard error."""
-    folder = os.path.join(room.path, f'st{STEERING}te')
-    room.lay(f'{folder}/puzzles/towers.sav', os.mkfifo)
-    env = {**front.env(), 'XDG_STATE_HOME': folder}
+    folder = os.path.join(room.path, f'st{STEERING}te\udcff√')
+    os.utime(room.lay(f'{folder}/puzzles/towers.sav', os.mkfifo), (2e9, 2e9))
+    env = front.env(XDG_STATE_HOME=folder)
     with front.window(['towers', STEERING], (24, 200), env) as window:
         window.look('', ["There is no file 'x?]0;steered?y'"])
         assert b'steered\x07' not in window.came, 'a refused word'
     with front.window(['towers'], (24, 132), env) as window:
-        window.look('', ['stx?]0;steered?yte/puzzles/towers.sav is a named pipe'])
+        window.look('', ['stx?]0;steered?yte?√/puzzles/towers.sav is a named pipe'])
         window.leave('q')
         assert b'steered\x07' not in window.came, 'a folder'
     with front.window(['--lines', 'towers', ID], (24, 200), env) as window:
-        window.look('', ['towers 1/1>'])
+        window.look('', ['stx?]0;steered?yte?√/puzzles/towers.sav is a named pipe', 'towers 1/1>'])
         window.look('load \x16\x1b[31mred<enter>', ["There is no file '?[31mred'."])
         window.look('save \x16\x1b[31mred<enter>', ['Saved in ?[31mred'])
         window.look('open<enter>', ['?[31mred: Towers 3x3'])

@@ -58,7 +58,7 @@ done | exec -a puzzles-json '{program}' "$@"
 
 def between(front: BoardFront, room: Room, rule: str = BETWEEN) -> Dict[str, str]:
     """The environment of a front over the program with something between."""
-    return {**front.env(), 'PUZZLES_JSON': put_between(room, front.program, rule)}
+    return front.env(PUZZLES_JSON=put_between(room, front.program, rule))
 
 
 def test_program_killed(front: BoardFront, room: Room) -> None:
@@ -126,7 +126,7 @@ def test_no_answer(front: BoardFront, room: Room) -> None:
 def test_silent(front: BoardFront, room: Room) -> None:
     """A program that never answers, not even at the start: keys and a closed window are heard."""
     room.put('silent', SILENT, 0o755)
-    env = {**front.env(), 'PUZZLES_JSON': os.path.join(room.path, 'silent')}
+    env = front.env(PUZZLES_JSON=os.path.join(room.path, 'silent'))
     with front.window(['towers'], env=env) as window:
         window.look('', ['The program is at work. Any key stops it.'])
         window.look('x', ['the program has ended: it gave no answer'])
@@ -148,9 +148,9 @@ def test_other_names(front: BoardFront, room: Room) -> None:
     for file, content in (('another', Path(front.program).read_bytes()), ('plain', PLAIN)):
         room.put(file, content, 0o755)
     for words, shown in ((['towers'], 'move 0/0'), (['--lines', 'towers'], 'towers 1/1>')):
-        env = {**front.env(), 'PUZZLES_JSON': os.path.join(room.path, 'another')}
+        env = front.env(PUZZLES_JSON=os.path.join(room.path, 'another'))
         front.shows([*words, ID], shown, env=env, leave='q<enter>' if '--lines' in words else 'q')
-        front.shows(words, 'its answer is not an object: it is not', env={**env, 'PUZZLES_JSON': os.path.join(room.path, 'plain')}, leave='', status=1)
+        front.shows(words, 'its answer is not an object: it is not', env=front.env(PUZZLES_JSON=os.path.join(room.path, 'plain')), leave='', status=1)
 
 
 def wait_for_program(window: Terminal) -> bool:
@@ -166,7 +166,7 @@ def wait_for_program(window: Terminal) -> bool:
 def test_first_save(front: BoardFront, room: Room) -> None:
     """A key that is pressed while a game is saved for the first time stops nothing, and is heard then. A card of the course is waited for, too."""
     room.put('between', SLOW_SAVE.format(program=front.program).encode(), 0o755)
-    env = {**front.env(), 'PUZZLES_JSON': os.path.join(room.path, 'between')}
+    env = front.env(PUZZLES_JSON=os.path.join(room.path, 'between'))
     with front.window(['learn', 'towers'], env=env, leave='q') as window:
         window.look('', ['The program is at work ..'])
         window.look('', ['Card 1/6.'])
@@ -194,13 +194,3 @@ def test_no_save(front: BoardFront, room: Room) -> None:
         window.look('x', ['The present game stays.', 'Towers 3x3'])
         window.look('<right>', ['0 of 9'], ['not kept'])
         assert room.read(KEPT) == save_text(0), 'what is kept'
-
-
-def test_full_history(front: BoardFront, room: Room) -> None:
-    """A game with as many states as there may be."""
-    moves = b'MOVE    :6:P0,0,1\n' * 99_999
-    room.put('long.sav', save_text(0).replace(b'NSTATES :1:1\nSTATEPOS:1:1\n', b'NSTATES :6:100000\nSTATEPOS:6:100000\n') + moves)
-    with front.window(['towers', os.path.join(room.path, 'long.sav')]) as window:
-        window.look('', ['move 99999/99999'])
-        window.look('1', ['A game has at most 100,000 states. Undo some moves first.'])
-        window.look('u', ['move 99998/99999'])

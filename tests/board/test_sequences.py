@@ -59,7 +59,7 @@ def test_late(came: str, lasts: float, wanted: str) -> None:
 @pytest.mark.parametrize('term', ['xterm-256color', 'vt100'])
 def test_slow_line(front: BoardFront, term: str) -> None:
     """Home isn't H, which counts a hint, and F3 isn't R, which goes back to the start; arrows move, and an Escape by itself leaves a question."""
-    with front.begun('q', env=front.env(term)) as window:
+    with front.begun('q', env=front.env(TERM=term)) as window:
         for sent, shows in (('\x1b[H', 'That key does nothing'), ('\x1bOR', 'That key does nothing'), ('\x1b[C', 'move 1/1'), ('\x1bOB', 'move 1/1')):
             for character in sent:
                 window.send(character)

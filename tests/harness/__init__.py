@@ -8,6 +8,7 @@ screen    the screen of that terminal
 browser   a browser without a window, and what it prints; with `driver`, what all have in common, `firefox` and `webkit`
 between   what stands between puzzles-json and who asks it
 builds    where the repository is, and copies of programs
+played    games as transcripts
 bytecode  what Python compiles of scripts, kept for a run
 game      a small game, what its saves are, and the new files that saves leave; larger puzzles, which the usual program made
 faults    the library tests/faults/faults.c, by which a chosen call of the program fails
@@ -30,11 +31,11 @@ from tests.harness.mounts import fill, small_disk
 from tests.harness.program import SLOWNESS, Ended, run
 from tests.harness.room import Folder, Room, Skip
 from tests.harness.skips import need
-from tests.harness.terminal import Look, Terminal
+from tests.harness.terminal import Terminal
 from tests.harness.users import ANNA, CARL, User, is_root, need_root
 
 __all__ = [
-    'ANNA', 'BLANK', 'Browser', 'CARL', 'Driver', 'Ended', 'FaultLibrary', 'Folder', 'HEAD', 'ID', 'Look', 'Met', 'PICTURE', 'RIGHT', 'Room', 'SLOWNESS',
+    'ANNA', 'BLANK', 'Browser', 'CARL', 'Driver', 'Ended', 'FaultLibrary', 'Folder', 'HEAD', 'ID', 'Met', 'PICTURE', 'RIGHT', 'Room', 'SLOWNESS',
     'Skip', 'TOP', 'Terminal', 'User', 'by_name', 'by_words', 'bytecode', 'fill', 'is_root', 'left_files', 'made', 'moves_of', 'named', 'need', 'need_root', 'run',
     'save_text', 'small_disk',
 ]

@@ -8,7 +8,7 @@ import os
 import re
 import signal
 import time
-from typing import Callable, Dict, List, Mapping, NamedTuple, Optional, Pattern, Sequence, Set, Tuple
+from typing import Callable, Dict, List, Mapping, Optional, Pattern, Sequence, Tuple
 
 import pexpect
 
@@ -32,22 +32,14 @@ NAMED: Dict[str, str] = {
     'ctrl-z': '\x1a',
     'ctrl-r': '\x12',
     'ctrl-c': '\x03',
+    'ctrl-d': '\x04',
+    'ctrl-v': '\x16',
     'space': ' ',
     'tab': '\t',
     'shift-tab': '\x1b[Z',
 }
 
 KEY = re.compile(r'<([a-z-]+)>|(.)', re.DOTALL)
-
-
-class Look(NamedTuple):
-    """Keys that are pressed, and what is seen then and what isn't: texts that stand on one line, or across several."""
-
-    keys: str
-    shows: Sequence[str] = ()
-    hides: Sequence[str] = ()
-    #: A text on the screen, and the attributes that it has, by their numbers, and hasn't.
-    styles: Sequence[Tuple[str, Set[int], Set[int]]] = ()
 
 
 class Terminal:
@@ -76,6 +68,7 @@ class Terminal:
         self._stream = Stream(self.screen)
         self._decoder = codecs.getincrementaldecoder('utf-8')(errors='replace')
         self.pressed = 0
+        self.is_left = False
         #: All that came, for what a screen doesn't show.
         self.came = b''
         # A command alone would be cut at its blanks.
@@ -133,8 +126,9 @@ class Terminal:
 
     # --- what comes of it ---
 
-    def look(self, keys: str, shows: Sequence[str] = (), hides: Sequence[str] = (), styles: Sequence[Tuple[str, Set[int], Set[int]]] = ()) -> None:
-        """Presses the keys, and waits until all is seen that is to be. FOLDER is the folder in which the program runs."""
+    def look(self, keys: str, shows: Sequence[str] = (), hides: Sequence[str] = (), styles: Sequence[Tuple[str, Sequence[int]]] = ()) -> None:
+        """Presses the keys, and waits until texts are seen, on one line each or across several, and others aren't. Of a text on the screen come the numbers
+        of its attributes, below 0 those of attributes that it hasn't. FOLDER is the folder in which the program runs."""
         owed = [text.replace('FOLDER', self._folder) for text in shows]
         self.press(keys.replace('FOLDER', self._folder))
         self.wait_until(lambda screen: all(stands(screen, text) for text in owed) and not any(stands(screen, text) for text in hides))
@@ -143,9 +137,9 @@ class Terminal:
             assert stands(self.screen, text), f'{text!r} is lacking:\n{there}'
         for text in hides:
             assert not stands(self.screen, text), f'{text!r} is shown:\n{there}'
-        for text, has, hasnt in styles:
+        for text, numbers in styles:
             found = self.screen.style_of(text)
-            assert has <= found and not hasnt & found, f'{text!r} has the attributes {sorted(found)}'
+            assert all((abs(number) in found) is (number > 0) for number in numbers), f'{text!r} has the attributes {sorted(found)}'
 
     def wait_until(self, holds: Callable[[Screen], bool], seconds: Optional[float] = None) -> bool:
         """Waits until something holds of the screen. False where it hasn't in time, or the program has ended before."""
@@ -193,6 +187,7 @@ class Terminal:
 
     def leave(self, keys: str, status: int = 0) -> None:
         """Presses the keys that end the program, which has to end with this status."""
+        self.is_left = True
         self.press(keys)
         assert self.status() == status, f'the status after {keys!r}'
 

@@ -9,10 +9,12 @@ from typing import Callable, List, Optional, Sequence, Set, Tuple, Union
 from playing.naming import Place
 from tests.board.playing import to_and_fro
 from tests.harness import BLANK, ID, RIGHT, TOP
+from tests.harness.played import Line
 from tests.page.seen import Seen, at
 
 #: Sizes of windows.
 LAPTOP, PHONE, SMALL = (1280, 800), (390, 844), (320, 568)
+WINDOWS = {'LAPTOP': LAPTOP, 'PHONE': PHONE, 'SMALL': SMALL}
 
 #: A clue above that the number 1 in its first square contradicts, in a game without givens.
 TOWERS = f'towers:{ID}'
@@ -21,7 +23,7 @@ TOWERS = f'towers:{ID}'
 UNEQUAL = 'unequal:3:0,0L,0L,0U,0,0,0U,0,0,'
 
 #: What is done, as `Player.look` has it: keys; or what is clicked, and how, if not by the left button. And keys with Control, or others.
-ACTS = re.compile(r'([^{]+)|\{(?:(tap|hold|right|menu|switch|load)\b ?)?([^}]*)\}')
+ACTS = re.compile(r'([^{]+)|\{(?:(tap|hold|right|enter|menu|switch|load|forget)\b ?)?([^}]*)\}')
 KEYS = re.compile(r'<ctrl-(.)>|((?:<(?!ctrl-)[a-z]+>|[^<])+)')
 KEY = re.compile(r'<(up|down|left|right)>|<([a-z]+)>|(.)')
 
@@ -84,14 +86,12 @@ class Player(Seen):
         self.value(f'(() => {{ {script} document.dispatchEvent(new DragEvent("drop", {{dataTransfer: data, cancelable: true}})); return true; }})()')
         self.look('', **waits)
 
-    def catch_files(self) -> None:
-        """What the page gives as a file from here on is caught."""
-        self.value('(() => { window.files = []; URL.createObjectURL = (blob) => { window.files.push(blob); return "#"; }; return true; })()')
-
-    def caught(self) -> bytes:
-        """The bytes of the last file."""
-        self.driver.wait_for('window.files.length > 0')
-        return bytes(self.value('window.files[window.files.length - 1].arrayBuffer().then((all) => [...new Uint8Array(all)])'))
+    def caught(self, does: str, **waits: str) -> bytes:
+        """The bytes of the file that the page gives when something is done, as in `look`."""
+        self.value('(URL.createObjectURL = (blob) => { window.file = blob; return "#"; }, true)')
+        self.look(does, **waits)
+        self.driver.wait_for('window.file')
+        return bytes(self.value('window.file.arrayBuffer().then((all) => [...new Uint8Array(all)])'))
 
     def __enter__(self) -> Player:
         return self
@@ -105,12 +105,12 @@ class Player(Seen):
 
         Keys are those of `press`. What is clicked stands in braces: a square or clue by its place `{1,0}`, a number of the pad `{2}`, a button by its text
         `{Hint}`, or anything by its selector `{#offer}`; touched or held with `tap` or `hold` ahead, or clicked by the other button with `right`.
-        `{menu Pause}`, `{switch Show equal numbers}` and `{load}` do what these methods do, and `{#desk-size = 5}` writes.
+        `{enter ..}`, `{menu Pause}`, `{switch Show equal numbers}`, `{load}` and `{forget}` do what these methods do, and `{#desk-size = 5}` writes.
         """
         for keys, how, what in ACTS.findall(does):
             if keys:
                 self.press(keys)
-            elif how in ('menu', 'switch', 'load'):
+            elif how in ('enter', 'menu', 'switch', 'load', 'forget'):
                 getattr(self, how)(what)
             elif ' = ' in what:
                 self.write(*what.split(' = '))
@@ -122,6 +122,22 @@ class Player(Seen):
             self.is_called(name)
         for what, text in waits.items():
             self.waits(what, text)
+
+    def play(self, lines: Sequence[Line]) -> None:
+        """A transcript. A run has a link and a window's name as its words, and `!` stands before a script. What is seen has `¦` between its parts: names of
+        squares and clues, or what is waited for, as `told: Right.`
+        """
+        for kind, does, seen in lines:
+            if kind == '$':
+                link, _, window = does.partition(' ')
+                self.sit(link, WINDOWS.get(window))
+            elif kind == '!':
+                self.value(f'({does}, true)')
+            else:
+                self.look(does)
+            for part in [part for line in seen for part in line.split(' ¦ ')]:
+                what, colon, text = part.partition(': ')
+                self.waits(*((what, text) if colon else ('is_called', part)))
 
     def sit(self, link: str = '', size: Optional[Tuple[int, int]] = None) -> None:
         """Opens the page with what stands after its #, in a browser that keeps nothing of it yet."""
@@ -135,16 +151,15 @@ class Player(Seen):
         self.driver.go(self.address + (f'#{link}' if link else ''))
         self.driver.wait_for('document.readyState === "complete" && document.querySelector("[data-place]")')
 
-    def forget(self) -> None:
+    def enter(self, selector: str) -> None:
+        """Goes to a button, and presses it as Enter does. Firefox's driver has no window in front, in which that key would."""
+        self.value(f'((node) => {{ node.focus(); node.click(); return true; }})(document.querySelector("{selector}"))')
+
+    def forget(self, _: str = '') -> None:
         """The browser keeps nothing any more, whatever the page and tabs that were closed are still about to keep."""
         self.driver.value(f'({NOTHING_MORE}, localStorage.clear(), sessionStorage.clear(), {NO_JOURNAL})')
         self.driver.go(BESIDE)
         self.driver.wait_for('localStorage.length + sessionStorage.length === 0 || (localStorage.clear(), sessionStorage.clear())')
-
-    def leave_tab(self) -> None:
-        """Closes the tab. Its page keeps nothing any more: a browser may hear of that once the next case has begun."""
-        self.value(f'({NOTHING_MORE}, true)')
-        self.driver.close_tab()
 
     def menu(self, text: str) -> None:
         """A button of the menu."""

@@ -2,7 +2,7 @@
 
 import json
 import re
-from typing import Any, Dict, List, Sequence, Set, Tuple
+from typing import Any, Dict, List, Sequence, Tuple
 
 from tests.harness import Driver
 
@@ -23,7 +23,8 @@ def place_of(name: str) -> str:
     return at(int(found.get('column', 0)) - 1, int(found.get('row', 0)) - 1)
 
 
-#: What is waited for: that a text is said, stands below the title, is the title, stands on a page of text, is the desk's verdict, or is among its grounds.
+#: What is waited for: that a text is told, stands below the title, is the title, stands on a page of text, is the desk's verdict, is among its grounds, or
+#: is said to readers of screens.
 WAITS = {
     'told': ('#told', '.includes({})'),
     'counts': ('#count', '.includes({})'),
@@ -31,6 +32,7 @@ WAITS = {
     'reads': ('#page[open] #page-text', '.includes({})'),
     'ruled': ('#ruling', ' === {}'),
     'grounds': ('#grounds', '.includes({})'),
+    'said': ('#said', '.includes({})'),
 }
 
 
@@ -51,10 +53,6 @@ class Seen:
         """What the square or clue of a name is called now."""
         return str(self.value(f'document.querySelector({json.dumps(place_of(name))}).getAttribute("aria-label")'))
 
-    def kind(self, x: int, y: int) -> Set[str]:
-        """How it is drawn."""
-        return set(self.value(f'document.querySelector({json.dumps(at(x, y))}).getAttribute("class")').split())
-
     def chosen(self) -> Tuple[int, int]:
         """The square or clue that has the focus."""
         x, y = self.value('document.activeElement.dataset.place').split(',')
@@ -73,6 +71,18 @@ class Seen:
         begins = name[:-2] if name.endswith('..') else ''
         wanted = f'.startsWith({json.dumps(begins)})' if begins else f' === {json.dumps(name)}'
         self.driver.wait_for(f'document.querySelector({json.dumps(place_of(name))}).getAttribute("aria-label"){wanted}')
+
+    def js(self, condition: str) -> None:
+        self.driver.wait_for(condition)
+
+    def matches(self, selector: str) -> None:
+        """Waits until there is such an element."""
+        self.driver.wait_for(f'document.querySelector({json.dumps(selector)})')
+
+    def lacks(self, selector: str) -> None:
+        """Waits until there is none, once what was done is seen."""
+        self.settles()
+        self.driver.wait_for(f'!document.querySelector({json.dumps(selector)})')
 
     def stays(self, name: str) -> None:
         """Once what was done is seen a square is called so still."""

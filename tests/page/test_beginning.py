@@ -56,21 +56,32 @@ def test_day_begins_anew(player: Player, programs: Programs, room: Room) -> None
     player.look(f'{{load towers-3-easy-{before}}}', told='Solved', games='2')
 
 
-#: Links that the module refuses, and what is said of each, with another game below it.
-REFUSED = [
+#: Links that are refused, or from people who mean ill, and what is said of some.
+LINKS = [
     ('towers:7!1', 'Seeded games have the sizes 3 to 6.'),
     ('towers:9:', 'The ID has too few clues or squares.'),
     ('towers:5de#7', 'Seeds with # work in the usual program only.'),
     ('what', 'This is not a game.'),
+    ('<img src=x onerror=alert(1)>', ''),
+    ('%3Cscript%3Ealert(1)%3C/script%3E', ''),
+    ('towers:5dh:%3Cimg%20src=x%3E', ''),
+    ('towers-9-hard-99999999999999999999999', ''),
+    ('towers-99-hard-1', ''),
+    ('javascript:alert(1)', ''),
+    ('towers:' + '1' * 5000, ''),
+    ('%E0%A4%A', ''),
+    ('__proto__-5-easy-1', ''),
+    ('unequal:constructor', ''),
 ]
 
 
-def test_refused_link(player: Player) -> None:
-    """The reason stands there when the page is ready, and no welcome takes its place."""
-    for link, said in REFUSED:
-        player.look(f'{{load {link}}}', counts='0 of')
+def test_refused_links(player: Player) -> None:
+    """The page begins all the same, with another game: the reason stands there when it is ready, and no welcome takes its place."""
+    for link, said in LINKS:
+        player.look(f'{{load {link}}}', counts='0 of', games='1')
         player.settles()
         assert player.text('#told').startswith(said), link
+        assert player.value('document.images.length + document.scripts.length') == 3, link
     player.forget()
     player.look('{load}', told='Choose a square, then a number.')
 

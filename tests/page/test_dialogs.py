@@ -4,7 +4,7 @@ from typing import Dict, List, Tuple
 
 import pytest
 
-from tests.page.playing import PHONE, SMALL, TOWERS, Player, Scripted
+from tests.page.playing import PHONE, TOWERS, Player, Scripted
 
 #: What is written under New, and how it is refused, at which field.
 REFUSED: List[Tuple[Dict[str, str], str, str]] = [
@@ -18,16 +18,6 @@ REFUSED: List[Tuple[Dict[str, str], str, str]] = [
     ({'id': '3:4///////////'}, 'id', 'The ID has'),
     ({'id': '#towers:5de#7'}, 'id', 'Seeds with # work in the usual program only.'),
 ]
-
-
-def test_rules_begin(player: Player) -> None:
-    """A text that is longer than the window is shown from its beginning, where the focus is, and Tab goes on to its button."""
-    player.sit(TOWERS, SMALL)
-    player.look('?', is_shown='#rules')
-    top, length, height = player.value('((node) => [node.scrollTop, node.scrollHeight, node.clientHeight])(document.querySelector("#rules"))')
-    assert top == 0 and length > height
-    player.press('<tab>')
-    assert player.value('document.activeElement.textContent') == 'Close'
 
 
 FIELDS = ['game', 'size', 'grade', 'number', 'id']

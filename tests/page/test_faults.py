@@ -1,4 +1,4 @@
-"""What may go wrong: the module ends in a trap, works for too long, or has no memory; and links, saves and names from people who mean ill."""
+"""What may go wrong: the module ends in a trap, works for too long, or has no memory; and saves and names from people who mean ill."""
 
 import json
 from pathlib import Path
@@ -52,29 +52,6 @@ def test_stopped(failing: Player) -> None:
     failing.look('<right>', chose='1,0')
     failing.look('{#offer}', told='Stopped. Nothing has changed.')
     failing.look('3', 'row 1, column 2, 3')
-
-
-#: Links that name no game, or one that is none: the page begins all the same.
-HOSTILE = [
-    '<img src=x onerror=alert(1)>',
-    '%3Cscript%3Ealert(1)%3C/script%3E',
-    'towers:5dh:%3Cimg%20src=x%3E',
-    'towers-9-hard-99999999999999999999999',
-    'towers-99-hard-1',
-    'javascript:alert(1)',
-    'towers:' + '1' * 5000,
-    '%E0%A4%A',
-    '__proto__-5-easy-1',
-    'unequal:constructor',
-]
-
-
-def test_links(player: Player) -> None:
-    for link in HOSTILE:
-        player.load(link)
-        assert player.value('document.images.length + document.scripts.length') == 3, link
-    assert len(player.kept()) == 1
-    player.look('{load what}', told='This is not a game')
 
 
 def test_names_are_text(player: Player) -> None:

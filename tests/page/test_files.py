@@ -22,18 +22,14 @@ def test_bytes(player: Player, programs: Programs, room: Room, seed: bytes) -> N
     player.sit(TOWERS)
     player.drop(save, is_called='row 1, column 2, 2')
     player.look('{load}<right><right>3', 'row 1, column 3, 3')
-    player.catch_files()
-    player.press('w')
-    assert player.caught() == wanted
+    assert player.caught('w') == wanted
     assert seed in wanted
 
 
 def export(player: Player) -> Dict[str, Any]:
     """All games, as the page writes them."""
     player.look('o', is_shown='#games')
-    player.catch_files()
-    player.look('{Export all to one file}', closes='#games')
-    told: Dict[str, Any] = json.loads(player.caught())
+    told: Dict[str, Any] = json.loads(player.caught('{Export all to one file}', closes='#games'))
     return told
 
 
@@ -107,18 +103,6 @@ def test_import_joins(player: Player) -> None:
     bring_in(player, {**later, 'games': [other]}, '1 game imported.')
     player.is_called('row 1, column 1, 3')
     player.keeps([0, 1, 2])
-
-
-def test_save_files(player: Player, programs: Programs, room: Room) -> None:
-    """What is saved the program reads, and what the program saved the page does; the bytes are the same."""
-    player.sit(TOWERS)
-    player.look('1<right>2', 'row 1, column 2, 2')
-    player.catch_files()
-    player.press('w')
-    assert player.caught() == save_text(2)
-    room.put('a.sav', player.caught())
-    assert b'3 1 2 . -' in run([programs.puzzles, 'towers', '--load', 'a.sav'], room, input=b'show\n').output
-    player.drop(save_text(3), is_called='row 1, column 3, 3', games='2')
 
 
 #: What is dropped that is no save of these games, and what is said.

@@ -6,7 +6,7 @@ import json
 import pytest
 
 from tests.harness import save_text
-from tests.page.playing import LAPTOP, PHONE, TOWERS, UNEQUAL, Player, Scripted
+from tests.page.playing import LAPTOP, NOTHING_MORE, PHONE, TOWERS, UNEQUAL, Player, Scripted
 
 
 @pytest.mark.always
@@ -40,19 +40,6 @@ def test_each_game_is_kept(player: Player) -> None:
     assert sorted(game['game'] for game in player.kept()) == ['towers', 'towers']
 
 
-def test_link_keeps_the_present_game(player: Player) -> None:
-    """A link begins its game, the present one stays in the list, and goes on where its own link is opened."""
-    player.sit(TOWERS)
-    player.look('1', 'row 1, column 1, 1')
-    player.look(f'{{load {UNEQUAL}}}', called='Unequal 3×3')
-    assert player.value('location.hash') == ''
-    player.value('(location.hash = "#towers-4-easy-5", true)')
-    player.look('', called='Towers 4×4')
-    # A reload goes on with the last game, and not with that of the link.
-    player.look('{load}', called='Towers 4×4')
-    player.look(f'{{load {TOWERS}}}', 'row 1, column 1, 1..', told='You have begun this game before.', games='3')
-
-
 @pytest.mark.always
 def test_two_tabs(player: Player) -> None:
     """The second sees the moves of the first, and neither loses one."""
@@ -67,7 +54,9 @@ def test_two_tabs(player: Player) -> None:
         player.look('', 'row 1, column 2, 2..', moved='R0,0,1 R1,0,2')
     finally:
         player.driver.turn_to(other)
-        player.leave_tab()
+        # Its page keeps nothing any more: a browser may hear of that once the next case has begun.
+        player.value(f'({NOTHING_MORE}, true)')
+        player.driver.close_tab()
         player.driver.turn_to(first)
 
 
@@ -148,10 +137,3 @@ def solve_by_hints(player: Player) -> None:
         before = player.text('#count').split(' of')[0]
         player.press('hhh')
         player.driver.wait_for(f'!document.querySelector("#count").textContent.startsWith({json.dumps(before)} + " of")')
-
-
-def test_settings_last(player: Player) -> None:
-    player.sit(TOWERS)
-    player.look('M', told='From now on, marks go')
-    player.look('{load}{Menu}', is_shown='#menu')
-    assert player.value('document.querySelector("[data-set=tidy]").ariaPressed') == 'true'

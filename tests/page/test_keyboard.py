@@ -6,7 +6,7 @@ from typing import Any, Dict, List, NamedTuple
 import pytest
 
 from tests.harness import by_name
-from tests.page.playing import LAPTOP, TOWERS, UNEQUAL, Player
+from tests.page.playing import LAPTOP, TOWERS, Player
 
 EMPTY, ONE, TWO = (f'row 1, column 1, {content}' for content in ('empty', '1', '2'))
 
@@ -61,32 +61,3 @@ def test_other_keyboards(player: Player, pressed: Pressed) -> None:
 def send(player: Player, event: Dict[str, Any]) -> None:
     told = json.dumps({**event, 'bubbles': True, 'cancelable': True})
     player.value(f'document.activeElement.dispatchEvent(new KeyboardEvent("keydown", {told}))')
-
-
-def enter(player: Player, selector: str) -> None:
-    """Goes to a button, and presses it as Enter does. Firefox's driver has no window in front, in which that key would."""
-    player.value(f'((node) => {{ node.focus(); node.click(); return true; }})(document.querySelector("{selector}"))')
-
-
-def test_focus_of_a_hint(player: Player) -> None:
-    """Why? gives the focus to the first step, and Close and a number that is put in give it back to the board."""
-    player.sit(TOWERS, LAPTOP)
-    for last, count in [('leave', '0 of'), ('take', '1 of')]:
-        enter(player, '[data-do=why]')
-        player.driver.wait_for('document.activeElement.dataset.step === "0"')
-        enter(player, f'[data-do={last}]')
-        player.look('', closes='#walk', counts=count)
-    # By a key of the board the board keeps it.
-    player.look('H', is_shown='#walk')
-    assert player.value('Boolean(document.activeElement.dataset.place)')
-
-
-def test_focus_of_an_offer(player: Player) -> None:
-    """What is offered beside a sentence is gone once it is done: the board has the focus then, also in the next game."""
-    player.sit(UNEQUAL, LAPTOP)
-    player.look('2<down><right>2c', told='can’t be completed since the last')
-    enter(player, '#offer')
-    player.look('', told='taken back.', chose='1,1')
-    player.look('S', answer='Yes', told='Filled in')
-    enter(player, '#offer')
-    player.look('', counts='0 of', chose='0,0')

@@ -59,17 +59,6 @@ def test_name(player: Player) -> None:
         player.forget()
 
 
-def test_grade(player: Player) -> None:
-    """A game of an ID has the grade by our steps, and what that is stands below it, unless there is something else to say."""
-    # The first time the course is offered in its place.
-    player.sit('towers-3-easy-8')
-    player.look(f'{{load {TOWERS}}}', counts='easy by our steps', told='By our steps: hints of that grade lead to the solution')
-    player.look('1', 'row 1, column 1, 1')
-    player.look(f'{{load {TOWERS}}}', counts='easy by our steps', told='You have begun this game before.')
-    player.look('{load towers-3-easy-7}', told='Towers, easy 3, number 7.')
-    assert 'our steps' not in player.text('#count')
-
-
 def test_result(player: Player) -> None:
     """A solved game of today tells of the days in a row, and the line for others has nothing of the solution."""
     today = datetime.date.today()

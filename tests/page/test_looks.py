@@ -32,7 +32,7 @@ CHECKS: Dict[str, str] = {
     + '.filter(node => !(node.textContent.trim() || node.ariaLabel || node.labels?.[0]?.textContent.trim()'
     ' || document.getElementById(node.getAttribute("aria-labelledby"))?.textContent)).map(node => node.outerHTML)',
     'one tab stop in the board': '[[...document.querySelectorAll("#board [tabindex=\\"0\\"]")].length].filter(count => count !== 1)',
-    'a name for each square': '[...document.querySelectorAll("[role=gridcell]")].filter(node => !/^(row \\d, column \\d, |clue \\d (above|below|left|right) )/'
+    'a name for each square': '[...document.querySelectorAll("[role=gridcell]")].filter(node => !/^(row \\d, column \\d, |(no clue|clue \\d) (above|below|left|right) )/'
     '.test(node.getAttribute("aria-label"))).map(node => node.outerHTML)',
     'squares in rows in a board': '[...document.querySelectorAll("[role=gridcell]")].filter(node => node.parentNode.getAttribute("role") !== "row"'
     ' || node.parentNode.parentNode.getAttribute("role") !== "grid").map(node => node.outerHTML)',
@@ -59,7 +59,7 @@ def pytest_generate_tests(metafunc: pytest.Metafunc) -> None:
 
 @pytest.mark.parametrize('game', ['towers', 'unequal'])
 def test_checks(piped: Player, game: str, window: Tuple[int, int]) -> None:
-    """On the board, at all sizes, and over it in each dialog."""
+    """On the board, at all sizes, and over it in each dialog; at the desk, and on the cards of the course."""
     piped.sit(f'{game}-9-easy-7', window)
     for size in SIZES:
         piped.value(f'(location.hash = "#{game}-{size}-easy-7", true)')
@@ -72,6 +72,9 @@ def test_checks(piped: Player, game: str, window: Tuple[int, int]) -> None:
         piped.look(key, is_shown=dialog)
         assert wrong(piped) == [], dialog
         piped.leaves(dialog)
+    piped.look('{menu Check or set a puzzle}', counts='0 given')
+    assert wrong(piped) == []
+    piped.look('E', is_gone='#verdict')
     piped.look('{Menu}', is_shown='#menu')
     assert wrong(piped) == []
     piped.look('{Learn}')

@@ -58,16 +58,6 @@ def test_room_again(player: Player) -> None:
     assert found == [3]
 
 
-def test_full_at_once(player: Player) -> None:
-    """A game that begins without room for it says so, and not with its first move."""
-    player.sit(TOWERS, PHONE)
-    player.value(f'{FILL}(200)')
-    player.begin('Unequal 3×3', id=UNEQUAL)
-    player.look('', told=NO_ROOM)
-    player.begin('Towers 4×4', game='towers', size='4', grade='e')
-    player.look('', told=NO_ROOM)
-
-
 @pytest.mark.parametrize('script, asked', [('', []), (REFUSED, ['beforeunload']), (FULL, ['beforeunload'])], ids=['kept', 'refused', 'full'])
 def test_asks_before_it_closes(scripted: Scripted, browser: Browser, script: str, asked: List[str]) -> None:
     """While something isn't kept, and never otherwise."""
@@ -97,7 +87,14 @@ def test_lost_by_the_store(player: Player) -> None:
     player.look('1', 'row 1, column 1, 1..')
     player.driver.wait_for(f'{JOURNAL}.then((texts) => texts.some((text) => text.includes("Unequal") && text.includes("R0,0,1")))')
     player.value('(localStorage.clear(), sessionStorage.clear(), Object.assign(localStorage, window.before), Storage.prototype.setItem = () => undefined, true)')
-    player.look('{load}', 'row 1, column 1, 1..', called='Unequal 3×3')
+    player.load()
+    if player.text('#title') != 'Unequal 3×3' or player.name('row 1, column 1') == 'row 1, column 1, empty, less than right, less than below':
+        # The page waits two seconds for its database, and begins without it where that is late, as on a busy machine. What the database has comes into the
+        # store then, and is there when the page is opened in another tab.
+        player.driver.wait_for('Object.values(localStorage).some((text) => text.includes("Unequal") && text.includes("R0,0,1"))')
+        player.value('(sessionStorage.clear(), true)')
+        player.load()
+    player.look('', 'row 1, column 1, 1..', called='Unequal 3×3')
     from_list(player, 'Towers 3×3')
     player.is_called('row 1, column 2, 2..')
     player.look('{Menu}', is_shown='#menu')

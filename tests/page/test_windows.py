@@ -6,7 +6,7 @@ from typing import List, Sequence, Tuple
 import pytest
 
 from tests.harness import Browser, Room
-from tests.page.playing import LAPTOP, PHONE, TOWERS, Player
+from tests.page.playing import PHONE, TOWERS, Player
 from tests.page.seen import at
 from tests.sheet.printing import need_tools, said
 
@@ -31,22 +31,6 @@ def test_room(piped: Player, window: Tuple[int, int]) -> None:
     assert piped.value('document.documentElement.scrollWidth') <= window[0]
     piped.look('{#offer}', counts='Card 1 of')
     assert min(piped.value(ROOM)) >= 3 and piped.value('document.documentElement.scrollWidth') <= window[0]
-
-
-@pytest.mark.parametrize('scheme', ['light', 'dark'])
-def test_forms(piped: Player, browser: Browser, scheme: str) -> None:
-    """Where the system forces its colours, equal numbers have a line, the light of a mark a ring, and row and column a ground."""
-    piped.sit(TOWERS, LAPTOP)
-    browser.media(features={'forced-colors': 'active', 'prefers-color-scheme': scheme})
-    piped.press('2<down><right>2<right>p23<left>')
-    piped.driver.wait_for('document.querySelectorAll(".square.same").length === 2 && document.querySelector(".light + .mark")')
-    style = 'getComputedStyle(document.querySelector(`{}`)).{}'
-    assert piped.value(style.format(f'{at(0, 0)} .number', 'textDecorationLine')) == 'underline'
-    assert piped.value(style.format('.light', 'stroke')) not in ('none', piped.value(style.format('.square rect', 'fill')))
-    lane, other = (piped.value(style.format(f'{at(x, 2)} rect', 'fill')) for x in (1, 0))
-    assert lane != other
-    piped.press('<down>')
-    piped.driver.wait_for('!document.querySelector(".square.same, .light")')
 
 
 def test_paper(piped: Player, browser: Browser, room: Room) -> None:
@@ -112,7 +96,9 @@ FORCED = [
 
 @pytest.mark.parametrize('scheme', ['light', 'dark'])
 def test_forced_colours(piped: Player, browser: Browser, scheme: str) -> None:
-    """What is wrong is read on its mark, and a pressed button is another than the others."""
+    """What is wrong is read on its mark, and a pressed button is another than the others. Equal numbers have a line, the light of a mark a ring, and row and
+    column a ground.
+    """
     piped.sit(TOWERS)
     browser.media(features={'forced-colors': 'active', 'prefers-color-scheme': scheme})
     piped.press('2<right>2p')
@@ -122,6 +108,15 @@ def test_forced_colours(piped: Player, browser: Browser, scheme: str) -> None:
         assert contrast(*map(luminance, values)) >= 4.5, (one, values)
     pressed, usual = piped.value('["marks", "undo"].map((name) => getComputedStyle(document.querySelector(`[data-do=${name}]`)).backgroundColor)')
     assert contrast(luminance(pressed), luminance(usual)) >= 3
+    piped.press('p<down>2<right>p23<left>')
+    piped.driver.wait_for('document.querySelectorAll(".square.same").length > 1 && document.querySelector(".light + .mark")')
+    style = 'getComputedStyle(document.querySelector(`{}`)).{}'
+    assert piped.value(style.format(f'{at(1, 1)} .number', 'textDecorationLine')) == 'underline'
+    assert piped.value(style.format('.light', 'stroke')) not in ('none', piped.value(style.format('.square rect', 'fill')))
+    lane, other = (piped.value(style.format(f'{at(x, 2)} rect', 'fill')) for x in (1, 0))
+    assert lane != other
+    piped.press('<down>')
+    piped.driver.wait_for('!document.querySelector(".square.same, .light")')
 
 
 def luminance(colour: str) -> float:
