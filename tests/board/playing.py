@@ -101,6 +101,24 @@ class BoardFront:
                 if status:
                     window.leave('', int(status[1]))
 
+    def play_in_lines(self, lines: Sequence[Line]) -> None:
+        """A transcript through a pipe, as other tools write and read: no prompt, and no line is broken. `…` is any text, and on a line of its own any lines;
+        what is said at the beginning, up to the line that tells of help, may be left out.
+        """
+        begins = [at for at, line in enumerate(lines) if line.kind == '$']
+        for first, end in zip(begins, [*begins[1:], len(lines)]):
+            words, typed = lines[first].does, '\n'.join(line.does for line in lines[first + 1 : end])
+            wanted = ''.join(f'{text}\n' for line in lines[first:end] for text in line.seen)
+            pattern = re.sub('^…\n', '(?:.*\n)*?', re.escape(wanted).replace('\\\n', '\n'), flags=re.MULTILINE).replace('…', '.*')
+            ended = run([self.path, '--lines', *shlex.split(words)], self.room, input=f'{typed}\n'.encode(), env=self.env())
+            said = ended.expect().output.decode()
+            if not re.fullmatch('(?:(?:.*\n)*.*help lists the rest\\.\n)?' + pattern, said):
+                assert said == wanted
+
+    def refuses(self, words: Sequence[str], says: str = '') -> None:
+        """Without a terminal."""
+        run([self.path, *words], self.room, env=self.env(TERM='dumb', LC_ALL='C')).expect(says, status=2)
+
 
 def solution(program: str, game: str, id: str) -> Tuple[List[int], Set[Place]]:
     """The numbers of a puzzle's solution in reading order, and the squares that are given."""

@@ -3,32 +3,19 @@
 `…` is any text, and on a line of its own any lines. What is said at the beginning, up to the line that tells of help, may be left out.
 """
 
-import re
-import shlex
-from pathlib import Path
 from typing import List, Tuple
 
 import pytest
 
+from tests.board.line_games import FOLDER
 from tests.board.playing import BoardFront
 from tests.harness import ID, Room, run, save_text
 from tests.harness.played import Line, transcripts
 
-GREETING = '(?:(?:.*\n)*.*help lists the rest\\.\n)?'
 
-
-@pytest.mark.parametrize('lines', transcripts(Path(__file__).with_name('lines')))
-def test_lines(front: BoardFront, room: Room, lines: List[Line]) -> None:
-    """What other tools write and read, too: no prompt, and no line is broken."""
-    begins = [at for at, line in enumerate(lines) if line.kind == '$']
-    for first, end in zip(begins, [*begins[1:], len(lines)]):
-        words, typed = lines[first].does, '\n'.join(line.does for line in lines[first + 1 : end])
-        wanted = ''.join(f'{text}\n' for line in lines[first:end] for text in line.seen)
-        pattern = re.sub('^…\n', '(?:.*\n)*?', re.escape(wanted).replace('\\\n', '\n'), flags=re.MULTILINE).replace('…', '.*')
-        ended = run([front.path, '--lines', *shlex.split(words)], room, input=f'{typed}\n'.encode(), env=front.env())
-        said = ended.expect().output.decode()
-        if not re.fullmatch(GREETING + pattern, said):
-            assert said == wanted
+@pytest.mark.parametrize('lines', transcripts(FOLDER))
+def test_lines(front: BoardFront, lines: List[Line]) -> None:
+    front.play_in_lines(lines)
 
 
 #: Lines as they may come, and all that is answered. A question is answered by the next line; at the end of the input the game is kept.
