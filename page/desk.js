@@ -113,11 +113,15 @@ export class Desk {
     return done;
   }
 
+  // What is put in is made whatever comes after it, however long that takes; thinning out, and the verdict, the next change ends.
   /** @param {number} own @param {Change | null} change */
   async changed(own, change) {
-    const timer = setTimeout(() => this.late(own), PATIENCE);
+    const isShort = change !== null && !change.line.startsWith('thin');
+    let timer = 0;
     try {
-      if (change) await this.make(change);
+      if (isShort) await this.make(change);
+      timer = setTimeout(() => this.late(own), PATIENCE);
+      if (change && !isShort) await this.make(change);
       await this.judge(own);
     } catch (fault) {
       if (!(fault instanceof Unanswered)) throw fault;

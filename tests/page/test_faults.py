@@ -9,7 +9,7 @@ import pytest
 from tests.harness import Browser, Driver, Room, save_text
 from tests.page.playing import PHONE, TOWERS, UNEQUAL, Player
 
-#: Before and after the text of the worker: some lines fail as the engine fails, and one takes forever.
+#: Before and after the text of the worker: some lines fail as the engine fails, one takes forever, and what is put in at the desk takes a while.
 BEFORE = """
 const make = WebAssembly.instantiate;
 let line = '';
@@ -21,7 +21,12 @@ WebAssembly.instantiate = async (...words) => {
 """
 AFTER = """
 const answer = self.onmessage;
-self.onmessage = (event) => { [line] = event.data.lines ?? []; while (line === 'completable') Math.random(); return answer(event); };
+self.onmessage = (event) => {
+  const end = Date.now() + 700;
+  [line = ''] = event.data.lines ?? [];
+  while (line === 'completable' || line.startsWith('item') && Date.now() < end) Math.random();
+  return answer(event);
+};
 """
 
 WORKER = '<script type="text/plain" id="worker">'
@@ -52,6 +57,17 @@ def test_stopped(failing: Player) -> None:
     failing.look('<right>', chose='1,0')
     failing.look('{#offer}', told='Stopped. Nothing has changed.')
     failing.look('3', 'row 1, column 2, 3')
+
+
+def test_slow_desk(failing: Player) -> None:
+    """What is put in is there, however long that takes and whatever is pressed meanwhile."""
+    failing.sit(TOWERS)
+    failing.look('{menu Check or set a puzzle}', counts='0 given')
+    failing.go_to(0, 0)
+    for key in ('1', '<right>', '2', '<right>', '3', '<down>', '1'):
+        failing.press(key)
+        failing.value('new Promise((done) => setTimeout(done, 450))')
+    failing.look('', counts='4 given')
 
 
 def test_names_are_text(player: Player) -> None:
