@@ -6,8 +6,8 @@ from xdist.scheduler import LoadScheduling
 
 #: The files and cases that take longest, some seconds each, and those that take long in sum; all others come after them.
 LONGEST = [
-    'installing/test_staged', 'installing/test_packed', 'saving/test_swapping.py::test_swapped_in_a_loop',
-    'objects/test_limits', 'objects/test_desk.py::test_half_set', 'sheet/test_printing', 'stack/', 'board/test_programs', 'board/test_lives', 'objects/test_scripts',
+    'installing/test_staged', 'installing/test_packed', 'objects/test_streams.py::test_memory', 'objects/test_desk.py::test_half_set',
+    'sheet/test_printing', 'stack/', 'board/test_programs', 'board/test_lives', 'objects/test_scripts',
     'page/test_keeping', 'page/test_games', 'page/test_looks', 'page/test_faults', 'page/test_modules', 'installing/', 'scripts/', 'board/', 'second_implementation/', 'sheet/',
 ]
 
