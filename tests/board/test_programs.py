@@ -192,5 +192,5 @@ def test_no_save(front: BoardFront, room: Room) -> None:
         window.look('', ['The game is not kept: There is no memory left for that. Nothing has changed.', '0 of 9'])
         window.look('n<enter>', ["The present game can't be put away", 'Lose it? y/N'])
         window.look('x', ['The present game stays.', 'Towers 3x3'])
-        window.look('<right>', ['0 of 9'], ['not kept'])
+        window.look('<right>', ['0 of 9'], ['not kept', 'The present game stays.'])
         assert room.read(KEPT) == save_text(0), 'what is kept'
