@@ -54,18 +54,16 @@ def test_sources(path: str, pattern: str) -> None:
 @pytest.mark.parametrize('document', documents())
 def test_kit(document: str) -> None:
     """README names the kit by which the programs in the tree were proved, and no document another one."""
-    record = TREE.read()
-    assert record
     named = set(re.findall(r'rattle-kit-\S+ logic \w+', read(document)))
-    assert named == {record.kit} or (not named and document != 'README.md')
+    assert named == {TREE.fact('kit')} or (not named and document != 'README.md')
 
 
 def test_kit_here() -> None:
     """It is the one that is here."""
-    record, rt = TREE.read(), command()
+    rt = command()
     if not rt:
         raise Skip('there is no rt', 'the folder bin of the kit on the path')
-    assert record and record.kit == kit_of(rt)
+    assert TREE.fact('kit') == kit_of(rt)
 
 
 def test_programs(programs: Programs, room: Room) -> None:
