@@ -1,4 +1,4 @@
-"""The version is written in the file VERSION: the changes, the package and the sources have the same. The kit is that of the programs' record, and of `rt`."""
+"""The version is written in the file VERSION: the changes, the package and the programs have the same. The kit is that of the programs' record, and of `rt`."""
 
 import re
 
@@ -6,8 +6,9 @@ import pytest
 
 from building.kit import command, kit_of
 from building.record import TREE
-from tests.harness import Skip
-from tests.texts.parts import documents, read
+from tests.conftest import Programs
+from tests.harness import Room, Skip, run
+from tests.texts.parts import ROOT, documents, read
 
 VERSION = read('VERSION').rstrip('\n')
 
@@ -24,10 +25,14 @@ SOURCES = [
 ]
 
 
+def test_version() -> None:
+    assert re.fullmatch(r'[0-9]+(\.[0-9]+)+', VERSION)
+
+
 def test_changes() -> None:
     """Each version has a date, none is later than the one above, and the last one is VERSION's. What is new since then may stand above."""
     matches = [HEADING.fullmatch(heading) for heading in re.findall(r'^## .*', read('CHANGELOG.md'), re.MULTILINE)]
-    assert None not in matches and re.fullmatch(r'[0-9]+(\.[0-9]+)+', VERSION)
+    assert None not in matches
     rows = [match.groups() for match in matches if match]
     if rows[0][2]:
         assert rows.pop(0)[2] == VERSION
@@ -59,3 +64,11 @@ def test_kit_here() -> None:
     if not rt:
         raise Skip('there is no rt', 'the folder bin of the kit on the path')
     assert TREE.fact('kit') == kit_of(rt)
+
+
+def test_programs(programs: Programs, room: Room) -> None:
+    """A program says its own name and then the version."""
+    for program in programs:
+        assert run([program, '--version'], room).output.decode().split(' ')[1:] == [f'{VERSION}\n']
+    said = run([str(ROOT / 'board' / 'puzzles-play'), '--version'], room).output.decode().splitlines()
+    assert said[:1] == [f'puzzles {VERSION}']

@@ -1,60 +1,35 @@
-//! The numbers, names, statuses and lines of faults.
+//! The numbers, names, statuses and lines of faults: one of each kind, since docs/FORMATS.md has them all.
 
-use super::rows::{Row, check};
 use clue_rules::IdFault;
 use latin_board::OutOfMemory;
 use play_midend::PlayFault;
 use play_save::LoadFault;
 use puzzle_cli::{CommandFault, End, LineFault, StartFault};
 use puzzle_gen::GenFault;
-use std::alloc::Global;
 
-// What a fault answers of its number and its name, and what is wanted.
-#[derive(Clone, Copy)]
-struct Named(u8, &'static str, u8, &'static str);
-
-impl Row for Named {
-    fn holds(&self, _alloc: Global) -> bool {
-        self.0 == self.2 && self.1 == self.3
-    }
-}
-
-// One fault of each kind: the names and numbers of all are in the definitions, which docs/FORMATS.md repeats.
 #[test]
 fn faults_have_numbers_and_names(rt: HostRuntime) {
     let id = IdFault::Contradiction;
-    let gen_fault = GenFault::Graded;
-    let move_fault = PlayFault::SeveralSolutions;
+    assert!(rt; id.number() == 13 && id.name() == "Contradiction");
+    let seeded = GenFault::Graded;
+    assert!(rt; seeded.number() == 2 && seeded.name() == "Graded");
+    let play = PlayFault::SeveralSolutions;
+    assert!(rt; play.number() == 14 && play.name() == "SeveralSolutions");
     let load = LoadFault::BadState(2);
+    assert!(rt; load.number() == 12 && load.name() == "BadState");
     let line = LineFault::NoGame;
-    let start = StartFault::Load(LoadFault::BadState(2));
-    let end = End::WriteFault;
-    let memory = OutOfMemory;
-    let command = CommandFault::OutOfMemory;
-    let rows = [
-        Named(id.number(), id.name(), 13, "Contradiction"),
-        Named(gen_fault.number(), gen_fault.name(), 2, "Graded"),
-        Named(
-            move_fault.number(),
-            move_fault.name(),
-            14,
-            "SeveralSolutions",
-        ),
-        Named(load.number(), load.name(), 12, "BadState"),
-        Named(line.number(), line.name(), 3, "NoGame"),
-        Named(start.number(), start.name(), 3, "BadState"),
-        Named(end.number(), end.name(), 3, "WriteFault"),
-        Named(memory.number(), memory.name(), 1, "OutOfMemory"),
-        Named(command.number(), command.name(), 3, "OutOfMemory"),
-    ];
-    check(&rt, rt.alloc(), &rows);
+    assert!(rt; line.number() == 3 && line.name() == "NoGame");
+    assert!(rt; OutOfMemory.number() == 1 && OutOfMemory.name() == "OutOfMemory");
 }
 
 #[test]
 fn faults_have_statuses_and_lines(rt: HostRuntime) {
     let start = StartFault::Load(LoadFault::BadState(2));
-    assert!(rt; start.status() == 3 && start.fault_line().as_str() == "refused: BadState 2");
-    let end = End::ReadFault;
-    assert!(rt; end.status() == 1 && end.fault_line().as_str() == "cannot read the input");
-    assert!(rt; CommandFault::OutOfMemory.status() == 1);
+    assert!(rt; start.number() == 3 && start.name() == "BadState" && start.status() == 3);
+    assert!(rt; start.fault_line().as_str() == "refused: BadState 2");
+    let end = End::WriteFault;
+    assert!(rt; end.number() == 3 && end.name() == "WriteFault" && end.status() == 1);
+    assert!(rt; end.fault_line().as_str() == "cannot write the output");
+    let command = CommandFault::OutOfMemory;
+    assert!(rt; command.number() == 3 && command.name() == "OutOfMemory" && command.status() == 1);
 }

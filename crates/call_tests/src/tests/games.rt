@@ -140,22 +140,10 @@ fn games_are_played_and_saved(rt: HostRuntime) {
     const LOADS: &[&str] = &[
         "puzzles", "towers", "--load", "old.sav", "--save", "new.sav",
     ];
-    const BEGINS: &[&str] = &[
-        "puzzles",
-        "towers",
-        "--id",
-        "3:3//////3/////",
-        "--save",
-        "new.sav",
-    ];
-    const NO_FILE: &[&str] = &["puzzles", "towers", "--load", "new.sav"];
-    const MOVES: &[u8] = b"move R0,0,1\nmove R1,0,2\nquit\n";
     const UNWRITTEN: &str = "cannot write the file";
     const ROWS: &[Played] = &[
         Played(LOADS, false, b"move R1,0,2\n", b"ok\n", 0, ""),
-        Played(BEGINS, false, MOVES, b"ok\nok\n", 0, ""),
         Played(LOADS, false, b"undo\n", b"ok\n", 1, UNWRITTEN),
-        Played(NO_FILE, false, b"show\n", b"", 1, "cannot read the file"),
         Played(
             LOADS,
             true,

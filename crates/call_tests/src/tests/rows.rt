@@ -17,13 +17,3 @@ pub(crate) fn check<R: Row>(rt: &impl Abort, alloc: Global, rows: &[R]) {
         place = place.saturating_add(1);
     }
 }
-
-/// A value, and the one that is wanted.
-#[derive(Clone, Copy)]
-pub(crate) struct Same<T>(pub T, pub T);
-
-impl<T: PartialEq> Row for Same<T> {
-    fn holds(&self, _alloc: Global) -> bool {
-        self.0 == self.1
-    }
-}

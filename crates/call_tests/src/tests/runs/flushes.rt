@@ -1,11 +1,9 @@
-//! Runs over std's devices: each reply is flushed, nothing is read after `quit`, and a writer that takes nothing is a fault.
+//! Runs over std's devices: each reply is flushed, and nothing is read after `quit`.
 
-use super::has_status;
 use crate::tests::rows::{Row, check};
 use clue_rules::Towers;
-use play_midend::Session;
-use puzzle_cli::{End, begin, run};
-use puzzle_io::{FromRead, MemorySource, ToWrite};
+use puzzle_cli::{End, run};
+use puzzle_io::{FromRead, ToWrite};
 use std::alloc::Global;
 use std::io;
 use std::io::{ErrorKind, Read, Write};
@@ -78,25 +76,4 @@ fn each_reply_is_flushed_and_nothing_is_read_after_quit(rt: HostRuntime) {
         Flushed(b"", End::Finished, 1, b""),
     ];
     check(&rt, rt.alloc(), ROWS);
-}
-
-fn fills_five_bytes(alloc: Global, session: Option<Session<Towers>>, input: Vec<u8>) -> bool {
-    let mut source = MemorySource::new(input, 512, 0);
-    let mut room = [0u8; 5];
-    let mut writer = room.as_mut_slice();
-    let mut sink = ToWrite::new(&mut writer);
-    let (session, end) = run::<Towers, _, _>(alloc, session, &mut source, &mut sink);
-    end == End::WriteFault && room == *b"ok\nok" && has_status(&session, Some("playing 3/3"))
-}
-
-// A slice of five bytes takes no more: the second move was made, and its reply has no LF.
-#[test]
-fn a_full_writer_is_a_fault(rt: HostRuntime) {
-    let Ok(session) = begin::<Towers>(rt.alloc(), Some(b"3:3//////3/////"), None) else {
-        return assert!(rt; false, "a session");
-    };
-    let input = Vec::from_slice(rt.alloc(), b"move R0,0,1\nmove R0,0,2\nundo\n").expect(
-        &rt, "memory",
-    );
-    assert!(rt; fills_five_bytes(rt.alloc(), session, input));
 }
