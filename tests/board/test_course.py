@@ -1,7 +1,7 @@
 """The course in a terminal: each card is still of its kind, and is played by keys and by lines; nothing that is kept is changed by it."""
 
 import os
-from typing import Dict, Tuple
+from typing import Dict, Optional, Tuple
 
 import pytest
 
@@ -48,22 +48,17 @@ def test_keys(front: BoardFront, room: Room, game: str) -> None:
     assert os.listdir(room.path) == []
 
 
-def files_in(folder: str) -> Dict[str, Tuple[bytes, float]]:
-    found: Dict[str, Tuple[bytes, float]] = {}
-    for path, _, names in os.walk(folder):
-        for one in names:
-            with open(os.path.join(path, one), 'rb') as file:
-                found[os.path.join(path, one)] = file.read(), os.stat(file.fileno()).st_mtime
-    return found
+def files_in(room: Room) -> Dict[str, Tuple[Optional[bytes], float]]:
+    return {path: (room.read(path), os.stat(path, dir_fd=room.fd).st_mtime) for path in room.paths()}
 
 
 def test_kept(front: BoardFront, room: Room) -> None:
     """The game before goes on afterwards, and each file is as it was; the last game's course comes where none is named."""
     with front.window(['unequal', '3:0,0L,0L,0U,0,0,0U,0,0,'], leave='q') as window:
         window.look('M2', ['move 1/1'])
-    before = files_in(room.path)
+    before = files_in(room)
     assert before
     with front.window(['learn'], leave='q') as window:
         window.look('2<enter>M', ['From now on, marks go'])
-    assert files_in(room.path) == before
+    assert files_in(room) == before
     front.shows([], 'Unequal 3x3', 'move 1/1')
