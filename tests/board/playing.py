@@ -115,10 +115,6 @@ class BoardFront:
             if not re.fullmatch('(?:(?:.*\n)*.*help lists the rest\\.\n)?' + pattern, said):
                 assert said == wanted
 
-    def refuses(self, words: Sequence[str], says: str = '') -> None:
-        """Without a terminal."""
-        run([self.path, *words], self.room, env=self.env(TERM='dumb', LC_ALL='C')).expect(says, status=2)
-
 
 def solution(program: str, game: str, id: str) -> Tuple[List[int], Set[Place]]:
     """The numbers of a puzzle's solution in reading order, and the squares that are given."""

@@ -1,8 +1,7 @@
 """The course in a terminal: each card is still of its kind, and is played by keys and by lines; nothing that is kept is changed by it."""
 
 import os
-from dataclasses import replace
-from typing import Dict, Tuple
+from typing import Dict, Optional, Tuple
 
 import pytest
 
@@ -11,10 +10,6 @@ from playing.program import Program
 from tests.board.playing import BoardFront
 from tests.harness import Room
 from tests.harness.cards import SHOWS, Shows
-from tests.second_implementation.puzzles import Puzzle
-from tests.second_implementation.solving import solution_count
-from tests.second_implementation.towers import read_towers
-from tests.second_implementation.unequal import read_unequal
 
 #: A card with what its hint shows.
 ALL = [(game, card, shows) for game, cards in CARDS.items() for card, shows in zip(cards, SHOWS[game])]
@@ -31,19 +26,6 @@ def test_kind(objects: str, game: str, card: Card, shows: Shows) -> None:
     assert (place and (place[1] + 1, place[0] + 1), hint.number, [step.reason for step in hint.steps(size)]) == (shows.square, shows.number, list(shows.reasons))
     assert (hint.kind, completable) == (('follows', 'one') if shows.square else ('contradiction', 'none'))
     assert (hint.line is not None, list(card.kind)) == (shows.is_by_line, list(shows.reasons))
-
-
-@pytest.mark.parametrize(('game', 'card', 'shows'), ALL, ids=[f'{game}, {card.title}' for game, card, _ in ALL])
-def test_number(game: str, card: Card, shows: Shows) -> None:
-    """By the second implementation a solution has that number there, and none has another; a card without a number has none at all."""
-    size, text = int(card.id[0]), card.id[2:].encode()
-    puzzle: Puzzle = read_towers(size, text) if game == 'towers' else read_unequal(size, text)
-    assert solution_count(puzzle) == (1 if shows.square else 0)
-    if shows.square:
-        cell = (shows.square[0] - 1) * size + shows.square[1] - 1
-        assert not puzzle.givens[cell]
-        givens = [tuple(number if at == cell else given for at, given in enumerate(puzzle.givens)) for number in range(1, size + 1)]
-        assert [number for number, numbers in enumerate(givens, 1) if solution_count(replace(puzzle, givens=numbers))] == [shows.number]
 
 
 def test_all() -> None:
@@ -66,22 +48,17 @@ def test_keys(front: BoardFront, room: Room, game: str) -> None:
     assert os.listdir(room.path) == []
 
 
-def files_in(folder: str) -> Dict[str, Tuple[bytes, float]]:
-    found: Dict[str, Tuple[bytes, float]] = {}
-    for path, _, names in os.walk(folder):
-        for one in names:
-            with open(os.path.join(path, one), 'rb') as file:
-                found[os.path.join(path, one)] = file.read(), os.stat(file.fileno()).st_mtime
-    return found
+def files_in(room: Room) -> Dict[str, Tuple[Optional[bytes], float]]:
+    return {path: (room.read(path), os.stat(path, dir_fd=room.fd).st_mtime) for path in room.paths()}
 
 
 def test_kept(front: BoardFront, room: Room) -> None:
     """The game before goes on afterwards, and each file is as it was; the last game's course comes where none is named."""
     with front.window(['unequal', '3:0,0L,0L,0U,0,0,0U,0,0,'], leave='q') as window:
         window.look('M2', ['move 1/1'])
-    before = files_in(room.path)
+    before = files_in(room)
     assert before
     with front.window(['learn'], leave='q') as window:
         window.look('2<enter>M', ['From now on, marks go'])
-    assert files_in(room.path) == before
+    assert files_in(room) == before
     front.shows([], 'Unequal 3x3', 'move 1/1')

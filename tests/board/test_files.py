@@ -9,7 +9,6 @@ from playing import games
 from playing.state import SOLVED_GAMES, State
 from tests.board.playing import BoardFront
 from tests.harness import Room
-from tests.second_implementation.fair import fair
 
 
 def test_number(front: BoardFront, room: Room) -> None:
@@ -28,8 +27,6 @@ def test_number(front: BoardFront, room: Room) -> None:
         window.look('<enter>', ['0 of'], ['A new game'])
         window.look('i', ['The ID of this puzzle', 'any key goes back'])
         assert window.reads(first), 'the same puzzle'
-    id = ''.join(line.strip() for line in first[1 : first.index('')])
-    assert id == f'6de:{fair("unequal", 6, "e", int(told[1])).description()}'
     with front.window(['unequal'], leave='xq') as window:
         window.look('i', ['The ID of this puzzle', 'any key goes back'])
         assert window.reads(first), 'it goes on, and its number is known'
@@ -75,5 +72,3 @@ def test_stored(front: BoardFront, room: Room) -> None:
         taken: Set[str] = {str(games.take(state, game, 9, 'x')) for _ in ids}
         assert taken == set(ids), f'each once, {game}'
         assert games.take(state, game, 9, 'x') in taken, 'another one'
-        counts = {size: len(games.letters(game, size)) for size in games.SIZES}
-        assert all(counts.values()), counts

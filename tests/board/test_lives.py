@@ -2,14 +2,14 @@
 
 import os
 import signal
-import time
 from typing import Callable, List, Tuple
 
 import pytest
 
 from board import manual
 from tests.board.playing import BoardFront
-from tests.harness import ID, SLOWNESS, Room, Terminal, run, save_text
+from tests.harness import ID, Room, Terminal, run, save_text
+from tests.harness.program import eventually
 
 KEPT = 'state/puzzles/towers.sav'
 
@@ -68,16 +68,15 @@ def test_ended(front: BoardFront, room: Room, end: Callable[[Terminal], None], s
 
 def is_gone(pid: int) -> bool:
     """Whether a process has ended, or does so in a moment."""
-    end = time.monotonic() + 5 * SLOWNESS
-    while time.monotonic() < end:
-        try:
-            with open(f'/proc/{pid}/stat', encoding='ascii') as file:
-                if file.read().rpartition(')')[2].split()[0] == 'Z':
-                    return True
-        except (FileNotFoundError, ProcessLookupError):
-            return True
-        time.sleep(0.02)
-    return False
+    return eventually(lambda: has_ended(pid))
+
+
+def has_ended(pid: int) -> bool:
+    try:
+        with open(f'/proc/{pid}/stat', encoding='ascii') as file:
+            return file.read().rpartition(')')[2].split()[0] == 'Z'
+    except (FileNotFoundError, ProcessLookupError):
+        return True
 
 
 def test_resized(front: BoardFront, room: Room) -> None:
@@ -165,7 +164,6 @@ WORDS: List[Tuple[List[str], int, bytes]] = [
     (['--nothing'], 2, b"\n\npuzzles-play: there is no option '--nothing'\n"),
     (['chess'], 2, b"'chess' is not a game, a size, a grade or a file\n"),
     (['/nowhere'], 2, b"there is no file '/nowhere'\n"),
-    (['unequal', '6', 'chess'], 2, b"'chess' is not a size or a grade\n"),
     (['5!7'], 2, b"'5!7' fits both games"),
     (['5!7'], 2, b"towers '5!7'?"),
     (['towers', ID, 'more'], 2, b"'more' is not a size or a grade\n"),
@@ -174,11 +172,7 @@ WORDS: List[Tuple[List[str], int, bytes]] = [
     (['--ids', ID], 2, b'usage: '),
     (['--ids', 'towers', '6', 'easy', '0'], 2, b"'0' is not a number of IDs\n"),
     (['--ids', 'towers', '6', 'tricky'], 2, b"Towers has no grade 'tricky': easy, hard, extreme or unreasonable."),
-    (['--ids', 'towers', '10'], 2, b'A size is one digit from 3 to 9'),
-    (['--ids', 'unequal', '9', 'recursive'], 2, b'Of size 9 there are puzzles of the grades trivial, easy, tricky and extreme.'),
     (['--ids', 'towers', '3', 'hard'], 2, b'Of size 3 there are puzzles of the grades easy, extreme and unreasonable.'),
-    (['--ids', 'towers', '7', 'extreme', 'today'], 2, b'Of size 7 the grades easy and hard have numbers.'),
-    (['--ids', 'towers', 'number', 'x'], 2, b'A number goes from 0 to 18446744073709551615'),
     (['--ids', 'towers', 'today', '5', '2'], 2, b'There are only 1 of them.'),
     (['--ids', 'towers', '9', 'extreme', '21'], 2, b'There are only 20 of them.'),
     (['learn', 'chess'], 2, LEARN),
@@ -186,7 +180,7 @@ WORDS: List[Tuple[List[str], int, bytes]] = [
     (['--ids', 'learn'], 2, LEARN),
     (['towers', '5', 'learn'], 2, LEARN),
     (['--lines', 'towers', '3:3'], 3, b"Too few parts: a description has 4 x size clues separated by '/', then ',' and the squares."),
-    (['--lines', 'towers', f'{ID}\nstatus'], 3, b'Each clue is nothing, or one digit'),
+    (['--lines', 'towers', f'{ID}\nstatus'], 3, b'Each clue is nothing, or one digit from 1 to the size.'),
     (['--lines', 'unequal', 'nothing.sav'], 3, b"There is no file 'nothing.sav', and no puzzle with that ID."),
     ([], 2, b'the board is for a terminal; in a pipe use --lines'),
     (['towers', ID], 2, b'the board is for a terminal; in a pipe use --lines, or the program itself, puzzles towers'),

@@ -8,8 +8,9 @@ from typing import Dict
 
 from tests.board.playing import BoardFront
 from tests.board.test_lives import is_gone
-from tests.harness import ID, SLOWNESS, Room, Terminal, save_text
+from tests.harness import ID, Room, Terminal, save_text
 from tests.harness.between import put_between
+from tests.harness.program import eventually
 
 KEPT = 'state/puzzles/towers.sav'
 
@@ -155,12 +156,7 @@ def test_other_names(front: BoardFront, room: Room) -> None:
 
 def wait_for_program(window: Terminal) -> bool:
     """Whether the front has started a program, which has a session of its own, or does so in a moment."""
-    end = time.monotonic() + 10 * SLOWNESS
-    while not any(os.getsid(pid) == pid for pid in window.programs()):
-        if time.monotonic() > end:
-            return False
-        time.sleep(0.02)
-    return True
+    return eventually(lambda: any(os.getsid(pid) == pid for pid in window.programs()))
 
 
 def test_first_save(front: BoardFront, room: Room) -> None:

@@ -1,7 +1,7 @@
 """What is said of puzzles: IDs, pictures and saves, as the second implementation has it, and what can't be read, by its line."""
 
 import json
-from typing import List, Sequence
+from typing import List
 
 import pytest
 
@@ -119,18 +119,14 @@ def test_saves(checker: Checker, room: Room) -> None:
     checker.expect('SAVEFILE:41:', 2, [], ['-:1: This is not a save file of the collection: one begins with \'SAVEFILE:41:\'.'])
 
 
-def drawn(program: str, room: Room, game: str, ids: Sequence[str]) -> List[str]:
-    """The puzzles as `show` prints them, and as `id` does, without the letter of a grade."""
-    lines = ''.join(f'new {id}\nshow\n' for id in ids)
-    return run([program, game], room, input=lines.encode()).output.decode().split('ok\n')[1:]
-
-
 @pytest.mark.parametrize('game', ['towers', 'unequal'])
 def test_pictures(checker: Checker, program: str, room: Room, game: str) -> None:
     """A picture is read as the puzzle that it was drawn of: the ID is that one's, and so are its answers."""
     ids = [id for size in (3, 4, 5) for id in made(game, size, 'tekhxur')[:12]]
     plain = [f'{id[0]}:{id.partition(":")[2]}' for id in ids]
-    ended = checker.run(['--quick', '--json'], '\n'.join(drawn(program, room, game, ids)).encode())
+    lines = ''.join(f'new {id}\nshow\n' for id in ids)
+    drawn = run([program, game], room, input=lines.encode()).output.decode().split('ok\n')[1:]
+    ended = checker.run(['--quick', '--json'], '\n'.join(drawn).encode())
     found = [json.loads(line) for line in ended.output.decode().splitlines()]
     assert [(each['id'], each['completable']) for each in found] == [(id, 'one') for id in plain]
     listed = checker.run(['--quick', '--json'], ''.join(f'{game} {id}\n' for id in plain).encode())

@@ -1,7 +1,4 @@
-"""What each card of the course shows: the table of the lessons, which have each kind of step that a hint can have.
-
-A test counts by the second implementation that the numbers are those of the solutions.
-"""
+"""What each card of the course shows: the table of the lessons, which have each kind of step that a hint can have."""
 
 from typing import Dict, List, NamedTuple, Optional, Sequence, Tuple
 

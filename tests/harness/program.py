@@ -7,7 +7,8 @@ import resource
 import signal
 import subprocess
 import tempfile
-from typing import Dict, Mapping, NamedTuple, Optional, Sequence, Union
+import time
+from typing import Callable, Dict, Mapping, NamedTuple, Optional, Sequence, Union
 
 from tests.harness.bytecode import bytecode
 from tests.harness.room import Folder
@@ -40,6 +41,14 @@ class Ended(NamedTuple):
         for text in says:
             assert text in self.said
         return self
+
+
+def eventually(holds: Callable[[], object], seconds: float = 20) -> bool:
+    """Whether something comes to hold in time."""
+    end = time.monotonic() + seconds * SLOWNESS
+    while not holds() and time.monotonic() < end:
+        time.sleep(0.02)
+    return bool(holds())
 
 
 def are_usual() -> bool:

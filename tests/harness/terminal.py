@@ -166,13 +166,10 @@ class Terminal:
         return self.shown[start:]
 
     def answer(self, line: str, prompt: Pattern[str]) -> str:
-        """Types a line, and gives what is shown then. After a Ctrl-C in it there is a prompt first."""
-        *dropped, last = line.split('\x03')
-        for keys in [*(f'{text}\x03' for text in dropped), f'{last}\n']:
-            start = len(self.shown)
-            self.send(keys)
-            shown = self.wait_for(prompt, start)
-        return shown
+        """Types a line, and gives what is shown then."""
+        start = len(self.shown)
+        self.send(f'{line}\n')
+        return self.wait_for(prompt, start)
 
     def status(self) -> Optional[int]:
         """How the program ends; nothing where it doesn't in time."""

@@ -4,7 +4,7 @@ import os
 import re
 import shutil
 import subprocess
-from typing import List, NamedTuple, Sequence, Tuple
+from typing import List, NamedTuple, Tuple
 
 from tests.harness import Browser, Room, Skip
 
@@ -79,11 +79,8 @@ def is_free(path: str) -> bool:
         assert (kind, most) == (b'P5', b'255')
         pages.append([rest[at : at + width] for at in range(0, width * height, width)])
         grey = rest[width * height :]
-    return all(edge.count(b'\xff') == len(edge) for page in pages for edge in edges(page))
-
-
-def edges(page: Sequence[bytes]) -> List[bytes]:
-    return [*page[:FREE], *page[-FREE:], *(row[:FREE] + row[-FREE:] for row in page)]
+    edges = [edge for page in pages for edge in (*page[:FREE], *page[-FREE:], *(row[:FREE] + row[-FREE:] for row in page))]
+    return all(edge.count(b'\xff') == len(edge) for edge in edges)
 
 
 def shown(browser: Browser, room: Room, page: str) -> None:

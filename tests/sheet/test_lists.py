@@ -39,7 +39,6 @@ class Good(NamedTuple):
 
 
 GOOD = [
-    Good('one', TOWERS.encode(), [TOWERS]),
     Good('either game', content([TOWERS, UNEQUAL]), [TOWERS, UNEQUAL]),
     Good('CR and a mark of UTF-8', b'\xef\xbb\xbf' + f'{TOWERS}\r\n\r\n{UNEQUAL}\r\n'.encode(), [TOWERS, UNEQUAL]),
     Good('a caption', f'{UNEQUAL}\t for   <Anna> &\n'.encode(), [UNEQUAL], has='>for &lt;Anna&gt; &amp;</p>'),

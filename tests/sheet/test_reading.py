@@ -1,7 +1,7 @@
 """What is drawn is the puzzle that its ID names, and its only answer: read back from the places of lines and digits."""
 
 import re
-from typing import List, Sequence
+from typing import Sequence
 
 from playing.board import Board
 from playing.program import Program
@@ -12,13 +12,6 @@ from tests.sheet.reading import Picture, picture, pictures
 
 #: The ID in a caption, with marks where its lines may end.
 ID = re.compile(r'<code[^>]*>(\d.*?)</code>')
-
-
-def asked(program: str, room: Room, game: str, lines: Sequence[str]) -> List[str]:
-    """What the plain program answers."""
-    ended = run([program, game], room, input=content(lines))
-    assert ended.status == 0
-    return ended.output.decode().splitlines()
 
 
 def plain(id: str) -> str:
@@ -38,17 +31,13 @@ def test_all(maker: Maker, program: str, room: Room) -> None:
     assert (len(ids), len(drawn)) == (200, 400)
     assert [plain(id) for id in ids] == [puzzle.id for puzzle in puzzles]
     assert [answer.id for answer in answers] == [puzzle.id for puzzle in puzzles]
+    # The IDs are those of the lines, and the numbers that are drawn solve them.
     for game in ('towers', 'unequal'):
-        expect_solved(program, room, game, lines, ids, answers)
-
-
-def expect_solved(program: str, room: Room, game: str, lines: Sequence[str], ids: Sequence[str], answers: Sequence[Picture]) -> None:
-    """The IDs are those of the lines, and the numbers that are drawn solve them."""
-    rows = [(line, id, answer) for line, id, answer in zip(lines, ids, answers) if answer.game == game]
-    typed = [f'new {line.rpartition(" ")[2]}\nid\nmove S{digits(answer)}\nlist 2' for line, _, answer in rows]
-    answered = asked(program, room, game, typed)
-    for at, (_, id, answer) in enumerate(rows):
-        assert answered[4 * at : 4 * at + 4] == ['ok', id, 'ok', digits(answer)]
+        rows = [(line, id, answer) for line, id, answer in zip(lines, ids, answers) if answer.game == game]
+        typed = [f'new {line.rpartition(" ")[2]}\nid\nmove S{digits(answer)}\nlist 2' for line, _, answer in rows]
+        answered = run([program, game], room, input=content(typed)).expect().output.decode().splitlines()
+        for at, (_, id, answer) in enumerate(rows):
+            assert answered[4 * at : 4 * at + 4] == ['ok', id, 'ok', digits(answer)]
 
 
 def digits(answer: Picture) -> str:

@@ -3,11 +3,12 @@
 import os
 import signal
 import time
-from typing import Callable, List, Sequence, Tuple
+from typing import List, Sequence, Tuple
 
 import pytest
 
-from tests.harness import ID, SLOWNESS, Folder, Room, Terminal, by_words, fill, small_disk
+from tests.harness import ID, Folder, Room, Terminal, by_words, fill, small_disk
+from tests.harness.program import eventually
 from tests.sheet.making import PATH, Maker, content
 
 TIP = "'puzzles-sheet --help' lists all options.\n"
@@ -83,8 +84,8 @@ def test_full_disk(maker: Maker, room: Room) -> None:
         assert (disk.read('page.html'), disk.names()) == (b'before', ['filler', 'page.html'])
 
 
-#: A program that never answers.
-SILENT = b'#!/bin/sh\nexec sleep 600\n'
+#: A program that never answers. A file says that it has begun.
+SILENT = b'#!/bin/sh\n: > begun\nexec sleep 600\n'
 
 
 @pytest.mark.parametrize('number', [signal.SIGINT, signal.SIGTERM])
@@ -94,30 +95,14 @@ def test_stopped(room: Room, number: signal.Signals) -> None:
     room.put('list', LIST)
     env = {'PATH': os.environ['PATH'], 'PUZZLES_JSON': f'{room.path}/silent'}
     with Terminal([PATH, '--ids', 'list', '--output', 'page.html'], env, cwd=room.path) as terminal:
-        assert eventually(lambda: any(map(is_silent, terminal.programs())))
+        assert eventually(lambda: 'begun' in room.names())
         (silent,) = terminal.programs()
         # It is waited for from now on.
         time.sleep(0.3)
         terminal.signal(number)
         assert terminal.status() == 128 + number
     assert not os.path.exists(f'/proc/{silent}')
-    assert room.names() == ['list', 'silent']
-
-
-def is_silent(process: int) -> bool:
-    try:
-        with open(f'/proc/{process}/comm', encoding='utf-8') as file:
-            return file.read() == 'sleep\n'
-    except (FileNotFoundError, ProcessLookupError):
-        # It has ended in between.
-        return False
-
-
-def eventually(holds: Callable[[], object]) -> bool:
-    end = time.monotonic() + 20 * SLOWNESS
-    while not holds() and time.monotonic() < end:
-        time.sleep(0.02)
-    return bool(holds())
+    assert room.names() == ['begun', 'list', 'silent']
 
 
 def test_progress(maker: Maker, objects: str, room: Room) -> None:
