@@ -43,11 +43,9 @@ export class Desk {
     this.asked = 0;
     this.isLate = this.isSolved = false;
     this.timer = 0;
-    this.lists = {game: selectOf('desk-game'), size: selectOf('desk-size')};
-    const {game, size} = this.lists;
+    const {game, size} = this.lists = {game: selectOf('desk-game'), size: selectOf('desk-size')};
     game.onchange = () => isGame(game.value) && this.turnTo(game.value);
-    const blank = (/** @type {string} */ own) => this.change(() => ({line: `blank ${own}`}));
-    size.onchange = () => blank(size.value);
+    size.onchange = () => { const line = `blank ${size.value}`; this.change(() => ({line})); };
     part('tools').append(...Object.entries(TOOLS).map(([name, text]) => button(text, {'data-do': name, class: 'set'})));
     part('signs').append(...SIDES.map(([side, , arrow]) => button(`${arrow} <>`, {'data-do': side, 'aria-label': side})));
   }
@@ -116,12 +114,11 @@ export class Desk {
   // What is put in is made whatever comes after it, however long that takes; thinning out, and the verdict, the next change ends.
   /** @param {number} own @param {Change | null} change */
   async changed(own, change) {
-    const isShort = change !== null && !change.line.startsWith('thin');
-    let timer = 0;
+    const wait = () => setTimeout(() => this.late(own), PATIENCE);
+    let timer = change?.line.startsWith('thin') ? wait() : 0;
     try {
-      if (isShort) await this.make(change);
-      timer = setTimeout(() => this.late(own), PATIENCE);
-      if (change && !isShort) await this.make(change);
+      if (change) await this.make(change);
+      timer ||= wait();
       await this.judge(own);
     } catch (fault) {
       if (!(fault instanceof Unanswered)) throw fault;
