@@ -34,10 +34,10 @@ them. This works in a pipe, too. For scripts there is puzzles-json GAME.
 
 A SIZE from 3 to 9 or a GRADE begins a new game. The grades of Towers are easy,
 hard, extreme and unreasonable; those of Unequal are trivial, easy, tricky,
-extreme and recursive. There is no end of games up to hard or tricky, and none
-needs a guess. The same number N is always the same game, and today is the game
-of the date, for everybody. The other grades have stored puzzles. --ids prints
-the IDs of such games, one a line, and plays none.
+extreme and recursive. Games up to hard or tricky go by numbers, and none needs
+a guess. The same number N is always the same game, and today is the game of
+the date, for everybody. The other grades have stored puzzles. --ids prints the
+IDs of such games, one a line, and plays none.
 
 learn is a course of two minutes: small boards on which one number follows, and
 what to look for. No game is kept or changed by it.

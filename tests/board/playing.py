@@ -113,6 +113,7 @@ class BoardFront:
             ended = run([self.path, '--lines', *shlex.split(words)], self.room, input=f'{typed}\n'.encode(), env=self.env())
             said = ended.expect().output.decode()
             if not re.fullmatch('(?:(?:.*\n)*.*help lists the rest\\.\n)?' + pattern, said):
+                # It fails here, and pytest shows where both differ.
                 assert said == wanted
 
 

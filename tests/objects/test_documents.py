@@ -13,7 +13,7 @@ from tests.harness import Room, need, run
 from tests.harness.builds import TOP
 from tests.harness.game import HEAD, ID
 from tests.objects.agreement import Pair
-from tests.objects.forms import Sentence, sentences, told_by
+from tests.objects.forms import Sentence, sentences, told
 from tests.second_implementation.fair import fair
 
 CLIENTS = TOP / 'docs' / 'clients'
@@ -133,4 +133,4 @@ def test_refusals() -> None:
 def test_sentence(pair: Pair, room: Room, sentence: Sentence) -> None:
     script = ''.join(f'{line}\n' for line in [*sentence.lines, 'hint']).encode()
     ended = run([pair.objects, sentence.game], room, input=script)
-    assert sentence.text in told_by(json.loads(ended.output.splitlines()[-1])['hint'])
+    assert sentence.text in told([json.loads(ended.output.splitlines()[-1])['hint']['text']])

@@ -137,7 +137,10 @@ class Player(Seen):
                 self.look(does)
             for part in [part for line in seen for part in line.split(' ¦ ')]:
                 what, colon, text = part.partition(': ')
-                self.waits(*((what, text) if colon else ('is_called', part)))
+                if colon:
+                    self.waits(what, text)
+                else:
+                    self.waits('is_called', part)
 
     def sit(self, link: str = '', size: Optional[Tuple[int, int]] = None) -> None:
         """Opens the page with what stands after its #, in a browser that keeps nothing of it yet."""

@@ -4,6 +4,7 @@ import itertools
 import statistics
 import sys
 import time
+from pathlib import Path
 from typing import Callable, Iterator, List
 
 from tests.harness import TOP, Browser, Room
@@ -131,4 +132,4 @@ def main(page: str) -> None:
 
 
 if __name__ == '__main__':
-    main(sys.argv[1])
+    main(str(Path(sys.argv[1]).resolve()))

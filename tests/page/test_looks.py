@@ -24,7 +24,7 @@ PICTURES = Path(__file__).resolve().parent / 'pictures'
 #: What is seen of the page, and of what kind.
 SEEN = '[...document.querySelectorAll("{}")].filter(node => node.getClientRects().length)'
 
-#: Each gives a list of what is wrong.
+#: Scripts by what they check: each gives a list of what is wrong.
 CHECKS: Dict[str, str] = {
     'the language and the title': '[document.documentElement.lang === "en", document.title.length > 3].filter(good => !good)',
     'each ID once': '[...document.querySelectorAll("[id]")].map(node => node.id).filter((id, at, all) => all.indexOf(id) !== at)',

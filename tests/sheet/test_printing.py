@@ -52,7 +52,7 @@ def sheets(paper: str) -> Iterator[Sheet]:
     yield Sheet(['--per-page', '2', '--ids-below'], sixes('for Anna')[4:9], 3, 1)
     yield Sheet(['--per-page', '1', '--answers', 'none', '--words'], sixes('for Anna')[5:7], 2, 0)
     yield Sheet([], [f'{id} for Anna' for id in nines()], 3, 1)
-    yield Sheet(['--ids-below'], nines()[4:], 2, 1)
+    yield Sheet(['--ids-below'], stored('unequal', 9, 4), 2, 1)
     yield Sheet(['--title', 'A title that is longer than a line ' * 3], sixes(), 2, 1)
     yield Sheet(['--large', '--ids-below', '--words'], [sixes()[0], sixes()[-1], *full()], 4, 1)
     yield Sheet(['--large', '--example', '--title', 'A title that is longer than a line ' * 2], sixes()[:2], 5, 1)

@@ -73,6 +73,26 @@ def test_crates(known: Known) -> None:
     assert set(named) == set(known.crates) != set()
 
 
+def wrong_steps(ways: str, known: Known) -> Iterator[str]:
+    """Rows of the ways in samples whose second column names no function or type of the file in the first one, the last that is named."""
+    file = ''
+    for row in re.finditer(r'^    [|v] +(\w+\.rt)? +([\w:]+) {2,}(\S.*)$', ways, re.MULTILINE):
+        file = row[1] or file
+        name = row[2].rpartition(':')[2]
+        texts = [read(path) for path in known.files if path.endswith(f'/{file}') and '/src/' in path]
+        if not any(re.search(rf'\b(fn|struct|enum|trait) {name}\b', text) for text in texts):
+            yield f'{file}: there is no {name}'
+        yield from (f'{file}: there is no `{words}`' for words in found('`([^`]+)`', row[3]) if not known.has(words))
+
+
+def test_ways(known: Known) -> None:
+    assert list(wrong_steps(read('docs/ARCHITECTURE.md'), known)) == []
+    assert list(wrong_steps('    |  session.rt       Session::play   one step (`red_hint`)\n    v                   next_one        it\n', known)) == [
+        'session.rt: there is no `red_hint`',
+        'session.rt: there is no next_one',
+    ]
+
+
 @pytest.mark.parametrize('crate', sorted(sources.crates()))
 def test_wrong_bodies(crate: str) -> None:
     """Each stands in the functions that its first line names."""

@@ -19,7 +19,7 @@ use Rattle.board_checks.specs.Inner.TowersLines.{CanHold, AreSetsFrom}
 use Rattle.board_checks.specs.Laws.TowersDemands.{demanded}
 use Rattle.board_checks.proofs.Fillings.{AreLineSets, start_from_filling, filling_from_start}
 
--- the sets of a clue's line, by the numbers that the demand looks at
+-- the sets from an edge place are those of the numbers at which the clue's demand looks
 clue_sets : (v : TowersValue) (g : GridValue) (place : ℕ) (sets : List ℕ) → g.size ≡ v.size → g.size ≤ 9 → AreSetsFrom g place sets
     → AreLineSets g.size (numbers_of g (clue_demand v place)) (take g.size sets)
 clue_sets v g place sets size small are =
@@ -37,7 +37,7 @@ clue_sets v g place sets size small are =
           rw (number, get_or-take g.size sets k 0 inside) (are.each k inside);
     }
 
--- one square more
+-- with the set of one square more, there are sets for one square more
 pub one_more_set : (g : GridValue) (place n set : ℕ) (sets : List ℕ) → length sets ≡ 9 → n < 9
     → ((k : ℕ) → k < n → CanHold g.size (number_at g (view_cell g.size place k)) (get_or sets k 0))
     → CanHold g.size (number_at g (view_cell g.size place n)) set
@@ -85,6 +85,7 @@ clue_told v g place sets b size small are clued told =
       ],
     )
 
+-- a test of whether a clue is broken is one of whether its edge place is a broken spot
 pub edge_told : (v : TowersValue) (g : GridValue) (spot : Spot) (place : ℕ) (b : Bool) → spot ≡ Edge place
     → IsTrue b ↔ ((0 < clue_of v place) × IsBroken g (clue_demand v place)) → IsTrue b ↔ IsBrokenAt (towers_demand v) g spot
 edge_told v g spot place b is told =

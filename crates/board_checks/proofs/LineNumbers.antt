@@ -15,6 +15,7 @@ use Rattle.latin_board.proofs.Counts.{once_at_least, place_of_counted}
 abbrev pub AreApart : List ℕ → Type 0
 AreApart xs = AllPairs (λ a b. a ≢ b) xs
 
+-- in a list of different numbers each number stands once at most
 once_at_most : (v : ℕ) (xs : List ℕ) → AreApart xs → times_in v xs ≤ 1
 once_at_most v [] apart = omega arith
 once_at_most v (x ∷ xs) apart =
@@ -39,7 +40,7 @@ within_all P (x ∷ xs) q all e = elim (cases_Bool (eqb q x)) [
   | inr other ↦ within_all P xs q (λ k d low. all (suc k) d (omega arith)) (rw other at e)
 ]
 
--- different numbers from 1 to w, of which one from 1 to w is none, are fewer than w
+-- different numbers from 1 to w, among which one from 1 to w is lacking, are fewer than w
 some_missing : (w v : ℕ) (xs : List ℕ) → 1 ≤ v → v ≤ w → All (λ n. (1 ≤ n) × (n ≤ w)) xs → AreApart xs
     → ((k d : ℕ) → k < length xs → v ≢ get_or xs k d) → length xs < w
 some_missing w v xs low high within apart missing =
@@ -58,6 +59,7 @@ some_missing w v xs low high within apart missing =
     small (suc zero) d inside = omega arith
     small (suc (suc k)) d inside = let n = within k d (omega arith) in omega (arith, n.1)
 
+-- w different numbers from 1 to w have each number once
 pub each_once : (w : ℕ) (line : List ℕ) → length line ≡ w → All (λ n. (1 ≤ n) × (n ≤ w)) line → AreApart line → HasEachOnce w line
 each_once w line count within apart v low high =
     elim (cases_lt 0 (times_in v line)) [

@@ -14,6 +14,7 @@ pub repeated_from_line : (g : GridValue) (cell line place : ℕ) → 0 < number_
     → line_cell g.size line place ≡ cell → IsElsewhere g cell line → IsRepeated g cell
 repeated_from_line g cell line place filled below within here e = grind (arith, nat_tests, line_peers)
 
+-- if another square of a line has a square's number, this stands elsewhere in the line
 elsewhere_at : (g : GridValue) (cell other line place : ℕ) → place < g.size → line_cell g.size line place ≡ other
     → cell ≢ other → number_at g other ≡ number_at g cell → IsElsewhere g cell line
 elsewhere_at g cell other line place within here apart same = grind (arith, nat_tests)
@@ -42,5 +43,6 @@ repeated_by_lines g cell inside =
       ],
     )
 
+-- a blank square has no repeated number
 pub blank_unrepeated : (g : GridValue) (cell : ℕ) → number_at g cell ≡ 0 → IsRepeated g cell → ⊥
 blank_unrepeated g cell blank r = omega (arith, r.filled)

@@ -20,28 +20,32 @@ use Rattle.board_checks.specs.Laws.UnequalDemands.{present_said, right_demand, b
 
 -- ---- one end of a sign
 
+-- the greatest number that a square can hold is from 1 to w, and its own number if it has one
 most_within : (w n : ℕ) → 3 ≤ w → n ≤ w → (1 ≤ most_of w n) × (most_of w n ≤ w) × (0 < n → most_of w n ≡ n)
 most_within w n small within = grind (arith, nat_tests)
 
+-- the least number that a square can hold is from 1 to w, and its own number if it has one
 least_within : (w n : ℕ) → 3 ≤ w → n ≤ w → (1 ≤ least_of n) × (least_of n ≤ w) × (0 < n → least_of n ≡ n)
 least_within w n small within = grind (arith, nat_tests)
 
--- what comes into a square is at most the one and at least the other
+-- a number that comes into a square is at most the greatest that the square can hold
 below_most : (w n x : ℕ) → x ≤ w → (0 < n → x ≡ n) → x ≤ most_of w n
 below_most w n x within keeps = grind (arith, nat_tests)
 
--- what a square may hold is no less than its least number
+-- a number that comes into a square is at least the least that the square can hold
 above_least : (n x : ℕ) → 1 ≤ x → (0 < n → x ≡ n) → least_of n ≤ x
 above_least n x low keeps = grind (arith, nat_tests)
 
 -- ---- the fillings of two squares
 
+-- two different numbers that two squares can hold are a filling of them
 pair_filling : (w a b x y : ℕ) → (1 ≤ x) × (x ≤ w) × (0 < a → x ≡ a) → (1 ≤ y) × (y ≤ w) × (0 < b → y ≡ b) → x ≢ y
     → IsFillingIn w (a ∷ b ∷ []) (x ∷ y ∷ [])
 pair_filling w a b x y h here apart = grind (arith, nat_tests, two_all, two_pairs)
 
 -- ---- a sign
 
+-- a sign for its first square is broken exactly if the first can't hold more than the second must
 first_broken : (g : GridValue) (a b : ℕ) → IsGrid g → a < g.size * g.size → b < g.size * g.size
     → IsBroken g (sign_demand FirstGreater a b) ↔ NeverExceeds g.size (number_at g a) (number_at g b)
 first_broken g a b valid inside inside_b =
@@ -68,6 +72,7 @@ first_broken g a b valid inside inside_b =
           absurd (omega arith),
     )
 
+-- a sign for its second square is broken exactly if the second can't hold more than the first must
 second_broken : (g : GridValue) (a b : ℕ) → IsGrid g → a < g.size * g.size → b < g.size * g.size
     → IsBroken g (sign_demand SecondGreater a b) ↔ NeverExceeds g.size (number_at g b) (number_at g a)
 second_broken g a b valid inside inside_b =
@@ -96,12 +101,15 @@ second_broken g a b valid inside inside_b =
 
 -- ---- the sign between two squares of which one comes first
 
+-- if a square is greater than a later one, the sign between them says that the first is the greater
 ordered_first : (v : UnequalValue) (a b : ℕ) → IsUnequal v → a < b → IsGreater v a b → sign_between v a b ≡ FirstGreater
 ordered_first v a b valid order h = grind (arith, nat_tests, greater_next, next_order)
 
+-- if a square is less than a later one, the sign between them says that the second is the greater
 ordered_second : (v : UnequalValue) (a b : ℕ) → IsUnequal v → a < b → IsGreater v b a → sign_between v a b ≡ SecondGreater
 ordered_second v a b valid order h = grind (arith, nat_tests, greater_next, next_order)
 
+-- a sign that is present is broken exactly if what it demands is broken
 present_broken : (g : GridValue) (s : Sign) (a b : ℕ) → is_present s ≡ true → IsSignBroken g s a b ↔ IsBroken g (sign_demand s a b)
 present_broken g s a b present = (
   λ h.
@@ -118,6 +126,7 @@ broken_inside v g a b valid h =
     let there = cond_some (is_present s) (sign_demand s a b) h.0 h.1 in
     next_inside v.size a b valid.givens.smallest (said_next v a b valid (present_said s there.0))
 
+-- a sign by which the first square is the greater is broken exactly if this can't exceed the second
 pub greater_first_broken : (v : UnequalValue) (g : GridValue) (a b : ℕ) → IsUnequal v → IsGrid g → a < b → b < g.size * g.size
     → IsGreater v a b → IsSignBroken g (sign_between v a b) a b ↔ NeverExceeds g.size (number_at g a) (number_at g b)
 greater_first_broken v g a b valid is_grid order inside h =
@@ -125,6 +134,7 @@ greater_first_broken v g a b valid is_grid order inside h =
     let never = first_broken g a b is_grid (omega arith) inside in
     rw (ordered_first v a b valid order h) (λ s. never.0 (broken.0 s), λ n. broken.1 (never.1 n))
 
+-- a sign by which the second square is the greater is broken exactly if this can't exceed the first
 pub greater_second_broken : (v : UnequalValue) (g : GridValue) (a b : ℕ) → IsUnequal v → IsGrid g → a < b → b < g.size * g.size
     → IsGreater v b a → IsSignBroken g (sign_between v a b) a b ↔ NeverExceeds g.size (number_at g b) (number_at g a)
 greater_second_broken v g a b valid is_grid order inside h =

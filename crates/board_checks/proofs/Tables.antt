@@ -41,7 +41,7 @@ all_told P n found h within k = grind (arith, nat_tests)
 pub square_in_table : (w cell : ℕ) → w ≤ 9 → cell < w * w → cell < CELLS
 square_in_table w cell small inside = grind (arith, nat_tests, mul-le-mul_left)
 
--- some answer is yes
+-- the test of whether some answer is yes is passed exactly if one is, at some place
 pub yes_somewhere : (answers : List Bool) → IsTrue (list_any (λ y. beq y true) answers) ↔ ((k : ℕ) × IsTrue (get_or answers k false))
 yes_somewhere answers = (there answers, λ h. here answers h.0 h.1)
   where
@@ -56,7 +56,7 @@ yes_somewhere answers = (there answers, λ h. here answers h.0 h.1)
     here (false ∷ rest) zero e = absurd (false≢true e)
     here (false ∷ rest) (suc k) e = here rest k e
 
--- what is broken, but at no edge place and on the right of no square, is so below one
+-- if nothing is broken at an edge place or on the right of a square, a broken spot is below a square
 pub left_below : (e : ErrorsValue) → (((k : ℕ) × IsTrue (get_or e.edges k false)) → ⊥) → (((k : ℕ) × IsTrue (get_or e.right k false)) → ⊥)
     → (spot : Spot) → IsTrue (has_broken e spot) → (k : ℕ) × IsTrue (get_or e.below k false)
 left_below e no_edge no_right spot h = grind (arith, nat_tests)

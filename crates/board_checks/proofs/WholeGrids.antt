@@ -25,12 +25,13 @@ pub record AreDemandsOf (p : Puzzle) (demand : Spot → Option Demand) : Type 0 
   pub lines : (spot : Spot) (d : Demand) → demand spot ≡ Some d → IsOfPeers p.size d
   pub all : (g : GridValue) → IsGrid g → IsFull g → g.size ≡ p.size → IsTrue (p.meets g) ↔ MeetsAll demand g
 
--- the number of a demand's square
+-- the number at a place of a demand's line is the grid's number at the square there
 number_of : (g : GridValue) (d : Demand) (k e : ℕ) → k < length d.cells → get_or (numbers_of g d) k e ≡ number_at g (get_or d.cells k 0)
 number_of g d k e low = get_or-map (number_at g) d.cells k 0 e low
 
 -- ---- what a completion keeps
 
+-- a grid that has a completion repeats no number
 pub never_repeated : (p : Puzzle) (g h : GridValue) (cell : ℕ) → g.size ≡ p.size → Completes p g h → IsRepeated g cell → ⊥
 never_repeated p g h cell size c r = grind (arith, nat_tests, peers_differ)
 
@@ -62,6 +63,7 @@ completion_fills p g h d size c on =
           rw (number_of h d i e first, number_of h d j e second) (peers_differ h s.is_grid s.latin _ _ peers);
     }
 
+-- a grid that has a completion breaks no demand
 pub never_broken : (p : Puzzle) (demand : Spot → Option Demand) (g h : GridValue) (spot : Spot) → AreDemandsOf p demand
     → g.size ≡ p.size → Completes p g h → IsBrokenAt demand g spot → ⊥
 never_broken p demand g h spot laws size c (d, demanded, broken) =
@@ -99,6 +101,7 @@ own_filling : (g : GridValue) (d : Demand) (filled : List ℕ) → IsFull g → 
     → filled ≡ numbers_of g d
 own_filling g d filled full on h = grind (arith, nat_tests, same_number_lists, length-map, number_of)
 
+-- a full grid that breaks no demand meets all demands
 full_met : (p : Puzzle) (demand : Spot → Option Demand) (g : GridValue) → AreDemandsOf p demand → g.size ≡ p.size → IsFull g
     → ((spot : Spot) → IsBrokenAt demand g spot → ⊥) → MeetsAll demand g
 full_met p demand g laws size full none spot d e =
@@ -111,7 +114,7 @@ full_met p demand g laws size full none spot d e =
           both_ways (d.says filled) (ap d.says (own_filling g d filled full on h) ∙ unmet) says,
     ))
 
--- without errors it is a solution
+-- a full grid with the puzzle's givens and without errors is a solution
 pub unerring_solves : (p : Puzzle) (demand : Spot → Option Demand) (g : GridValue) → AreDemandsOf p demand → g.size ≡ p.size
     → IsGrid g → IsFull g → HoldsGivens p g
     → ((cell : ℕ) → IsRepeated g cell → ⊥) → ((spot : Spot) → IsBrokenAt demand g spot → ⊥) → Solves p g
@@ -147,6 +150,7 @@ errors_wrong p demand g e laws found error h c = elim error [
   | inr spot ↦ never_broken p demand g h spot.0 laws found.size c ((found.broken spot.0).0 spot.1)
 ]
 
+-- a full grid with the puzzle's givens is a solution exactly if it has no error
 pub errors_solved : (p : Puzzle) (demand : Spot → Option Demand) (g : GridValue) (e : ErrorsValue) → AreDemandsOf p demand
     → AreErrorsOf p demand g e → IsGrid g → IsFull g → HoldsGivens p g → (HasError e → ⊥) ↔ Solves p g
 errors_solved p demand g e laws found valid full givens = (

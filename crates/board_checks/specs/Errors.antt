@@ -21,6 +21,6 @@ has_broken e (Edge place) = slice_index_or e.edges place false
 has_broken e (RightOf cell) = slice_index_or e.right cell false
 has_broken e (Below cell) = slice_index_or e.below cell false
 
--- some square or spot is
+-- some square or spot is an error
 abbrev pub HasError : ErrorsValue → Type 0
 HasError e = ((cell : ℕ) × IsTrue (has_repeated e cell)) ⊎ ((spot : Spot) × IsTrue (has_broken e spot))

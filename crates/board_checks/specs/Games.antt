@@ -30,7 +30,7 @@ sign_demand sign first second = record {
   says = λ line. holds_sign sign (slice_index line 0) (slice_index line 1);
 }
 
--- that, where there is a sign
+-- the demand of the sign between two squares, if there is a sign
 abbrev pub demand_if_present : Sign → ℕ → ℕ → Option Demand
 demand_if_present sign first second = if is_present sign then Some (sign_demand sign first second) else None
 

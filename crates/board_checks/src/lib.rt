@@ -3,7 +3,7 @@
 //! A square is an error where its number stands a second time in its row or column. A spot, an edge clue or a sign, is one
 //! where no numbers in the blank squares of its line could meet it. A game writes `Demands`, as Towers and Unequal do here;
 //! of that alone `errors` tells which squares and spots are errors. Where one is, no solution has the board's numbers, and
-//! a full board with the puzzle's givens has none only where it is the solution.
+//! a full board with the puzzle's givens has none only where it is a solution.
 //!
 //! ```
 //! let found = errors(&puzzle, board.grid());

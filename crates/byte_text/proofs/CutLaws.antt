@@ -34,7 +34,7 @@ lacks_before c bs =
     let fails = fails_before_first (λ b. b == c) bs k d (grind (arith, common_steps)) in
     eqb-false _ c (grind (arith, common_steps)))
 
--- the parts that a cut leaves
+-- a text that is cut is what comes before the separator, the separator, and what comes behind it
 pub cut_parts : (c : ℕ) (bs rest : List ℕ) → behind c bs ≡ Some rest → bs ≡ before c bs ++ c ∷ rest
 cut_parts c bs rest cut =
     let f = found c bs rest cut in
@@ -68,7 +68,7 @@ behind_at c xs ys lacks =
 pub before_all : (c : ℕ) (xs : List ℕ) → Lacks c xs → before c xs ≡ xs
 before_all c xs lacks = take_all (place c xs) xs (omega (arith, place_none c xs lacks))
 
--- after a separator that isn't there nothing comes
+-- a text without the separator has nothing behind it
 pub behind_none_in : (c : ℕ) (xs : List ℕ) → Lacks c xs → behind c xs ≡ None
 behind_none_in c xs lacks = rw (le-ltb (place c xs) (length xs) (omega (arith, place_none c xs lacks))) refl
 
@@ -106,12 +106,13 @@ pieces_join c (x ∷ y ∷ xs) some lacks =
     let rest = pieces_join c (y ∷ xs) (omega arith) lacks.1 in
     cut ∙ (ap (λ p. p ∷ slice_split (λ b. b == c) joined) front ∙ ap (λ ps. x ∷ ps) rest)
 
--- the parts at a place that `position` answers, in the words of the place
+-- no separator stands before the place that `position` answers
 pub found_first : (c : ℕ) (bs : List ℕ) (i : ℕ) → Some i ≡ position (λ b. b == c) bs → Lacks c (take i bs)
 found_first c bs i at =
     let same : place c bs ≡ i = grind (arith, nat_tests) in
     subst (λ n. Lacks c (take n bs)) same (lacks_before c bs)
 
+-- at the place that `position` answers the text is cut in two
 pub found_parts : (c : ℕ) (bs : List ℕ) (i : ℕ) → Some i ≡ position (λ b. b == c) bs
     → bs ≡ take i bs ++ c ∷ take (length bs - (i + 1)) (drop (i + 1) bs)
 found_parts c bs i at =
@@ -121,6 +122,7 @@ found_parts c bs i at =
     let cut : behind c bs ≡ Some (after_first (λ b. b == c) bs) = rw (lt-ltb (place c bs) (length bs) inside) refl in
     rw whole (subst (λ n. bs ≡ take n bs ++ c ∷ drop (n + 1) bs) same (cut_parts c bs _ cut))
 
+-- where `position` finds no place, the text has no separator
 pub missing_first : (c : ℕ) (bs : List ℕ) → None ≡ position (λ b. b == c) bs → Lacks c bs
 missing_first c bs none =
     let past : length bs ≤ place c bs = grind (arith, nat_tests) in

@@ -10,7 +10,7 @@ use Rattle.byte_text.specs.Bytes.{digit}
 use Rattle.byte_text.specs.Cuts.{Lacks}
 use Rattle.byte_text.specs.Decimals.{is_digit, digit_onto, number_from, has_leading_zero, decimal_value}
 
--- all bytes are digits, and the number that they stand for after n
+-- all bytes are digits
 abbrev all_digits : List ℕ → Bool
 all_digits [] = true
 all_digits (b ∷ bs) = is_digit b && all_digits bs
@@ -23,7 +23,7 @@ value_onto n (b ∷ bs) = value_onto (n * 10 + (b - 48)) bs
 own : IsNumeralModel (λ ds. all_digits ds ≡ true) (value_onto 0)
 own = numerals_by_fold _ (search rules) value_onto (search rules)
 
--- one more digit
+-- a digit that is taken multiplies the number by ten and adds its own, up to the greatest
 digit_onto_taken : (greatest n b m : ℕ) → digit_onto greatest n b ≡ Some m → (is_digit b ≡ true) × (m ≡ n * 10 + (b - 48)) × (m ≤ greatest)
 digit_onto_taken greatest n b m read =
     let (fits, is) = cond_some _ (n * 10 + (b - 48)) m read in
@@ -33,7 +33,7 @@ digit_onto_again : (greatest n b : ℕ) → is_digit b ≡ true → n * 10 + (b 
     → digit_onto greatest n b ≡ Some (n * 10 + (b - 48))
 digit_onto_again greatest n b digit within = rw (digit, le-leb _ _ within) refl
 
--- what was read are digits that stand for the number
+-- what was read is digits that stand for the number
 from_taken : (greatest n m : ℕ) (bs : List ℕ) → n ≤ greatest → number_from greatest n bs ≡ Some m
     → (all_digits bs ≡ true) × (value_onto n bs ≡ m) × (m ≤ greatest)
 from_taken greatest n m [] = λ within read. let e : n ≡ m = cc in (refl, e, omega arith)
@@ -61,7 +61,7 @@ from_again greatest n (b ∷ bs) digits within =
     let fits : n * 10 + (b - 48) ≤ greatest = omega (arith, value_onto_ge (n * 10 + (b - 48)) bs, within) in
     rw (digit_onto_again greatest n b parts.0 fits) (from_again greatest (n * 10 + (b - 48)) bs parts.1 within)
 
--- a zero in front stands alone
+-- a text that begins with `0`, but has no leading zero, is `0` alone
 single_zero : (bs : List ℕ) → has_leading_zero bs ≡ false → get_or bs 0 0 ≡ 48 → length bs ≡ 1
 single_zero [] none first = absurd (omega arith)
 single_zero (b ∷ []) none first = refl
@@ -80,7 +80,7 @@ decimal_no_leading_zero m fits = elim (cases_eq m 0) [
       let first = first_decimal m positive fits in no_leading_zero (decimal m) (λ e. absurd (omega arith))
 ]
 
--- what is read is written so
+-- a text that is read as a number is the decimal of that number
 pub number_taken : (greatest m : ℕ) (bs : List ℕ) → greatest < 2 ^ 64 → decimal_value greatest bs ≡ Some m
     → (bs ≡ decimal m) × (m ≤ greatest)
 unfolding decimal_value
@@ -100,7 +100,7 @@ unfolding decimal_value
 number_of_digits greatest [] some none = absurd (omega arith)
 number_of_digits greatest (b ∷ bs) some none = rw none refl
 
--- what is written so is read, and also where leading zeros may stand
+-- the decimal of a number is read, also where leading zeros may stand
 pub digits_again : (greatest m : ℕ) → m ≤ greatest → greatest < 2 ^ 64 → number_from greatest 0 (decimal m) ≡ Some m
 digits_again greatest m within fits =
     let below : m < 2 ^ 64 = omega arith in
@@ -118,7 +118,7 @@ number_again greatest m within fits =
 pub lacks_decimal : (c m : ℕ) → m < 2 ^ 64 → is_digit c ≡ false → Lacks c (decimal m)
 lacks_decimal c m fits other = digits_lack c (decimal m) other (digits_decimal own m fits)
 
--- the same of an answer
+-- a text for which a number is answered is the decimal of that number
 pub number_found : (greatest : ℕ) (bs : List ℕ) (answer : Option ℕ) → greatest < 2 ^ 64 → answer ≡ decimal_value greatest bs
     → IfSome answer (λ m. (bs ≡ decimal m) × (m ≤ greatest))
 number_found greatest bs None fits is = tt

@@ -5,7 +5,7 @@ use Rattle.std.specs.Prelude.{ℕ, ◌+◌}
 abbrev pub line_feed : ℕ
 line_feed = 10
 
--- CR, which may stand before it
+-- CR, which may stand before the LF of a line
 abbrev pub carriage_return : ℕ
 carriage_return = 13
 
@@ -41,7 +41,7 @@ slash = 47
 abbrev pub digit_zero : ℕ
 digit_zero = 48
 
--- `9`, the greatest
+-- `9`, the greatest byte of a digit
 abbrev pub digit_nine : ℕ
 digit_nine = 57
 

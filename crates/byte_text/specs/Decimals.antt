@@ -1,6 +1,5 @@
 -- Digits, and numbers that are written in decimal without leading zeros.
-use Rattle.std.specs.Prelude.{ℕ, ◌+◌, ◌-◌, ◌*◌, Bool, false, List, [], ◌∷◌, Option, Some, None, option_and_then}
-use Rattle.std.specs.Prelude.{if◌then◌else◌, ◌==◌, ◌&&◌, nat_le}
+use Rattle.std.specs.Prelude.{ℕ, ◌+◌, ◌-◌, ◌*◌, Bool, false, List, [], ◌∷◌, Option, Some, None, option_and_then, if◌then◌else◌, ◌==◌, ◌&&◌, nat_le}
 use Rattle.byte_text.specs.Bytes.{digit_zero, digit_nine}
 
 -- the byte is one of `0` to `9`
@@ -23,7 +22,7 @@ abbrev pub number_from : ℕ → ℕ → List ℕ → Option ℕ
 number_from greatest n [] = Some n
 number_from greatest n (b ∷ bs) = option_and_then (λ m. number_from greatest m bs) (digit_onto greatest n b)
 
--- a number begins with a digit, and with 0 only where it is 0
+-- whether the text begins with `0` and goes on after it
 abbrev pub has_leading_zero : List ℕ → Bool
 has_leading_zero [] = false
 has_leading_zero (b ∷ []) = false

@@ -12,7 +12,7 @@ abbrev pub Gives : {X Y E : Type 0} → (X → Y) → Result X E → Result Y E 
 Gives view (Ok x) read = read ≡ Ok (view x)
 Gives view (Err e) read = read ≡ Err e
 
--- the same, but a refusal of memory may stand in the place of any answer
+-- the answer gives what reading gives, but a refusal of memory may stand in the place of any answer
 abbrev pub GivesUnless : {X Y E : Type 0} → E → (X → Y) → Result X E → Result Y E → Type 0
 GivesUnless memory view (Ok x) read = read ≡ Ok (view x)
 GivesUnless memory view (Err e) read = (e ≡ memory) ⊎ (read ≡ Err e)

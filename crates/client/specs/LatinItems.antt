@@ -1,6 +1,5 @@
 -- The laws of the items, by those of lists of which only some items are kept.
-use Rattle.std.proofs.Common.{◌≡◌, ℕ, zero, ◌*◌, ◌<◌, ◌≤◌, Bool, true, false, ◌&&◌, not, ◌==◌, nat_lt, set, slice_index}
-use Rattle.std.proofs.Common.{refl, arith}
+use Rattle.std.proofs.Common.{◌≡◌, ℕ, zero, ◌*◌, ◌<◌, ◌≤◌, Bool, true, false, ◌&&◌, not, ◌==◌, nat_lt, set, slice_index, refl, arith}
 use Rattle.std.proofs.lemmas.Bool.{lt-ltb}
 use Rattle.latin_board.specs.Squares.{GridValue, IsGrid, IsLatin, number_at}
 use Rattle.latin_board.proofs.LatinLines.{latin_full}
@@ -16,7 +15,7 @@ use Rattle.client.specs.Latin.{items_of, has_given, cut_givens}
 pub valid_given : (p : GridValue) (cell : ℕ) → IsGrid p → cell < p.size * p.size → number_at p cell ≤ p.size
 valid_given p cell h inside = number_within p h cell inside
 
--- a cut is a puzzle
+-- a puzzle that is cut is a puzzle
 pub cut_valid : (p : GridValue) (keep : ℕ → Bool) → IsGrid p → IsGrid (cut_givens p keep)
 cut_valid p keep h = IsGrid-kept p keep 0 h
 
@@ -35,7 +34,7 @@ cut_given p keep cell = kept_number keep 0 p.numbers cell
 pub cut_all : (p : GridValue) → cut_givens p (λ i. true) ≡ p
 cut_all p = rw (kept-all zero 0 p.numbers) refl
 
--- two cuts are one, by the givens in both sets
+-- a cut of a cut is one cut, to the givens in both sets
 pub cut_cut : (p : GridValue) (first second : ℕ → Bool)
     → cut_givens (cut_givens p first) second ≡ cut_givens p (λ i. first i && second i)
 cut_cut p first second = rw (kept-kept zero first second 0 p.numbers) refl
@@ -71,7 +70,7 @@ cut_solved p keep g h = record {
   clues = refl;
 }
 
--- cut down to no given, each Latin square of the width solves it
+-- each Latin square of the width solves the puzzle that is cut down to no given
 pub cut_none : (p : GridValue) (g : GridValue) → IsGrid g → IsLatin g → g.size ≡ p.size
     → Solves (given_puzzle (cut_givens p (λ i. false))) g
 cut_none p g is_grid latin size = record {

@@ -21,6 +21,6 @@ latin_trial grade = GivensAlone
 pub some_givens : (n : ℕ) → 3 ≤ n → n ≤ 9 → n * n ≤ items_of n
 some_givens n low high = omega arith
 
--- and there is none beside them
+-- beside the items of the squares there are no others, so there are 144 of these at most
 pub no_marks : (n : ℕ) → 3 ≤ n → n ≤ 9 → items_of n ≤ n * n + 144
 no_marks n low high = omega arith

@@ -24,7 +24,7 @@ pub few_items : (w : ℕ) → 3 ≤ w → w ≤ 6 → items_of w ≤ MOST_ITEMS
 few_items w low high =
     small_widths (λ n. items_of n ≤ MOST_ITEMS) (omega arith) (omega arith) (omega arith) (omega arith) w low high
 
--- no letter is one that ends the parameters of an ID
+-- no letter of the game is a separator of an ID
 pub letters_lack : LacksSeparators (codes "en")
 letters_lack = All-from_recursion (λ letter. is_separator letter ≡ false) (codes "en") (refl, (refl, tt))
 
@@ -85,7 +85,7 @@ numbers_again : (w : ℕ) (ns : List ℕ) → AllByRecursion (λ n. n ≤ w) ns 
 numbers_again w [] h = refl
 numbers_again w (n ∷ ns) h = rw (number_again w n h.0, numbers_again w ns h.1) refl
 
--- so many squares of a width that is one
+-- the text describes the puzzle, which is of the width
 abbrev Described : ℕ → List ℕ → GridValue → Type 0
 Described w text p = (text ≡ latin_desc p) × IsGrid p × (p.size ≡ w)
 
@@ -138,7 +138,7 @@ latin_again text p h is =
     let within = recursion_from_All (λ n. n ≤ p.size) p.numbers h.within in
     rw (is, exactly_again (p.size * p.size) (latin_desc p) count, numbers_again p.size p.numbers within) refl
 
--- squares are never refused for memory
+-- the bytes of squares are never refused for want of memory
 givens_not_for_memory : (w : ℕ) (text : List ℕ) → NotForMemory (givens_in w text)
 givens_not_for_memory w text =
     elim (numbers_in w text) as
@@ -148,7 +148,7 @@ givens_not_for_memory w text =
       | Some ns ↦ tt
     ]
 
--- a text is never refused for memory
+-- a text is never refused for want of memory
 pub latin_not_for_memory : (w : ℕ) (text : List ℕ) → NotForMemory (latin_at w text)
 unfolding latin_at
 latin_not_for_memory w text =

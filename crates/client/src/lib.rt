@@ -1,5 +1,5 @@
-//! A client of the library, written from its public calls alone: a third game, and a source and a sink of its own. `call_tests` has a
-//! session that goes through the calls.
+//! A client of the library, written from its public calls alone: a third game, and a source and a sink of its own. `call_tests` makes
+//! each call of the library at this game, in sessions and in runs (`third_game`).
 //!
 //! The game is plain: a Latin square of which some numbers are given. docs/THIRD_GAME.md explains what each of its members owes.
 //!

@@ -1,7 +1,6 @@
 -- Candidates from which a grade's steps lead on as from all pairs.
-use Rattle.std.proofs.Common.{arith}
+use Rattle.std.proofs.Common.{arith, ◌≡◌, ℕ, ◌*◌, ◌<◌, List, [], ◌∷◌, ◌++◌, refl, sym, ◌∙◌, subst}
 use Rattle.std.proofs.lemmas.Bool.Decides.{nat_tests}
-use Rattle.std.proofs.Common.{◌≡◌, ℕ, ◌*◌, ◌<◌, List, [], ◌∷◌, ◌++◌, refl, sym, ◌∙◌, subst}
 use Rattle.latin_board.specs.Squares.{GridValue, number_at}
 use Rattle.trail_solver.specs.Candidates.{CandidatesValue, IsOnly, IsWithin}
 use Rattle.trail_solver.specs.Pairs.{IsPair}
@@ -18,13 +17,14 @@ use Rattle.line_steps.specs.declared.grade.Grade.{Grade}
 use Rattle.fair_games.specs.Inner.Bases.{IsBase}
 use Rattle.line_steps.specs.Reasons.{Striking}
 
--- all pairs are one
+-- all pairs are a base
 pub base_all : (Struck : Striking) (grade : Grade) (g : GridValue) (c : CandidatesValue) → c.size ≡ g.size
     → c.trail ≡ [] → IsBase Struck grade g c
 base_all Struck grade g c size none = grind (arith, nat_tests)
 
 -- ---- more items
 
+-- a chain by what some reasons strike is a chain where reasons strike more
 chain_more : (Less More : Striking)
     → ((c : CandidatesValue) (reason : Reason) (cell value : ℕ) → Less c reason cell value → More c reason cell value)
     → (c : CandidatesValue) (steps : List StepValue) → IsChain Less c steps → IsChain More c steps
@@ -34,6 +34,7 @@ chain_more Less More more c (step ∷ steps) h = (
   chain_more Less More more (without c step.strikes) steps h.1,
 )
 
+-- a base by what some reasons strike is a base where reasons strike more
 pub base_more : (Less More : Striking)
     → ((c : CandidatesValue) (reason : Reason) (cell value : ℕ) → Less c reason cell value → More c reason cell value)
     → (grade : Grade) (g : GridValue) (c : CandidatesValue) → IsBase Less grade g c → IsBase More grade g c
@@ -41,19 +42,19 @@ base_more Less More more grade g c base = grind (arith, nat_tests, chain_more)
 
 -- ---- what a grade leaves
 
--- the steps of both are of the grade
+-- steps of the grade and then more steps of it are all of the grade
 pub allowed_both : (grade : Grade) (first second : List StepValue) → AreOfGrade grade first → AreOfGrade grade second → AreOfGrade grade (first ++ second)
 allowed_both grade [] second h k = k
 allowed_both grade (step ∷ first) second h k = (h.0, allowed_both grade first second h.1 k)
 
--- a chain, and one of what it leaves, are one chain
+-- a chain and then one from what it leaves are one chain, and leave what the second one leaves
 pub chain_both : (Struck : Striking) (c : CandidatesValue) (first second : List StepValue) → IsChain Struck c first
     → IsChain Struck (left_by c first) second → IsChain Struck c (first ++ second) × (left_by c (first ++ second) ≡ left_by (left_by c first) second)
 chain_both Struck c [] second h k = (k, refl)
 chain_both Struck c (step ∷ first) second h k =
     let rest = chain_both Struck (without c step.strikes) first second h.1 k in ((h.0, rest.0), rest.1)
 
--- what a grade leaves of a base is one
+-- the candidates that a grade leaves of a base are a base
 pub base_settled : (p : Puzzle) (Struck : Striking) → IsSoundFor p Struck → IsAntitone Struck → (grade : Grade)
     (g : GridValue) (c d : CandidatesValue) → Solves p g → IsBase Struck grade g c → IsClosure Struck grade c d → IsBase Struck grade g d
 base_settled p Struck sound less grade g c d s base h =
@@ -78,7 +79,7 @@ base_settled p Struck sound less grade g c d s base h =
       };
     }
 
--- where the square's numbers alone are left, it follows
+-- if the square's numbers alone are left of a base, the square follows by the grade
 pub base_follows : (Struck : Striking) (grade : Grade) (g : GridValue) (d : CandidatesValue) → IsBase Struck grade g d
     → ((cell : ℕ) → cell < d.size * d.size → IsOnly d cell (number_at g cell)) → Follows Struck grade g
 base_follows Struck grade g d base only = grind (arith, nat_tests)
@@ -86,7 +87,7 @@ base_follows Struck grade g d base only = grind (arith, nat_tests)
 all_fewer : (w : ℕ) (c : CandidatesValue) → c.size ≡ w → IsFewer (all_of w) c
 all_fewer w c size = λ cell value h. record { pair = subst (λ (n : ℕ). IsPair n cell value) size h.pair; may = refl }
 
--- where it follows, its numbers alone are left
+-- if the square follows by the grade, its numbers alone are left of what the grade leaves of a base
 pub follows_base : (p : Puzzle) (Struck : Striking) → IsSoundFor p Struck → IsAntitone Struck → (grade : Grade)
     (g : GridValue) (c d : CandidatesValue) → Solves p g → IsBase Struck grade g c → IsClosure Struck grade c d → Follows Struck grade g
     → (cell : ℕ) → cell < d.size * d.size → IsOnly d cell (number_at g cell)

@@ -31,15 +31,17 @@ use Rattle.line_steps.specs.Reasons.{Striking}
 
 -- ---- draws
 
+-- a draw from the stream after k draws leaves the stream after k + 1
 pub next_left : (trial : Trial) (w items k : ℕ) (s now next : Stream) → now ≡ stream_after trial w items k s
     → next ≡ (drawn_game trial w items now).1 → next ≡ stream_after trial w items (k + 1) s
 next_left trial w items k s now next so_far drew = grind (arith, nat_tests)
 
--- what is drawn now is the next draw
+-- the draw from the stream that is left after k draws is draw k, counted from 0
 drawn_now : (trial : Trial) (w items k : ℕ) (s now : Stream) → now ≡ stream_after trial w items k s
     → (drawn_game trial w items now).0 ≡ draw_at trial w items s k
 drawn_now trial w items k s now so_far = ap (λ (t : Stream). (drawn_game trial w items t).0) so_far
 
+-- if the pruned puzzle of the next draw is of another grade, this draw is passed over like those before it
 pub next_passed : {P : Type 0} (f : Ghosts P) (Struck : P → Striking) (grade : Grade) (trial : Trial) (w items k : ℕ)
     (s now : Stream) (p : P) → now ≡ stream_after trial w items k s → IsPrunedGame f Struck grade (drawn_game trial w items now).0 p
     → (IsOfGrade f Struck grade p → ⊥) → ((n : ℕ) → n < k → IsPassedOver f Struck grade (draw_at trial w items s n))
@@ -54,6 +56,7 @@ next_passed f Struck grade trial w items k s now p so_far pruned other before n 
       | inr apart ↦ before n (omega (arith, below, apart))
     ]
 
+-- if the pruned puzzle of a draw is of the grade, and all before it are passed over, it is the fair game
 pub found_fair : {P : Type 0} (f : Ghosts P) (Struck : P → Striking) (grade : Grade) (trial : Trial) (w items k : ℕ)
     (s now : Stream) (p : P) → now ≡ stream_after trial w items k s → IsPrunedGame f Struck grade (drawn_game trial w items now).0 p
     → IsOfGrade f Struck grade p → ((n : ℕ) → n < k → IsPassedOver f Struck grade (draw_at trial w items s n)) → k < 512
@@ -62,17 +65,18 @@ found_fair f Struck grade trial w items k s now p so_far pruned graded before fe
 
 -- ---- there is just one
 
--- a draw gives one puzzle
+-- a draw has just one pruned puzzle
 game_once : {P : Type 0} (f : Ghosts P) (Struck : P → Striking) (grade : Grade) (draw : GridValue × List ℕ) (p q : P)
     → IsPrunedGame f Struck grade draw p → IsPrunedGame f Struck grade draw q → p ≡ q
 game_once f Struck grade draw p q first second =
     in_turn_once f (FailsBy Struck grade draw.0) draw.1 (f.full_of draw.0) p q first.in_turn second.in_turn
 
--- so one that gives a game of the grade isn't passed over
+-- a draw that gives a game of the grade isn't passed over
 not_passed : {P : Type 0} (f : Ghosts P) (Struck : P → Striking) (grade : Grade) (draw : GridValue × List ℕ) (p : P)
     → IsPrunedGame f Struck grade draw p → IsOfGrade f Struck grade p → IsPassedOver f Struck grade draw → ⊥
 not_passed f Struck grade draw p pruned graded passed = grind (arith, nat_tests, game_once)
 
+-- two fair games of the same draws are the same
 fair_same : {P : Type 0} (f : Ghosts P) (Struck : P → Striking) (grade : Grade) (draws : ℕ → GridValue × List ℕ) (p q : P)
     → IsFair f Struck grade draws p → IsFair f Struck grade draws q → p ≡ q
 fair_same f Struck grade draws p q first second = grind (arith, nat_tests, cases_order, game_once, not_passed)
@@ -100,14 +104,14 @@ fair_once f Struck grade offered draws (Err NoneFound) (Err NoneFound) first sec
 
 -- ---- the test of a grade
 
--- what follows by a grade is of it where it doesn't follow by the one before
+-- a puzzle that follows by a grade is of that grade exactly if it doesn't follow by the one before
 pub graded_tested : (p : Puzzle) (Struck : Striking) (before grade : Grade) (b : Bool) → rank grade ≡ rank before + 1 → FollowsBy p Struck grade
     → (IsTrue b ↔ FollowsBy p Struck before) → IsTrue (not b) ↔ IsGradeOf p Struck (Some grade)
 graded_tested p Struck before grade true next follows is = (λ e. absurd (false≢true e), λ h. absurd (h.1 before (omega (arith, next)) (is.0 refl)))
 graded_tested p Struck before grade false next follows is =
     (λ e. graded_next p Struck before grade next follows (λ less. false≢true (is.1 less)), λ h. refl)
 
--- so of a grade that is this one
+-- a test for one grade serves for a grade that equals it
 pub is_graded : {B : Type 0} (p : Puzzle) (Struck : Striking) (one grade : Grade) → grade ≡ one → FollowsBy p Struck grade
     → (FollowsBy p Struck one → B ↔ IsGradeOf p Struck (Some one)) → B ↔ IsGradeOf p Struck (Some grade)
 is_graded {B} p Struck one grade same follows test =
@@ -115,13 +119,13 @@ is_graded {B} p Struck one grade same follows test =
 
 -- ---- what a fair game is
 
--- a fair game is a cut of its draw's square
+-- a fair game is a cut of the full puzzle of its draw's square
 pub fair_puzzle : {P : Type 0} (f : Ghosts P) (Struck : P → Striking) (grade : Grade) (draws : ℕ → GridValue × List ℕ) (p : P)
     → ItemLaws f → (fair : IsFair f Struck grade draws p) → IsCutOf f (draws fair.draw).0 p
 fair_puzzle f Struck grade draws p laws fair =
     pruned_cut f (FailsBy Struck grade (draws fair.draw).0) (draws fair.draw).0 (draws fair.draw).1 p laws fair.pruned
 
--- its only solution follows by the grade
+-- a fair game has just one solution, and this follows by the grade
 pub fair_solved : {P : Type 0} (f : Ghosts P) (Struck : P → Striking) → HasSteps f Struck → (grade : Grade)
     (draws : ℕ → GridValue × List ℕ) (p : P) → IsFair f Struck grade draws p
     → (g : GridValue) × (IsOnlySolution (f.puzzle p) g × Follows (Struck p) grade g)
@@ -132,10 +136,12 @@ fair_solved f Struck steps grade draws p fair =
 
 -- ---- sizes
 
+-- a grid with a row more has the same size
 row_size : (g : GridValue) (row : ℕ) (columns : List ℕ) (found : Option (List ℕ)) → (with_first_row g row columns found).size ≡ g.size
 row_size g row columns None = refl
 row_size g row columns (Some chosen) = with_row_size g row columns chosen g.size
 
+-- a grid of drawn rows has the width
 rows_size : (w n : ℕ) (s : Stream) → (drawn_rows w n s).0.size ≡ w
 rows_size w zero s = refl
 rows_size w (suc n) s =
@@ -150,12 +156,13 @@ draw_size trial w items s n = grind (arith, nat_tests, rows_size)
 
 -- ---- grades
 
--- what is so of none of the grades is so of no grade
+-- a property that none of the three grades has no grade has
 pub no_grade : (Is : Grade → Type 0) → (Is Latin → ⊥) → (Is Easy → ⊥) → (Is Hard → ⊥) → (grade : Grade) → Is grade → ⊥
 no_grade Is latin easy hard grade is = grind (arith, nat_tests)
 
 -- ---- the items that are needed
 
+-- a pruned puzzle of an order that has all items to be tried needs each of these
 pub game_needs : {P : Type 0} (f : Ghosts P) (Struck : P → Striking) → HasSteps f Struck → (grade : Grade)
     (trial : Trial) (w : ℕ) (g : GridValue) (order : List ℕ) (p : P) → g.size ≡ w → IsPrunedBy f (FailsBy Struck grade g) g order p
     → ((i : ℕ) → i < f.items_of w → IsTriedIn trial (f.items_of w - w * w) i → IsTried i order)
@@ -179,7 +186,7 @@ first_given count items cells squares i same also from = omega (arith, same, als
 
 -- ---- what a fair game promises
 
--- the puzzle of the first draw that gives one of the grade keeps it
+-- the puzzle of the first draw that gives one of the grade keeps all that a fair game promises
 pub all_promised : {P : Type 0} (f : Ghosts P) (Struck : P → Striking) → HasSteps f Struck → (grade : Grade) (trial : Trial) (w : ℕ)
     (s : Stream) (r : Option P) (None_is : Type 0) → IfSome r (NeedsItems f Struck grade trial w)
     → MatchOption r None_is (IsFair f Struck grade (draw_at trial w (f.items_of w) s)) → IfSome r (IsFairGame f Struck grade trial w)

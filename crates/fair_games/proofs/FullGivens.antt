@@ -37,7 +37,7 @@ others_small w number small low high =
     below_from_numbers (others w number) 16 (λ j above.
     others_has w number j low high ∙ rw (lt-leb j w (omega (arith, small, above)), and-false) refl)
 
--- the squares before one, each with the numbers but for its own
+-- the pairs of all squares before one, each with all numbers but its own
 abbrev others_before : GridValue → ℕ → List (ℕ × ℕ)
 others_before g zero = []
 others_before g (suc n) = others_before g n ++ pairs_of n (others g.size (number_at g n))

@@ -1,4 +1,4 @@
--- The steps of the pruning, for puzzles whose steps have names.
+-- Lemmas on pruning, for games whose steps have reasons.
 use Rattle.std.proofs.lemmas.Bool.Decides.{nat_tests}
 use Rattle.std.proofs.Common.{◌≡◌, ◌≢◌, ℕ, ◌+◌, ◌*◌, ◌<◌, Bool, true, false, ◌&&◌, List, [], ◌∷◌, ◌++◌, length, slice_index, drop, take, IsTrue, inl, inr, refl, sym, ◌∙◌, ap, subst, arith, length-append}
 use Rattle.std.proofs.lemmas.Bool.{and_parts, both_ways}
@@ -42,7 +42,7 @@ pub record HasSteps {P : Type 0} (f : Ghosts P) (Struck : P → Striking) : Type
   pub cut : (p : P) (keep : ℕ → Bool) (c : CandidatesValue) (reason : Reason) (cell value : ℕ)
       → Struck (f.cut p keep) c reason cell value → Struck p c reason cell value
 
--- a game owes these of its steps where it owes them of its own reasons
+-- a game whose items and own reasons keep these laws keeps them of all its steps
 pub steps_of : {P : Type 0} (f : Ghosts P) (Own : P → Striking) → ItemLaws f
     → ((p : P) (c d : CandidatesValue) (reason : Reason) (cell value : ℕ) → IsFewer c d → Own p c reason cell value → Own p d reason cell value)
     → ((p : P) (c : CandidatesValue) (reason : Reason) (cell value : ℕ) (g : GridValue) → f.valid p → c.size ≡ (f.puzzle p).size
@@ -58,13 +58,13 @@ steps_of f Own items less sound whole = record {
       (whole p keep);
 }
 
--- what fails with some items fails with fewer
+-- a puzzle that fails fails without some of its items, too
 pub fewer_fail : {P : Type 0} (f : Ghosts P) (Struck : P → Striking) → HasSteps f Struck → (grade : Grade) (g : GridValue)
     (r : P) (keep : ℕ → Bool) → FailsBy Struck grade g r → FailsBy Struck grade g (f.cut r keep)
 fewer_fail f Struck steps grade g r keep fails follows =
     fails (follows_more (Struck (f.cut r keep)) (Struck r) (steps.cut r keep) grade g follows)
 
--- so does what doesn't follow by a grade, where the puzzle does: what follows with fewer has the puzzle's solution
+-- if a puzzle follows by a grade, but not without some of its items, it doesn't without more of them either
 pub beyond_kept : {P : Type 0} (f : Ghosts P) (Struck : P → Striking) → HasSteps f Struck → (grade : Grade) (p : P)
     → f.valid p
     → IsByGrade f Struck grade p → KeepsFailing f (IsBeyondGrade f Struck grade) p
@@ -79,7 +79,7 @@ beyond_kept f Struck steps grade p valid whole a b beyond twice =
     let follows : Follows (Struck q) grade twice.0 = follows_more (Struck rest) (Struck q) (steps.cut q b) grade twice.0 twice.1.follows in
     beyond (whole.0, record { solves = solves; follows = subst (Follows (Struck q) grade) (sym same) follows })
 
--- what is cut from the full puzzle of a Latin square is a puzzle of its size that it solves
+-- the puzzle is of the Latin square's size, and the square solves it, as it does each cut of its full puzzle
 pub record IsCutOf {P : Type 0} (f : Ghosts P) (g : GridValue) (p : P) : Type 0 where
   pub valid : f.valid p
   pub size : (f.puzzle p).size ≡ g.size
@@ -90,12 +90,12 @@ pub cut_of : {P : Type 0} (f : Ghosts P) (g : GridValue) (p : P) (keep : ℕ →
     → p ≡ f.cut (f.full_of g) keep → IsCutOf f g p
 cut_of f g p keep laws grid latin is_cut = grind (arith, nat_tests)
 
--- the pruned puzzle of a square and an order
+-- the pruned puzzle of a square and an order is a puzzle of the size that the square solves
 pub pruned_cut : {P : Type 0} (f : Ghosts P) (Fails : P → Type 0) (g : GridValue) (order : List ℕ) (p : P) → ItemLaws f
     → IsPrunedBy f Fails g order p → IsCutOf f g p
 pruned_cut f Fails g order p laws pruned = grind (arith, nat_tests, cut_of, cut_in_turn)
 
--- without any set of its items that has one that was tried, the test fails
+-- a pruned puzzle fails once some of its items go, if one of them was tried
 pub pruned_needs : {P : Type 0} (f : Ghosts P) (Struck : P → Striking) → HasSteps f Struck → (grade : Grade)
     (g : GridValue) (order : List ℕ) (p : P) (keep : ℕ → Bool) (i : ℕ) → IsPrunedBy f (FailsBy Struck grade g) g order p
     → i < f.items_of g.size → IsTrue (f.has p i) → IsTried i order → keep i ≡ false
@@ -110,10 +110,11 @@ pruned_needs f Struck steps grade g order p keep i pruned small there tried lost
 
 -- ---- items that go at once
 
--- without one item
+-- all items but those of a list of one item are all but that one
 none_of_one : (item : ℕ) → none_of (item ∷ []) ≡ all_but item
 none_of_one item = grind (arith, nat_tests)
 
+-- the items in neither of two lists are those that aren't in the lists put together
 none_of_both : (first second : List ℕ) (j : ℕ) → (none_of first j && none_of second j) ≡ none_of (first ++ second) j
 none_of_both [] second j = refl
 none_of_both (item ∷ first) second j =
@@ -124,7 +125,7 @@ none_of_both (item ∷ first) second j =
     and_assoc true b c = refl
     and_assoc false b c = refl
 
--- those of one list and then those of another
+-- to cut off the items of one list and then those of another cuts off those of both
 pub without_both : {P : Type 0} (f : Ghosts P) (first second : List ℕ) (p : P) → ItemLaws f → f.valid p
     → f.cut (f.cut p (none_of first)) (none_of second) ≡ f.cut p (none_of (first ++ second))
 without_both f first second p laws valid =
@@ -132,7 +133,7 @@ without_both f first second p laws valid =
     ∙ laws.cut_agrees p (λ j. none_of first j && none_of second j) (none_of (first ++ second)) valid
     (λ j inside there. none_of_both first second j)
 
--- a place more is one item less
+-- a puzzle without the first k items of a list and then the next one is without the first k + 1
 pub without_next : {P : Type 0} (f : Ghosts P) (items : List ℕ) (k : ℕ) (p q r : P) → ItemLaws f → f.valid p
     → k < length items → q ≡ f.cut p (none_of (take k items)) → r ≡ f.cut q (all_but (slice_index items k))
     → r ≡ f.cut p (none_of (take (k + 1) items))
@@ -142,7 +143,7 @@ without_next {P} f items k p q r laws valid inside so_far gone =
     ∙ without_both f (take k items) (item ∷ []) p laws valid
     ∙ ap (λ (xs : List ℕ). f.cut p (none_of xs)) (sym (take_more items k 0 inside))
 
--- where the rest doesn't fail without all of them, each goes in its turn
+-- if the puzzle doesn't fail without all items of an order, each goes in its turn
 pub all_go : {P : Type 0} (f : Ghosts P) (Fails : P → Type 0) (order : List ℕ) (p : P) → ItemLaws f → f.valid p
     → ((r : P) (keep : ℕ → Bool) → Fails r → Fails (f.cut r keep)) → (Fails (f.cut p (none_of order)) → ⊥)
     → IsLeftInTurn f Fails order p (f.cut p (none_of order))
@@ -158,7 +159,7 @@ all_go {P} f Fails (item ∷ order) p laws valid fewer good =
           (λ fails. good (subst Fails same fails))),
     )
 
--- where it fails and there is one at most, that one stays
+-- if the puzzle fails without an order of one item at most, the item stays
 pub one_stays : {P : Type 0} (f : Ghosts P) (Fails : P → Type 0) (order : List ℕ) (p : P) → length order < 2
     → Fails (f.cut p (none_of order)) → IsLeftInTurn f Fails order p p
 one_stays f Fails [] p few fails = refl
@@ -172,14 +173,14 @@ pub record IsRest {P : Type 0} (f : Ghosts P) (Struck : P → Striking) (grade :
   pub solves : Solves (f.puzzle q) g
   pub base : IsBase (Struck q) grade g start
 
--- a puzzle without the items is such a rest
+-- the square solves a puzzle without the items of an order, and the candidates are a base of it
 pub rest_without : {P : Type 0} (f : Ghosts P) (Struck : P → Striking) → HasSteps f Struck → (grade : Grade)
     (g : GridValue) (order : List ℕ) (p q : P) (base : CandidatesValue) → f.valid p → Solves (f.puzzle p) g
     → IsBase (Struck (f.cut p (none_of order))) grade g base → q ≡ f.cut p (none_of order)
     → IsRest f Struck grade g q base
 rest_without f Struck steps grade g order p q base valid solves is gone = grind (arith, nat_tests)
 
--- no step from a base strikes the square's numbers
+-- steps from a base leave no square nothing, since none strikes the square's numbers
 pub rest_holds : {P : Type 0} (f : Ghosts P) (Struck : P → Striking) → HasSteps f Struck → (grade : Grade)
     (g : GridValue) (order : List ℕ) (p q : P) (base left : CandidatesValue) → f.valid p → Solves (f.puzzle p) g
     → IsBase (Struck (f.cut p (none_of order))) grade g base → q ≡ f.cut p (none_of order)
@@ -189,7 +190,7 @@ rest_holds f Struck steps grade g order p q base left valid solves is gone leads
     solved_holds (f.puzzle q) (Struck q) (steps.sound q rest.valid) grade g base left
     (rest.base.size ∙ rest.solves.same_size) rest.solves rest.base.within leads
 
--- what a grade's steps leave of the base tells whether all items go
+-- the candidates that a grade leaves of a base tell whether all items of an order go
 pub record IsTriedWhole {P : Type 0} (f : Ghosts P) (Struck : P → Striking) (grade : Grade) (g : GridValue)
     (order : List ℕ) (p q : P) (left : CandidatesValue) : Type 0 where
   pub base : IsBase (Struck (f.cut p (none_of order))) grade g left
@@ -200,7 +201,7 @@ pub record IsTriedWhole {P : Type 0} (f : Ghosts P) (Struck : P → Striking) (g
   pub fails : (((cell : ℕ) → cell < left.size * left.size → IsOnly left cell (number_at g cell)) → ⊥)
       → FailsBy Struck grade g (f.cut p (none_of order))
 
--- the base, settled
+-- a base of the puzzle without an order's items, once settled, tells whether all of them go
 pub tried_whole : {P : Type 0} (f : Ghosts P) (Struck : P → Striking) → HasSteps f Struck → (grade : Grade)
     (g : GridValue) (order : List ℕ) (p q : P) (base left : CandidatesValue) → f.valid p → Solves (f.puzzle p) g
     → IsBase (Struck (f.cut p (none_of order))) grade g base → q ≡ f.cut p (none_of order)
@@ -224,20 +225,20 @@ tried_whole {P} f Struck steps grade g order p q base left valid solves is gone 
 
 -- ---- both parts of an order
 
--- an order that was split
+-- an order that is split in two is its first part and then its second
 pub parts_of : (order first second : List ℕ) (m : ℕ) → first ≡ take m order → second ≡ drop m order
     → first ++ second ≡ order
 parts_of order first second m front back =
     ap (λ (xs : List ℕ). xs ++ second) front ∙ ap (λ (ys : List ℕ). take m order ++ ys) back ∙ take-append-drop m order
 
--- the items of both parts are those of the whole
+-- the items of both parts of an order are items of the size, if those of the order are
 pub items_of_parts : (n : ℕ) (first second order : List ℕ) → first ++ second ≡ order
     → ((k : ℕ) → k < length order → slice_index order k < n)
     → ((k : ℕ) → k < length first → slice_index first k < n) × ((k : ℕ) → k < length second → slice_index second k < n)
 items_of_parts n first second order parts all =
     grind (arith, nat_tests, length-append, get_or-append, get_or-append-add)
 
--- what is left in turn is solved by what solves the puzzle
+-- a solution of a puzzle solves what is left of it once items are tried in turn
 pub left_solved : {P : Type 0} (f : Ghosts P) (Fails : P → Type 0) (order : List ℕ) (p q : P) (g : GridValue)
     → ItemLaws f → f.valid p
     → IsLeftInTurn f Fails order p q → Solves (f.puzzle p) g → Solves (f.puzzle q) g
@@ -262,7 +263,7 @@ untried_same f Fails (item ∷ order) p q i laws valid tried inside untried =
     stays true b e = e
     stays false b e = refl
 
--- what is left of the first half, without the second, has all that the puzzle has without both
+-- once the first half is tried, the puzzle without both halves is the same as it would be before
 half_has : {P : Type 0} (f : Ghosts P) (Fails : P → Type 0) (first second : List ℕ) (p half : P) → ItemLaws f
     → f.valid p
     → IsLeftInTurn f Fails first p half
@@ -286,12 +287,13 @@ half_has {P} f Fails first second p half laws valid tried =
     both false true c h = absurd (both_ways false refl (h refl))
     both false false c h = refl
 
+-- a base of a cut of a puzzle is a base of the puzzle
 cut_base : {P : Type 0} (f : Ghosts P) (Struck : P → Striking) → HasSteps f Struck → (grade : Grade)
     (g : GridValue) (r q : P) (keep : ℕ → Bool) (left : CandidatesValue) → f.cut r keep ≡ q → IsBase (Struck q) grade g left
     → IsBase (Struck r) grade g left
 cut_base f Struck steps grade g r q keep left is base = grind (arith, nat_tests, base_more)
 
--- what is left without all items is a base for the first half
+-- a base of the puzzle without all items of an order is one of it without the first half
 pub first_base : {P : Type 0} (f : Ghosts P) (Struck : P → Striking) → HasSteps f Struck → (grade : Grade)
     (g : GridValue) (first second order : List ℕ) (p : P) (left : CandidatesValue) → first ++ second ≡ order → f.valid p
     → IsBase (Struck (f.cut p (none_of order))) grade g left → IsBase (Struck (f.cut p (none_of first))) grade g left
@@ -299,7 +301,7 @@ first_base {P} f Struck steps grade g first second order p left parts valid base
     cut_base f Struck steps grade g (f.cut p (none_of first)) (f.cut p (none_of order)) (none_of second) left
     (without_both f first second p steps.items valid ∙ ap (λ (xs : List ℕ). f.cut p (none_of xs)) parts) base
 
--- and for the second
+-- a base of the puzzle without all items is one of what the first half leaves, without the second half
 pub second_base : {P : Type 0} (f : Ghosts P) (Struck : P → Striking) → HasSteps f Struck → (grade : Grade)
     (g : GridValue) (first second order : List ℕ) (p half : P) (left : CandidatesValue) → first ++ second ≡ order
     → f.valid p
@@ -310,7 +312,7 @@ second_base {P} f Struck steps grade g first second order p half left parts vali
     (half_has f (FailsBy Struck grade g) first second p half steps.items valid tried
     ∙ ap (λ (xs : List ℕ). f.cut p (none_of xs)) parts) base
 
--- both halves, one after the other
+-- to try the first half of an order and then the second leaves what the whole order leaves
 pub halves_in_turn : {P : Type 0} (f : Ghosts P) (Fails : P → Type 0) (first second order : List ℕ) (p half q : P)
     → first ++ second ≡ order
     → IsLeftInTurn f Fails first p half → IsLeftInTurn f Fails second half q → IsLeftInTurn f Fails order p q

@@ -32,12 +32,12 @@ passes_over : (try : ℕ → List (List ℕ)) (numbers : List ℕ) (k : ℕ) →
 passes_over try numbers k below nothing =
     next_ways try numbers k below ∙ ap (λ ws. ws ++ flat_map try (drop (k + 1) numbers)) nothing
 
--- one that leads to something is taken
+-- the first way by a number that leads to some is the first way from that number on
 takes_first : (try : ℕ → List (List ℕ)) (numbers row : List ℕ) (k : ℕ) → k < length numbers → slice_get (try (get_or numbers k 0)) 0 ≡ Some row
     → slice_get (flat_map try (drop k numbers)) 0 ≡ Some row
 takes_first try numbers row k below found = grind (arith, nat_tests, next_ways, first_front)
 
--- nothing is left to be tried
+-- after the last number no way is left
 pub tries_none : (try : ℕ → List (List ℕ)) (numbers : List ℕ) (k : ℕ) → length numbers ≤ k → flat_map try (drop k numbers) ≡ []
 tries_none try numbers k past = ap (flat_map try) (drop_of_length-le numbers past)
 
@@ -48,21 +48,22 @@ rest_of columns = take (length columns - 1) (drop 1 columns)
 take_all : (xs : List ℕ) (n : ℕ) → n ≡ length xs → take n xs ≡ xs
 take_all xs n e = ap (λ (k : ℕ). take k xs) e ∙ take-length xs
 
--- the first of the columns takes a number
+-- the ways to go on are those by each number in the first of the columns
 pub row_begins : (g : GridValue) (numbers columns chosen : List ℕ) → 1 ≤ length columns
     → ways g numbers columns chosen ≡ flat_map (tries g numbers (get_or columns 0 0) (rest_of columns) chosen) numbers
 row_begins g numbers columns chosen some = grind (arith, nat_tests, take_all)
 
--- a free number leads to what the columns after it have
+-- the ways by a free number are those of the columns after it, with the number chosen
 tries_free : (g : GridValue) (numbers : List ℕ) (column : ℕ) (columns chosen : List ℕ) (n : ℕ) → is_free g column chosen n ≡ true
     → tries g numbers column columns chosen n ≡ ways g numbers columns (chosen ++ n ∷ [])
 tries_free g numbers column columns chosen n free = rw free refl
 
+-- by a number that isn't free there is no way
 tries_taken : (g : GridValue) (numbers : List ℕ) (column : ℕ) (columns chosen : List ℕ) (n : ℕ) → is_free g column chosen n ≡ false
     → tries g numbers column columns chosen n ≡ []
 tries_taken g numbers column columns chosen n taken = rw taken refl
 
--- what was chosen, with a number more, and what leads from there
+-- if no number before a free one leads to a row, the first row by the free one is the first of all
 pub row_found : (g : GridValue) (numbers columns chosen more row : List ℕ) (k : ℕ) → 1 ≤ length columns → k < length numbers
     → flat_map (tries g numbers (get_or columns 0 0) (rest_of columns) chosen) numbers
     ≡ flat_map (tries g numbers (get_or columns 0 0) (rest_of columns) chosen) (drop k numbers)
@@ -76,14 +77,14 @@ row_found g numbers columns chosen more row k some below so_far free made found 
     (ap first (tries_free g numbers (get_or columns 0 0) (rest_of columns) chosen n free)
     ∙ ap (first_row g numbers (rest_of columns)) (sym made) ∙ found)
 
--- a number is passed over that isn't free
+-- a number that isn't free is passed over
 pub passes_taken : (g : GridValue) (numbers columns chosen : List ℕ) (k : ℕ) → k < length numbers
     → is_free g (get_or columns 0 0) chosen (get_or numbers k 0) ≡ false
     → flat_map (tries g numbers (get_or columns 0 0) (rest_of columns) chosen) (drop k numbers)
     ≡ flat_map (tries g numbers (get_or columns 0 0) (rest_of columns) chosen) (drop (k + 1) numbers)
 passes_taken g numbers columns chosen k below taken = grind (arith, nat_tests, passes_over, tries_taken)
 
--- and one that leads nowhere
+-- a free number that leads nowhere is passed over
 pub passes_free : (g : GridValue) (numbers columns chosen more : List ℕ) (k : ℕ) → k < length numbers
     → is_free g (get_or columns 0 0) chosen (get_or numbers k 0) ≡ true → more ≡ chosen ++ get_or numbers k 0 ∷ []
     → first_row g numbers (rest_of columns) more ≡ None
@@ -92,7 +93,7 @@ pub passes_free : (g : GridValue) (numbers columns chosen more : List ℕ) (k : 
 passes_free g numbers columns chosen more k below free made none =
     grind (arith, nat_tests, passes_over, tries_free, none_first)
 
--- a list without the number that was put after it
+-- a list with a number put after it, and without its last number, is the list again
 pub without_last : (xs ys : List ℕ) (x : ℕ) → ys ≡ xs ++ x ∷ [] → take (length ys - 1) ys ≡ xs
 without_last xs ys x made =
     let count : length ys - 1 ≡ length xs = let l = ap length made ∙ length-append xs (x ∷ []) in omega (arith, l) in

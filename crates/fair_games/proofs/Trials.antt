@@ -17,7 +17,7 @@ use Rattle.fair_games.specs.declared.trial.Trial.TheVariants.{GivensAlone, Given
 
 -- ---- the beginning of an order
 
--- a number's place is that in the list where it is there
+-- a number that is in a list has the same place in the list with more after it
 place_front : (i : ℕ) (xs ys : List ℕ) → place_in i xs < length xs → place_in i (xs ++ ys) ≡ place_in i xs
 place_front i [] ys inside = absurd (omega arith)
 place_front i (x ∷ xs) ys inside = elim (cases_Bool (i == x)) [
@@ -27,7 +27,7 @@ place_front i (x ∷ xs) ys inside = elim (cases_Bool (i == x)) [
       rw other (ap suc (place_front i xs ys (omega (arith, inside, place))))
 ]
 
--- where its place in front of more is one of the list's, it is there
+-- a number whose place in a list with more after it is below the list's length is in the list
 place_back : (i : ℕ) (xs ys : List ℕ) → place_in i (xs ++ ys) < length xs → place_in i xs < length xs
 place_back i [] ys inside = absurd (omega arith)
 place_back i (x ∷ xs) ys inside = elim (cases_Bool (i == x)) [
@@ -51,7 +51,7 @@ stands_there i (x ∷ xs) inside = elim (cases_Bool (i == x)) [
       rw other (stands_there i xs (omega (arith, inside, place)))
 ]
 
--- the beginning of an order of all items is one of some
+-- the beginning of an order of all items is an order of some items
 pub trial_front : (n : ℕ) (xs ys : List ℕ) → IsOrder n (xs ++ ys) → IsTrial n xs
 trial_front n xs ys order = grind (arith, nat_tests, length-append, index_front, place_front, place_back, stands_there)
 
@@ -62,7 +62,7 @@ map_zero [] = refl
 map_zero (x ∷ xs) =
     let e : 0 + x ≡ x = omega arith in ap (λ (y : ℕ). y ∷ map (λ i. 0 + i) xs) e ∙ ap (λ (ys : List ℕ). x ∷ ys) (map_zero xs)
 
--- the first numbers, and then more of them
+-- the first m + n numbers are the first m and then the next n
 range_both : (m n : ℕ) → range_with_len 0 (m + n) ≡ range_with_len 0 m ++ map (λ i. m + i) (range_with_len 0 n)
 range_both m zero =
     let e : m + 0 ≡ m = omega arith in ap (range_with_len 0) e ∙ sym (append-nil (range_with_len 0 m))
@@ -76,7 +76,7 @@ range_both m (suc n) =
     ∙ append_assoc (range_with_len 0 m) (map f (range_with_len 0 n)) ((m + n) ∷ [])
     ∙ ap (λ (xs : List ℕ). range_with_len 0 m ++ xs) (sym end)
 
--- the items that aren't tried
+-- the items that a trial doesn't try
 abbrev left_out : Trial → List ℕ → List ℕ
 left_out GivensAlone clues = clues
 left_out GivensFirst clues = []
@@ -114,7 +114,7 @@ moved trial m n clues givens first second = turn trial
     turn GivensFirst = subst (IsPermutation (range_with_len 0 (m + n))) (sym (append-nil (further ++ clues))) turned
     turn HalfFirst = subst (IsPermutation (range_with_len 0 (m + n))) (sym (append-nil ((take half clues ++ further) ++ drop half clues))) halves
 
--- what is put together is an order of some items
+-- the items that a trial puts together are an order of some items
 pub trial_in_turn : (trial : Trial) (m n : ℕ) (clues givens : List ℕ) → IsPermutation (range_with_len 0 m) clues
     → IsPermutation (range_with_len 0 n) givens → IsTrial (m + n) (in_turn trial m clues givens)
 trial_in_turn trial m n clues givens first second =
@@ -130,18 +130,19 @@ pub put_three : (a b c d first second third : List ℕ) → a ≡ [] → b ≡ a
     → d ≡ first ++ second ++ third
 put_three a b c d first second third none one two three = grind (arith, nat_tests, map_zero)
 
--- what is put together of lists that are the two orders
+-- an order that is put together from lists equal to two orders is put together from the orders
 pub turn_made : (trial : Trial) (m : ℕ) (lent_clues lent_givens clues givens order : List ℕ) → length clues ≡ m → lent_clues ≡ clues
     → lent_givens ≡ givens → order ≡ in_turn trial (length lent_clues) lent_clues lent_givens → order ≡ in_turn trial m clues givens
 turn_made trial m lent_clues lent_givens clues givens order count first second put = grind (arith, nat_tests)
 
--- and the stream that is left
+-- an order put together from two drawn ones is the trial's draw, with the stream that is left
 pub turn_drawn : (trial : Trial) (m n : ℕ) (s middle end : Stream) (clues givens order : List ℕ) → (givens, middle) ≡ drawn_order n s
     → (clues, end) ≡ drawn_order m middle → order ≡ in_turn trial m clues givens → (order, end) ≡ drawn_trial trial m n s
 turn_drawn trial m n s middle end clues givens order first second put = grind (arith, nat_tests)
 
 -- ---- which items are tried
 
+-- in a list with each number m further on, a number m further on has the place that it had
 place_further : (m j : ℕ) (xs : List ℕ) → place_in (m + j) (map (λ i. m + i) xs) ≡ place_in j xs
 place_further m j [] = refl
 place_further m j (x ∷ xs) = elim (cases_eq j x) [
@@ -150,6 +151,7 @@ place_further m j (x ∷ xs) = elim (cases_eq j x) [
       rw (ne_eqb j x apart, ne_eqb (m + j) (m + x) (λ same. apart (omega (arith, same)))) (ap suc (place_further m j xs))
 ]
 
+-- a trial that leaves no item out tries each
 tried_whole : (trial : Trial) (m n : ℕ) (clues givens : List ℕ) → IsPermutation (range_with_len 0 m) clues
     → IsPermutation (range_with_len 0 n) givens → (i : ℕ) → i < m + n → left_out trial clues ≡ [] → IsTried i (in_turn trial m clues givens)
 tried_whole trial m n clues givens first second i below none =
@@ -159,7 +161,7 @@ tried_whole trial m n clues givens first second i below none =
     ap length (sym (append-nil xs) ∙ ap (λ (ys : List ℕ). xs ++ ys) (sym none)) ∙ order.count in
     place_back i xs (left_out trial clues) (omega (arith, order.inside i below, count))
 
--- each given is tried, and each mark but where the givens alone are
+-- each given is tried, and each clue or sign, too, unless the givens alone are
 pub tried_in_turn : (trial : Trial) (m n : ℕ) (clues givens : List ℕ) → IsPermutation (range_with_len 0 m) clues
     → IsPermutation (range_with_len 0 n) givens → (i : ℕ) → i < m + n → (trial ≡ GivensAlone → m ≤ i) → IsTried i (in_turn trial m clues givens)
 tried_in_turn GivensAlone m n clues givens first second i below low =

@@ -7,8 +7,8 @@ use Rattle.fair_games.specs.Squares.{drawn_latin}
 use Rattle.fair_games.specs.declared.trial.Trial.{Trial}
 use Rattle.fair_games.specs.declared.trial.Trial.TheVariants.{GivensAlone, GivensFirst, HalfFirst}
 
--- the items of a trial, from orders of the clues (or signs) and of the givens, which are the items from a place
--- on
+-- the items that a trial tries, in turn, by an order of the clues (or signs) and one of the givens; in the
+-- numbers of items, so many clues come first, and the givens after them
 abbrev pub in_turn : Trial → ℕ → List ℕ → List ℕ → List ℕ
 in_turn GivensAlone count clues givens = map (λ i. count + i) givens
 in_turn GivensFirst count clues givens = map (λ i. count + i) givens ++ clues
@@ -28,7 +28,7 @@ drawn_game trial w items s =
     let order = drawn_trial trial (items - w * w) (w * w) square.1 in
     ((square.0, order.0), order.1)
 
--- what some draws leave of a stream
+-- the stream that is left after n draws
 abbrev pub stream_after : Trial → ℕ → ℕ → ℕ → Stream → Stream
 stream_after trial w items zero s = s
 stream_after trial w items (suc n) s = (drawn_game trial w items (stream_after trial w items n s)).1

@@ -39,7 +39,7 @@ pub record IsFair {P : Type 0} (f : Ghosts P) (Struck : P → Striking) (grade :
   pub graded : IsOfGrade f Struck grade p
   pub earlier : (n : ℕ) → n < draw → IsPassedOver f Struck grade (draws n)
 
--- a fair game where its size and grade are offered; or none, where all draws were passed over
+-- a fair game of an offered size and grade; or `NotOffered`; or `NoneFound`, where all draws are passed over
 abbrev pub IsFairResult : {P : Type 0} → Ghosts P → (P → Striking) → Grade → Bool → (ℕ → GridValue × List ℕ)
     → Result P FairFault → Type 0
 IsFairResult f Struck grade offered draws (Ok p) = (offered ≡ true) × IsFair f Struck grade draws p

@@ -1,5 +1,5 @@
--- What a fair game promises to who plays it, whichever size, grade and seed it is of. Which of these games a seed gives is
--- a format (`Fair`).
+-- What a fair game promises to its player, whichever size, grade and seed it is of. Which of these games a
+-- seed gives is a format (`Fair`).
 use Rattle.std.specs.Prelude.{◌≡◌, ℕ, ◌-◌, ◌*◌, ◌<◌, ◌≤◌, Bool, false, Some, IsTrue}
 use Rattle.latin_board.specs.Squares.{GridValue}
 use Rattle.trail_solver.specs.Solutions.{IsOnlySolution}
@@ -23,11 +23,11 @@ IsBeyondGrade f Struck grade p = IsByGrade f Struck grade p → ⊥
 abbrev pub IsOfGrade : {P : Type 0} → Ghosts P → (P → Striking) → Grade → P → Type 0
 IsOfGrade f Struck grade p = IsGradeOf (f.puzzle p) (Struck p) (Some grade)
 
--- the item is tried: each given is, and so is each clue or sign, which come before the givens, but where these are alone
+-- the item is tried: each given is, and so is each clue or sign, which come first, unless givens alone are
 abbrev pub IsTriedIn : Trial → ℕ → ℕ → Type 0
 IsTriedIn trial count i = trial ≡ GivensAlone → count ≤ i
 
--- without any set of its items that has one that is tried, the puzzle doesn't follow by the grade
+-- the puzzle doesn't follow by the grade once some of its items go, if one of them is an item that is tried
 abbrev pub NeedsItems : {P : Type 0} → Ghosts P → (P → Striking) → Grade → Trial → ℕ → P → Type 0
 NeedsItems f Struck grade trial w p =
     (keep : ℕ → Bool) (i : ℕ) → i < f.items_of w → IsTrue (f.has p i) → IsTriedIn trial (f.items_of w - w * w) i

@@ -7,7 +7,7 @@ use Rattle.fair_games.specs.Pruned.{IsTried}
 use Rattle.fair_games.specs.Fair.{FailsBy, IsPrunedGame}
 use Rattle.line_steps.specs.Reasons.{Striking}
 
--- without any set of items that has one that was tried, the pruned puzzle of a draw doesn't follow
+-- the pruned puzzle of a draw doesn't follow once some of its items go, if one of them was tried
 abbrev pub ItemsAreNeeded : {P : Type 0} → Ghosts P → (P → Striking) → Type 0
 ItemsAreNeeded {P} f Struck =
     (grade : Grade) (draw : GridValue × List ℕ) (p : P) (keep : ℕ → Bool) (i : ℕ) → IsPrunedGame f Struck grade draw p

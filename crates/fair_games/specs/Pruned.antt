@@ -15,9 +15,9 @@ pub record IsTrial (n : ℕ) (order : List ℕ) : Type 0 where
 abbrev pub IsTried : ℕ → List ℕ → Type 0
 IsTried i order = place_in i order < length order
 
--- g is a Latin square, and the order has some of its items, none twice; p is what is left of its full puzzle when they
--- are tried in turn: an item stays exactly if what is left then fails the test without it. The pruned puzzle of `puzzle_gen` is this with all items tried, and with several
--- solutions as the failure
+-- g is a Latin square, and the order has some of its items, none twice; p is what is left of its full puzzle
+-- when they are tried in turn: an item stays exactly if what is left then fails without it. The pruned puzzle
+-- of `puzzle_gen` is this with all items tried, and there a puzzle fails that has several solutions
 pub record IsPrunedBy {P : Type 0} (f : Ghosts P) (Fails : P → Type 0) (g : GridValue) (order : List ℕ)
     (p : P) : Type 0 where
   pub is_grid : IsGrid g

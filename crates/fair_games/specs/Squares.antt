@@ -59,7 +59,7 @@ next_row row before =
     let numbers = drawn_order before.0.size columns.1 in
     (with_first_row before.0 row columns.0 (first_row before.0 numbers.0 columns.0 []), numbers.1)
 
--- the first rows
+-- the first rows of a square, and the stream that is left
 abbrev pub drawn_rows : ℕ → ℕ → Stream → GridValue × Stream
 drawn_rows w zero s = (blank_grid w, s)
 drawn_rows w (suc row) s = next_row row (drawn_rows w row s)

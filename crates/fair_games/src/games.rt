@@ -121,7 +121,7 @@ fn letter_byte<P: FairGame>(grade: Grade) -> u8
     }
 }
 
-// The same by a stream of random words. `cache` serves all draws.
+// The puzzle of the first draw from a stream that gives one of the grade. `cache` serves all draws.
 fn find_game<P: FairGame, R: Rng>(rng: &mut R, size: Size, grade: Grade) -> Option<P>
     ensures needed { IfSome result (NeedsItems ⟦<P as Rules>⟧ (StruckBy P.puzzle P.own) grade (P.trial_of grade) size) }
     ensures fair { MatchOption result

@@ -6,7 +6,7 @@ ghost use Rattle.fair_games.specs.FairLaws.{ItemsAreNeeded};
 use crate::fair_game::FairGame;
 use trail_solver::Rules;
 
-/// Of the pruned puzzle of a draw no set of items can be dropped that has one that was tried: without it, it doesn't follow.
+/// The pruned puzzle of a draw doesn't follow once some of its items go, if one of them was tried.
 pub fn fair_laws<P: FairGame>()
     ensures needed { ItemsAreNeeded ⟦<P as Rules>⟧ (StruckBy P.puzzle P.own) }
 {}

@@ -1,8 +1,8 @@
-//! Fair games: for each game, size, grade and seed one puzzle that follows by the steps of its grade without a guess, asks for
-//! more than the grade below, and has no item too many.
+//! Fair games: for each game, size, grade and seed one puzzle, or none, that follows by the steps of its grade without a guess,
+//! asks for more than the grade below, and has no item too many of those that are tried.
 //!
-//! A seed gives a stream of random words, and the stream gives draws: a Latin square, row by row, and an order of the items of
-//! its full puzzle. Each item is tried once, in that order: it goes where the rest still follows by the grade. `fair` is the
+//! A seed gives a stream of random words, and the stream gives draws: a Latin square, row by row, and an order of items of its
+//! full puzzle. Each of these is tried once, in that order: it goes if the rest still follows by the grade. `fair` is the
 //! pruned puzzle of the first draw that gives one of the grade. Nothing here takes memory.
 //!
 //! ```

@@ -1,4 +1,5 @@
-//! The removal of items: each is tried once, and goes where the rest still follows by the grade.
+//! The removal of items, by halves: the rest is as if each was tried in turn, and went if the rest still
+//! followed by the grade.
 
 ghost use Rattle.line_steps.specs.Reasons.{StruckBy};
 ghost use Rattle.std.specs.Prelude.{◌≡◌, ◌↔◌, ℕ, ◌*◌, ◌<◌, length, slice_index, IfSome, IsTrue, MatchOption};
@@ -31,8 +32,8 @@ pub(crate) fn pruned<P: Steps>(grid: &Grid, order: &[u8], grade: Grade, cache: &
     ensures follows { Follows (StruckBy P.puzzle P.own result) grade grid.now }
 {
     let full = P::full(grid);
-    let mut left = Candidates::all(grid.size());
-    prune(full, order, &Trying { grid, grade }, &mut left, cache)
+    let mut candidates = Candidates::all(grid.size());
+    prune(full, order, &Trying { grid, grade }, &mut candidates, cache)
 }
 
 // What is left of the puzzle, where the items are tried in this order. All go at once, if the rest still follows, since
@@ -42,32 +43,32 @@ fn prune<P: Steps>(
     puzzle: P,
     order: &[u8],
     trying: &Trying,
-    left: &mut Candidates,
+    candidates: &mut Candidates,
     cache: &mut P::Cache,
 ) -> P
     requires items { (k : ℕ) → k < length order.now → slice_index order.now k < P.items_of (P.puzzle puzzle).size }
     requires solves { Solves (P.puzzle puzzle) trying.now.grid.now }
     requires follows { Follows (StruckBy P.puzzle P.own puzzle) trying.now.grade trying.now.grid.now }
     requires base { IsBase (StruckBy P.puzzle P.own (P.cut puzzle (none_of order.now))) trying.now.grade
-        trying.now.grid.now left.old }
+        trying.now.grid.now candidates.old }
     ensures in_turn { IsLeftInTurn ⟦<P as Rules>⟧
         (FailsBy (StruckBy P.puzzle P.own) trying.now.grade trying.now.grid.now)
         order.now puzzle result }
     ensures follows { Follows (StruckBy P.puzzle P.own result) trying.now.grade trying.now.grid.now }
-    ensures later { IsEarlier left.old left.new }
+    ensures later { IsEarlier candidates.old candidates.new }
 {
     let _size = puzzle.size();
-    if let Some(fewer) = without_all(puzzle, order, trying, left, cache) {
+    if let Some(fewer) = without_all(puzzle, order, trying, candidates, cache) {
         return fewer;
     }
     if order.len() < 2 {
         return puzzle;
     }
     let (first, second) = order.split_at(order.len() / 2);
-    let mark = left.mark();
-    let half = prune(puzzle, first, trying, left, cache);
-    left.give_back(mark);
-    prune(half, second, trying, left, cache)
+    let mark = candidates.mark();
+    let half = prune(puzzle, first, trying, candidates, cache);
+    candidates.give_back(mark);
+    prune(half, second, trying, candidates, cache)
 }
 
 // The puzzle without all items of an order, where the rest follows. The candidates are a base: from them the steps of
@@ -78,29 +79,29 @@ fn without_all<P: Steps>(
     puzzle: P,
     order: &[u8],
     trying: &Trying,
-    left: &mut Candidates,
+    candidates: &mut Candidates,
     cache: &mut P::Cache,
 ) -> Option<P>
     requires items { (k : ℕ) → k < length order.now → slice_index order.now k < P.items_of (P.puzzle puzzle).size }
     requires solves { Solves (P.puzzle puzzle) trying.now.grid.now }
     requires base { IsBase (StruckBy P.puzzle P.own (P.cut puzzle (none_of order.now))) trying.now.grade
-        trying.now.grid.now left.old }
+        trying.now.grid.now candidates.old }
     ensures in_turn { MatchOption result
         (FailsBy (StruckBy P.puzzle P.own) trying.now.grade trying.now.grid.now (P.cut puzzle (none_of order.now)))
         (IsLeftInTurn ⟦<P as Rules>⟧ (FailsBy (StruckBy P.puzzle P.own) trying.now.grade trying.now.grid.now)
         order.now puzzle) }
     ensures follows { IfSome result (λ fewer. Follows (StruckBy P.puzzle P.own fewer) trying.now.grade trying.now.grid.now) }
     ensures base { IsBase (StruckBy P.puzzle P.own (P.cut puzzle (none_of order.now))) trying.now.grade
-        trying.now.grid.now left.new }
-    ensures later { IsEarlier left.old left.new }
+        trying.now.grid.now candidates.new }
+    ensures later { IsEarlier candidates.old candidates.new }
 {
     let _size = puzzle.size();
     let fewer = without(puzzle, order);
-    if !settle(&fewer, trying.grade, left, cache) {
+    if !settle(&fewer, trying.grade, candidates, cache) {
         // It never comes to this, since no step strikes the square's numbers.
         return None;
     }
-    if are_numbers(left, trying.grid) {
+    if are_numbers(candidates, trying.grid) {
         Some(fewer)
     } else {
         None

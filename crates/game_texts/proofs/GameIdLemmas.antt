@@ -1,4 +1,4 @@
--- Game IDs: what is read has the grammar, what has the grammar is read, and reading is not refused for memory.
+-- Game IDs: what is read follows the grammar, what follows it is read, and no reading is refused for memory.
 use Rattle.std.proofs.lemmas.Bool.Decides.{nat_tests}
 use Rattle.std.specs.Prelude.{◌≡◌, ℕ, ◌≤◌, Bool, false, List, [], ◌∷◌, Option, Some, None, Result, Ok, Err}
 use Rattle.byte_text.specs.Decimals.{decimal_value}
@@ -21,12 +21,12 @@ use Rattle.game_texts.specs.IdFaults.{NotForMemory}
 use Rattle.game_texts.specs.Laws.NotForMemory.{not_for_memory-then, not_for_memory-if}
 use Rattle.game_texts.specs.Laws.Refusals.{refused_then}
 
--- Reading gives the puzzles that the grammar of descriptions has, at each size.
+-- The reading of descriptions and their grammar agree, at each size.
 pub record ReadsGrammar (D : Type 0) (desc_at : ℕ → List ℕ → Result D IdFault) (IsDesc : ℕ → D → List ℕ → Type 0) : Type 0 where
   pub taken : (w : ℕ) (desc : List ℕ) (d : D) → 3 ≤ w → w ≤ 9 → desc_at w desc ≡ Ok d → IsDesc w d desc
   pub again : (w : ℕ) (desc : List ℕ) (d : D) → IsDesc w d desc → desc_at w desc ≡ Ok d
 
--- where the text is split
+-- a text is what stands before its first separator, then this separator, then the rest
 split_taken : (bs : List ℕ) (separator : ℕ) (rest : List ℕ) → from_separator bs ≡ separator ∷ rest
     → (bs ≡ params_part bs ++ separator ∷ rest) × (is_separator separator ≡ true)
 split_taken [] separator rest = λ found. cc
@@ -51,7 +51,7 @@ split_again (b ∷ bs) separator rest none is =
     let more = split_again bs separator rest none.1 is in
     (rw none.0 (ap (λ xs. b ∷ xs) more.0), rw none.0 more.1)
 
--- parameters have no separator in their text
+-- the text of parameters has no separator
 digit_no_separator : (w : ℕ) → w ≤ 9 → is_separator (digit_zero + w) ≡ false
 digit_no_separator w small =
     rw (ne_eqb (digit_zero + w) colon (omega arith), ne_eqb (digit_zero + w) hash (omega arith), ne_eqb (digit_zero + w) exclamation (omega arith)) refl
@@ -64,7 +64,7 @@ params_no_separator : (letters : List ℕ) (p : Params) → LacksSeparators lett
 params_no_separator letters p lacks params =
     (digit_no_separator p.size params.largest, letter_no_separator letters p.letter lacks params.letter)
 
--- what stands after the parameters
+-- after the parameters p, bs spells this ID: a separator and a description, or `!` and a seed
 abbrev Behind : Params → List ℕ → GameId (List ℕ) → Type 0
 Behind p bs (Described q desc) = (q ≡ p) × ((separator : ℕ) × (bs ≡ separator ∷ desc) × (separator ≢ hash) × (separator ≢ exclamation))
 Behind p bs (Seeded q seed) = (q ≡ p) × (seed < 2 ^ 64) × (bs ≡ exclamation ∷ decimal seed)
@@ -76,7 +76,7 @@ seed_taken p bs seed parts number read = grind (arith, nat_tests, number_taken)
 behind_params_taken : (p : Params) (bs : List ℕ) (parts : GameId (List ℕ)) → behind_params p bs ≡ Ok parts → Behind p bs parts
 behind_params_taken p bs parts = grind (arith, nat_tests, refused_then, seed_taken)
 
--- the separator before a description
+-- a separator that is neither `#` nor `!` is `:`
 colon_left : (b : ℕ) → is_separator b ≡ true → b ≢ hash → b ≢ exclamation → b ≡ colon
 colon_left b is not_hash not_exclamation = grind (arith, nat_tests)
 
@@ -100,7 +100,7 @@ unfolding id_parts_at
 id_parts_taken letters has_adjacent text parts read =
     grind (arith, nat_tests, bind_taken, parts_text, params_taken, behind_params_taken)
 
--- what stands after the parameters is read after them
+-- of a text of parameters with a separator after it, these are read, and then what stands from there on
 split_params : (letters : List ℕ) (has_adjacent : Bool) (p : Params) (separator : ℕ) (rest : List ℕ) → LacksSeparators letters
     → IsParams letters p → is_separator separator ≡ true
     → id_parts_at letters has_adjacent (params_text p ++ separator ∷ rest) ≡ behind_params p (separator ∷ rest)
@@ -112,7 +112,7 @@ pub id_parts_again : (letters : List ℕ) (has_adjacent : Bool) (text : List ℕ
     → IsIdText letters IsAnyText parts text → id_parts_at letters has_adjacent text ≡ Ok parts
 id_parts_again letters has_adjacent text parts lacks h5 = grind (arith, nat_tests, split_params, number_again)
 
--- the ID with its description read
+-- once the description is read too, the text is one of the grammar, of the whole ID
 with_taken : (D : Type 0) (letters : List ℕ) (desc_at : ℕ → List ℕ → Result D IdFault) (IsDesc : ℕ → D → List ℕ → Type 0)
     (text : List ℕ) (parts : GameId (List ℕ)) (id : GameId D)
     → ReadsGrammar D desc_at IsDesc → IsIdText letters IsAnyText parts text → with_description desc_at parts ≡ Ok id
@@ -143,7 +143,7 @@ id_again D letters has_adjacent desc_at IsDesc text (Seeded p seed) lacks reads 
     let parts = id_parts_again letters has_adjacent text (Seeded p seed) lacks h in
     bind_again (id_parts_at letters has_adjacent text) (with_description desc_at) (Seeded p seed) parts
 
--- the same of an answer
+-- if the answer of reading is an ID, the text is one of the grammar, of that ID
 pub id_found : (D : Type 0) (letters : List ℕ) (has_adjacent : Bool) (desc_at : ℕ → List ℕ → Result D IdFault)
     (IsDesc : ℕ → D → List ℕ → Type 0) (text : List ℕ) (answer : Result (GameId D) IdFault)
     → ReadsGrammar D desc_at IsDesc → answer ≡ id_at letters has_adjacent desc_at text
@@ -151,7 +151,7 @@ pub id_found : (D : Type 0) (letters : List ℕ) (has_adjacent : Bool) (desc_at 
 id_found D letters has_adjacent desc_at IsDesc text (Ok id) reads is = id_taken D letters has_adjacent desc_at IsDesc text id reads (sym is)
 id_found D letters has_adjacent desc_at IsDesc text (Err e) reads is = tt
 
--- what a game owes of its descriptions makes its reading one of the grammar
+-- a game that keeps what `Game` asks of its descriptions reads them as their grammar has them
 pub game_reads : (D : Type 0) (puzzle : D → Puzzle) (valid : D → Type 0) (describes : List ℕ → D → Type 0)
     (desc_at : ℕ → List ℕ → Result D IdFault)
     → ((w : ℕ) (text : List ℕ) (d : D) → 3 ≤ w → w ≤ 9 → desc_at w text ≡ Ok d → describes text d × valid d × ((puzzle d).size ≡ w))

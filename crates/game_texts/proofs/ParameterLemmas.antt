@@ -1,4 +1,4 @@
--- Parameters: what is read is written so, and what is written so is read.
+-- Parameters: a text that is read is the one written of what was read, and what is written is read.
 use Rattle.std.proofs.lemmas.Bool.Decides.{nat_tests}
 use Rattle.std.proofs.Common.{◌≡◌, ℕ, Bool, true, false, ◌==◌, List, ◌∷◌, Option, Some, None, IfSome, Result, Ok, Err, IfOk, refl, sym, subst, arith}
 use Rattle.std.specs.List.{Contains, list_any, slice_index_or}
@@ -20,7 +20,7 @@ any_from_contains : (letters : List ℕ) (letter : ℕ) → Contains letters let
 any_from_contains letters letter (place, inside, here) =
     list_any_at (λ l. l == letter) letters place letter inside (eq-eqb (slice_index_or letters place letter) letter here)
 
--- a value that was read after the size
+-- the parameters p have the size w, and bs is the text of their letter
 abbrev Reads : List ℕ → ℕ → List ℕ → Params → Type 0
 Reads letters w bs p = (p.size ≡ w) × IfSome p.letter (λ letter. Contains letters letter) × (bs ≡ letter_part p.letter)
 
@@ -42,7 +42,7 @@ pub params_found : (letters : List ℕ) (has_adjacent : Bool) (text : List ℕ) 
 params_found letters has_adjacent text (Ok p) is = params_taken letters has_adjacent text p (sym is)
 params_found letters has_adjacent text (Err e) is = tt
 
--- no adjacent mode is asked for
+-- `d` and a letter of the game, or nothing, is read as that letter or none, and not as an adjacent mode
 letters_again : (letters : List ℕ) (has_adjacent : Bool) (w : ℕ) (letter : Option ℕ) → IfSome letter (λ l. Contains letters l)
     → behind_size letters has_adjacent w (letter_part letter) ≡ Ok (record { size = w; letter = letter })
 letters_again letters has_adjacent w letter member = grind (arith, nat_tests, any_from_contains)

@@ -1,6 +1,5 @@
 -- Game IDs: their texts, and reading one.
-use Rattle.std.specs.Prelude.{◌≡◌, ℕ, ◌^◌, ◌<◌, List, ◌∷◌, ◌++◌, Bool, false, All, ◌==◌, ◌||◌, if◌then◌else◌, []}
-use Rattle.std.specs.Prelude.{Option, Some, None, Result, Ok, Err}
+use Rattle.std.specs.Prelude.{◌≡◌, ℕ, ◌^◌, ◌<◌, List, ◌∷◌, ◌++◌, Bool, false, All, ◌==◌, ◌||◌, if◌then◌else◌, [], Option, Some, None, Result, Ok, Err}
 use Rattle.std.specs.Fmt.{decimal}
 use Rattle.game_texts.specs.declared.game_id.GameId.{GameId}
 use Rattle.game_texts.specs.declared.game_id.GameId.TheVariants.{Described, Seeded}
@@ -20,7 +19,7 @@ IsIdText letters IsDesc (Described p d) text =
 IsIdText letters IsDesc (Seeded p seed) text =
     IsParams letters p × (seed < 2 ^ 64) × (text ≡ params_text p ++ exclamation ∷ decimal seed)
 
--- The description may be any text, and stands for itself.
+-- Any text will do as a description, and is kept as it is: for IDs whose description isn't read.
 abbrev pub IsAnyText : ℕ → List ℕ → List ℕ → Type 0
 IsAnyText w desc text = desc ≡ text
 
@@ -47,7 +46,7 @@ abbrev pub seeded : Params → Option ℕ → Result (GameId (List ℕ)) IdFault
 seeded p None = Err BadSeed
 seeded p (Some seed) = Ok (Seeded p seed)
 
--- the ID of what stands from the separator on, after its parameters
+-- the ID with the parameters p, by what stands from the separator on, or its first fault
 abbrev pub behind_params : Params → List ℕ → Result (GameId (List ℕ)) IdFault
 behind_params p [] = Err NoDescription
 behind_params p (separator ∷ bs) =
@@ -70,7 +69,7 @@ unfoldable pub id_at : {D : Type 0} → List ℕ → Bool → (ℕ → List ℕ 
     → Result (GameId D) IdFault
 id_at letters has_adjacent desc_at text = id_parts_at letters has_adjacent text >>= with_description desc_at
 
--- the same ID, with f of what stands for the puzzle
+-- the ID with f applied to its puzzle, and the same parameters or seed
 abbrev pub id_map : {X Y : Type 0} → (X → Y) → GameId X → GameId Y
 id_map f (Described p x) = Described p (f x)
 id_map f (Seeded p seed) = Seeded p seed

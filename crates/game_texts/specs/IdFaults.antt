@@ -4,8 +4,7 @@ use Rattle.std.specs.Prelude.{◌≢◌, ℕ, List, codes, Result, IfErr, length
 use Rattle.game_texts.specs.declared.id_fault.IdFault.{IdFault}
 use Rattle.game_texts.specs.declared.id_fault.IdFault.TheVariants.{BadSize, BadLetter, AdjacentMode, BadParams}
 use Rattle.game_texts.specs.declared.id_fault.IdFault.TheVariants.{ForeignSeed, NoDescription, BadSeed, BadClue}
-use Rattle.game_texts.specs.declared.id_fault.IdFault.TheVariants.{BadSquares, TooFew, TooMany, OffGrid, Contradiction}
-use Rattle.game_texts.specs.declared.id_fault.IdFault.TheVariants.{OutOfMemory}
+use Rattle.game_texts.specs.declared.id_fault.IdFault.TheVariants.{BadSquares, TooFew, TooMany, OffGrid, Contradiction, OutOfMemory}
 
 -- a fault's number
 abbrev pub id_fault_number : IdFault → ℕ
@@ -45,6 +44,6 @@ id_fault_name OutOfMemory = codes "OutOfMemory"
 abbrev pub NotForMemory : {A : Type 0} → Result A IdFault → Type 0
 NotForMemory answer = IfErr answer (λ fault. fault ≢ OutOfMemory)
 
--- the list, where it has exactly n members
+-- the list if it has exactly n members, and otherwise the fault that it has too few or too many
 abbrev pub exactly : {X : Type 0} → ℕ → List X → Result (List X) IdFault
 exactly n xs = if nat_lt (length xs) n then Err TooFew else (if nat_lt n (length xs) then Err TooMany else Ok xs)

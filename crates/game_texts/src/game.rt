@@ -17,7 +17,7 @@ pub const MOST_ITEMS: usize = 96;
 
 /// A game of the collection: the rules of its puzzles, and the texts by which they are named.
 ///
-/// All in which two games differ goes through this trait and the one above it.
+/// Sessions and saves know a game by this trait and `Rules` alone.
 pub trait Game: Rules {
     ghost title: { List ℕ };
 
@@ -73,7 +73,7 @@ pub trait Game: Rules {
     // Reading takes no memory, so it never lacks any.
     ghost desc_not_for_memory: { (w : ℕ) (text : List ℕ) → NotForMemory (desc_at w text) };
 
-    // What describes a puzzle is read as that puzzle.
+    // A text that describes a puzzle is read as that puzzle.
     ghost desc_again: { (text : List ℕ) (p : Self) → Self.valid p → describes text p →
         desc_at (Self.puzzle p).size text ≡ Ok p };
 

@@ -3,8 +3,7 @@
 ghost use Rattle.std.specs.Prelude.{◌≡◌, Ok, Err, IfOk, Result};
 ghost use Rattle.byte_text.specs.Reading.{Gives};
 ghost use Rattle.game_texts.specs.declared.game_id.GameId.{GameId};
-ghost use Rattle.game_texts.specs.GameIds.{IsIdText, id_at, describes_at, is_separator, params_part, from_separator};
-ghost use Rattle.game_texts.specs.GameIds.{id_parts_at, id_map};
+ghost use Rattle.game_texts.specs.GameIds.{IsIdText, id_at, describes_at, is_separator, params_part, from_separator, id_parts_at, id_map};
 ghost use Rattle.game_texts.specs.IdFaults.{NotForMemory};
 ghost use Rattle.game_texts.specs.Parameters.{has_adjacent_mode};
 
@@ -39,6 +38,7 @@ pub fn read_id<P: Game>(text: &[u8]) -> Result<GameId<P>, IdFault>
     parse_id(text)
 }
 
+// Apart from `read_id`, so that `id_at` is opened here alone: there its laws say what it is.
 #[tactic(auto, unfolding(crate::specs::GameIds::id_at))]
 fn parse_id<P: Game>(text: &[u8]) -> Result<GameId<P>, IdFault>
     ensures { result ≡ id_at P.letter_codes (has_adjacent_mode P.title) P.desc_at text.now }
@@ -92,6 +92,7 @@ fn split_at_separator(text: &[u8]) -> (&[u8], &[u8])
     text.split_at(text.len())
 }
 
+// Whether the byte is `:`, `#` or `!`.
 fn is_separator(byte: u8) -> bool
     ensures { result ≡ is_separator byte }
 {

@@ -74,6 +74,7 @@ pub(crate) fn read_params(letters: &str, has_adjacent: bool, text: &[u8]) -> Res
     read_behind_size(letters, has_adjacent, size, rest)
 }
 
+// The parameters of a size, by what stands after it.
 fn read_behind_size(
     letters: &str,
     has_adjacent: bool,
@@ -90,6 +91,7 @@ fn read_behind_size(
     }
 }
 
+// The parameters of a size, by what stands after the `d`.
 fn read_letter(letters: &str, size: Size, text: &[u8]) -> Result<Params, IdFault>
     ensures { result ≡ letter_at letters.now size text.now }
 {

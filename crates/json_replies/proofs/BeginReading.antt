@@ -1,6 +1,5 @@
 -- A line `fair` and three words is read as these words, and a line `item` as its numbers.
-use Rattle.std.proofs.Common.{◌≡◌, ◌≢◌, ℕ, ◌≤◌, ◌==◌, true, false, not, List, [], ◌∷◌, ◌++◌, length, Some, is_none, refl, ap, ◌∙◌}
-use Rattle.std.proofs.Common.{arith}
+use Rattle.std.proofs.Common.{◌≡◌, ◌≢◌, ℕ, ◌≤◌, ◌==◌, true, false, not, List, [], ◌∷◌, ◌++◌, length, Some, is_none, refl, ap, ◌∙◌, arith}
 use Rattle.std.specs.Fmt.{decimal}
 use Rattle.std.proofs.lemmas.Bool.{and_from}
 use Rattle.std.proofs.lemmas.Bool.Decides.{nat_tests}
@@ -16,16 +15,18 @@ use Rattle.json_replies.specs.declared.item_words.ItemNumbers.TheVariants.{Place
 use Rattle.json_replies.specs.BeginLines.{IsItemText, ItemLinesAsk, begin_at, item_at}
 use Rattle.json_replies.specs.FairLines.{IsWord, IsFairLine, is_word}
 
+-- a text that has bytes isn't of length 0
 full_word : (text : List ℕ) → text ≢ [] → not (length text == 0) ≡ true
 full_word [] some = absurd (some refl)
 full_word (b ∷ bs) some = let is : (length (b ∷ bs) == 0) ≡ false = grind (arith, nat_tests) in ap not is
 
+-- a word passes the test of one
 word_again : (text : List ℕ) → IsWord text → is_word text ≡ true
 word_again text (some, lacks) =
     and_from (not (length text == 0)) (is_none (behind space text)) (full_word text some)
     (ap is_none (behind_none_in space text lacks))
 
--- the words are those of the line
+-- a line `fair` and three words is read as these words
 pub fair_again : (line : Line) (words : FairWords (List ℕ)) → IsFairLine words line → begin_at line ≡ Some (Fair words)
 fair_again line words is =
     let rest = words.grade ++ space ∷ words.seed in
@@ -39,9 +40,11 @@ fair_again line words is =
       word_again words.seed is.seed,
     ) refl
 
+-- the decimal of a number has no comma
 lacks_last : (n : ℕ) → n ≤ 255 → Lacks comma (decimal n)
 lacks_last n small = lacks_decimal comma n (omega arith) refl
 
+-- the text of some numbers is read as these numbers
 item_again : (numbers : ItemNumbers) (text : List ℕ) → IsItemText numbers text → item_at text ≡ Some numbers
 item_again (Place x y n) text (small, (rest, (xs, is, lacks, at), (ys, more, none, so))) =
     let last = decimal n in
@@ -80,6 +83,6 @@ item_again (Sign x y u v n) text
       number_again 255 n small (omega arith),
     ) refl
 
--- a line of the word and such a text asks for the numbers
+-- `item ` and the text of some numbers ask for these numbers
 pub item_lines_ask : ItemLinesAsk
 item_lines_ask numbers text spelled = rw (item_again numbers text spelled) refl

@@ -28,13 +28,13 @@ module _ (p : Puzzle) (Struck : Striking) (less : IsAntitone Struck)
     (nested : (lower higher : Grade) (h : GridValue) → IsLower lower higher → Follows Struck lower h → Follows Struck higher h)
     (s g : GridValue) (view : CandidatesValue) (cell : ℕ) (solves : Solves p s) (size : g.size ≡ s.size) (in_view : IsView g view)
     (inside : cell < g.size * g.size) (empty : number_at g cell ≡ 0) where
-  -- by all steps, too
+  -- a puzzle that follows by a grade follows by all steps, too
   by_all : (grade : Grade) → Follows Struck grade s → Follows Struck Hard s
   by_all Latin follows = nested Latin Hard s (omega arith) follows
   by_all Easy follows = nested Easy Hard s (omega arith) follows
   by_all Hard follows = follows
 
-  -- some number is shown
+  -- if the puzzle follows by a grade, steps of the grade show a number, since a square is empty
   leads : (grade : Grade) → Follows Struck grade s → NothingFollows Struck grade g view → ⊥
   leads grade follows none =
       let (steps, shows) = boards_lead Struck less grade s g view cell follows size in_view (subst (λ (w : ℕ). cell < w * w) size inside) in
@@ -43,7 +43,7 @@ module _ (p : Puzzle) (Struck : Striking) (less : IsAntitone Struck)
       (solution_pair p s s.size cell solves solves.same_size (subst (λ (w : ℕ). cell < w * w) size inside)) in
       none steps (OnlyValue cell (number_at s cell)) pair empty shows
 
-  -- where no square is wrong the solution keeps the numbers
+  -- where no square is wrong the solution keeps the grid's numbers
   keeps : ((wrong : ℕ) → IsWrongAt g s wrong → ⊥) → Keeps g s
   keeps right at within some =
       let apart : number_at g at ≢ 0 = λ none. absurd (omega (arith, some, none)) in
@@ -57,17 +57,19 @@ module _ (p : Puzzle) (Struck : Striking) (less : IsAntitone Struck)
     | inr within ↦ within
   ]
 
+  -- where no square is wrong, the hint is a number by steps of that grade or of one below
   right_hint : (grade : Grade) (hint : NextHint) → Follows Struck grade s → IsHintFrom p Struck g view hint
       → ((wrong : ℕ) → IsWrongAt g s wrong → ⊥) → IsExplainedBy grade hint
   right_hint grade (Found own chain) follows is right = least grade own follows is.least.1
   right_hint grade (Refuted own refutation) follows is right = is.right s (solves, keeps right)
   right_hint grade Nothing follows is right = leads Hard (by_all grade follows) is.least.0
 
-  -- a wrong square is refuted
+  -- a grid with a wrong square is refuted
   wrong_refuted : (grade : Grade) → Follows Struck grade s → (wrong : ℕ) → IsWrongAt g s wrong → IsRefuted Struck Hard view
   wrong_refuted grade follows wrong (within, some, other) =
       boards_refuted Struck less Hard s g view wrong (by_all grade follows) size in_view (subst (λ (w : ℕ). wrong < w * w) size within) some other
 
+  -- where a square is wrong, the hint is a contradiction
   wrong_hint : (grade : Grade) (hint : NextHint) → Follows Struck grade s → IsHintFrom p Struck g view hint → (wrong : ℕ) → IsWrongAt g s wrong
       → IsContradiction hint
   wrong_hint grade (Found own chain) follows is wrong so = is.least.2 (wrong_refuted grade follows wrong so)

@@ -33,7 +33,7 @@ use Rattle.json_replies.proofs.BeginReading.{fair_again}
 known_letter : (letters : List ℕ) (own : Option ℕ) (code : ℕ) → own ≡ Some code → Contains letters code → IfSome own (Contains letters)
 known_letter letters own code is contains = subst (λ (o : Option ℕ). IfSome o (Contains letters)) (sym is) contains
 
--- what is asked for has parameters of the game
+-- what the words ask for has parameters of the game
 pub asked_params : (letters : List ℕ) (letter : Grade → Option ℕ) → AreFairLetters letters letter → (words : FairWords (List ℕ)) (r : FairRequest)
     → IsAsked letter words (Ok r) → IsParams letters (record { size = r.size; letter = letter r.grade })
 asked_params letters letter own words r (size, (code, is, offered, word), seed) = record {
@@ -44,13 +44,13 @@ asked_params letters letter own words r (size, (code, is, offered, word), seed) 
 
 module _ {P : Type 0} (f : GameFacts P) (b : BoardFacts P) (steps : HasSteps f.rules b.struck_by) (ids : IdsAreReadOnce f) (canonical : AreCanonical f)
     (letters : AreFairLetters f.letters b.fair_letter) where
-  -- the session of a fair game
+  -- the new session of a fair game is as a line `fair` is to begin it
   fair_start : (r : FairRequest) (p : P) → IsGameOfRequest f b r p → IsFairStart f b r (new_game (fair_params b r) p)
   fair_start r p game =
       let (solution, solved) = fair_solved f.rules b.struck_by steps r.grade _ p game in
       record { fair = game; start = refl; solution = solution; only = solved.0; follows = solved.1; graded = game.graded }
 
-  -- what `new` with its ID gives
+  -- `new` with the ID of a fair game begins its session, or is refused for want of memory
   new_gives : (old : Option (History P)) (words : FairWords (List ℕ)) (r : FairRequest) (p : P) (outcome : Outcome P)
       → IsAsked b.fair_letter words (Ok r) → IsGameOfRequest f b r p → LineGives f old (described_line f (fair_params b r) p) outcome
       → (outcome ≡ Ok (ok_line, Some (new_game (fair_params b r) p))) ⊎ (outcome ≡ Err Memory)
@@ -60,10 +60,11 @@ module _ {P : Type 0} (f : GameFacts P) (b : BoardFacts P) (steps : HasSteps f.r
       (described_lines_begin f steps.items ids canonical old (fair_params b r) p (asked_params f.letters b.fair_letter letters words r asked) cut.valid
       (sym size)).others outcome gives
 
-  -- the session is left, or begun
+  -- the session stays, or becomes that of the fair game that the words ask for
   abbrev Begins : Option (History P) → FairWords (List ℕ) → Option (History P) → Type 0
   Begins old words new = (new ≡ old) ⊎ ((r : FairRequest) × IsAsked b.fair_letter words (Ok r) × IsSomeAnd new (IsFairStart f b r))
 
+  -- what `new` with the fair game leaves is what the words begin
   outcome_begins : (old new : Option (History P)) (words : FairWords (List ℕ)) (r : FairRequest) (p : P) (outcome : Outcome P)
       → IsAsked b.fair_letter words (Ok r) → IsGameOfRequest f b r p
       → (outcome ≡ Ok (ok_line, Some (new_game (fair_params b r) p))) ⊎ (outcome ≡ Err Memory) → new ≡ left old outcome → Begins old words new
@@ -72,6 +73,7 @@ module _ {P : Type 0} (f : GameFacts P) (b : BoardFacts P) (steps : HasSteps f.r
       inr (r, asked, subst (λ (o : Option (History P)). IsSomeAnd o (IsFairStart f b r)) (sym begun) (fair_start r p game))
   outcome_begins old new words r p outcome asked game (inr is) leaves = inl (leaves ∙ ap (left old) is)
 
+  -- what an answer to the words leaves is what the words begin
   answer_begins : (old new : Option (History P)) (words : FairWords (List ℕ)) (answer : Answer P) → BeginGives f b old (Fair words) answer
       → new ≡ session_left old answer → Begins old words new
   answer_begins old new words (Ok outcome) (params, p, (r, asked, is, game), gives) leaves =
@@ -80,6 +82,7 @@ module _ {P : Type 0} (f : GameFacts P) (b : BoardFacts P) (steps : HasSteps f.r
       outcome_begins old new words r p outcome asked game (new_gives old words r p outcome asked game same) leaves
   answer_begins old new words (Err refusal) gives leaves = inl leaves
 
+  -- what an answer to a line `fair` leaves is what its words begin
   line_begins : (old new : Option (History P)) (line : Line) (words : FairWords (List ℕ)) (answer : Answer P) → IsFairLine words line
       → AnswerGives f b old line answer → new ≡ session_left old answer → Begins old words new
   line_begins old new line words answer is (inl (own, so, gives)) leaves =

@@ -29,19 +29,19 @@ use Rattle.json_replies.specs.Steps.{x_data, y_data, edge_clue_data, greater_dat
 use Rattle.json_replies.specs.HintObjects.{SaidData, goal_line_data, grade_data, said_of, left_data, IsHintValue}
 use Rattle.json_replies.specs.Laws.Spellings.{either, integer_whole, list_fits, listed_fits, when_fits}
 
--- the numbers that pass a test
+-- the list of the numbers that pass a test can be written
 pub numbers_fit : (n : ℕ) (test : ℕ → Bool) (ks : List ℕ)
     → IsShallow (suc n) (listed_data (λ k. when (test k) (count_data k)) ks)
 numbers_fit n test ks =
     listed_fits n (λ k. when (test k) (count_data k)) (λ k. when_fits n (test k) (count_data k) refl) ks
 
--- a set of numbers
+-- a set of numbers can be written
 pub set_fits : (n marks : ℕ) → IsShallow (suc n) (mark_set_data marks)
 set_fits n marks = numbers_fit n (has_number marks) (range_with_len 1 9)
 
 -- ---- a step
 
--- its line, squares and numbers
+-- the line, squares and numbers of a reason's parts can be written
 record PartsFit (parts : ReasonParts) : Type 0 where
   line : IsShallow 4 parts.line
   cells : IsShallow 4 parts.cells
@@ -52,6 +52,7 @@ cells_fit w line places =
     listed_fits 3 (λ k. when (has_number places k) (count_data (line_cell w line k)))
     (λ k. when_fits 3 (has_number places k) (count_data (line_cell w line k)) refl) (range_with_len 0 w)
 
+-- the parts of each reason can be written
 parts_fit : (w : ℕ) (is_over : ℕ → ℕ → Bool) (reason : Reason) → PartsFit (parts_of w is_over reason)
 parts_fit w is_over (Given cell) = record { line = tt; cells = (refl, tt); numbers = tt }
 parts_fit w is_over (Peer cell) = record { line = tt; cells = (refl, tt); numbers = tt }
@@ -99,9 +100,11 @@ shows_fit values (Some shows) =
     (λ n. when_fits 1 (has_number values n) (mark_set_data (slice_index shows n)) (set_fits 0 (slice_index shows n)))
     (range_with_len 1 9)
 
+-- what is struck in a square can be written
 strike_fits : (strike : Strike) → IsShallow 3 (strike_data strike)
 strike_fits strike = (refl, (set_fits 1 strike.values, (shows_fit strike.values strike.shows, tt)))
 
+-- a step can be written
 step_fits : (w : ℕ) (clue : ℕ → ℕ) (is_over : ℕ → ℕ → Bool) (told : ToldStep) → IsShallow 5 (step_data w clue is_over told)
 step_fits w clue is_over told =
     let parts = parts_of w is_over told.reason in
@@ -128,7 +131,7 @@ pub grade_fits : (n : ℕ) (letter : Grade → List ℕ) (grade : Option Grade) 
 grade_fits n letter None = tt
 grade_fits n letter (Some grade) = tt
 
--- each member of what a hint says
+-- each member of what a hint says can be written
 record SaidFits (said : SaidData) : Type 0 where
   by : IsShallow 6 said.by
   cell : IsShallow 6 said.cell
@@ -142,7 +145,7 @@ said_fits w letter (Follows grade chain) =
 said_fits w letter (Refuted grade refutation) = record { by = tt; cell = tt; grade = tt; line = tt; number = tt }
 said_fits w letter Nothing = record { by = tt; cell = tt; grade = tt; line = tt; number = tt }
 
--- all that is told of a hint
+-- all that is told of a hint can be written
 pub hint_value_fits : (w : ℕ) (letter : Grade → List ℕ) (clue : ℕ → ℕ) (is_over : ℕ → ℕ → Bool) (Struck : Striking)
     (g : GridValue) (hint : NextHint) (value : Data) → IsHintValue w letter clue is_over Struck g hint value → IsShallow 7 value
 hint_value_fits w letter clue is_over Struck g hint value told =

@@ -25,7 +25,7 @@ use Rattle.json_replies.specs.FurtherLines.{BoardFacts}
 
 -- ---- blanks
 
--- a number more in front
+-- the count of zeros is one more with a 0 more in front, and stays with another number
 count_more : (x : ℕ) (xs : List ℕ) → count_by (λ n. n == 0) (x ∷ xs) ≡ cond (x == 0) 1 0 + count_by (λ n. n == 0) xs
 count_more x xs = sum_by-cons (λ n. cond (n == 0) 1 0) x xs
 
@@ -35,7 +35,7 @@ count_blank x xs is = count_more x xs ∙ ap (λ t. cond t 1 0 + count_by (λ n.
 count_other : (x : ℕ) (xs : List ℕ) → x ≢ 0 → count_by (λ n. n == 0) (x ∷ xs) ≡ 0 + count_by (λ n. n == 0) xs
 count_other x xs some = count_more x xs ∙ ap (λ t. cond t 1 0 + count_by (λ n. n == 0) xs) (apart_eqb x 0 some)
 
--- some number is 0 where there are such, and only there
+-- if a list has zeros, there is a place with 0
 blank_at : (xs : List ℕ) → 0 < count_by (λ n. n == 0) xs → (i : ℕ) × (i < length xs) × (get_or xs i 0 ≡ 0)
 blank_at [] some = absurd (omega arith)
 blank_at (x ∷ xs) some = elim (cases_eq x 0) [
@@ -46,6 +46,7 @@ blank_at (x ∷ xs) some = elim (cases_eq x 0) [
       (suc i, omega (arith, inside), is)
 ]
 
+-- a list in which no zero is counted has no 0 at any place
 no_blank : (xs : List ℕ) (i : ℕ) → 0 ≡ count_by (λ n. n == 0) xs → i < length xs → get_or xs i 0 ≢ 0
 no_blank [] i none inside = absurd (omega arith)
 no_blank (x ∷ xs) zero none inside = λ is. let more = count_blank x xs is in absurd (omega (arith, none, more))
@@ -56,11 +57,11 @@ no_blank (x ∷ xs) (suc i) none inside =
     ] in
     no_blank xs i rest (omega (arith, inside))
 
--- 1 where it is so
+-- 1 if the test is true, and otherwise 0
 abbrev one_if : Bool → ℕ
 one_if t = cond t 1 0
 
--- one is fewer where a number takes its place
+-- with a number put in place of a 0 there is one 0 fewer
 one_less : (xs : List ℕ) (i n : ℕ) → i < length xs → get_or xs i 0 ≡ 0 → 1 ≤ n
     → count_by (λ k. k == 0) (set xs i n) + 1 ≡ count_by (λ k. k == 0) xs
 one_less xs i n inside is some =
@@ -72,10 +73,12 @@ one_less xs i n inside is some =
 
 -- ---- one hint
 
+-- the square of a goal is one of the grid
 goal_inside : (w : ℕ) (goal : Goal) → IsGoalOf w goal → goal_cell w goal < w * w
 goal_inside w (OnlyValue cell value) of = of.inside
 goal_inside w (OnlyPlace line index value) of = line_cell_inside w line index of.0 of.1
 
+-- the number of a goal goes from 1 to the width
 goal_low : (w : ℕ) (goal : Goal) → IsGoalOf w goal → (1 ≤ goal_value goal) × (goal_value goal ≤ w)
 goal_low w (OnlyValue cell value) of = (of.low, of.high)
 goal_low w (OnlyPlace line index value) of = (of.2, of.3)
@@ -83,19 +86,20 @@ goal_low w (OnlyPlace line index value) of = (of.2, of.3)
 module _ (p : Puzzle) (Struck : Striking) (grade : Grade) (s : GridValue) (solves : Solves p s)
     (lead : (g : GridValue) (cell : ℕ) (hint : NextHint) → g.size ≡ s.size → cell < g.size * g.size → number_at g cell ≡ 0
     → IsHint p Struck g hint → ((wrong : ℕ) → IsWrongAt g s wrong → ⊥) → IsExplainedBy grade hint) where
-  -- the solution keeps the numbers of a grid without a wrong one
+  -- the solution keeps the numbers of a grid without a wrong square
   keeps : (g : GridValue) → ((wrong : ℕ) → IsWrongAt g s wrong → ⊥) → Keeps g s
   keeps g right at within some =
       let apart : number_at g at ≢ 0 = λ none. absurd (omega (arith, some, none)) in
       elim (cases_eq (number_at s at) (number_at g at)) [ inl same ↦ same | inr other ↦ absurd (right at (within, apart, λ e. other (sym e))) ]
 
-  -- a grid with its number in the square of a hint
+  -- the next grid has no wrong square either, and one blank fewer
   record IsNext (g next : GridValue) : Type 0 where
     pub grid : IsGrid next
     pub size : next.size ≡ s.size
     pub right : (wrong : ℕ) → IsWrongAt next s wrong → ⊥
     pub fewer : empty_count next + 1 ≡ empty_count g
 
+  -- a blank square in which the solution's number is put makes a next grid
   filled : (g : GridValue) (cell value : ℕ) → IsGrid g → g.size ≡ s.size → ((wrong : ℕ) → IsWrongAt g s wrong → ⊥) → cell < g.size * g.size
       → number_at g cell ≡ 0 → 1 ≤ value → value ≤ g.size → number_at s cell ≡ value
       → IsNext g (record { size = g.size; numbers = set g.numbers cell value })
@@ -120,6 +124,7 @@ module _ (p : Puzzle) (Struck : Striking) (grade : Grade) (s : GridValue) (solve
         fewer = one_less g.numbers cell value here blank low;
       }
 
+  -- a hint, with its number put in its square, makes a next grid
   hint_next : (g : GridValue) (hint : NextHint) → IsGrid g → g.size ≡ s.size → ((wrong : ℕ) → IsWrongAt g s wrong → ⊥)
       → IsHint p Struck g hint → IsExplainedBy grade hint → IsNext g (with_hinted g hint)
   hint_next g (Found own chain) grid size right is explained =
@@ -144,6 +149,7 @@ module _ (p : Puzzle) (Struck : Striking) (grade : Grade) (s : GridValue) (solve
       ]) in
       λ i. record { size = size i; numbers = same i }
 
+  -- hints in turn are explained by steps, and as many as there are blanks lead to the solution
   to_the_end : (g last : GridValue) (hints : List NextHint) → IsGrid g → g.size ≡ s.size → ((wrong : ℕ) → IsWrongAt g s wrong → ⊥)
       → AreHintsInTurn p Struck g hints last → length hints ≤ empty_count g
       → AllByRecursion (IsExplainedBy grade) hints × (length hints ≡ empty_count g → last ≡ s)

@@ -9,6 +9,7 @@ pub record SaysOf (Holds : ℕ → Type 0) (n : ℕ) (listed : List Bool) : Type
   pub count : length listed ≡ n
   pub each : (i : ℕ) → i < n → IsTrue (listed_by listed i) ↔ Holds i
 
+-- with what is said of one item more at its end, a list says it of n + 1 items
 pub says_more : (Holds : ℕ → Type 0) (n : ℕ) (old new : List Bool) (b : Bool) → new ≡ old ++ b ∷ [] → IsTrue b ↔ Holds n → SaysOf Holds n old
     → SaysOf Holds (n + 1) new
 says_more Holds n old new b grown last said = record {

@@ -39,19 +39,20 @@ mutual
   depth-members no_members = refl
   depth-members (member k d ms) = ap₂ max (depth-outline d) (depth-members ms)
 
+-- data of at most 8 levels are not deeper than the deepest that is read
 shallow : (d : Data) → IsShallow 8 d → tree.depth (outline d) ≤ max_depth
 shallow d fits =
     let flat = (told_whole 8 d fits).1 in
     omega (arith, depth-outline d, flat)
 
--- the tokens of a value are that value
+-- the tokens of data that are not too deep are read as these data
 value-outline : (d : Data) (text : List ℕ) → IsShallow 8 d → tokens text ≡ json_tokens (outline d)
     → json.value max_depth (tokens text) ≡ Some (outline d, [])
 value-outline d text fits same =
     ap (json.value max_depth) (same ∙ sym (append-nil (json_tokens (outline d))))
     ∙ value-json_tokens (outline d) max_depth [] (shallow d fits)
 
--- data that alone were written, and LF, are their line
+-- if data alone were written, what was written and LF are the line of these data
 pub line_of : {d : Data} {start end : Written} {bytes : List ℕ} → start.before ≡ [] → start.tokens ≡ []
     → Follow (d ∷ []) start end → bytes ≡ (end.before ++ print end.tokens) ++ 10 ∷ []
     → tokens (print end.tokens) ≡ end.tokens → IsShallow 8 d → IsLineOfData d bytes
@@ -68,7 +69,7 @@ line_of {d} {start} {end} no_text no_token follow is back fits =
           (value-outline d (compact_text d) fits same) ∙ follow.reads.0;
     }
 
--- an answer stands in the order of the keys
+-- the members with an answer are in the order of their keys, and are those of the answer's object
 pub further_in_order : (which : FurtherLine) (answer session : Data)
     → (put_all (further_list which answer session) no_members ≡ as_members (further_list which answer session))
     × (object (as_members (further_list which answer session)) ≡ further_data which answer session)

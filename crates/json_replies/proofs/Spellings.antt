@@ -20,11 +20,10 @@ use Rattle.json_replies.specs.FurtherLines.{BoardFacts, IsAnswer, answer_data, s
 use Rattle.json_replies.specs.ListedItems.{place_data, ends_data, when_listed, sign_data, clues_listed, givens_listed, signs_listed, items_data}
 use Rattle.json_replies.specs.ObjectLines.{IsShallow}
 use Rattle.json_replies.specs.Sessions.{session_data}
-use Rattle.json_replies.specs.Laws.Spellings.{AllFit, all_append, either, integer_whole, list_fits, listed_fits, when_fits}
-use Rattle.json_replies.specs.Laws.Spellings.{deeper}
+use Rattle.json_replies.specs.Laws.Spellings.{AllFit, all_append, either, integer_whole, list_fits, listed_fits, when_fits, deeper}
 use Rattle.json_replies.proofs.HintSpellings.{numbers_fit, set_fits, hint_value_fits, grade_fits}
 
--- what is told of a session
+-- what is told of a session can be written
 pub session_fits : {P : Type 0} (f : GameFacts P) (session : Option (History P)) → IsShallow 7 (session_data f session)
 session_fits f None = tt
 session_fits f (Some h) = (tt, (tt, (refl, (refl, (tt, tt)))))
@@ -98,12 +97,12 @@ answer_fits NoSolution = tt
 answer_fits (One g) = tt
 answer_fits (Several g h) = tt
 
--- the clues and signs fit
+-- what the game tells of its clues and signs can be written
 pub record ListsFit {P : Type 0} (b : BoardFacts P) : Type 0 where
   pub clues : (p : P) (shown : BoardValue) (e : ErrorsValue) → IsShallow 2 (b.clues p shown e)
   pub signs : (p : P) (shown : BoardValue) (e : ErrorsValue) → IsShallow 2 (b.signs p shown e)
 
--- what is told in answer
+-- the answer to a line beside the commands can be written
 pub told_fits : {P : Type 0} (f : GameFacts P) (b : BoardFacts P) → ListsFit b
     → (p : P) (shown : BoardValue) (which : FurtherLine) (answer : Data)
     → IsAnswer f b p shown which answer → IsShallow 7 answer

@@ -26,7 +26,7 @@ use Rattle.json_replies.specs.FurtherLines.{BoardFacts, Further, IsFurtherLine}
 use Rattle.json_replies.specs.ReplyLaws.{ObjectsTellOneReply, ObjectsAreNotLost}
 use Rattle.json_replies.proofs.WholeReplies.{lines_are_the_reply}
 
--- one line has one object
+-- a line is the line of one object only
 one_object : (d e : Data) (bytes : List ℕ) → IsLineOfData d bytes → IsLineOfData e bytes → d ≡ e
 one_object d e bytes one other =
     let same : compact_text d ≡ compact_text e =
@@ -34,7 +34,7 @@ one_object d e bytes one other =
     let both : Some d ≡ Some e = sym one.reads ∙ ap read same ∙ other.reads in
     cc both
 
--- texts determine their bytes
+-- lists of bytes that have the same texts are the same
 items_same : (xs ys : List (List ℕ)) → items_of (map text_data xs) ≡ items_of (map text_data ys) → xs ≡ ys
 items_same [] [] is = refl
 items_same [] (y ∷ ys) is = absurd (cc is)
@@ -44,16 +44,18 @@ items_same (x ∷ xs) (y ∷ ys) is =
     let later : items_of (map text_data xs) ≡ items_of (map text_data ys) = cc is in
     ap₂ (λ a l. a ∷ l) (encodes_same x y first) (items_same xs ys later)
 
+-- names of refusals that are told alike are the same
 names_same : (a b : Option (List ℕ)) → name_data a ≡ name_data b → a ≡ b
 names_same None None is = refl
 names_same None (Some b) is = absurd (cc is)
 names_same (Some a) None is = absurd (cc is)
 names_same (Some a) (Some b) is = let texts : latin_text a ≡ latin_text b = cc is in ap Some (encodes_same a b texts)
 
--- what is said is whole lines
+-- a refusal is told by a whole line
 refusal_whole : (name : List ℕ) → AreWholeLines (refusal_line name)
 refusal_whole name = inr (codes "refused: " ++ name, sym (append_assoc (codes "refused: ") name (line_feed ∷ [])))
 
+-- the text of an answer is whole lines
 answer_whole : {P : Type 0} (f : GameFacts P) (b : BoardFacts P) → PicturesAreWholeLines f.drawing → (old : Option (History P)) (line : Line)
     (answer : Answer P) → AnswerGives f b old line answer → AreWholeLines (answer_text answer)
 answer_whole f b drawn old line (Ok outcome) (inl (begun, is, (params, p, asked, gives))) =
@@ -85,16 +87,18 @@ lost_is_line : IsLineOfData lost_data lost_line
 unfolding serde_json_on_literals
 lost_is_line = record { text = refl; reads = refl }
 
--- whether the first key of an object is that one's
+-- whether the first key of an object is `lost`
 abbrev has_lost : Data → Bool
 has_lost (object (member k d ms)) = bytes_eq k (codes "lost")
 has_lost _ = false
 
+-- data whose first key isn't `lost` aren't told by the line of a lost object
 not_lost : (d : Data) (bytes : List ℕ) → IsLineOfData d bytes → has_lost d ≡ false → bytes ≡ lost_line → ⊥
 not_lost d bytes told other lost =
     let is = one_object d lost_data lost_line (subst (IsLineOfData d) lost told) lost_is_line in
     true≢false (sym (ap has_lost is) ∙ other)
 
+-- no answer to a line beside the commands is told by the line of a lost object
 further_not_lost : {P : Type 0} (f : GameFacts P) (b : BoardFacts P) (asked : Further) (new : Option (History P)) (bytes : List ℕ)
     → IsFurtherLine f b asked new bytes → bytes ≡ lost_line → ⊥
 further_not_lost f b asked None bytes told lost = not_lost _ bytes told refl lost

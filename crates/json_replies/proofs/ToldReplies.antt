@@ -19,6 +19,7 @@ use Rattle.latin_board.specs.Boards.{BoardValue}
 use Rattle.puzzle_cli.specs.SessionReplies.{shown_board}
 use Rattle.json_replies.specs.FurtherLines.{BoardFacts, Further, further_at, IsFurtherLine, IsAnswer}
 
+-- if nothing is said, no bytes tell the outcome
 pub tells_nothing : {P : Type 0} (f : GameFacts P) (said : List ℕ) (last new : Option (History P)) (bytes : List ℕ)
     → (length said == 0) ≡ true → bytes ≡ [] → TellsOutcome f (Ok (said, last)) new bytes
 tells_nothing f [] last new bytes none is = is
@@ -26,6 +27,7 @@ tells_nothing f (x ∷ said) last new bytes none is =
     let some : (length (x ∷ said) == 0) ≡ false = grind (arith, nat_tests) in
     absurd (true≢false (sym none ∙ some))
 
+-- if something is said, the line of its object tells the outcome
 pub tells_said : {P : Type 0} (f : GameFacts P) (said : List ℕ) (last new : Option (History P)) (bytes : List ℕ)
     → (length said == 0) ≡ false → OrLost (IsLineOfData (reply_data None said (session_data f new))) bytes → TellsOutcome f (Ok (said, last)) new bytes
 tells_said f [] last new bytes some told = absurd (true≢false some)
@@ -33,7 +35,7 @@ tells_said f (x ∷ said) last new bytes some told = told
 
 -- ---- what is said to a line
 
--- where `quit` isn't read as anything, a line that is doesn't end the run
+-- where `quit` isn't read as anything, a line that is read as something doesn't end the run
 pub no_quit : {A : Type 0} (read : Line → Option A) (line : Line) (a : A) → read (Some (codes "quit")) ≡ None
     → read line ≡ Some a
     → is_quit line ≡ false
@@ -47,11 +49,12 @@ no_quit read (Some text) a none is =
       | false ↦ λ other. refl
     ] refl
 
--- a session that stays is left by a line that is too long
+-- a session that stays is one that a line that is too long leaves
 pub stays : {P : Type 0} (f : GameFacts P) (old new : Option (History P)) → new ≡ old
     → (asked : Line) × Leaves f old asked new
 stays f old new same = (None, (Err (OfLine LongLine), (Err LongLine, refl, inl refl), same))
 
+-- the answer to a line beside the commands is a reply to it that leaves the session
 pub further_told : {P : Type 0} (f : GameFacts P) (b : BoardFacts P) (old : Option (History P)) (line : Line) (asked : Further) (bytes : List ℕ)
     → further_at b.fair_letter line ≡ Some asked → OrLost (IsFurtherLine f b asked old) bytes → JsonReply f b old line bytes old
 further_told f b old line asked bytes is told = record {
@@ -59,7 +62,7 @@ further_told f b old line asked bytes is told = record {
   told = subst (λ w. TellsLine f b old line w bytes old) (sym is) (refl, told);
 }
 
--- what is told of the puzzle and the board of a session
+-- an answer for a puzzle and a board that are those of a session is one for the session
 pub answer_told : {P : Type 0} (f : GameFacts P) (b : BoardFacts P) (h : History P) (p : P) (shown : BoardValue)
     (which : FurtherLine)
     (answer : Data) → p ≡ h.puzzle → shown ≡ shown_board f h → IsAnswer f b p shown which answer

@@ -27,30 +27,30 @@ use Rattle.json_replies.specs.Sessions.{session_data}
 use Rattle.json_replies.specs.Inner.ToldResponses.{TellsResponse, TellsBegun}
 use Rattle.json_replies.proofs.ToldReplies.{no_quit, stays}
 
--- what `execute` owes of a line
-abbrev pub Obeys : {P : Type 0} → GameFacts P → Option (History P) → Line → Option (History P) → Result Response Refusal → Type 0
-Obeys f old line new (Ok answer) = IsResponse (λ before read said after. LineGives f before read (Ok (said, after))) is_quit old line answer new
-Obeys f old line new (Err refusal) = (new ≡ old) × (is_quit line ≡ false) × LineGives f old line (Err refusal)
+-- the answer and the session are as `execute` owes them to a line
+abbrev pub IsOwed : {P : Type 0} → GameFacts P → Option (History P) → Line → Option (History P) → Result Response Refusal → Type 0
+IsOwed f old line new (Ok answer) = IsResponse (λ before read said after. LineGives f before read (Ok (said, after))) is_quit old line answer new
+IsOwed f old line new (Err refusal) = (new ≡ old) × (is_quit line ≡ false) × LineGives f old line (Err refusal)
 
--- and so it does, by its clauses
+-- by the clauses of `execute`, its answer and the session are as it owes them
 pub obeyed : {P : Type 0} (f : GameFacts P) (old new : Option (History P)) (line : Line) (answer : Result Response Refusal)
     → IfOk answer (λ response. IsResponse (λ before read said after. LineGives f before read (Ok (said, after))) is_quit old line response new)
     → OnErr answer (new ≡ old) → OnErr answer (is_quit line ≡ false) → IfErr answer (λ refusal. LineGives f old line (Err refusal))
-    → Obeys f old line new answer
+    → IsOwed f old line new answer
 obeyed f old new line (Ok response) ok err goes_on why = ok
 obeyed f old new line (Err refusal) ok err goes_on why = (err, goes_on, why)
 
--- what is so is so where there is a refusal
-pub whenever : {A : Type 0} (answer : Result Response Refusal) → A → OnErr answer A
-whenever (Ok response) is = tt
-whenever (Err refusal) is = is
+-- what holds anyhow holds if the answer is a refusal
+pub on_refusal : {A : Type 0} (answer : Result Response Refusal) → A → OnErr answer A
+on_refusal (Ok response) is = tt
+on_refusal (Err refusal) is = is
 
--- the response that tells it, where a reply to the line, and what ends the run, are so
+-- what tells an answer that `execute` owes is a response by a rule, if the rule allows what is told
 pub responds : {P : Type 0} (f : GameFacts P) (old new : Option (History P)) (asked line : Line) (rule : ReplyRule (Option (History P)))
     (quit : Line → Bool) (answer : Result Response Refusal) (result : Response) → is_quit asked ≡ quit line
     → ((outcome : Outcome P) (bytes : List ℕ) → LineGives f old asked outcome → new ≡ left old outcome → TellsOutcome f outcome new bytes
     → rule old line bytes new)
-    → Obeys f old asked new answer → TellsResponse f answer new result → IsResponse rule quit old line result new
+    → IsOwed f old asked new answer → TellsResponse f answer new result → IsResponse rule quit old line result new
 responds f old new asked line rule quit (Ok (Reply said)) (Reply text) same tells obeys told =
     (sym same ∙ obeys.0, tells (Ok (text_bytes said, new)) (text_bytes text) obeys.1 refl told)
 responds f old new asked line rule quit (Ok Silence) Silence same tells obeys told = (sym same ∙ obeys.0, tells (Ok ([], new)) [] obeys.1 refl refl)
@@ -76,13 +76,13 @@ module _ {P : Type 0} (f : GameFacts P) (b : BoardFacts P) where
     told = subst (λ w. TellsLine f b old line w bytes new) (sym is) (Ok outcome, inr (other, gives), leaves, told);
   }
 
-  -- a game that a line asks for is told as `new` is
+  -- the game that a line asks for is told as the answer to `new` with that game
   pub game_told : (old new : Option (History P)) (begun : BeginLine (List ℕ)) (params : Params) (p : P) (outcome : Outcome P) (bytes : List ℕ)
       → AskFor f b old begun params p → LineGives f old (described_line f params p) outcome → new ≡ left old outcome
       → TellsOutcome f outcome new bytes → TellsBegun f b old begun bytes new
   game_told old new begun params p outcome bytes asked gives leaves told = (Ok outcome, (params, p, asked, gives), leaves, told)
 
-  -- and so is a refusal of it
+  -- the refusal of a line that asks for a game is told by its name
   pub refused_told : (old : Option (History P)) (begun : BeginLine (List ℕ)) (refusal : BeginRefusal) (name bytes : List ℕ)
       → AskInVain f b old begun refusal → name ≡ begin_refusal_name refusal
       → OrLost (IsLineOfData (reply_data (Some name) (refusal_line name) (session_data f old))) bytes → TellsBegun f b old begun bytes old
@@ -93,12 +93,13 @@ module _ {P : Type 0} (f : GameFacts P) (b : BoardFacts P) where
     subst (λ (n : List ℕ). OrLost (IsLineOfData (reply_data (Some n) (refusal_line n) (session_data f old))) bytes) is told,
   )
 
-  -- what comes of it leaves what an answer to some line does
+  -- the session that is left by a line that begins a game is one that an answer to some line leaves
   some_leaves : (old new : Option (History P)) (begun : BeginLine (List ℕ)) (answer : Answer P) → BeginGives f b old begun answer
       → new ≡ session_left old answer → (asked : Line) × Leaves f old asked new
   some_leaves old new begun (Ok outcome) (params, p, asked, gives) leaves = (described_line f params p, (outcome, gives, leaves))
   some_leaves old new begun (Err refusal) gives leaves = stays f old new leaves
 
+  -- what is told to the game that a line asks for is a reply to the line
   begin_reply : (old new : Option (History P)) (line : Line) (begun : BeginLine (List ℕ)) (bytes : List ℕ)
       → further_at b.fair_letter line ≡ None
       → IsBeginLine begun line → TellsBegun f b old begun bytes new → JsonReply f b old line bytes new
@@ -107,7 +108,7 @@ module _ {P : Type 0} (f : GameFacts P) (b : BoardFacts P) where
     told = subst (λ w. TellsLine f b old line w bytes new) (sym none) (answer, inl (begun, is, gives), leaves, told);
   }
 
-  -- so the response to what it asks for is one to the line
+  -- the response to the game that a line asks for is a response to the line
   pub begin_told : (old new : Option (History P)) (line : Line) (begun : BeginLine (List ℕ)) (result : Response)
       → further_at b.fair_letter line ≡ None → IsBeginLine begun line
       → IsResponse (λ before read bytes after. TellsBegun f b before begun bytes after) (λ read. false) old None result new

@@ -8,11 +8,12 @@ use Rattle.json_replies.specs.Texts.{lines_of, lines_text}
 use Rattle.json_replies.specs.ReplyLaws.{LinesAreTheReply}
 use Rattle.json_replies.proofs.ReplyLines.{some_segments}
 
--- b before the first of some segments
+-- a byte put before the first segment leaves the empty one at the end as it is
 onto_more : (b : ℕ) (ps : List (List ℕ)) → 1 ≤ length ps → onto b (ps ++ [] ∷ []) ≡ onto b ps ++ [] ∷ []
 onto_more b [] some = absurd (omega arith)
 onto_more b (p ∷ ps) some = refl
 
+-- a byte put before the first segment is put before the text of the segments
 onto_text : (b : ℕ) (ps : List (List ℕ)) → 1 ≤ length ps → lines_text (onto b ps) ≡ b ∷ lines_text ps
 onto_text b [] some = absurd (omega arith)
 onto_text b (p ∷ ps) some = refl
@@ -27,7 +28,7 @@ segments_end (b ∷ bs) =
       | false ↦ ap (onto b) (segments_end bs) ∙ onto_more b (segments bs) (some_segments bs)
     ]
 
--- segments, each with LF
+-- the segments of a text, each with LF, are the text and LF
 segments_text : (front : List ℕ) → lines_text (segments front) ≡ front ++ 10 ∷ []
 segments_text [] = refl
 segments_text (b ∷ bs) =
@@ -36,12 +37,13 @@ segments_text (b ∷ bs) =
       | false ↦ λ is. onto_text b (segments bs) (some_segments bs) ∙ ap (λ xs. b ∷ xs) (segments_text bs)
     ] refl
 
--- all segments but the last
+-- all but the last of a list and one item are the list
 all_but_last : {A : Type 0} (xs : List A) (x : A) → take (length (xs ++ x ∷ []) - 1) (xs ++ x ∷ []) ≡ xs
 all_but_last xs x =
     let n : length (xs ++ x ∷ []) - 1 ≡ length xs = omega (arith, length_push xs x) in
     ap (λ k. take k (xs ++ x ∷ [])) n ∙ take-append_seam xs (x ∷ [])
 
+-- the lines of a text and LF are the segments of the text
 lines_of_end : (front : List ℕ) → lines_of (front ++ 10 ∷ []) ≡ segments front
 lines_of_end front = ap (λ ps. take (length ps - 1) ps) (segments_end front) ∙ all_but_last (segments front) []
 

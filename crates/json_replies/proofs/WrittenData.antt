@@ -30,7 +30,7 @@ all_read (x ∷ xs) ys first more = (first.0, all_read xs ys first.1 more)
 pub none_follow : (w : Written) → Follow [] w w
 none_follow w = record { stays = refl; adds = sym (append-nil w.tokens); reads = tt }
 
--- and then more data
+-- if data follow, and then more data, all of them follow
 pub more_follow : (xs ys : List Data) (a b c : Written) → Follow xs a b → Follow ys b c → Follow (xs ++ ys) a c
 more_follow xs ys a b c first more = record {
   stays = more.stays ∙ first.stays;
@@ -39,7 +39,7 @@ more_follow xs ys a b c first more = record {
   reads = all_read xs ys first.reads more.reads;
 }
 
--- one token that is a value
+-- if the one token of some data was written, these data follow
 pub token_follows : (d : Data) (t : Token) (old new : Written) → json_tokens (outline d) ≡ t ∷ [] → of_json (outline d) ≡ Some d
     → new.before ≡ old.before → new.tokens ≡ old.tokens ++ t ∷ [] → Follow (d ∷ []) old new
 token_follows d t old new is reads stays adds = record {
@@ -48,19 +48,23 @@ token_follows d t old new is reads stays adds = record {
   reads = (reads, tt);
 }
 
+-- a count follows, if its token was written
 pub count_follows : {E : Type 0} {u : Unit {0}} {n : ℕ} {old new : Written} → n < 2 ^ 64 → Writes {E = E} (Ok u) old new (number_token (decimal n))
     → Follow (count_data n ∷ []) old new
 count_follows {n = n} fits written =
     token_follows (count_data n) (number_token (decimal n)) _ _ refl (ap (option_map number) (number_of-decimal n fits)) written.room.0 written.ok
 
+-- an integer reads as itself
 integer_reads : (z : ℤ) → SFits w8 z → of_json (outline (number (of_integer z))) ≡ Some (number (of_integer z))
 integer_reads (pos n) fits = ap (option_map number) (number_of-decimal n (grind arith))
 integer_reads (negsuc n) fits = ap (option_map number) (number_of-negative n (grind arith))
 
+-- an integer has one token, its decimal with its sign
 integer_tokens : (z : ℤ) → json_tokens (outline (number (of_integer z))) ≡ number_token (signed_decimal z) ∷ []
 integer_tokens (pos n) = refl
 integer_tokens (negsuc n) = refl
 
+-- an integer follows, if its token was written
 pub integer_follows : {E : Type 0} {u : Unit {0}} {z y : ℤ} {old new : Written} → SFits w8 z → y ≡ z → Writes {E = E} (Ok u) old new (number_token (signed_decimal y))
     → Follow (number (of_integer z) ∷ []) old new
 integer_follows {z = z} {old = old} fits same written =
@@ -69,16 +73,18 @@ integer_follows {z = z} {old = old} fits same written =
 
 -- ---- lists
 
+-- the tokens of a list are those of its data and the closing bracket
 list_tokens : (ds : List Data) → items_tokens (items_outline (items_of ds)) ≡ data_tokens ds ++ end_array ∷ []
 list_tokens [] = refl
 list_tokens (d ∷ ds) = ap (λ ts. json_tokens (outline d) ++ ts) (list_tokens ds) ∙ sym (append_assoc (json_tokens (outline d)) (data_tokens ds) (end_array ∷ []))
 
+-- a list of data that read as themselves is read as these data
 list_reads : (ds : List Data) → AllRead ds → of_items (items_outline (items_of ds)) ≡ Some (items_of ds)
 list_reads [] reads = refl
 list_reads (d ∷ ds) reads =
     ap (option_and_then (λ e. option_map (item e) (of_items (items_outline (items_of ds))))) reads.0 ∙ ap (option_map (item d)) (list_reads ds reads.1)
 
--- data between brackets
+-- a list follows, if its data follow between two brackets
 pub list_follows : {E : Type 0} {u v : Unit {0}} {ds : List Data} {old opened filled new : Written} → Writes {E = E} (Ok u) old opened begin_array
     → Follow ds opened filled → Writes {E = E} (Ok v) filled new end_array → Follow (array (items_of ds) ∷ []) old new
 list_follows {ds = ds} {old = old} opens follow closes = record {
@@ -91,7 +97,7 @@ list_follows {ds = ds} {old = old} opens follow closes = record {
   reads = (ap (option_map array) (list_reads ds follow.reads), tt);
 }
 
--- what f gives for one number more of a range
+-- if the data of some numbers of a range follow, and then those of the next, the data of one number more do
 pub range_follows : (f : ℕ → List Data) (a m n j : ℕ) {more : List Data} {start old new : Written} → n ≡ m + 1 → a + m ≡ j → more ≡ f j
     → Follow (flat_map f (range_with_len a m)) start old → Follow more old new → Follow (flat_map f (range_with_len a n)) start new
 range_follows f a m n j {more} {start} {old} {new} next last is before after =
@@ -99,7 +105,7 @@ range_follows f a m n j {more} {start} {old} {new} next last is before after =
     subst (λ ds. Follow ds start new) (flat_map_onto f [] xs (xs ++ more) a m n j next last refl (ap (λ l. xs ++ l) is))
     (more_follow xs more start old new before after)
 
--- and for one item more of a list
+-- if the data of some items of a list follow, and then those of the next, the data of one item more do
 pub item_follows : {A : Type 0} (f : A → Data) (xs : List A) (i : ℕ) {x y : A} {d : Data} {start old new : Written} → take (i + 1) xs ≡ take i xs ++ x ∷ []
     → y ≡ x → d ≡ f y → Follow (map f (take i xs)) start old → Follow (d ∷ []) old new → Follow (map f (take (i + 1) xs)) start new
 item_follows f xs i {x} {d = d} {start} {old} {new} next same is before after =
@@ -109,7 +115,7 @@ item_follows f xs i {x} {d = d} {start} {old} {new} next same is before after =
 
 -- ---- objects
 
--- a key, and then its value
+-- if a key was written, and then its value, the member follows
 pub key_follows : {E : Type 0} {u : Unit {0}} {k : List ℕ} {d : Data} {old keyed new : Written} → Writes {E = E} (Ok u) old keyed (key k)
     → Follow (d ∷ []) keyed new → MembersFollow ((k, d) ∷ []) old new
 key_follows {k = k} {d = d} {old = old} keyed follow = record {
@@ -118,7 +124,7 @@ key_follows {k = k} {d = d} {old = old} keyed follow = record {
   reads = (follow.reads.0, tt);
 }
 
--- a member of the same data
+-- if a member follows, it follows with equal data in place of its own
 pub member_is : {k : List ℕ} {d e : Data} {old new : Written} → d ≡ e → MembersFollow ((k, d) ∷ []) old new → MembersFollow ((k, e) ∷ []) old new
 member_is {k} {old = old} {new = new} is follow = subst (λ (e : Data). MembersFollow ((k, e) ∷ []) old new) is follow
 
@@ -126,7 +132,7 @@ all_members_read : (xs ys : List (List ℕ × Data)) → AllMembersRead xs → A
 all_members_read [] ys first more = more
 all_members_read (x ∷ xs) ys first more = (first.0, all_members_read xs ys first.1 more)
 
--- and then more members
+-- if members follow, and then more members, all of them follow
 pub more_members : {xs ys : List (List ℕ × Data)} {a b c : Written} → MembersFollow xs a b → MembersFollow ys b c → MembersFollow (xs ++ ys) a c
 more_members {xs} {ys} {a} first more = record {
   stays = more.stays ∙ first.stays;
@@ -140,7 +146,7 @@ abbrev pub put_all : List (List ℕ × Data) → Members → Members
 put_all [] before = before
 put_all (m ∷ ms) before = put_all ms (put m.0 m.1 before)
 
--- members that read as themselves are put one by one
+-- members of which the data read as themselves are read, put one by one among those before them
 object_reads : (ms : List (List ℕ × Data)) (before : Members) → AllMembersRead ms
     → of_members (members_outline (as_members ms)) before ≡ Some (put_all ms before)
 object_reads [] before reads = refl
@@ -148,13 +154,14 @@ object_reads (m ∷ ms) before reads =
     ap (option_and_then (λ e. of_members (members_outline (as_members ms)) (put m.0 e before))) reads.0
     ∙ object_reads ms (put m.0 m.1 before) reads.1
 
+-- the tokens of an object are those of its members and the closing brace
 object_tokens : (ms : List (List ℕ × Data)) → members_tokens (members_outline (as_members ms)) ≡ member_tokens ms ++ end_object ∷ []
 object_tokens [] = refl
 object_tokens (m ∷ ms) =
     ap (λ ts. key m.0 ∷ (json_tokens (outline m.1) ++ ts)) (object_tokens ms)
     ∙ ap (λ ts. key m.0 ∷ ts) (sym (append_assoc (json_tokens (outline m.1)) (member_tokens ms) (end_object ∷ [])))
 
--- members between braces, whose keys are in order
+-- an object follows, if its members follow between two braces and their keys are in order
 pub object_follows : {E : Type 0} {u v : Unit {0}} (ms : List (List ℕ × Data)) {old opened filled new : Written} → put_all ms no_members ≡ as_members ms
     → Writes {E = E} (Ok u) old opened begin_object → MembersFollow ms opened filled → Writes {E = E} (Ok v) filled new end_object
     → Follow (object (as_members ms) ∷ []) old new

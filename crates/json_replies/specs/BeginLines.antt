@@ -1,6 +1,5 @@
 -- How the lines that begin a game and are no commands are read: `fair`, `blank`, `item` and `thin`.
-use Rattle.std.specs.Prelude.{◌≡◌, ℕ, ◌≤◌, ℤ, ◌&&◌, if◌then◌else◌, List, ◌∷◌, ◌++◌, codes, bytes_eq, Option, Some, None}
-use Rattle.std.specs.Prelude.{option_map, option_and_then}
+use Rattle.std.specs.Prelude.{◌≡◌, ℕ, ◌≤◌, ℤ, ◌&&◌, if◌then◌else◌, List, ◌∷◌, ◌++◌, codes, bytes_eq, Option, Some, None, option_map, option_and_then}
 use Rattle.std.specs.Fmt.{decimal}
 use Rattle.std.specs.Option.{option_or}
 use denote.Ref.{Bor}
@@ -17,7 +16,7 @@ use Rattle.json_replies.specs.declared.item_words.ItemNumbers.{ItemNumbers}
 use Rattle.json_replies.specs.declared.item_words.ItemNumbers.TheVariants.{Place, Sign}
 use Rattle.json_replies.specs.FairLines.{is_word, one_word_at, words_copied}
 
--- the words, and not the loans of them
+-- the line with its words themselves in place of loans of them
 abbrev pub begin_copied : {X : Type 0} → BeginLine (Bor X) → BeginLine X
 begin_copied (Fair words) = Fair (words_copied words)
 begin_copied (Blank word) = Blank word.now
@@ -27,13 +26,13 @@ begin_copied (ThinBy word) = ThinBy word.now
 
 -- ---- words
 
--- these words, where each is one
+-- three words as those of a line `fair`, if each of them is a word
 abbrev pub words_of : List ℕ → List ℕ → List ℕ → Option (FairWords (List ℕ))
 words_of size grade seed =
     if is_word size && is_word grade && is_word seed then Some (record { size = size; grade = grade; seed = seed })
     else None
 
--- the three words of a text, if it is that
+-- the three words of a text, if it is three words with one space between each
 abbrev pub three_words_at : List ℕ → Option (FairWords (List ℕ))
 three_words_at text =
     option_and_then (λ rest. option_and_then (λ seed. words_of (before space text) (before space rest) seed)
@@ -54,7 +53,7 @@ sign_item_at xs ys us more =
     option_map (λ n. Sign x y u v n) (decimal_value 255 ns)) (coordinate_at (before comma more))) (coordinate_at us))
     (coordinate_at ys)) (coordinate_at xs)) (behind comma more)
 
--- one of these, from two pieces, the rest, and what is behind a comma of the rest, if it has one
+-- an item of either kind, from two pieces, the rest, and the part of the rest behind its comma, if it has one
 abbrev pub item_from : List ℕ → List ℕ → List ℕ → Option (List ℕ) → Option ItemNumbers
 item_from xs ys rest None = place_item_at xs ys rest
 item_from xs ys rest (Some more) = sign_item_at xs ys (before comma rest) more
@@ -76,7 +75,7 @@ begun_at text =
     (option_or (option_map Blank (option_and_then one_word_at (rest_behind (codes "blank ") text)))
     (option_map Item (option_and_then item_at (rest_behind (codes "item ") text))))))
 
--- and which a line begins: one that is too long begins none
+-- which game a line begins, if any: a line that is too long begins none
 abbrev pub begin_at : Line → Option (BeginLine (List ℕ))
 begin_at line = option_and_then begun_at line
 
@@ -86,7 +85,7 @@ IsBeginLine asked line = begin_at line ≡ Some asked
 
 -- ---- what the numbers of an item look like
 
--- the text begins with the coordinate of a move and a comma, and ends with this
+-- the text is x, written as a coordinate of a move, then a comma, and then the rest
 abbrev pub IsAfter : ℤ → List ℕ → List ℕ → Type 0
 IsAfter x rest text = (xs : List ℕ) × (text ≡ xs ++ comma ∷ rest) × Lacks comma xs × (coordinate_at xs ≡ Some x)
 
@@ -98,7 +97,7 @@ IsItemText (Sign x y u v n) text =
     (n ≤ 255) × ((rest last more : List ℕ) × IsAfter x rest text × IsAfter y last rest × IsAfter u more last
     × IsAfter v (decimal n) more)
 
--- `item ` and such a text ask for these numbers, and so for no others
+-- `item ` and the text of some numbers ask for these numbers, and so for no others
 abbrev pub ItemLinesAsk : Type 0
 ItemLinesAsk =
     (numbers : ItemNumbers) (text : List ℕ) → IsItemText numbers text

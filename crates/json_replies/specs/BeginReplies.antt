@@ -29,7 +29,7 @@ abbrev pub AskFor : {P : Type 0} → GameFacts P → BoardFacts P → Option (Hi
 AskFor f b old (Fair words) params p = AskForFair f b words params p
 AskFor f b old asked params p = (params ≡ plain_params (f.rules.puzzle p).size) × AskForPuzzle f b old asked p
 
--- the line is refused
+-- a line that begins a game is refused for this reason
 abbrev pub AskInVain : {P : Type 0} → GameFacts P → BoardFacts P → Option (History P) → BeginLine (List ℕ)
     → BeginRefusal → Type 0
 AskInVain f b old (Fair words) refusal = AskFairInVain f b words refusal

@@ -14,7 +14,7 @@ use Rattle.json_replies.specs.Counts.{count_data}
 abbrev pub listed_data : (ℕ → List Data) → List ℕ → Data
 listed_data f ns = array (items_of (flat_map f ns))
 
--- the data where a test holds, or nothing
+-- a list of the data if the test is true, and an empty one otherwise
 abbrev pub when : Bool → Data → List Data
 when t d = if t then d ∷ [] else []
 

@@ -35,7 +35,7 @@ sign_data error greater less = object
     (member (codes "less") (count_data less)
     no_members)))
 
--- the sign between a square and a later number, if that is a square and there is one
+-- the sign between a square and one with a later number, if the grid has that square and there is a sign
 abbrev pub later_sign : UnequalValue → Bool → ℕ → ℕ → List Data
 later_sign v error a b =
     if nat_lt b (v.size * v.size)

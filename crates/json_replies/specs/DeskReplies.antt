@@ -31,7 +31,7 @@ pub record IsBlankOf {P : Type 0} (f : Ghosts P) (items : OfItems P) (word : Lis
   pub valid : f.valid p
   pub none : (i : ℕ) → i < f.items_of (f.puzzle p).size → items.value_of p i ≡ 0
 
--- there is none
+-- the word asks for no blank puzzle, since it says no size
 abbrev pub IsNoBlank : List ℕ → BeginRefusal → Type 0
 IsNoBlank word BadSize = (w : ℕ) → IsSizeWord w word → ⊥
 IsNoBlank word refusal = ⊥
@@ -46,7 +46,7 @@ pub record IsChanged {P : Type 0} (f : Ghosts P) (items : OfItems P) (i value : 
   pub one : items.value_of new i ≡ value
   pub others : (j : ℕ) → j < f.items_of (f.puzzle old).size → j ≢ i → items.value_of new j ≡ items.value_of old j
 
--- so it is changed by the numbers
+-- the second puzzle is the first one with the change that the numbers of a line `item` ask for
 pub record IsChangeOf {P : Type 0} (f : Ghosts P) (items : OfItems P) (numbers : ItemNumbers) (old new : P) : Type 0 where
   pub change : Change
   pub asked : change_at items (f.puzzle old).size numbers ≡ Some change
@@ -71,18 +71,18 @@ abbrev pub IsLeftOf : {P : Type 0} → Ghosts P → Answer → P → P → Type 
 IsLeftOf f (One g) old new = IsThinned f (HasOnly f g) old new × IsLeftBackwards f (HasSeveral f) old new
 IsLeftOf f found old new = new ≡ old
 
--- of the first puzzle, thinned by as many solutions as it has
+-- the second puzzle is what `thin` leaves of the first, by how many solutions that has
 abbrev pub IsThinOf : {P : Type 0} → Ghosts P → P → P → Type 0
 IsThinOf f old new = (found : Answer) × Fits (Solves (f.puzzle old)) found × IsLeftOf f found old new
 
--- what is left of the first puzzle by the grade of a letter: where it follows by that, only what it needs for it
+-- the second puzzle is what `thin` and a letter leave of the first: what it needs by that grade, or all of it
 abbrev pub IsThinBy : {P : Type 0} → Ghosts P → (P → Striking) → (Grade → Option ℕ) → List ℕ → P → P → Type 0
 IsThinBy f Struck letter word old new =
     (grade : Grade) × (letter_at letter word ≡ Some grade)
     × ((IsThinned f (IsByGrade f Struck grade) old new × IsLeftBackwards f (IsBeyondGrade f Struck grade) old new)
     ⊎ (IsBeyondGrade f Struck grade old × (new ≡ old)))
 
--- the word is no letter of a grade
+-- the word is refused, since it is no letter of a grade
 abbrev pub IsNoLetter : (Grade → Option ℕ) → List ℕ → BeginRefusal → Type 0
 IsNoLetter letter word BadLetter = letter_at letter word ≡ None
 IsNoLetter letter word refusal = ⊥

@@ -15,7 +15,7 @@ use Rattle.json_replies.specs.declared.fair_request.FairRequest.{FairRequest}
 use Rattle.json_replies.specs.declared.begin_refusal.BeginRefusal.{BeginRefusal}
 use Rattle.json_replies.specs.declared.begin_refusal.BeginRefusal.TheVariants.{BadSize, BadLetter, BadSeed}
 
--- the words, and not the loans of them
+-- the three words themselves in place of loans of them
 abbrev pub words_copied : {X : Type 0} → FairWords (Bor X) → FairWords X
 words_copied words = record { size = words.size.now; grade = words.grade.now; seed = words.seed.now }
 
@@ -23,11 +23,11 @@ words_copied words = record { size = words.size.now; grade = words.grade.now; se
 abbrev pub IsWord : List ℕ → Type 0
 IsWord text = (text ≢ []) × Lacks space text
 
--- whether it is one
+-- whether a text is a word
 abbrev pub is_word : List ℕ → Bool
 is_word text = not (length text == 0) && is_none (behind space text)
 
--- the word that a text is
+-- the word that a text is, if it is one
 abbrev pub one_word_at : List ℕ → Option (List ℕ)
 one_word_at text = if is_word text then Some text else None
 
@@ -51,7 +51,7 @@ IsGradeWord letter w grade word =
 abbrev pub IsSeedWord : ℕ → List ℕ → Type 0
 IsSeedWord seed word = decimal_value largest_seed word ≡ Some seed
 
--- the words ask for this game, or the first of them that says nothing is refused by its name
+-- the words ask for this game, or are refused for the first of them that is wrong
 abbrev pub IsAsked : (Grade → Option ℕ) → FairWords (List ℕ) → Result FairRequest BeginRefusal → Type 0
 IsAsked letter words (Ok r) =
     IsSizeWord r.size words.size × IsGradeWord letter r.size r.grade words.grade × IsSeedWord r.seed words.seed
@@ -68,7 +68,7 @@ pub record AreFairLetters (letters : List ℕ) (letter : Grade → Option ℕ) :
   pub known : (grade : Grade) (code : ℕ) → letter grade ≡ Some code → Contains letters code
   pub apart : (one other : Grade) (code : ℕ) → letter one ≡ Some code → letter other ≡ Some code → one ≡ other
 
--- whether the word is the letter of a grade, where it has one
+-- whether the word is the letter of a grade, if the grade has one
 abbrev pub is_letter : Option ℕ → List ℕ → Bool
 is_letter (Some own) (b ∷ []) = own == b
 is_letter own word = false

@@ -28,7 +28,7 @@ fair_draws f b r =
 abbrev pub IsGameOfRequest : {P : Type 0} → GameFacts P → BoardFacts P → FairRequest → P → Type 0
 IsGameOfRequest f b r p = IsFair f.rules b.struck_by r.grade (fair_draws f b r) p
 
--- none of its draws gives one
+-- none of the draws of a request gives a game of its grade
 abbrev pub HasNoFairGame : {P : Type 0} → GameFacts P → BoardFacts P → FairRequest → Type 0
 HasNoFairGame f b r = (n : ℕ) → n < most_draws → IsPassedOver f.rules b.struck_by r.grade (fair_draws f b r n)
 
@@ -37,7 +37,7 @@ abbrev pub AskForFair : {P : Type 0} → GameFacts P → BoardFacts P → FairWo
 AskForFair f b words params p =
     (r : FairRequest) × IsAsked b.fair_letter words (Ok r) × (params ≡ fair_params b r) × IsGameOfRequest f b r p
 
--- the words are refused, or they ask for a game and there is none
+-- the words are refused, or they ask for a game that no draw gives
 abbrev pub AskFairInVain : {P : Type 0} → GameFacts P → BoardFacts P → FairWords (List ℕ) → BeginRefusal → Type 0
 AskFairInVain f b words NoneFound = (r : FairRequest) × IsAsked b.fair_letter words (Ok r) × HasNoFairGame f b r
 AskFairInVain f b words refusal = IsAsked b.fair_letter words (Err refusal)

@@ -44,7 +44,7 @@ use Rattle.json_replies.specs.Replies.{reply_members, IsAnswerLine, IsReplyLine}
 use Rattle.json_replies.specs.Sessions.{game_data}
 use Rattle.line_steps.specs.Reasons.{Striking}
 
--- each of these lines by its word
+-- the lines beside the commands that are one word, each with its word
 abbrev pub further_words : List (List ℕ × FurtherLine)
 further_words =
     (codes "board", Board) ∷ (codes "completable", Completable) ∷ (codes "hint", AskHint) ∷ (codes "grade", AskGrade)
@@ -54,18 +54,18 @@ further_words =
 abbrev pub Further : Type 0
 Further = Result FurtherLine BeginRefusal
 
--- `spare` and this word
+-- what `spare` and a word ask for: the items by the grade of that letter, or a refusal
 abbrev pub spare_at : (Grade → Option ℕ) → List ℕ → Further
 spare_at letter word = ok_or (option_map SpareBy (letter_at letter word)) BadLetter
 
--- which of them a line is, if any, where the game's grades have these letters
+-- which line beside the commands a line is, if any, where the game's grades have these letters
 abbrev pub further_at : (Grade → Option ℕ) → Line → Option Further
 further_at letter None = None
 further_at letter (Some text) =
     option_or (option_map Ok (entry_at further_words text))
     (option_map (spare_at letter) (option_and_then one_word_at (rest_behind (codes "spare ") text)))
 
--- under which key its answer stands
+-- under which key the answer to a line stands
 abbrev pub further_key : FurtherLine → List ℕ
 further_key Board = codes "board"
 further_key Completable = codes "completable"
@@ -75,14 +75,14 @@ further_key Solutions = codes "solutions"
 further_key Spare = codes "spare"
 further_key (SpareBy grade) = codes "spare"
 
--- whether that key comes after those of all members
+-- whether the key of an answer comes after those of the members that each object has
 abbrev pub is_last_key : FurtherLine → Bool
 is_last_key Solutions = true
 is_last_key Spare = true
 is_last_key (SpareBy grade) = true
 is_last_key which = false
 
--- the object of an answer: what each object has and, where its key stands, the answer
+-- the object of an answer: what each object has and, in its place in the order of keys, the answer
 abbrev pub further_data : FurtherLine → Data → Data → Data
 further_data which answer session = object (put (further_key which) answer (reply_members None [] session))
 
@@ -113,17 +113,17 @@ answer_data NoSolution = string (codes "none")
 answer_data (One g) = string (codes "one")
 answer_data (Several g h) = string (codes "several")
 
--- the solutions that were found
+-- the grids of the solutions that were found
 abbrev pub solutions_in : Answer → List GridValue
 solutions_in NoSolution = []
 solutions_in (One g) = g ∷ []
 solutions_in (Several g h) = g ∷ h ∷ []
 
--- the list of them
+-- the solutions that were found, as a list of grids
 abbrev pub solutions_data : Answer → Data
 solutions_data found = list_data grid_data (solutions_in found)
 
--- a hint of a grid is told in this answer
+-- the answer tells a hint of the grid
 abbrev pub IsHintAnswer : Puzzle → (Grade → List ℕ) → Striking → (ℕ → ℕ) → (ℕ → ℕ → Bool) → GridValue → Data
     → Type 0
 IsHintAnswer p letter Struck clue is_over g answer =

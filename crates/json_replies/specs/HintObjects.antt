@@ -23,7 +23,7 @@ use Rattle.line_steps.specs.Reasons.{Striking}
 
 -- ---- what it says
 
--- its members, null where it says nothing of that
+-- what a hint says, as members of its object, null where it says nothing of that
 pub record SaidData : Type 0 where
   pub by : Data
   pub cell : Data
@@ -37,7 +37,7 @@ abbrev pub by_word : Goal → List ℕ
 by_word (OnlyValue cell value) = codes "value"
 by_word (OnlyPlace line index value) = codes "line"
 
--- the row or column, where it is shown by that
+-- the row or column of a goal that is the only place in one, or null
 abbrev pub goal_line_data : Goal → Data
 goal_line_data (OnlyValue cell value) = null
 goal_line_data (OnlyPlace line index value) = count_data line
@@ -66,7 +66,7 @@ said_of w letter Nothing = without_number (codes "nothing") null
 
 -- ---- the object
 
--- its steps
+-- the steps of a hint
 abbrev pub steps_in : NextHint → List Step
 steps_in (Follows grade chain) = chain.steps.items
 steps_in (Refuted grade refutation) = refutation.steps.items
@@ -76,7 +76,7 @@ steps_in Nothing = []
 abbrev pub left_data : CandidatesValue → ℕ → Data
 left_data c cell = listed_data (λ n. when (may_be c cell n) (count_data n)) (range_with_len 1 c.size)
 
--- those of each square
+-- the numbers that are left of each square
 abbrev pub view_data : CandidatesValue → Data
 view_data c = listed_data (λ cell. left_data c cell ∷ []) (squares c.size)
 
@@ -117,7 +117,7 @@ pub record IsHintValue (w : ℕ) (letter : Grade → List ℕ) (clue : ℕ → �
       ≡ hint_data (said_of w letter hint) (list_data count_data groups) (steps_data w clue is_over steps)
       (list_data text_data text) (view_data view)
 
--- the goal of its chain, if it has one, is one of the size
+-- the goal of a hint's chain, if the hint has one, is a goal of a grid of the width
 abbrev pub IsGoalTold : ℕ → NextHint → Type 0
 IsGoalTold w (Follows grade chain) = IsGoalOf w chain.goal
 IsGoalTold w (Refuted grade refutation) = Unit {0}

@@ -19,7 +19,7 @@ place_item items w x y =
     option_or (option_map (λ cell. items.given_item_of w cell) (cell_at w x y))
     (option_and_then (λ place. items.clue_item_of w place) (edge_place w x y))
 
--- the item is to say this, which fits if that is asked rightly and it can
+-- the change by which an item says a value: it fits if it is asked rightly and the item can say the value
 abbrev pub change_to : {P : Type 0} → OfItems P → ℕ → Bool → ℕ → ℕ → Change
 change_to items w is_right item value =
     record { item = item; value = value; fits = is_right && nat_le value (items.most_of w item) }

@@ -18,7 +18,7 @@ abbrev pub TellsOutcome : {P : Type 0} → GameFacts P → Outcome P → Option 
 TellsOutcome f (Ok ([], last)) new bytes = bytes ≡ []
 TellsOutcome f outcome new bytes = OrLost (IsReplyLine f outcome new) bytes
 
--- the same of an answer
+-- the line of the object of an answer, or the one that tells that it was lost; nothing where nothing is said
 abbrev pub TellsAnswer : {P : Type 0} → GameFacts P → Answer P → Option (History P) → List ℕ → Type 0
 TellsAnswer f (Ok outcome) new bytes = TellsOutcome f outcome new bytes
 TellsAnswer f (Err refusal) new bytes = OrLost (IsAnswerLine f (Err refusal) new) bytes
@@ -44,8 +44,8 @@ TellsLine {P} f b old line None bytes new =
     (answer : Answer P) × AnswerGives f b old line answer × (new ≡ session_left old answer)
     × TellsAnswer f answer new bytes
 
--- so it is told, and the session is one that an answer to some line leaves: to the line itself, to the line `new`
--- that it stands for, or, where the session stays, to one that the plain program refuses
+-- the bytes are told to the line, and an answer to some line leaves the session: to the line itself, to `new`
+-- with the game that it asks for, or, where the session stays, to a line that the plain program refuses
 pub record JsonReply {P : Type 0} (f : GameFacts P) (b : BoardFacts P) (old : Option (History P)) (line : Line)
     (bytes : List ℕ)
     (new : Option (History P)) : Type 0 where

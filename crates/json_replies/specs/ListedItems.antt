@@ -69,7 +69,7 @@ signs_at items is_over w listed cell =
 abbrev pub signs_listed : {P : Type 0} → OfItems P → (ℕ → ℕ → Bool) → ℕ → (ℕ → Bool) → Data
 signs_listed items is_over w listed = listed_data (signs_at items is_over w listed) (squares w)
 
--- all of them, of a puzzle of a width with these signs
+-- the clues, givens and signs that are listed, of a puzzle of a width
 abbrev pub items_data : {P : Type 0} → OfItems P → (ℕ → ℕ → Bool) → ℕ → (ℕ → Bool) → Data
 items_data items is_over w listed = object
     (member (codes "clues") (clues_listed items w listed)
@@ -81,7 +81,7 @@ items_data items is_over w listed = object
 abbrev pub listed_by : List Bool → ℕ → Bool
 listed_by listed i = slice_index_or listed i false
 
--- the answer is that to how many solutions the puzzle has
+-- an answer by which items are listed is the right one to how many solutions the puzzle has
 abbrev pub IsListing : Puzzle → Listing → Type 0
 IsListing p (ByAnswer found) = Fits (Solves p) found
 IsListing p (ByGrade grade) = Unit {0}

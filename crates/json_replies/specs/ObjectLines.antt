@@ -7,7 +7,7 @@ use Rattle.serde_json.specs.Written.{compact_text}
 use Rattle.byte_text.specs.Bytes.{line_feed}
 
 abbrev mutual
-  -- no float, and at most so deep
+  -- the data have no float, and are at most so deep
   pub IsShallow : ℕ → Data → Type 0
   IsShallow n null = Unit {0}
   IsShallow n (boolean b) = Unit {0}
@@ -18,12 +18,12 @@ abbrev mutual
   IsShallow zero (object ms) = ⊥
   IsShallow (suc n) (object ms) = MembersAreShallow n ms
 
-  -- so is each item
+  -- each of the items has no float, and is at most so deep
   pub AreShallow : ℕ → Items → Type 0
   AreShallow n no_items = Unit {0}
   AreShallow n (item d ds) = IsShallow n d × AreShallow n ds
 
-  -- so is each member
+  -- each of the members has no float, and is at most so deep
   pub MembersAreShallow : ℕ → Members → Type 0
   MembersAreShallow n no_members = Unit {0}
   MembersAreShallow n (member k d ms) = IsShallow n d × MembersAreShallow n ms

@@ -26,27 +26,27 @@ pub record ReasonParts : Type 0 where
 abbrev pub one_data : ℕ → Data
 one_data n = array (items_of (count_data n ∷ []))
 
--- one that rests on a square
+-- the parts of a reason that rests on a square
 abbrev pub parts_of_square : List ℕ → ℕ → ReasonParts
 parts_of_square word cell =
     record { word = word; edge = None; ends = None; line = null; cells = one_data cell; numbers = null }
 
--- one that looks from a clue at the edge
+-- the parts of a reason that looks from a clue at the edge
 abbrev pub parts_of_edge : List ℕ → Option ℕ → ReasonParts
 parts_of_edge word edge = record { word = word; edge = edge; ends = None; line = null; cells = null; numbers = null }
 
--- one that looks along a sign
+-- the parts of a reason that looks along a sign
 abbrev pub parts_of_sign : List ℕ → Option Ends → ReasonParts
 parts_of_sign word ends = record { word = word; edge = None; ends = ends; line = null; cells = null; numbers = null }
 
--- one that looks at squares and numbers of a row or column
+-- the parts of a reason that looks at squares and numbers of a row or column
 abbrev pub parts_of_line : List ℕ → ℕ → Data → Data → ReasonParts
 parts_of_line word line cells numbers =
     record { word = word; edge = None; ends = None; line = count_data line; cells = cells; numbers = numbers }
 
 -- ---- what they speak of
 
--- the place, if it is one of the edge's
+-- the place of a clue, if the edge of the grid has it
 abbrev pub edge_at : ℕ → ℕ → Option ℕ
 edge_at w place = if nat_lt place (4 * w) then Some place else None
 
@@ -67,13 +67,13 @@ abbrev pub line_cells_data : ℕ → ℕ → ℕ → Data
 line_cells_data w line places =
     listed_data (λ k. when (has_number places k) (count_data (line_cell w line k))) (range_with_len 0 w)
 
--- the same where the grid has the line
+-- the squares at some places of a line, or null if the grid has no such line
 abbrev pub squares_data : ℕ → ℕ → ℕ → Data
 squares_data w line places = if nat_lt line (2 * w) then line_cells_data w line places else null
 
 -- ---- the parts of a reason
 
--- those of a puzzle of a width with these signs
+-- the parts of a reason, in a puzzle of a width with these signs
 abbrev pub parts_of : ℕ → (ℕ → ℕ → Bool) → Reason → ReasonParts
 parts_of w is_over (Given cell) = parts_of_square (codes "given") cell
 parts_of w is_over (Peer cell) = parts_of_square (codes "peer") cell

@@ -42,7 +42,7 @@ abbrev pub answer_name : {P : Type 0} → Answer P → Option (List ℕ)
 answer_name (Ok outcome) = refused_name outcome
 answer_name (Err refusal) = Some (begin_refusal_name refusal)
 
--- its lines of text
+-- the lines of text of an answer
 abbrev pub answer_text : {P : Type 0} → Answer P → List ℕ
 answer_text (Ok outcome) = plain_text outcome
 answer_text (Err refusal) = refusal_line (begin_refusal_name refusal)
@@ -57,6 +57,6 @@ abbrev pub IsAnswerLine : {P : Type 0} → GameFacts P → Answer P → Option (
 IsAnswerLine f answer new bytes =
     IsLineOfData (reply_data (answer_name answer) (answer_text answer) (session_data f new)) bytes
 
--- the same of an outcome
+-- the line of the object of an outcome, and of the session that is left
 abbrev pub IsReplyLine : {P : Type 0} → GameFacts P → Outcome P → Option (History P) → List ℕ → Type 0
 IsReplyLine f outcome new bytes = IsAnswerLine f (Ok outcome) new bytes

@@ -16,8 +16,8 @@ use Rattle.json_replies.specs.JsonReplies.{AnswerGives, JsonReply}
 abbrev pub LinesAreTheReply : Type 0
 LinesAreTheReply = (said : List ℕ) → AreWholeLines said → lines_text (lines_of said) ≡ said
 
--- where pictures are whole lines, one line of an object tells one reply, one refusal or none, and one session, of all
--- that answers any lines of any sessions but those beside the commands
+-- where pictures are whole lines, two lines told by one object, neither of them beside the commands, have
+-- the same plain answer, are refused alike or not at all, and leave sessions of which the same is told
 abbrev pub ObjectsTellOneReply : {P : Type 0} → GameFacts P → BoardFacts P → Type 0
 ObjectsTellOneReply {P} f b =
     PicturesAreWholeLines f.drawing

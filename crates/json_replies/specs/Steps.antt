@@ -16,27 +16,27 @@ use Rattle.json_replies.specs.Reasons.{ReasonParts, parts_of}
 
 -- ---- the clue and the sign of a reason
 
--- where the clue stands, as in the move that marks it as done
+-- the x of the clue's place, as in the move that marks the clue as done, or null without a clue
 abbrev pub x_data : ℕ → Option ℕ → Data
 x_data w None = null
 x_data w (Some place) = number (of_integer (edge_xy w place).0)
 
--- and the other coordinate
+-- the y of the clue's place, or null without a clue
 abbrev pub y_data : ℕ → Option ℕ → Data
 y_data w None = null
 y_data w (Some place) = number (of_integer (edge_xy w place).1)
 
--- the clue itself
+-- the number of the clue, or null without a clue
 abbrev pub edge_clue_data : (ℕ → ℕ) → Option ℕ → Data
 edge_clue_data clue None = null
 edge_clue_data clue (Some place) = count_data (clue place)
 
--- the greater square of a sign
+-- the greater square of a sign, or null without a sign
 abbrev pub greater_data : Option Ends → Data
 greater_data None = null
 greater_data (Some ends) = count_data ends.greater
 
--- and the lesser one
+-- the lesser square of a sign, or null without a sign
 abbrev pub less_data : Option Ends → Data
 less_data None = null
 less_data (Some ends) = count_data ends.less
@@ -48,7 +48,7 @@ abbrev pub counts_data : ℕ → List ℕ → Data
 counts_data values shows =
     listed_data (λ n. when (has_number values n) (mark_set_data (slice_index shows n))) (range_with_len 1 9)
 
--- the same, where a clue strikes
+-- the counts of towers for each of the numbers if a clue strikes them, and otherwise null
 abbrev pub shows_data : ℕ → Option (List ℕ) → Data
 shows_data values None = null
 shows_data values (Some shows) = counts_data values shows

@@ -18,11 +18,11 @@ text_data bytes = string (latin_text bytes)
 abbrev pub lines_of : List ℕ → List (List ℕ)
 lines_of bytes = take (length (segments bytes) - 1) (segments bytes)
 
--- the list of these data
+-- the list of what f gives for each of the values
 abbrev pub list_data : {A : Type 0} → (A → Data) → List A → Data
 list_data f xs = array (items_of (map f xs))
 
--- the lines of a reply
+-- the lines of a reply as a list of texts
 abbrev pub lines_data : List ℕ → Data
 lines_data reply = list_data text_data (lines_of reply)
 

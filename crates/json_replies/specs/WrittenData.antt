@@ -12,7 +12,7 @@ use Rattle.serde_json.specs.Written.{outline}
 abbrev pub data_tokens : List Data → List Token
 data_tokens ds = flat_map (λ d. json_tokens (outline d)) ds
 
--- each of them reads as itself
+-- each of the data reads as itself
 abbrev pub AllRead : List Data → Type 0
 AllRead [] = Unit {0}
 AllRead (d ∷ ds) = (of_json (outline d) ≡ Some d) × AllRead ds

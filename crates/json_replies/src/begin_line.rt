@@ -18,7 +18,7 @@ pub(crate) enum BeginLine<T> {
     Item(ItemNumbers),
     /// The session's puzzle without items that it can do without.
     Thin,
-    /// The same, where it is to follow by a grade.
+    /// The session's puzzle without items that it can do without by a grade.
     ThinBy(T),
 }
 

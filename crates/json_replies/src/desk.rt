@@ -3,8 +3,7 @@
 ghost use Rattle.line_steps.specs.Reasons.{StruckBy};
 ghost use Rattle.std.specs.Prelude.{◌≡◌, ◌≤◌, ◌<◌, ◌*◌, IfOk, IfErr, IfSome, IsTrue};
 ghost use Rattle.json_replies.specs.ItemChanges.{cell_at, place_item, change_to, sign_change, change_at, turned};
-ghost use Rattle.json_replies.specs.DeskReplies.{IsBlankOf, IsNoBlank, IsChangeOf, IsNoChange, IsThinOf, IsThinBy, IsNoLetter};
-ghost use Rattle.json_replies.specs.DeskReplies.{plain_params};
+ghost use Rattle.json_replies.specs.DeskReplies.{IsBlankOf, IsNoBlank, IsChangeOf, IsNoChange, IsThinOf, IsThinBy, IsNoLetter, plain_params};
 
 use crate::begin_refusal::BeginRefusal;
 use crate::fair_request::{read_letter, read_size};

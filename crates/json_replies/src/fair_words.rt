@@ -18,7 +18,7 @@ pub(crate) struct FairWords<T> {
     pub(crate) seed: T,
 }
 
-/// The words of a text that is three, with one space between each.
+/// The three words of a text, if it is three words with one space between each.
 pub(crate) fn three_words(text: &[u8]) -> Option<FairWords<&[u8]>>
     ensures { option_map words_copied result ≡ three_words_at text.now }
 {
@@ -32,7 +32,7 @@ pub(crate) fn three_words(text: &[u8]) -> Option<FairWords<&[u8]>>
     }
 }
 
-/// The word that a text is.
+/// The word that a text is, if it is one.
 pub(crate) fn one_word(text: &[u8]) -> Option<&[u8]>
     ensures { option_copied result ≡ one_word_at text.now }
 {

@@ -89,7 +89,7 @@ fn told<P: Draw>(
     }
 }
 
-// The object that answers one of the lines beside the commands: NoGame where there is no session, then why it is none.
+// The object that answers a line beside the commands: NoGame without a session, and then its own refusal.
 fn further_object<P: Shows>(
     alloc: Global,
     session: &Option<Session<P>>,

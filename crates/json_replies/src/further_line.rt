@@ -15,11 +15,11 @@ use named_steps::Grade;
 pub(crate) enum FurtherLine {
     /// The board that is shown.
     Board,
-    /// How many solutions keep its numbers.
+    /// How many solutions keep the board's numbers.
     Completable,
-    /// A number that follows from them.
+    /// A number that follows from the board's numbers.
     Hint,
-    /// By which steps the puzzle follows.
+    /// The grade of the steps by which the puzzle follows.
     Grade,
     /// Two of the solutions that keep the board's numbers, or as many as there are.
     Solutions,

@@ -12,9 +12,8 @@ ghost use Rattle.json_replies.specs.Counts.{count_data};
 ghost use Rattle.json_replies.specs.Texts.{list_data};
 ghost use Rattle.json_replies.specs.HintObjects.{IsGoalTold, IsHintValue, IsTextOf, by_word, goal_line_data};
 ghost use Rattle.json_replies.specs.HintObjects.{left_data, said_of, steps_in, view_data, without_number};
-ghost use Rattle.json_replies.specs.Inner.WrittenData.{count_or_null, said_data, said_members, word_or_null};
+ghost use Rattle.json_replies.specs.Inner.WrittenData.{count_or_null, said_data, said_members, word_or_null, FollowsWhere, MembersFollow};
 ghost use Rattle.json_replies.specs.WrittenData.{Follow};
-ghost use Rattle.json_replies.specs.Inner.WrittenData.{FollowsWhere, MembersFollow};
 
 use crate::written::{
     Each, write_lines, write_number, write_number_at, write_number_when, write_range,

@@ -1,6 +1,8 @@
-//! What a puzzle program says as JSON: a reply, the session that it leaves, and the board that is shown.
+//! What a puzzle program says as JSON.
 //!
-//! [`Json`] is a format of the program: what a line makes of a session ([`execute`](puzzle_cli::execute)) is told as one object on one line.
+//! [`Json`] is a format of the program: each line is answered by one object on one line. It tells what the line makes of a session
+//! ([`execute`](puzzle_cli::execute)), or answers a line that only this format has: `hint` and others ask something of the session, and
+//! `fair`, `blank`, `item` and `thin` begin one as `new` does.
 #![tactic(auto)]
 
 mod begin;

@@ -5,8 +5,7 @@ ghost use Rattle.number_sets.specs.Sets.{has_number};
 ghost use Rattle.latin_board.specs.Lines.{line_cell};
 ghost use Rattle.json_replies.specs.Boards.{when};
 ghost use Rattle.json_replies.specs.Counts.{count_data};
-ghost use Rattle.json_replies.specs.Reasons.{edge_at, ends_at, one_data, parts_of, place_data};
-ghost use Rattle.json_replies.specs.Reasons.{squares_data};
+ghost use Rattle.json_replies.specs.Reasons.{edge_at, ends_at, one_data, parts_of, place_data, squares_data};
 ghost use Rattle.json_replies.specs.WrittenData.{Follow};
 ghost use Rattle.json_replies.specs.Inner.WrittenData.{count_or_null};
 

@@ -12,12 +12,12 @@ use puzzle_cli::Facts;
 ///
 /// The lines that are told of a reply of whole lines, each with LF, are the reply. Where a game's pictures are whole
 /// lines every plain reply is, so two that are told by the same bytes are the same, and what is told of the session
-/// that they leave is the same. No object's line is `{"lost":"OutOfMemory"}`. The lines `board`, `completable`, `hint`
-/// and `grade` leave the session, and are answered from it. `item` and numbers with commas between ask for the item of
-/// just these numbers. `fair` and three words leave it, or begin that of the very puzzle that they ask for, which has
-/// one solution and is of the grade. In such a puzzle hints lead on while a square is empty: by that grade at most, or
-/// to a contradiction where a number is wrong. Where none is, the hinted numbers lead one after another to the
-/// solution.
+/// that they leave is the same. No object's line is `{"lost":"OutOfMemory"}`. The lines that are answered from the
+/// session leave it: `board`, `completable`, `hint`, `grade`, `solutions` and `spare`. `item` and numbers with commas
+/// between ask for the item of just these numbers. `fair` and three words leave the session, or begin that of the
+/// puzzle that they ask for. It has one solution and is of the grade. In such a puzzle hints lead on while a square is
+/// empty: by that grade at most, or to a contradiction where a number is wrong. Where none is, the hinted numbers lead
+/// one after another to the solution.
 pub fn laws<P: Shows>()
     ensures lines { LinesAreTheReply }
     ensures one_reply { ObjectsTellOneReply ⟦<P as Facts>⟧.facts ⟦<P as ShownFacts>⟧.board_facts }

@@ -4,8 +4,7 @@ ghost use Rattle.std.specs.Prelude.{◌≡◌, ℕ, ◌+◌, ◌*◌, ◌<◌, �
 ghost use Rattle.std.specs.List.{range_with_len};
 ghost use Rattle.std.specs.Option.{option_copied};
 ghost use Rattle.number_sets.specs.Sets.{has_number};
-ghost use Rattle.serde_json.specs.Data.{Data};
-ghost use Rattle.serde_json.specs.Data.{array, boolean, no_items, null, number, string};
+ghost use Rattle.serde_json.specs.Data.{Data, array, boolean, no_items, null, number, string};
 ghost use Rattle.serde_json.specs.Find.{of_integer};
 ghost use Rattle.step_texts.specs.Lines.{line_texts};
 ghost use Rattle.json_replies.specs.Counts.{count_data};

@@ -4,8 +4,7 @@ ghost use Rattle.std.specs.Prelude.{◌≡◌, ◌*◌, ◌<◌, ◌∷◌, [], 
 ghost use Rattle.number_sets.specs.Sets.{has_number};
 ghost use Rattle.json_replies.specs.Boards.{when, mark_set_data};
 ghost use Rattle.json_replies.specs.Texts.{list_data};
-ghost use Rattle.json_replies.specs.Steps.{edge_clue_data, greater_data, less_data, shows_data};
-ghost use Rattle.json_replies.specs.Steps.{strike_data, step_data, steps_data};
+ghost use Rattle.json_replies.specs.Steps.{edge_clue_data, greater_data, less_data, shows_data, strike_data, step_data, steps_data};
 ghost use Rattle.json_replies.specs.WrittenData.{Follow};
 ghost use Rattle.json_replies.specs.Inner.WrittenData.{count_or_null};
 

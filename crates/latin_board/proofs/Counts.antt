@@ -6,7 +6,7 @@ use Rattle.std.proofs.lemmas.List.FromFn.{sum_by-map-range_with_len_more}
 use Rattle.std.proofs.lemmas.List.Sums.{sum_by-cons}
 use Rattle.latin_board.specs.Squares.{times_in}
 
--- one place more of a list that is made by places
+-- how often v stands in a list that is made by places, with one place more
 times_in_more : (f : ℕ → ℕ) (v k : ℕ)
     → times_in v (map f (range_with_len 0 (k + 1))) ≡ times_in v (map f (range_with_len 0 k)) + cond (eqb (f k) v) 1 0
 times_in_more f v k = sum_by-map-range_with_len_more (λ x. cond (eqb x v) 1 0) f 0 k k (omega arith)

@@ -1,9 +1,10 @@
 -- The numbers that are found along a line, and when these are each number once.
+use Rattle.std.proofs.lemmas.Bool.Decides.{nat_tests}
 use Rattle.std.proofs.Common.{◌≡◌, ℕ, suc, ◌+◌, ◌<◌, ◌≤◌, ◌↔◌, Bool, true, false, ◌&&◌, ◌||◌, ◌==◌, nat_le, List, [], ◌∷◌, length, get_or, set, eqb, IsTrue, inl, inr, refl, sym, ap, ◌∙◌, arith}
 use Rattle.std.specs.Bool.{MatchBool}
 use Rattle.std.specs.List.{list_any}
 use Rattle.std.proofs.Math.ListN.{length-set}
-use Rattle.std.proofs.lemmas.Bool.{both_ways, cases_eq, cases_lt, and_from, and_parts, le-leb, leb-true, eq-eqb, eqb-true, false≢true, or_cases, or_left, or_right}
+use Rattle.std.proofs.lemmas.Bool.{cases_eq, cases_lt, and_from, and_parts, le-leb, leb-true, eq-eqb, eqb-true, false≢true, or_cases, or_left, or_right}
 use Rattle.std.proofs.lemmas.List.{get_or-set_other, get_or-set_same}
 use Rattle.std.proofs.lemmas.Map.Steps.{le-length_from_below}
 use Rattle.number_sets.specs.Sets.{has_number, IsSubset}
@@ -20,14 +21,9 @@ pub record AreFound (g : GridValue) (line n found : ℕ) : Type 0 where
   pub is : (v : ℕ) → (has_number found v ≡ true) ↔ ((k : ℕ) × (k < n) × (number_at g (line_cell g.size line k) ≡ v))
 
 pub found_none : (g : GridValue) (line : ℕ) → AreFound g line 0 0
-found_none g line = record {
-  is = λ v. (
-    λ e. absurd (both_ways (has_number 0 v) (has_number-none v) e),
-    λ (k, none, here). absurd (omega arith),
-  );
-}
+found_none g line = grind (arith, nat_tests, has_number-none)
 
--- one square more
+-- with the number of the next square the set has the numbers of one square more
 pub found_more : (g : GridValue) (line n found one number new : ℕ) → AreFound g line n found
     → number ≡ number_at g (line_cell g.size line n) → ((v : ℕ) → has_number one v ≡ (v == number))
     → ((v : ℕ) → has_number new v ≡ (has_number found v || has_number one v)) → AreFound g line (n + 1) new
@@ -67,7 +63,7 @@ places_of_two v (x ∷ xs) counted =
 pub record AllStand (w : ℕ) (line : List ℕ) : Type 0 where
   pub place : (u : ℕ) → 1 ≤ u → u ≤ w → (k : ℕ) × (k < w) × (get_or line k 0 ≡ u)
 
--- so none of w places can have a number that another has: with 0 there, w places had w + 1 numbers
+-- where each number from 1 to w stands in w places, none stands twice: too few would be left for the others
 none_twice : (w : ℕ) (line : List ℕ) (v i j : ℕ) → length line ≡ w → AllStand w line → i < j → j < w → get_or line i 0 ≡ v
     → get_or line j 0 ≡ v → ⊥
 none_twice w line v i j len all before inside first second =
@@ -86,6 +82,7 @@ none_twice w line v i j len all before inside first second =
     ]) in
     omega arith
 
+-- so each number stands in the line exactly once
 once_where_all : (w : ℕ) (line : List ℕ) → length line ≡ w → AllStand w line → HasEachOnce w line
 once_where_all w line len all = λ v low high.
     let (k, inside, here) = all.place v low high in
@@ -99,7 +96,7 @@ once_where_all w line len all = λ v low high.
 
 -- ---- the test of a line
 
--- every is the set of the numbers from 1 to w
+-- `every` is the set of the numbers from 1 to w
 pub record AreEvery (every w : ℕ) : Type 0 where
   pub is : (v : ℕ) → has_number every v ≡ (nat_le 1 v && nat_le v w)
 

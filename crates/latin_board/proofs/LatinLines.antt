@@ -1,5 +1,6 @@
 -- Latin squares by their lines, the rows and columns as one family.
-use Rattle.std.proofs.Common.{◌≡◌, ◌≢◌, ℕ, ◌+◌, ◌-◌, ◌*◌, ◌/◌, ◌%◌, ◌<◌, ◌≤◌, List, length, get_or, inl, inr, refl, sym, ◌∙◌, ap, arith}
+use Rattle.std.proofs.lemmas.Bool.Decides.{nat_tests}
+use Rattle.std.proofs.Common.{◌≡◌, ◌≢◌, ℕ, ◌+◌, ◌-◌, ◌*◌, ◌/◌, ◌%◌, ◌<◌, ◌≤◌, List, length, get_or, inl, inr, refl, sym, ◌∙◌, arith}
 use Rattle.std.proofs.lemmas.Bool.{cases_lt, cases_order, lt-ltb, le-ltb}
 use Rattle.std.proofs.lemmas.List.FromFn.{length-map-range_with_len, get_or-map-range_with_len}
 use Rattle.std.proofs.lemmas.Map.Steps.{le-length_from_below}
@@ -12,13 +13,7 @@ use Rattle.latin_board.proofs.Counts.{twice_at_least, place_of_counted, among_at
 
 -- a grid that has a square has a width
 pub some_width : (w cell : ℕ) → cell < w * w → 0 < w
-some_width w cell inside =
-    elim (cases_lt 0 w) [
-      | inl some ↦ some
-      | inr none ↦
-          let nothing : w ≡ 0 = omega arith in
-          absurd (omega (arith, rw nothing at inside))
-    ]
+some_width w cell inside = grind (arith, nat_tests)
 
 -- the squares of a row
 pub line_cell-row : (w row k : ℕ) → row < w → line_cell w row k ≡ row * w + k
@@ -26,9 +21,7 @@ line_cell-row w row k low = rw (lt-ltb row w low) refl
 
 -- the squares of a column
 pub line_cell-column : (w column k : ℕ) → line_cell w (w + column) k ≡ k * w + column
-line_cell-column w column k =
-    let back : (w + column) - w ≡ column = omega arith in
-    rw (le-ltb (w + column) w (omega arith), back) refl
+line_cell-column w column k = grind (arith, nat_tests)
 
 -- a square of a line is one of the grid
 pub line_cell_inside : (w line k : ℕ) → line < 2 * w → k < w → line_cell w line k < w * w
@@ -44,9 +37,7 @@ line_of-row g row low = rw (lt-ltb row g.size low) refl
 
 -- the line of a column's number, which comes after the rows, is that column
 pub line_of-column : (g : GridValue) (column : ℕ) → line_of g (g.size + column) ≡ column_of g column
-line_of-column g column =
-    let back : (g.size + column) - g.size ≡ column = omega arith in
-    rw (le-ltb (g.size + column) g.size (omega arith), back) refl
+line_of-column g column = grind (arith, nat_tests)
 
 -- a line is as long as the grid is wide
 pub length-line_of : (g : GridValue) (line : ℕ) → length (line_of g line) ≡ g.size
@@ -57,7 +48,7 @@ pub get_or-line_of : (g : GridValue) (line k : ℕ) → k < g.size → get_or (l
 get_or-line_of g line k within =
     get_or-map-range_with_len (λ k. number_at g (line_cell g.size line k)) 0 g.size k k 0 within (omega arith)
 
--- a square by its row
+-- a square stands in the line of its row, at the place of its column
 pub line_cell_of_row : (w cell : ℕ) → cell < w * w → line_cell w (cell / w) (cell % w) ≡ cell
 line_cell_of_row w cell inside =
     line_cell-row w (cell / w) (cell % w) (div_below cell w w (some_width w cell inside) inside) ∙ div-add-mod' cell w
@@ -95,6 +86,7 @@ value_at g latin line v below low high = counted_at g line v (omega (arith, lati
 
 -- ---- a Latin square is full
 
+-- in w places that have each number from 1 to w once, no place is blank
 no_blank : (w : ℕ) (line : List ℕ) → length line ≡ w → HasEachOnce w line → (k : ℕ) → k < w → get_or line k 0 ≡ 0 → ⊥
 no_blank w line len once k within blank =
     let all : w + 1 ≤ length line = le-length_from_below line (w + 1) (λ v below. elim (cases_lt v 1) [
@@ -148,32 +140,11 @@ line_differs g valid latin line i j below first second apart = λ same.
 -- ---- squares that share a line
 
 peers_on_row : (w a b : ℕ) → 0 < w → ArePeers w a b → a / w ≡ b / w → IsOnLine w a b (a / w) (a % w) (b % w)
-peers_on_row w a b some peers rows =
-    let row = div_below a w w some peers.first in
-    let at_a = div-add-mod' a w in
-    let at_b : a / w * w + b % w ≡ b = rw rows (div-add-mod' b w) in
-    record {
-      line_is = omega arith;
-      first = mod_below a w some;
-      second = mod_below b w some;
-      apart = λ same. peers.apart (sym at_a ∙ ap (λ k. a / w * w + k) same ∙ at_b);
-      first_cell = line_cell-row w (a / w) (a % w) row ∙ at_a;
-      second_cell = line_cell-row w (a / w) (b % w) row ∙ at_b;
-    }
+peers_on_row w a b some peers rows = grind (arith, nat_tests, div_below, div-add-mod', mod_below, line_cell-row)
 
 peers_on_column : (w a b : ℕ) → 0 < w → ArePeers w a b → a % w ≡ b % w → IsOnLine w a b (w + a % w) (a / w) (b / w)
 peers_on_column w a b some peers columns =
-    let column = mod_below a w some in
-    let at_a = div-add-mod' a w in
-    let at_b : b / w * w + a % w ≡ b = rw columns (div-add-mod' b w) in
-    record {
-      line_is = omega arith;
-      first = div_below a w w some peers.first;
-      second = div_below b w w some peers.second;
-      apart = λ same. peers.apart (sym at_a ∙ ap (λ k. k * w + a % w) same ∙ at_b);
-      first_cell = line_cell-column w (a % w) (a / w) ∙ at_a;
-      second_cell = line_cell-column w (a % w) (b / w) ∙ at_b;
-    }
+    grind (arith, nat_tests, mod_below, div-add-mod', div_below, line_cell-column)
 
 -- two peers stand on a common line
 pub peers_on_line : (w a b : ℕ) → ArePeers w a b → (line : ℕ) × (i : ℕ) × (j : ℕ) × IsOnLine w a b line i j
@@ -186,7 +157,4 @@ peers_on_line w a b peers =
 
 -- two squares of a Latin square that share a line differ
 pub peers_differ : (g : GridValue) → IsGrid g → IsLatin g → (a b : ℕ) → ArePeers g.size a b → number_at g a ≢ number_at g b
-peers_differ g valid latin a b peers = λ same.
-    let (line, i, j, on) = peers_on_line g.size a b peers in
-    line_differs g valid latin line i j on.line_is on.first on.second on.apart
-    (ap (number_at g) on.first_cell ∙ same ∙ sym (ap (number_at g) on.second_cell))
+peers_differ g valid latin a b peers = grind (arith, nat_tests, peers_on_line, line_differs)

@@ -6,7 +6,7 @@ use Rattle.std.proofs.lemmas.Bool.{cases_eq, and_parts, and_from}
 use Rattle.std.proofs.lemmas.Bool.Decides.{Decides-like, Decides-and, Decides-eqb}
 use Rattle.latin_board.specs.Squares.{GridValue, IsLatin, HasEachOnce, each_once_test, latin_test, row_of, column_of, times_in}
 
--- a test of each number of a range
+-- a test of each number of a range decides whether P holds of all of them
 pub all_in_range : (p : ℕ → Bool) (P : ℕ → Type 0) → ((k : ℕ) → Decides (p k) (P k)) → (a n : ℕ)
     → Decides (list_all p (range_with_len a n)) ((k : ℕ) → a ≤ k → k < a + n → P k)
 all_in_range p P each a zero = (λ e k low high. absurd (omega arith), λ all. refl)

@@ -1,7 +1,6 @@
 -- The places of the edge clues round a grid of width w, numbered from 0 to 4w - 1: above the columns, below them, left
 -- of the rows, right of them.
-use Rattle.std.specs.Prelude.{ℕ, zero, ◌+◌, ◌-◌, ◌*◌, ◌==◌, ◌&&◌, nat_lt, if◌then◌else◌, ℤ, pos, negsuc, Option, Some}
-use Rattle.std.specs.Prelude.{None}
+use Rattle.std.specs.Prelude.{ℕ, zero, ◌+◌, ◌-◌, ◌*◌, ◌==◌, ◌&&◌, nat_lt, if◌then◌else◌, ℤ, pos, negsuc, Option, Some, None}
 
 -- the place at (x, y), where the squares have x and y from 0 to w - 1; `negsuc zero` is -1
 abbrev pub edge_place : ℕ → ℤ → ℤ → Option ℕ

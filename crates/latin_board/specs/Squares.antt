@@ -1,6 +1,5 @@
 -- Square grids of numbers, and when one is a Latin square.
-use Rattle.std.specs.Prelude.{◌≡◌, ℕ, ◌+◌, ◌*◌, ◌<◌, ◌≤◌, Bool, ◌==◌, ◌&&◌, List, length, slice_index, replicate, map}
-use Rattle.std.specs.Prelude.{count_by, All}
+use Rattle.std.specs.Prelude.{◌≡◌, ℕ, ◌+◌, ◌*◌, ◌<◌, ◌≤◌, Bool, ◌==◌, ◌&&◌, List, length, slice_index, replicate, map, count_by, All}
 use Rattle.std.specs.List.{range_with_len, list_all}
 
 -- a width, and the numbers in reading order; 0 stands for a blank square

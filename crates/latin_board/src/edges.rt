@@ -18,7 +18,7 @@ pub fn edge_place(size: Size, x: i8, y: i8) -> Option<u8>
     place_at(size, x, y)
 }
 
-// The number alone.
+// The number of the place at (x, y).
 fn place_at(size: Size, x: i8, y: i8) -> Option<u8>
     ensures value { result ≡ edge_place size x y }
 {

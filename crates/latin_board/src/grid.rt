@@ -3,8 +3,7 @@
 ghost use Rattle.std.specs.Prelude.{◌≡◌, ℕ, ◌*◌, ◌<◌, ◌≤◌, ◌↔◌, IsTrue, slice_set, replicate};
 ghost use Rattle.std.specs.Bool.{OnTrue};
 ghost use Rattle.std.specs.Cmp.{decided, partial_equiv_from_equiv};
-ghost use Rattle.latin_board.specs.Squares.{blank_grid, number_at, times_in, HasEachOnce, IsGrid, IsFull, IsLatin};
-ghost use Rattle.latin_board.specs.Squares.{latin_test};
+ghost use Rattle.latin_board.specs.Squares.{blank_grid, number_at, times_in, HasEachOnce, IsGrid, IsFull, IsLatin, latin_test};
 ghost use Rattle.latin_board.specs.Lines.{line_of};
 ghost use Rattle.latin_board.specs.Sameness.{same_grid, same_grid_decides};
 

@@ -10,12 +10,14 @@ use Rattle.line_steps.specs.Reasons.{IsByPeer, IsByPlace}
 use Rattle.line_steps.proofs.GivenSets.{up_to_pair}
 use Rattle.line_steps.proofs.OtherNumbers.{has_rest}
 
+-- if nothing is left of a square, each value of the size is one but for which nothing is left
 pub alone_none : (c : CandidatesValue) (cell set all v : ℕ) → cell < c.size * c.size → IsSetOf c cell set → IsEmpty set
     → ((k : ℕ) → has_number all k ≡ (nat_le 1 k && nat_le k c.size)) → (has_number all v ≡ true) ↔ (IsPair c.size cell v × HasNoOther c cell v)
 alone_none c cell set all v inside is none members =
     let pairs = up_to_pair c.size cell all v inside members in
     (λ has. (pairs.0 has, λ other left. absurd (both_ways (has_number set other) (none other) ((is other).1 (left.pair, left.may)))), λ h. pairs.1 h.0)
 
+-- if one value is left of a square, its set has just the value but for which nothing is left
 pub alone_one : (c : CandidatesValue) (cell set one v : ℕ) → cell < c.size * c.size → IsSetOf c cell set → IsOnly c cell one
     → (has_number set v ≡ true) ↔ (IsPair c.size cell v × HasNoOther c cell v)
 alone_one c cell set one v inside is only =
@@ -29,6 +31,7 @@ alone_one c cell set one v inside is only =
           subst (λ (n : ℕ). has_number set n ≡ true) same ((is one).1 (pair, only.left)),
     )
 
+-- if several values are left of a square, no value is one but for which nothing is left
 pub alone_several : (c : CandidatesValue) (cell set v : ℕ) → cell < c.size * c.size → IsSetOf c cell set → (n : ℕ) × (has_number set n ≡ true)
     → ((v : ℕ) → IsOnly c cell v → ⊥) → HasNoOther c cell v → ⊥
 alone_several c cell set v inside is some several none =
@@ -41,6 +44,7 @@ alone_several c cell set v inside is some several none =
       alone = λ other low high may. none other (record { pair = record { inside = inside; low = low; high = high }; may = may }) ∙ sym same;
     })
 
+-- the values but for which nothing is left of a square are those that it strikes in its row and column
 pub peer_struck : (c : CandidatesValue) (by cell result v : ℕ) → ArePeers c.size by cell
     → ((v : ℕ) → (has_number result v ≡ true) ↔ (IsPair c.size by v × HasNoOther c by v))
     → (has_number result v ≡ true) ↔ (IsPair c.size cell v × IsByPeer c.size c by cell v)
@@ -51,6 +55,7 @@ peer_struck c by cell result v peers is = (
   λ h. (is v).1 (record { inside = peers.first; low = h.0.low; high = h.0.high }, h.1.alone),
 )
 
+-- if a square is the last place of a value in a line, all other values of the size are struck there
 pub place_struck : (c : CandidatesValue) (line index other cell all one result v : ℕ) → line < 2 * c.size → index < c.size → 1 ≤ other
     → other ≤ c.size → cell < c.size * c.size → cell ≡ line_cell c.size line index → HasNoOtherPlace c line other index
     → ((k : ℕ) → has_number all k ≡ (nat_le 1 k && nat_le k c.size)) → ((k : ℕ) → has_number one k ≡ (k == other))

@@ -16,20 +16,20 @@ abbrev pub IsAntitone : Striking → Type 0
 IsAntitone Struck =
     (c d : CandidatesValue) (reason : Reason) (cell value : ℕ) → IsFewer c d → Struck c reason cell value → Struck d reason cell value
 
--- and of fewer candidates still fewer
+-- fewer candidates stay fewer when both lose the same pairs
 pub fewer_without : (c d : CandidatesValue) (pairs : List (ℕ × ℕ)) → IsFewer c d → IsFewer (without c pairs) (without d pairs)
 fewer_without c d pairs fewer = λ cell value h.
     let was = was_left d pairs cell value h in
     still_left c pairs cell value (fewer cell value was.0) was.1
 
--- a step is one of fewer candidates
+-- a step from candidates is a step from fewer of the same size
 pub step_less : (Struck : Striking) → IsAntitone Struck → (c d : CandidatesValue) (step : StepValue)
     → c.size ≡ d.size → IsFewer c d → IsStep Struck c step → IsStep Struck d step
 step_less Struck less c d step size fewer h = λ cell value has.
     let was = h cell value has in
     (subst (λ (w : ℕ). IsPair w cell value) size was.0, less c d step.reason cell value fewer was.1)
 
--- a chain is one of fewer candidates, and leaves fewer
+-- a chain from candidates is a chain from fewer of the same size, and leaves fewer there
 pub chain_less : (Struck : Striking) → IsAntitone Struck → (c d : CandidatesValue) (steps : List StepValue)
     → c.size ≡ d.size → IsFewer c d → IsChain Struck c steps → IsChain Struck d steps × IsFewer (left_by c steps) (left_by d steps)
 chain_less Struck less c d [] size fewer h = (tt, fewer)
@@ -52,7 +52,7 @@ pub left_append : (c : CandidatesValue) (front back : List StepValue) → left_b
 left_append c [] back = refl
 left_append c (step ∷ front) back = left_append (without c step.strikes) front back
 
--- a chain in two pieces
+-- each of the two pieces of a chain is a chain, the second from what the first leaves
 pub chain_split : (Struck : Striking) (c : CandidatesValue) (front back : List StepValue) → IsChain Struck c (front ++ back)
     → IsChain Struck c front × IsChain Struck (left_by c front) back
 chain_split Struck c [] back h = (tt, h)

@@ -12,14 +12,14 @@ use Rattle.trail_solver.proofs.Pigeonholes.{none_else, pigeonhole}
 pub within_counts : (few many : ℕ) → ((v : ℕ) → has_number few v ≡ true → v < 16) → IsSubset few many → count_ones few ≤ count_ones many
 within_counts few many low sub = pigeonhole few many (λ i. i) (record { small = low; lands = sub; apart = λ i j first second e. e })
 
--- and what is as large as a subset has nothing beside it
+-- a set with no more numbers than one of its subsets has none but those of the subset
 pub no_more : (union values v : ℕ) → ((n : ℕ) → has_number union n ≡ true → n < 16) → IsSubset union values → count_ones values ≡ count_ones union
     → v < 16 → has_number values v ≡ true → has_number union v ≡ true
 no_more union values v small sub same low has =
     true_from_ne_false (has_number union v) (λ lacks. none_else union v values (λ i. i)
     (record { small = small; lands = sub; apart = λ i j first second e. e }) same low lacks (λ i there e. e) has)
 
--- a set that is counted has a number
+-- a set with a count above 0 has a number
 pub some_counted : (set n : ℕ) → count_ones set ≡ suc n → ((k : ℕ) → has_number set k ≡ true → k < 16) → (k : ℕ) × (has_number set k ≡ true)
 some_counted set n count small =
     some_number set (λ e. omega (arith, count, ones_le_self set))

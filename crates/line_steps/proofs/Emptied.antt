@@ -1,4 +1,4 @@
--- Squares that are left nothing, and what has a solution.
+-- Squares that are left nothing: what empties one, and that no chain does where there was a solution.
 use Rattle.std.proofs.Common.{◌≡◌, ℕ, ◌*◌, ◌<◌, sym, ◌∙◌, subst}
 use Rattle.std.proofs.lemmas.Bool.{both_ways}
 use Rattle.latin_board.specs.Squares.{GridValue, number_at}

@@ -7,10 +7,11 @@ use Rattle.std.proofs.lemmas.List.FromFn.{map-range_with_len_more}
 use Rattle.std.proofs.lemmas.Bool.{cases_eq}
 use Rattle.line_steps.specs.Inner.Filled.{IsFilledTo}
 
+-- an empty table is filled to the place 0
 pub filled_begin : {X : Type 0} (empty : X) (n : ℕ) → IsFilledTo empty n 0 (replicate n empty)
 filled_begin empty n = record { count = length-replicate n empty; within = omega arith; rest = ap (λ m. replicate m empty) (omega arith) }
 
--- k places are left empty
+-- a table that is filled to a place is filled k places further when these stay empty
 pub filled_run : {X : Type 0} (empty : X) (n place k : ℕ) (xs : List X) → IsFilledTo empty n place xs → place + k ≤ n
     → IsFilledTo empty n (place + k) xs × (take (place + k) xs ≡ take place xs ++ replicate k empty)
 filled_run empty n place k xs filled fits =
@@ -20,7 +21,7 @@ filled_run empty n place k xs filled fits =
     let front : take k (drop place xs) ≡ replicate k empty = ap (take k) filled.rest ∙ take-replicate k (n - place) empty (omega arith) in
     (record { count = filled.count; within = fits; rest = rest }, take-add place k xs ∙ ap (λ ys. take place xs ++ ys) front)
 
--- one place is set
+-- a table that is filled to a place is filled one further when that place is set
 pub filled_one : {X : Type 0} (empty : X) (n place : ℕ) (v : X) (xs : List X) → IsFilledTo empty n place xs → place < n
     → IsFilledTo empty n (place + 1) (set xs place v) × (take (place + 1) (set xs place v) ≡ take place xs ++ v ∷ [])
 filled_one empty n place v xs filled fits =
@@ -38,17 +39,18 @@ pub record IsFilledBy {X : Type 0} (empty : X) (n : ℕ) (f : ℕ → X) (i : �
   pub filled : IsFilledTo empty n i xs
   pub front : take i xs ≡ map f (range_with_len 0 i)
 
+-- an empty table holds what f gives in none of its places yet
 pub filled_none : {X : Type 0} (empty : X) (n : ℕ) (f : ℕ → X) → IsFilledBy empty n f 0 (replicate n empty)
 filled_none empty n f = record { filled = filled_begin empty n; front = refl }
 
--- one entry more is filled in
+-- when the next place is set to what f gives for it, the first i + 1 places hold what f gives
 pub filled_more : {X : Type 0} (empty : X) (n : ℕ) (f : ℕ → X) (i : ℕ) (xs : List X) (v : X) → i < n → v ≡ f i
     → IsFilledBy empty n f i xs → IsFilledBy empty n f (i + 1) (set xs i v)
 filled_more empty n f i xs v inside is h =
     let one = filled_one empty n i v xs h.filled inside in
     record { filled = one.0; front = rw (one.1, h.front, is, map-range_with_len_more f 0 i i (omega arith)) refl }
 
--- what is so of each entry below n, and of the one that is set there, is so of each below n + 1
+-- a property of each entry below n, and of the value that is set at n, holds of each entry below n + 1
 pub entries_more : {X : Type 0} (P : ℕ → X → Type 0) (xs : List X) (n : ℕ) (v d : X) → n < length xs
     → ((k : ℕ) → k < n → P k (slice_index_or xs k d)) → P n v → (k : ℕ) → k < n + 1 → P k (slice_index_or (set xs n v) k d)
 entries_more P xs n v d inside before here k low = elim (cases_eq k n) [
@@ -56,7 +58,7 @@ entries_more P xs n v d inside before here k low = elim (cases_eq k n) [
   | inr other ↦ rw (get_or-set_other xs n k v d other) (before k (omega arith))
 ]
 
--- one set of a row more
+-- a property of a row's first k sets, and of the set that is put at k, holds of each of its first k + 1
 pub row_next : (P : ℕ → ℕ → Type 0) (row : List ℕ) (k value : ℕ) → length row ≡ 9 → k < 9 → P k value → ((j : ℕ) → j < k → P j (slice_index row j))
     → (j : ℕ) → j < k + 1 → P j (slice_index (set row k value) j)
 row_next P row k value count low here before = λ j less. elim (cases_eq j k) [

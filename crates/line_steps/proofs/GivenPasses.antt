@@ -18,21 +18,22 @@ use Rattle.line_steps.proofs.Leads.{leads_taken}
 use Rattle.line_steps.specs.declared.reason.Reason.TheVariants.{Given}
 use Rattle.line_steps.specs.declared.grade.Grade.TheVariants.{Latin}
 
--- what a given doesn't strike of candidates it doesn't strike of fewer
+-- a given that strikes nothing that is left strikes nothing that is left of fewer candidates
 pub given_stays : (p : Puzzle) (at : ℕ) (a b : CandidatesValue) → b.size ≡ a.size → IsFewer a b → IsGivenQuiet p at a → IsGivenQuiet p at b
 given_stays p at a b size fewer quiet = λ cell value pair h.
     let there : IsPair a.size cell value = subst (λ (n : ℕ). IsPair n cell value) size pair in
     gone_from b cell value pair (λ left. both_ways (may_be a cell value) (quiet cell value there h) (fewer cell value left).may)
 
--- givens that strike nothing more strike nothing of fewer candidates
+-- givens that strike nothing that is left strike nothing that is left of fewer candidates
 pub givens_stay : (p : Puzzle) (a b : CandidatesValue) → b.size ≡ a.size → IsFewer a b → AreGivensSettled p a → AreGivensSettled p b
 givens_stay p a b size fewer quiet at = given_stays p at a b size fewer (quiet at)
 
--- what a given strikes is gone
+-- a chain leads from a to b, where the given strikes nothing that is left
 pub record IsGivenTaken (p : Puzzle) (Own : Striking) (at : ℕ) (a b : CandidatesValue) : Type 0 where
   pub leads : LeadsTo (AllStrikes p Own) Latin a b
   pub quiet : IsGivenQuiet p at b
 
+-- striking all values but the given in its square takes away what the given strikes
 pub given_taken : (p : Puzzle) (Own : Striking) → IsAntitone (AllStrikes p Own) → (at all one rest given : ℕ) (a b : CandidatesValue)
     → at < a.size * a.size → given ≡ p.given at → given ≢ 0 → ((k : ℕ) → has_number all k ≡ (nat_le 1 k && nat_le k a.size))
     → ((k : ℕ) → has_number one k ≡ (k == given)) → ((n : ℕ) → has_number rest n ≡ (has_number all n && not (has_number one n)))

@@ -7,7 +7,7 @@ use Rattle.trail_solver.specs.Puzzles.{Puzzle}
 use Rattle.line_steps.specs.Reasons.{IsByGiven}
 use Rattle.line_steps.proofs.OtherNumbers.{has_rest}
 
--- the numbers of the size are those of a pair
+-- the numbers of the size are those that make a pair with a square of the grid
 pub up_to_pair : (w cell all v : ℕ) → cell < w * w → ((k : ℕ) → has_number all k ≡ (nat_le 1 k && nat_le k w))
     → (has_number all v ≡ true) ↔ IsPair w cell v
 up_to_pair w cell all v inside members = (

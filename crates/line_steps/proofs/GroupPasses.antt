@@ -30,7 +30,7 @@ same_union : (sets : List ℕ) (squares one other : ℕ) → IsUnionOf sets squa
 same_union sets squares one other u w =
     same_subsets one other (λ v has. let k = u.only v has in w.all k.0 v k.1 k.2) (λ v has. let k = w.only v has in u.all k.0 v k.1 k.2)
 
--- the numbers of the sets at one place more
+-- the union of the sets before place k, with the set at k, is the union of those before k + 1
 pub united_on : (sets : List ℕ) (squares values here all k v : ℕ)
     → (has_number values v ≡ true) ↔ ((j : ℕ) × (j < k) × (has_number squares j ≡ true) × (has_number (slice_index sets j) v ≡ true))
     → (has_number here v ≡ true) ↔ ((has_number squares k ≡ true) × (has_number (slice_index sets k) v ≡ true))
@@ -52,7 +52,7 @@ united_on sets squares values here all k v before now both = (
 
 -- ---- groups below a bound
 
--- where the next number stands for none of the squares' sets, it adds nothing
+-- a bound that, as a set, isn't within the squares with several values adds no group
 pub struck_past : (sets : List ℕ) (several bound k v : ℕ) (now : Bool) → (IsSubset bound several → ⊥)
     → (now ≡ true) ↔ IsStruckBelow sets several bound k v → (now ≡ true) ↔ IsStruckBelow sets several (bound + 1) k v
 struck_past sets several bound k v now none is = (
@@ -63,7 +63,7 @@ struck_past sets several bound k v now none is = (
   ],
 )
 
--- where it stands for one, what that strikes is added
+-- a bound that, as a set, is within the squares with several values adds what it strikes as a group
 pub struck_on : (sets : List ℕ) (several bound values k v : ℕ) (before after : Bool) → IsSubset bound several → IsUnionOf sets bound values
     → (before ≡ true) ↔ IsStruckBelow sets several bound k v
     → (after ≡ true) ↔ ((before ≡ true) ⊎ ((count_ones values ≡ count_ones bound) × (has_number bound k ≡ false) × (has_number values v ≡ true)))
@@ -92,7 +92,7 @@ pub record IsStruckRow (w : ℕ) (sets : List ℕ) (several : ℕ) (row : List �
   pub several_is : (k : ℕ) → (has_number several k ≡ true) ↔ ((k < w) × (1 < count_ones (slice_index sets k)))
   pub struck : (k v : ℕ) → k < w → (has_number (slice_index row k) v ≡ true) ↔ IsStruckBelow sets several (2 ^ w) k v
 
--- a group of squares, and the values that are left of them: the reason by which they strike
+-- each value in a row of what groups strike is struck by a reason: a group of squares with its values
 group_reason : (c : CandidatesValue) (line : ℕ) (sets : List ℕ) (several : ℕ) (row : List ℕ) (cell v : ℕ) → line < 2 * c.size
     → AreLineSets c line c.size sets → IsStruckRow c.size sets several row → IsInRow c.size line row cell v → HasStruck (IsByLine c.size) Hard c cell v
 group_reason c line sets several row cell v line_is are r (k, low, here, has) =
@@ -113,14 +113,14 @@ group_reason c line sets several row cell v line_is are r (k, low, here, has) =
       },
     )
 
--- what the groups strike is taken away by such reasons
+-- taking away a row of the values that groups strike is a chain of group reasons
 pub group_leads : (line : ℕ) (sets : List ℕ) (several : ℕ) (row : List ℕ) (a b : CandidatesValue) → line < 2 * a.size → AreLineSets a line a.size sets
     → IsStruckRow a.size sets several row → Takes (IsInRow a.size line row) a b → LeadsTo (IsByLine a.size) Hard a b
 group_leads line sets several row a b line_is are r t =
     leads_taken (IsByLine a.size) (line_less a.size) Hard (IsInRow a.size line row) a b t
     (λ cell v pair h. group_reason a line sets several row cell v line_is are r h)
 
--- and where nothing of it was left they are quiet
+-- if nothing goes when a row of what groups strike is taken away, groups strike nothing that is left
 pub group_calm : (line : ℕ) (sets : List ℕ) (several : ℕ) (row : List ℕ) (a b : CandidatesValue) → AreLineSets a line a.size sets
     → IsStruckRow a.size sets several row → Takes (IsInRow a.size line row) a b → b ≡ a → IsGroupQuiet line a
 group_calm line sets several row a b are r t same cell v pair h =

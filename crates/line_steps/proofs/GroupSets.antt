@@ -11,6 +11,7 @@ use Rattle.line_steps.specs.Reasons.{IsBySet}
 use Rattle.line_steps.specs.Inner.Groups.{AreAmong, IsOther}
 use Rattle.line_steps.proofs.GivenSets.{up_to_pair}
 
+-- a set is within another exactly if nothing is left of it without that
 subset_tested : (b : Bool) (set values rest : ℕ) → ((n : ℕ) → has_number rest n ≡ (has_number set n && not (has_number values n)))
     → MatchBool b (IsEmpty rest) ((n : ℕ) × (has_number rest n ≡ true)) → IsTrue b ↔ IsSubset set values
 subset_tested true set values rest is h = (
@@ -25,15 +26,17 @@ subset_tested false set values rest is h = (
       absurd (both_ways (not (has_number values h.0)) (ap not (sub h.0 both.0)) both.1),
 )
 
+-- a set of which nothing is left without another is within that
 pub within_none : (set values rest : ℕ) → ((n : ℕ) → has_number rest n ≡ (has_number set n && not (has_number values n))) → IsEmpty rest
     → IsSubset set values
 within_none set values rest is none = (subset_tested true set values rest is none).0 refl
 
+-- a set of which something is left without another is not within that
 pub within_some : (set values rest : ℕ) (n : ℕ) → ((n : ℕ) → has_number rest n ≡ (has_number set n && not (has_number values n)))
     → has_number rest n ≡ true → IsSubset set values → ⊥
 within_some set values rest n is has sub = absurd (false≢true ((subset_tested false set values rest is (n, has)).1 sub))
 
--- what the group strikes in one of the other squares
+-- the group's values, so far as they are of the size, are those that it strikes in another square of the line
 pub set_struck : (c : CandidatesValue) (line squares values cell all result v : ℕ) → line < 2 * c.size
     → ((k : ℕ) → has_number squares k ≡ true → k < c.size) → cell < c.size * c.size → count_ones values ≡ count_ones squares
     → IsOther c.size line squares cell → AreAmong c line squares values → ((k : ℕ) → has_number all k ≡ (nat_le 1 k && nat_le k c.size))
@@ -59,7 +62,7 @@ set_struck c line squares values cell all result v line_is small inside same oth
       λ h. meet v ∙ and_from (has_number values v) (has_number all v) h.1.one (pairs.1 h.0),
     )
 
--- what strikes is such a group
+-- a group that strikes has as many values as squares and no others left, and the struck square is outside it
 pub set_idle : (w : ℕ) (c : CandidatesValue) (line squares values cell v : ℕ) → w ≡ c.size → IsBySet w c line squares values cell v
     → (count_ones values ≡ count_ones squares) × IsOther w line squares cell × AreAmong c line squares values
 set_idle w c line squares values cell v size h = (

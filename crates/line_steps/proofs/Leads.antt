@@ -16,12 +16,12 @@ use Rattle.line_steps.specs.Reasons.{Striking}
 
 -- ---- steps
 
--- steps of a grade, and further ones
+-- steps of a grade, followed by steps of the grade, are steps of the grade
 pub allowed_joined : (grade : Grade) (front back : List StepValue) → AreOfGrade grade front → AreOfGrade grade back → AreOfGrade grade (front ++ back)
 allowed_joined grade [] back first second = second
 allowed_joined grade (step ∷ front) back first second = (first.0, allowed_joined grade front back first.1 second)
 
--- one chain after another
+-- a chain to b and one from there to c make a chain to c
 pub leads_on : (Struck : Striking) (grade : Grade) (a b c : CandidatesValue) → LeadsTo Struck grade a b
     → LeadsTo Struck grade b c → LeadsTo Struck grade a c
 leads_on Struck grade a b c h k = record {
@@ -31,10 +31,11 @@ leads_on Struck grade a b c h k = record {
   is = k.is ∙ ap (λ d. left_by d k.steps) h.is ∙ sym (left_append a h.steps k.steps);
 }
 
--- the size stays
+-- a chain leaves the size as it was
 pub leads_size : (Struck : Striking) (grade : Grade) (a b : CandidatesValue) → LeadsTo Struck grade a b → b.size ≡ a.size
 leads_size Struck grade a b h = ap (λ (d : CandidatesValue). d.size) h.is ∙ left_size a h.steps
 
+-- the steps of a chain make the trail longer, or leave it as it was
 left_more : (c : CandidatesValue) (steps : List StepValue) → HasMore c (left_by c steps)
 left_more c [] = record { pairs = []; size = refl; trail = sym (append-nil c.trail) }
 left_more c (step ∷ steps) =
@@ -45,17 +46,18 @@ left_more c (step ∷ steps) =
       trail = rest.trail ∙ append_assoc c.trail step.strikes rest.pairs;
     }
 
+-- a chain makes the trail longer, or leaves it as it was
 leads_more : (Struck : Striking) (grade : Grade) (a b : CandidatesValue) → LeadsTo Struck grade a b → HasMore a b
 leads_more Struck grade a b h = subst (λ d. HasMore a d) (sym h.is) (left_more a h.steps)
 
--- the trail grows
+-- a chain makes the trail no shorter
 pub leads_length : (Struck : Striking) (grade : Grade) (a b : CandidatesValue) → LeadsTo Struck grade a b
     → length a.trail ≤ length b.trail
 leads_length Struck grade a b h =
     let m = leads_more Struck grade a b h in
     omega (arith, ap length m.trail, length-append a.trail m.pairs)
 
--- what is taken away comes at the trail's end
+-- a chain adds to the trail only at its end
 pub leads_earlier : (Struck : Striking) (grade : Grade) (a b : CandidatesValue) → LeadsTo Struck grade a b → IsEarlier a b
 leads_earlier Struck grade a b h =
     let m = leads_more Struck grade a b h in
@@ -68,7 +70,7 @@ leads_earlier Struck grade a b h =
 pub leads_fewer : (Struck : Striking) (grade : Grade) (a b : CandidatesValue) → LeadsTo Struck grade a b → IsFewer a b
 leads_fewer Struck grade a b h = subst (λ d. IsFewer a d) (sym h.is) (left_fewer a h.steps)
 
--- where the trail has not grown nothing went
+-- a chain that leaves the trail as long as it was changes nothing
 pub leads_same : (Struck : Striking) (grade : Grade) (a b : CandidatesValue) → LeadsTo Struck grade a b
     → length b.trail ≡ length a.trail → b ≡ a
 leads_same Struck grade a b h e = same_more a b (leads_more Struck grade a b h) e
@@ -77,6 +79,7 @@ leads_same Struck grade a b h e = same_more a b (leads_more Struck grade a b h) 
 abbrev pub HasStruck : Striking → Grade → CandidatesValue → ℕ → ℕ → Type 0
 HasStruck Struck grade c cell v = (reason : Reason) × (has_reason grade reason ≡ true) × Struck c reason cell v
 
+-- a pair of a list of one is that one
 one_pair : (p : ℕ × ℕ) (cell v : ℕ) → has_pair (p ∷ []) cell v ≡ true → (cell ≡ p.0) × (v ≡ p.1)
 one_pair p cell v has =
     let first : ((cell == p.0) && (v == p.1)) ≡ true = elim (cases_Bool ((cell == p.0) && (v == p.1))) [
@@ -86,10 +89,11 @@ one_pair p cell v has =
     let both = and_parts (cell == p.0) (v == p.1) first in
     (eqb-true cell p.0 both.0, eqb-true v p.1 both.1)
 
+-- a list has its first pair
 first_has : (p : ℕ × ℕ) (ps : List (ℕ × ℕ)) → has_pair (p ∷ ps) p.0 p.1 ≡ true
 first_has p ps = or_left ((p.0 == p.0) && (p.1 == p.1)) (has_pair ps p.0 p.1) (and_from (p.0 == p.0) (p.1 == p.1) (eq-eqb p.0 p.0 refl) (eq-eqb p.1 p.1 refl))
 
--- pairs that are struck one by one
+-- a list of pairs that the grade's reasons strike is taken away by a chain, pair by pair
 pairs_lead : (Struck : Striking) → IsAntitone Struck → (grade : Grade) (a b : CandidatesValue) → IsFewer a b
     → (ps : List (ℕ × ℕ)) → ((cell v : ℕ) → has_pair ps cell v ≡ true → IsPair b.size cell v × HasStruck Struck grade a cell v)
     → LeadsTo Struck grade b (without b ps)
@@ -128,7 +132,7 @@ leads_taken Struck less grade Which a b t why =
 
 -- ---- wider relations
 
--- by a wider relation, and a higher grade
+-- the steps of a chain by one relation are a chain by a wider relation, and of a higher grade
 wider_chain : (Less More : Striking) (lower higher : Grade)
     → ((c : CandidatesValue) (reason : Reason) (cell v : ℕ) → Less c reason cell v → More c reason cell v)
     → ((reason : Reason) → has_reason lower reason ≡ true → has_reason higher reason ≡ true) → (c : CandidatesValue) (steps : List StepValue)
@@ -138,7 +142,7 @@ wider_chain Less More lower higher wider has c (step ∷ steps) h of =
     let rest = wider_chain Less More lower higher wider has (without c step.strikes) steps h.1 of.1 in
     ((λ cell v is. let s = h.0 cell v is in (s.0, wider c step.reason cell v s.1), rest.0), (has step.reason of.0, rest.1))
 
--- a chain by a wider relation and a higher grade
+-- candidates that a chain leads to are led to by a wider relation and a higher grade, too
 pub leads_wider : (Less More : Striking) (lower higher : Grade)
     → ((c : CandidatesValue) (reason : Reason) (cell v : ℕ) → Less c reason cell v → More c reason cell v)
     → ((reason : Reason) → has_reason lower reason ≡ true → has_reason higher reason ≡ true) → (a b : CandidatesValue)

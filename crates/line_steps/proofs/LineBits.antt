@@ -11,16 +11,16 @@ and_true : (b : Bool) → (b && true) ≡ b
 and_true true = refl
 and_true false = refl
 
--- a line that comes in
+-- setting a line's bit puts the line into the set, and leaves the others as they were
 pub has_with : (set line k : ℕ) → line < 32 → has_number (bit_or set (1 * 2 ^ line % 4294967296)) k ≡ (has_number set k || (k == line))
 has_with set line k low =
     rw (one_shl line 32 low) (has_number-or set (2 ^ line) k ∙ ap (λ (b : Bool). has_number set k || b) (has_number-one line k))
 
--- those of two words
+-- the lines of two words, joined bit by bit, are those that either of them has
 pub has_either : (set a b k : ℕ) → set ≡ bit_or a b → has_number set k ≡ (has_number a k || has_number b k)
 has_either set a b k is = rw is (has_number-or a b k)
 
--- a line, and those that cross it
+-- setting a line's bit in the set of those that cross it makes the set of the line and these
 pub has_crossing : (across line w places other : ℕ) → line < 32 → has_number across other ≡ is_crossing w line places other
     → has_number (bit_or across (1 * 2 ^ line % 4294967296)) other ≡ ((other == line) || is_crossing w line places other)
 has_crossing across line w places other low is =
@@ -32,7 +32,7 @@ has_crossing across line w places other low is =
     or_turned false true = refl
     or_turned false false = refl
 
--- the rows, which are below the width, at the places of a column
+-- the places of a column that are below the width are the rows that cross it there
 pub has_rows : (rows places w line other : ℕ) → 0 < w → w ≤ line → has_number rows other ≡ (has_number places other && nat_le other (w - 1))
     → has_number rows other ≡ is_crossing w line places other
 has_rows rows places w line other some column is =
@@ -41,7 +41,7 @@ has_rows rows places w line other some column is =
       | inr past ↦ rw (le-ltb other w past) (and_right (has_number places other) (nat_le other (w - 1)) (lt-leb other (w - 1) (omega (arith, past, some))))
     ])
 
--- the columns at the places of a row
+-- the places of a row, shifted up by the width, are the columns that cross it there
 pub has_columns : (columns places w line other : ℕ) → places < 2 ^ 16 → w ≤ 9 → line < w → columns ≡ places * 2 ^ w % 4294967296
     → has_number columns other ≡ is_crossing w line places other
 has_columns columns places w line other small narrow row is =

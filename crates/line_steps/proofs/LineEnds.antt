@@ -22,7 +22,7 @@ back_line w line inside = elim (cases_lt line w) [
   | inr column ↦ rw (le-ltb line w column, le-ltb (line - w + w) w (omega arith), lt-ltb (line - w + w) (2 * w) (omega arith)) (omega arith)
 ]
 
--- and it is one of the grid's
+-- the place after the last square of a line is one of the grid's
 pub back_low : (w line : ℕ) → line < 2 * w → front_place w line + w < 4 * w
 back_low w line inside = elim (cases_lt line w) [
   | inl row ↦ rw (lt-ltb line w row) (omega (arith, row))

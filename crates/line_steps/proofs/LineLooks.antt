@@ -28,7 +28,7 @@ abbrev pub StandOnLines : Puzzle → Striking → Type 0
 StandOnLines p Own =
     (c : CandidatesValue) (reason : Reason) (cell value : ℕ) → Own c reason cell value → StandsAlong p.size reason cell
 
--- what strikes along a line struck before, where all stayed that was left of its squares
+-- a pair that a reason strikes along a line was struck by it before, if all stayed that was left of the line
 abbrev pub AreLooksAlong : ℕ → Striking → Type 0
 AreLooksAlong w Struck =
     (c d : CandidatesValue) (reason : Reason) (cell value line : ℕ) → c.size ≡ w → line < 2 * c.size → LooksAlong c.size line reason cell
@@ -44,7 +44,7 @@ along_stays w Struck law grade line c d is low size fewer stays quiet = λ reaso
     false_from_ne_true (may_be d cell value) (λ may.
     both_ways (may_be c cell value) gone (fewer cell value (record { pair = pair; may = may })).may)
 
--- where they strike nothing along each line they strike nothing at all
+-- if clues and signs strike nothing that is left along any line, they strike nothing at all that is left
 pub along_settled : (p : Puzzle) (Own : Striking) → StandOnLines p Own → (grade : Grade) (c : CandidatesValue) → c.size ≡ p.size
     → ((line : ℕ) → line < 2 * c.size → IsQuietAlong (AllStrikes p Own) grade line c) → AreCluesSettled (AllStrikes p Own) grade c
 along_settled p Own stand grade c size quiet = λ reason cell value is has pair struck.
@@ -60,12 +60,12 @@ for_both P true one other false = other
 for_both P false one other true = other
 for_both P false one other false = one
 
--- what is quiet along a line stays so while all of its squares stay
+-- candidates that are quiet along a line stay quiet there as long as its squares lose nothing
 abbrev pub IsStaying : ℕ → (ℕ → CandidatesValue → Type 0) → Type 0
 IsStaying w Quiet =
     (line : ℕ) (c d : CandidatesValue) → c.size ≡ w → line < 2 * c.size → d.size ≡ c.size → IsFewer c d → StaysOn line c d → Quiet line c → Quiet line d
 
--- so it is with what squares strike in one another, and with clues and signs
+-- both kinds of quiet stay as long as the line's squares lose nothing: of squares, and of clues and signs
 pub looks_stay : (w : ℕ) (Struck : Striking) → AreLooksAlong w Struck → (grade : Grade) (what : Bool) → IsStaying w (IsQuietOn Struck grade what)
 looks_stay w Struck law grade true line c d is low size fewer stays settled = record {
   live = live_stays line c d size stays settled.live;
@@ -75,7 +75,7 @@ looks_stay w Struck law grade false line c d is low size fewer stays quiet = alo
 
 -- ---- what is noted of a look
 
--- all lines wait of which something went
+-- once a look along a line is noted, each line that lost something waits
 pub more_noted : (line places first last : ℕ) (a b : CandidatesValue) → line < 2 * a.size → LosesAt line places a b
     → IsNoted a.size line places first last → AreMore first last a b
 more_noted line places first last a b on loses noted = elim noted [
@@ -87,7 +87,7 @@ more_noted line places first last a b on loses noted = elim noted [
       (both.0, stays_apart line places l a b on low apart parts.1 loses)
 ]
 
--- where the line doesn't wait, nothing went
+-- if the line doesn't wait after its look is noted, nothing went at its places
 none_noted : (w line places first last : ℕ) → IsNoted w line places first last → has_number last line ≡ false → IsEmpty places
 none_noted w line places first last noted free = elim noted [
   | inl (none, same_set) ↦ none
@@ -96,13 +96,13 @@ none_noted w line places first last noted free = elim noted [
       absurd (both_ways (line == line) (or_parts (line == line) (is_crossing w line places line) here).0 (eq-eqb line line refl))
 ]
 
--- it is noted for both that lines wait for
+-- a look that is noted for squares and for clues is noted for either
 pub each_noted : (w line places : ℕ) (old new : Waiting) → IsNoted w line places old.squares new.squares → IsNoted w line places old.clues new.clues
     → (what : Bool) → IsNoted w line places (waiting_for what old) (waiting_for what new)
 each_noted w line places old new squares clues true = squares
 each_noted w line places old new squares clues false = clues
 
--- what is quiet along lines outside a set stays so, where all those come into it of which something went
+-- lines outside a set stay quiet if each line of which something went comes into the set
 pub more_quiet : (w : ℕ) (Quiet : ℕ → CandidatesValue → Type 0) → IsStaying w Quiet → (first last : ℕ) (a b : CandidatesValue) → a.size ≡ w
     → b.size ≡ a.size → IsFewer a b → AreMore first last a b → AreQuietBut Quiet first a → AreQuietBut Quiet last b
 more_quiet w Quiet staying first last a b is size fewer more quiet line low free =
@@ -110,7 +110,7 @@ more_quiet w Quiet staying first last a b is size fewer more quiet line low free
     let before = more line low_a free in
     staying line a b is low_a size fewer before.1 (quiet line low_a before.0)
 
--- after a look along a line for this, the lines that don't wait are quiet
+-- after a look along a line that is noted, each line that doesn't wait is quiet
 one_noted : (w : ℕ) (Quiet : ℕ → CandidatesValue → Type 0) → IsStaying w Quiet → (line places before first last : ℕ) (a b : CandidatesValue)
     → a.size ≡ w → b.size ≡ a.size → IsFewer a b → line < 2 * a.size → LosesAt line places a b → LosesLine line before first
     → IsNoted a.size line places first last → (IsEmpty places → Quiet line b) → AreQuietBut Quiet before a → AreQuietBut Quiet last b
@@ -124,7 +124,7 @@ one_noted w Quiet staying line places before first last a b is size fewer on los
           staying l a b is low_a size fewer was.1 (quiet l low_a (sym (lost_other line l before first taken other) ∙ was.0))
     ]
 
--- and those that wait for neither
+-- after a look for squares or for clues, each line that doesn't wait for one of these is quiet for it
 pub looked : (w : ℕ) (Quiet : Bool → ℕ → CandidatesValue → Type 0) → ((what : Bool) → IsStaying w (Quiet what)) → (what : Bool)
     (count line places : ℕ) (was now last : Waiting) (a b : CandidatesValue) → a.size ≡ w → b.size ≡ a.size → IsFewer a b → line < 2 * a.size
     → LosesAt line places a b → IsLook count was now what line
@@ -143,17 +143,17 @@ looked w Quiet staying what count line places was now last a b is size fewer on 
 
 -- ---- takes
 
--- none waits for either
+-- if no line waits for its squares, and none for its clues, then none waits
 pub none_waits : (count : ℕ) (waiting : Waiting) → HasNoneBelow count waiting.squares → HasNoneBelow count waiting.clues → IsNoneWaiting count waiting
 none_waits count waiting squares clues true = squares
 none_waits count waiting squares clues false = clues
 
--- a line that waited for its squares
+-- taking out a line that waited for its squares is a look for squares
 pub squares_look : (count : ℕ) (old new : Waiting) (line : ℕ) → IsTaken count old.squares new.squares line → new.clues ≡ old.clues
     → IsLook count old new true line
 squares_look count old new line taken other = record { taken = taken; other = other }
 
--- and one that waited for its clues or signs
+-- taking out a line that waited for its clues or signs is a look for these
 pub clues_look : (count : ℕ) (old new : Waiting) (line : ℕ) → IsTaken count old.clues new.clues line → new.squares ≡ old.squares
     → IsLook count old new false line
 clues_look count old new line taken other = record { taken = taken; other = other }
@@ -167,7 +167,7 @@ all_wait Struck grade waiting c count inside squares clues true = λ line low fr
 all_wait Struck grade waiting c count inside squares clues false = λ line low free.
     absurd (both_ways (has_number waiting.clues line) free (clues line ∙ lt-ltb line count (inside line low)))
 
--- where something is left of each line's squares and numbers, it is so of the whole grid
+-- if each line is settled, something is left of each square, and of each number in each line
 pub lines_live : (c : CandidatesValue) → ((line : ℕ) → line < 2 * c.size → IsLineSettled line c) → IsLive c
 lines_live c settled = record {
   cells = λ cell inside.
@@ -178,12 +178,12 @@ lines_live c settled = record {
   lines = λ line value low from to. (settled line low).live.placed value from to;
 }
 
--- where nothing went, it went at no place
+-- if the trail is as long as before, there is no place at which something went
 pub none_lost : (line places : ℕ) (a b : CandidatesValue) → LosesAt line places a b → length b.trail ≡ length a.trail → IsEmpty places
 none_lost line places a b h still = λ k.
     false_from_ne_true (has_number places k) (λ has. let longer = h.went k has in omega (arith, still, longer))
 
--- one look after another
+-- if all lines wait that lost something from a to b, and those from b to c, so do those from a to c
 pub more_joined : (first middle last : ℕ) (a b c : CandidatesValue) → b.size ≡ a.size → AreMore first middle a b → AreMore middle last b c
     → AreMore first last a c
 more_joined first middle last a b c size one two = λ line low free.

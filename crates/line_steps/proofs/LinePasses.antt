@@ -45,7 +45,7 @@ rest_reason c line index v line_is index_is h = elim h [
   )
 ]
 
--- and a chain of these takes away what is left of that along a line
+-- taking away what a line's squares strike in one another is a chain of lone values and last places
 pub rest_leads : (line places : ℕ) (a b : CandidatesValue) → line < 2 * a.size → StrikesRest line places a b → LeadsTo (IsByLine a.size) Latin a b
 rest_leads line places a b line_is h =
     leads_taken (IsByLine a.size) (line_less a.size) Latin
@@ -53,7 +53,7 @@ rest_leads line places a b line_is h =
     (λ cell v pair (k, low, here, by). subst (λ (n : ℕ). HasStruck (IsByLine a.size) Latin a n v) (sym here)
     (rest_reason a line k v line_is low by.0))
 
--- where nothing went, nothing of it was left
+-- if nothing went at any place, nothing was left of what the line's squares strike in one another
 pub rest_quiet : (line places : ℕ) (a b : CandidatesValue) → StrikesRest line places a b → IsEmpty places → IsRestQuiet line b
 rest_quiet line places a b h none =
     let same : b ≡ a = h.changed.same none in

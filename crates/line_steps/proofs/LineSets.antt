@@ -7,15 +7,14 @@ use Rattle.std.proofs.lemmas.Nat.{and_le_r, mod_below, pow_pos}
 use Rattle.std.proofs.lemmas.Nat.Bits.{bit_at-trailing_zeros}
 use Rattle.number_sets.specs.Sets.{has_number, IsSubset}
 use Rattle.number_sets.proofs.Members.{below_from_numbers, has_number-above, has_number-and, has_number-mod, has_number-none, number-from_bit, subset_test}
-use Rattle.line_steps.specs.Inner.ChangedLines.{HasNoneBelow, IsOneBelow}
+use Rattle.line_steps.specs.Inner.ChangedLines.{HasNoneBelow, IsOneBelow, LosesLine}
 use Rattle.std.proofs.Math.Bool.{and-true, and-false}
 use Rattle.std.proofs.lemmas.Bool.{eq-eqb}
-use Rattle.line_steps.specs.Inner.ChangedLines.{LosesLine}
 use Rattle.std.proofs.Math.Nat.{mul-le-mul_left}
 
 -- ---- the next one of the first lines
 
--- where none is in both, none of the first is in the set
+-- if the set and the set of the first lines share no line, none of the first is in the set
 pub none_below : (count bits first : ℕ) → ((k : ℕ) → has_number first k ≡ nat_lt k count) → bit_and bits first ≡ 0 → HasNoneBelow count bits
 none_below count bits first are none line low = elim (cases_Bool (has_number bits line)) [
   | inl has ↦
@@ -24,18 +23,18 @@ none_below count bits first are none line low = elim (cases_Bool (has_number bit
   | inr lacks ↦ lacks
 ]
 
--- those of them that a mask has are among them
+-- the lines of a set that a mask has, too, are among those of the set
 pub masked_among : (set mask part : ℕ) → part ≡ bit_and set mask → IsSubset part set
 masked_among set mask part is k has = (and_parts _ _ (sym (has_number-and set mask k) ∙ subst (λ (m : ℕ). has_number m k ≡ true) is has)).0
 
--- each of any part of those in both is one of the first
+-- a line in a part of what the set shares with the first lines is one of the first, and in the set
 below_part : (count bits first part : ℕ) → ((k : ℕ) → has_number first k ≡ nat_lt k count) → IsSubset part (bit_and bits first) → (line : ℕ)
     → has_number part line ≡ true → IsOneBelow count bits line
 below_part count bits first part are inside line has =
     let both = and_parts _ _ (sym (has_number-and bits first line) ∙ inside line has) in
     (ltb-true line count (sym (are line) ∙ both.1), both.0)
 
--- and so is its least
+-- the least line in a part of what the set shares with the first lines is one of the first, and in the set
 pub one_below : (count bits first part : ℕ) → ((k : ℕ) → has_number first k ≡ nat_lt k count) → IsSubset part (bit_and bits first) → count < 32
     → part ≢ 0 → IsOneBelow count bits (trailing_zeros w32 part)
 one_below count bits first part are inside small some =
@@ -47,6 +46,7 @@ one_below count bits first part are inside small some =
 
 -- ---- which of two is less
 
+-- a set within another is no greater number
 subset_le : (a b : ℕ) → IsSubset a b → a ≤ b
 subset_le a b inside =
     let test = subset_test a b in
@@ -90,6 +90,7 @@ nearer old new m n longer bound small less = elim (cases_eq new old) [
 pub lost_other : (line k s t : ℕ) → LosesLine line s t → k ≢ line → has_number t k ≡ has_number s k
 lost_other line k s t loses apart = loses k ∙ rw (ne_eqb k line apart) (and-true (has_number s k))
 
+-- a set that lost a line lacks it
 lost_itself : (line s t : ℕ) → LosesLine line s t → has_number t line ≡ false
 lost_itself line s t loses = loses line ∙ rw (eq-eqb line line refl) (and-false (has_number s line))
 

@@ -16,7 +16,7 @@ use Rattle.line_steps.proofs.Takes.{set_before, takes_next}
 
 -- ---- squares and their sets
 
--- what is left of a square, by its set
+-- a value is in a square's set exactly if it is left of the square
 pub left_is : (c : CandidatesValue) (cell set : ℕ) → IsSetOf c cell set → (v : ℕ) → (has_number set v ≡ true) ↔ IsLeft c cell v
 left_is c cell set is v = (
   λ has. let h = (is v).0 has in record { pair = h.0; may = h.1 },
@@ -33,7 +33,7 @@ alone_is c cell set is v =
 
 -- ---- one square more
 
--- what is so of one of the squares before, or of this one
+-- a property holds of one of the first k + 1 squares exactly if it does of one of the first k, or of the next
 found_more : (P : ℕ → Type 0) (k : ℕ) {Before Here Now : Type 0} → Before ↔ ((j : ℕ) × (j < k) × P j) → Here ↔ P k
     → Now ↔ (Before ⊎ Here) → Now ↔ ((j : ℕ) × (j < k + 1) × P j)
 found_more P k before here now = (
@@ -47,7 +47,7 @@ found_more P k before here now = (
   ]),
 )
 
--- what is so of two of the squares before, or of one of them and this one
+-- a property holds of two of the first k + 1 squares exactly if of two of the first k, or of one and the next
 twice_more : (P : ℕ → Type 0) (k : ℕ) {Once Before Here Now : Type 0} → Once ↔ ((j : ℕ) × (j < k) × P j)
     → Before ↔ ((i : ℕ) × (j : ℕ) × (i < j) × (j < k) × P i × P j) → Here ↔ P k → Now ↔ (Before ⊎ (Once × Here))
     → Now ↔ ((i : ℕ) × (j : ℕ) × (i < j) × (j < k + 1) × P i × P j)
@@ -62,6 +62,7 @@ twice_more P k once before here now = (
   ]),
 )
 
+-- the tally of the first k squares, with the set of square k counted, is that of the first k + 1
 pub tally_more : (c : CandidatesValue) (line k set : ℕ) (t u : LineTally) → IsSetOf c (line_cell c.size line k) set → AreTallied c line k t
     → IsCounted t set u → AreTallied c line (k + 1) u
 tally_more c line k set t u is h more =
@@ -88,7 +89,7 @@ tally_more c line k set t u is h more =
 
 -- ---- lines that can't hold their numbers
 
--- nothing is left of a square, so it strikes all in the others
+-- if nothing is left of a square of the line, it strikes all in the others
 pub empty_dead : (c : CandidatesValue) (line k set places : ℕ) → k < c.size → IsSetOf c (line_cell c.size line k) set → IsEmpty set
     → ((j : ℕ) → j < c.size → has_number places j ≡ true) → IsDead line places c
 empty_dead c line k set places low is none all =
@@ -122,7 +123,7 @@ clash_dead c line k set places t low is h again one =
           inl (j, omega (arith, before, low), λ e. omega (arith, e, before, last), λ other there. first.alone other there ∙ sym same);
     }
 
--- a value is left of no square, so its last place is in each
+-- if a value is left of no square of the line, each square is its last place, and all others go there
 pub lost_dead : (c : CandidatesValue) (line every lost places : ℕ) (t : LineTally) → AreTallied c line c.size t
     → ((v : ℕ) → has_number every v ≡ (nat_le 1 v && nat_le v c.size))
     → ((v : ℕ) → has_number lost v ≡ (has_number every v && not (has_number t.once v))) → (v : ℕ) × (has_number lost v ≡ true)
@@ -147,7 +148,7 @@ lost_dead c line every lost places t h all lost_is (v, has) whole =
       );
     }
 
--- each value is left of some
+-- the tally of all squares is the line's tally if no value is missing from it
 pub whole_tally : (c : CandidatesValue) (line every lost : ℕ) (t : LineTally) → AreTallied c line c.size t
     → ((v : ℕ) → has_number every v ≡ (nat_le 1 v && nat_le v c.size))
     → ((v : ℕ) → has_number lost v ≡ (has_number every v && not (has_number t.once v))) → IsEmpty lost → IsTallyOf line c t
@@ -162,7 +163,7 @@ whole_tally c line every lost t h all lost_is none = record {
 
 -- ---- what the squares strike
 
--- a value that is left of no two squares has no place but this one
+-- a value that is left of a square, and not of two, has no other place
 no_other : (c : CandidatesValue) (line k u : ℕ) (t : LineTally) → k < c.size → AreTallied c line c.size t → IsLeft c (line_cell c.size line k) u
     → has_number t.twice u ≡ false → HasNoOtherPlace c line u k
 no_other c line k u t low h here once j j_is there = elim (cases_order j k) [
@@ -190,14 +191,14 @@ only_place c line k u t h low high one =
       },
     )
 
--- of a square of which nothing but the value is left, it is left
+-- if nothing but the value is left of a square, the value is left of it
 alone_there : (c : CandidatesValue) (line j v : ℕ) (t : LineTally) → IsTallyOf line c t → j < c.size
     → ((other : ℕ) → IsLeft c (line_cell c.size line j) other → other ≡ v) → IsAlone c (line_cell c.size line j) v
 alone_there c line j v t h low alone =
     let x = h.tally.some j low in
     record { left = subst (λ (n : ℕ). IsLeft c (line_cell c.size line j) n) (alone x.0 x.1) x.1; alone = alone }
 
--- what the other squares strike can't stay
+-- a value that the other squares strike can't stay
 rest_goes : (c : CandidatesValue) (line k set v : ℕ) (t : LineTally) → k < c.size → IsSetOf c (line_cell c.size line k) set → IsTallyOf line c t
     → IsByRest c line k v → Goes t set v
 rest_goes c line k set v t low is h by =
@@ -221,7 +222,7 @@ rest_goes c line k set v t low is h by =
           inr (last.0, (left_is c cell set is last.0).1 place.0, place.1, last.3)
     ]
 
--- and what can't stay they strike
+-- a value that can't stay is struck by the other squares
 goes_rest : (c : CandidatesValue) (line k set v : ℕ) (t : LineTally) → k < c.size → IsSetOf c (line_cell c.size line k) set → IsTallyOf line c t
     → Goes t set v → IsByRest c line k v
 goes_rest c line k set v t low is h goes =
@@ -240,7 +241,7 @@ goes_rest c line k set v t low is h goes =
           inr (u, here.pair.low, here.pair.high, hidden.3, no_other c line k u t low h.tally here hidden.2.lone)
     ]
 
--- what is struck of a square's set is what its values that can stay leave
+-- the values of a square's set that can't stay are those that the other squares strike
 pub tally_struck : (c : CandidatesValue) (line k set kept struck : ℕ) (t : LineTally) → k < c.size → IsSetOf c (line_cell c.size line k) set
     → IsTallyOf line c t → IsKeptOf t set kept → ((n : ℕ) → has_number struck n ≡ (has_number set n && not (has_number kept n)))
     → (v : ℕ) → (has_number struck v ≡ true) ↔ IsLeftByRest c line k v
@@ -301,7 +302,7 @@ free_from t set free v f e =
 free_to : (t : LineTally) (set free v : ℕ) → IsFree t set free → has_number set v ≡ true → has_number t.singles v ≡ false → has_number free v ≡ true
 free_to t set free v f has none = f.is v ∙ and_from _ _ has (ap not none)
 
--- what isn't free is alone in another square
+-- a value of a square's set that isn't free is alone in another square, so it can't stay
 not_free : (t : LineTally) (set free v : ℕ) → ((v : ℕ) → IsSingle set v → ⊥) → IsFree t set free → has_number set v ≡ true
     → has_number free v ≡ false → Goes t set v
 not_free t set free v many r has lacks = elim (cases_Bool (has_number t.singles v)) [
@@ -309,6 +310,7 @@ not_free t set free v many r has lacks = elim (cases_Bool (has_number t.singles 
   | inr none ↦ absurd (both_ways (has_number free v) lacks (free_to t set free v r has none))
 ]
 
+-- if one value of a set is left of no other square, only that can stay, and only if it is alone in none
 pub kept_forced : (t : LineTally) (set forced free kept value : ℕ) → ((v : ℕ) → IsSingle set v → ⊥) → IsForced t set forced
     → IsFree t set free → IsSingle forced value → ((v : ℕ) → has_number kept v ≡ (has_number forced v && has_number free v))
     → IsKeptOf t set kept
@@ -337,6 +339,7 @@ kept_forced t set forced free kept value many f r one is = record {
   ];
 }
 
+-- if several values of a set are left of no other square, none of the set can stay
 pub kept_nothing : (t : LineTally) (set forced kept : ℕ) → forced < 2 ^ 16 → IsForced t set forced
     → (v : ℕ) × (has_number forced v ≡ true) → ((v : ℕ) → IsSingle forced v → ⊥) → kept ≡ no_numbers → IsKeptOf t set kept
 kept_nothing t set forced kept small f there two none = record {
@@ -352,17 +355,18 @@ kept_nothing t set forced kept small f there two none = record {
 
 -- ---- one set counted
 
+-- a set whose only value is alone in an earlier square clashes with it
 pub clash_twice : (t : LineTally) (set single : ℕ) → ((v : ℕ) → (has_number single v ≡ true) ↔ IsSingle set v) → IsShared t.singles single → IsAloneBefore t set
 clash_twice t set single s (value, before, here) = record { value = value; here = (s value).0 here; before = before }
 
--- what is so of one of two
+-- the or of two truth values is true exactly if one of them is
 either : (a b c : Bool) → c ≡ (a || b) → (c ≡ true) ↔ ((a ≡ true) ⊎ (b ≡ true))
 either a b c is = (
   λ e. or_cases a b (sym is ∙ e),
   λ h. is ∙ elim h [ inl first ↦ or_left a b first | inr second ↦ or_right a b second ],
 )
 
--- new's sets are the old ones with one set more
+-- the tally u counts one set more than t, if the set's only value, where it has one, was alone in none
 pub counted_more : (t u : LineTally) (set single both : ℕ) → ((v : ℕ) → (has_number single v ≡ true) ↔ IsSingle set v) → (v : ℕ) × (has_number set v ≡ true)
     → (IsShared t.singles single → ⊥)
     → ((v : ℕ) → has_number u.once v ≡ (has_number t.once v || has_number set v))
@@ -387,7 +391,7 @@ counted_more t u set single both s some apart in_once in_both in_twice in_single
       fresh = λ v one. false_from_ne_true (has_number t.singles v) (λ e. apart (v, e, (s v).1 one));
     }
 
--- square by square
+-- once square k has lost what can't stay, the first k + 1 squares have lost what the line strikes in them
 pub square_struck : (line k set kept struck : ℕ) (t : LineTally) (first now next : CandidatesValue) → line < 2 * first.size → k < first.size
     → IsTallyOf line first t → Takes (λ cell v. (j : ℕ) × (j < k) × (cell ≡ line_cell first.size line j) × IsLeftByRest first line j v) first now
     → IsSetOf now (line_cell first.size line k) set → IsKeptOf t set kept

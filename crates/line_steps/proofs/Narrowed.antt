@@ -26,12 +26,12 @@ use Rattle.line_steps.specs.declared.reason.Reason.TheVariants.{Given, Peer, Pla
 
 -- ---- answers
 
--- what follows of a fact holds where the fact does, for an answer that is true
+-- if P gives Q, an answer that promises P when it is true promises Q
 pub on_true : (b : Bool) {P Q : Type 0} → (P → Q) → OnTrue b P → OnTrue b Q
 on_true true f h = f h
 on_true false f h = tt
 
--- the same, for an answer that is false
+-- if P gives Q, an answer that promises P when it is false promises Q
 pub on_false : (b : Bool) {P Q : Type 0} → (P → Q) → OnFalse b P → OnFalse b Q
 on_false true f h = tt
 on_false false f h = f h
@@ -44,7 +44,7 @@ pub leads_keep : (p : Puzzle) (Struck : Striking) → IsSoundFor p Struck → (g
 leads_keep p Struck sound grade a b size h = λ g solves within.
     subst (λ (d : CandidatesValue). IsWithin d g) (sym h.is) (chain_keeps p Struck sound a h.steps g size h.chain solves within)
 
--- where it leaves a square nothing there was none
+-- if a chain leaves a square nothing, no solution was within the candidates that it starts from
 pub leads_refute : (p : Puzzle) (Struck : Striking) → IsSoundFor p Struck → (grade : Grade) (a b : CandidatesValue) (left : Bool) → a.size ≡ p.size
     → LeadsTo Struck grade a b → OnFalse left (IsEmptied b) → OnFalse left (HasNoSolutionWithin p a)
 leads_refute p Struck sound grade a b left size h =
@@ -52,7 +52,7 @@ leads_refute p Struck sound grade a b left size h =
 
 -- ---- what is struck
 
--- what is quiet kind by kind is settled, but for groups of squares
+-- if givens, lines, clues and signs each strike nothing that is left, only groups of squares may strike more
 pub settled_but : (p : Puzzle) (Own : Striking) (c : CandidatesValue) → c.size ≡ p.size
     → AreGivensSettled p c → ((line : ℕ) → line < 2 * c.size → IsRestQuiet line c)
     → ((reason : Reason) (cell value : ℕ) → is_of_clues reason ≡ true → IsPair c.size cell value → AllStrikes p Own c reason cell value
@@ -62,7 +62,7 @@ settled_but p Own c size givens rest clues cell value pair (reason, is, h) =
     settled_by p Own (λ which. is_narrowing which ≡ true) c size givens rest (λ which cell value of _ pair h. clues which cell value of pair h)
     (λ line squares values cell value group pair h. absurd (cc)) reason cell value is pair h
 
--- ---- both
+-- ---- narrowing by lines
 
 -- the highest grade has each reason
 hard_has : (reason : Reason) → has_reason Hard reason ≡ true
@@ -84,7 +84,7 @@ pub record NarrowsBy (p : Puzzle) (Struck : Striking) (a b : CandidatesValue) (l
   pub settled : OnTrue left (NoneLeft (IsNarrowed Struck) b b)
   pub live : OnTrue left (IsLive b)
 
--- a chain to where no given and no line strikes anything more is one
+-- a chain to where no given and no line strikes anything more keeps the promises of narrowing by lines
 pub narrows_by : (p : Puzzle) (Own : Striking) → IsAntitone (AllStrikes p Own) → IsSoundFor p (AllStrikes p Own) → StandOnLines p Own
     → (a b : CandidatesValue) (left : Bool) → a.size ≡ p.size → LeadsTo (AllStrikes p Own) Hard a b → AreGivensSettled p b
     → OnTrue left ((line : ℕ) → line < 2 * b.size → (what : Bool) → IsQuietOn (AllStrikes p Own) Hard what line b) → OnFalse left (IsEmptied b)

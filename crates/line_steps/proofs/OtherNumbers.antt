@@ -5,11 +5,11 @@ use Rattle.number_sets.specs.Sets.{has_number, IsSingle}
 use Rattle.number_sets.proofs.Members.{has_number-none, power_most, some_number}
 use Rattle.number_sets.proofs.OneMore.{IsAdded, added_without, added_lacks, added_other}
 
--- a set without one of its numbers
+-- taking 2^k from a set with the number k gives the set without it
 pub one_less : (set k : ℕ) → has_number set k ≡ true → IsAdded (set - 2 ^ k) k set
 one_less set k has = added_without (set - 2 ^ k) k set has (omega (arith, power_most set k has))
 
--- what is left in it was in it, and is another number
+-- a number of the set without k is a number of the set, and isn't k
 pub was_other : (fewer k set j : ℕ) → IsAdded fewer k set → has_number fewer j ≡ true → (j ≢ k) × (has_number set j ≡ true)
 was_other fewer k set j a has =
     let apart : j ≢ k = λ same. both_ways (has_number fewer j) (subst (λ (i : ℕ). has_number fewer i ≡ false) (sym same) (added_lacks a)) has in
@@ -34,7 +34,7 @@ another set n small has several =
           (k.0, was.0, was.1)
     ]
 
--- what one set has and another lacks
+-- the difference of two sets has the numbers that the first has and the second lacks
 pub has_rest : (all some rest v : ℕ) → ((n : ℕ) → has_number rest n ≡ (has_number all n && not (has_number some n)))
     → (has_number rest v ≡ true) ↔ ((has_number all v ≡ true) × (has_number some v ≡ true → ⊥))
 has_rest all some rest v is = (

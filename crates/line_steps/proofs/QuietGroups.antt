@@ -18,10 +18,11 @@ use Rattle.line_steps.proofs.QuietLines.{gone_from}
 
 -- ---- unions
 
--- either it is so, or it isn't
+-- the statement holds, or it doesn't
 abbrev Decided : Type 0 → Type 0
 Decided P = P ⊎ (P → ⊥)
 
+-- if each of two statements holds or doesn't, so does the statement that both hold
 both : {P Q : Type 0} → Decided P → Decided Q → Decided (P × Q)
 both p q = elim p [
   | inl is ↦ elim q [ inl too ↦ inl (is, too) | inr lacks ↦ inr (λ h. lacks h.1) ]
@@ -59,7 +60,7 @@ some_or_none P (suc n) decide = elim (decide n (omega arith)) [
   ]
 ]
 
--- those that are, as a set
+-- there is a set of the numbers below n that are of a kind
 numbers_that : (P : ℕ → Type 0) → ((k : ℕ) → Decided (P k)) → (n : ℕ) → (set : ℕ) × ((v : ℕ) → (has_number set v ≡ true) ↔ ((v < n) × P v))
 numbers_that P decide zero = (0, λ v. (λ has. absurd (both_ways (has_number 0 v) (has_number-none v) has), λ h. absurd (omega (arith, h.0))))
 numbers_that P decide (suc n) =
@@ -107,6 +108,7 @@ union_of_group c line squares line_is inside =
       },
     )
 
+-- the values of a union are below 16
 below_sixteen : (c : CandidatesValue) (line squares union : ℕ) → c.size ≤ 9 → IsUnion c.size c line squares union
     → (v : ℕ) → has_number union v ≡ true → v < 16
 below_sixteen c line squares union small u v has = let left = (u.only v has).2 in omega (arith, left.pair.high, small)
@@ -122,7 +124,7 @@ some_left c cell inside = elim (some_or_none (IsLeft c cell) (c.size + 1) (λ v 
   | inr none ↦ inr (λ v left. none (v, omega (arith, left.pair.high), left))
 ]
 
--- at most one value is left of it, or several are
+-- of a square of the grid at most one value is left, or several are
 lone_or_several : (c : CandidatesValue) (cell : ℕ) → cell < c.size * c.size → IsLone c cell ⊎ HasSeveral c cell
 lone_or_several c cell inside = elim (some_left c cell inside) [
   | inl (u, first) ↦ elim (some_or_none (λ v. (u ≢ v) × IsLeft c cell v) (c.size + 1) (λ v low. both (apart u v) (left_or_gone c cell v inside))) [
@@ -140,7 +142,7 @@ lone_or_several c cell inside = elim (some_left c cell inside) [
     apart : (u v : ℕ) → Decided (u ≢ v)
     apart u v = elim (cases_eq u v) [ inl same ↦ inr (λ h. h same) | inr other ↦ inl other ]
 
--- of one of some squares of a line at most one value is left, or several are of each
+-- at most one value is left of one of these squares of a line, or several are left of each
 lone_among : (c : CandidatesValue) (line squares : ℕ) → line < 2 * c.size
     → ((k : ℕ) × (k < c.size) × (has_number squares k ≡ true) × IsLone c (line_cell c.size line k))
     ⊎ ((k : ℕ) → k < c.size → has_number squares k ≡ true → HasSeveral c (line_cell c.size line k))
@@ -159,7 +161,7 @@ lone_among c line squares line_is =
       ])
     ]
 
--- of no other square of a quiet line a value is left that is the only one of a square
+-- the only value of a square of a quiet line is left of no other square of the line
 lone_quiet : (c : CandidatesValue) (line k index v : ℕ) → IsRestQuiet line c → k < c.size → index < c.size → index ≢ k
     → HasNoOther c (line_cell c.size line k) v → IsLeft c (line_cell c.size line index) v → ⊥
 lone_quiet c line k index v rest k_is index_is apart alone left =
@@ -177,6 +179,7 @@ record IsRest (c : CandidatesValue) (line squares union k : ℕ) : Type 0 where
   low : (v : ℕ) → has_number part v ≡ true → v < 16
   ones : count_ones squares ≡ count_ones fewer + 1
 
+-- for each square of a group there is the group without it, with the union of the other squares
 rest_of : (c : CandidatesValue) (line squares union k : ℕ) → c.size ≤ 9 → line < 2 * c.size → ((j : ℕ) → has_number squares j ≡ true → j < c.size)
     → IsUnion c.size c line squares union → has_number squares k ≡ true → IsRest c line squares union k
 rest_of c line squares union k small line_is inside u has =
@@ -195,7 +198,7 @@ rest_of c line squares union k small line_is inside u has =
       ones = added_ones a;
     }
 
--- what is left of a square of the group and of none of the others makes the union greater
+-- a value that is left of this square of a group, and of none of its others, makes the union greater
 one_greater : (c : CandidatesValue) (line squares union k v : ℕ) (r : IsRest c line squares union k) → c.size ≤ 9 → IsUnion c.size c line squares union
     → has_number union v ≡ true → has_number r.part v ≡ false → count_ones r.part + 1 ≤ count_ones union
 one_greater c line squares union k v r small u has lacks =
@@ -208,8 +211,8 @@ one_greater c line squares union k v r small u has lacks =
     ] in
     omega (arith, within_counts more union (λ x there. low x (sub x there)) sub, added_ones a)
 
--- where no more values are left of some squares of a quiet line than they are, none of these is left elsewhere in the line; and nothing
--- at all is where they are fewer
+-- if no more values are left of some squares of a quiet line than there are squares, none of these values is
+-- left elsewhere in the line; if there are fewer, nothing at all is left elsewhere
 none_left : (n : ℕ) (c : CandidatesValue) (line squares union : ℕ) → c.size ≤ 9 → line < 2 * c.size → IsRestQuiet line c → IsGroupQuiet line c
     → count_ones squares ≡ n → ((k : ℕ) → has_number squares k ≡ true → k < c.size) → IsUnion c.size c line squares union
     → count_ones union ≤ count_ones squares → (index v : ℕ) → index < c.size → has_number squares index ≡ false
@@ -278,6 +281,7 @@ none_left (suc n) c line squares union small line_is rest groups count inside u 
           ]
     ]
 
+-- if lines and groups are quiet along all lines, no set of squares strikes anything that is left
 pub set_quiet : (c : CandidatesValue) (line squares values cell v : ℕ) → c.size ≤ 9 → ((line : ℕ) → line < 2 * c.size → IsRestQuiet line c)
     → ((line : ℕ) → line < 2 * c.size → IsGroupQuiet line c) → IsPair c.size cell v → IsBySet c.size c line squares values cell v → may_be c cell v ≡ false
 set_quiet c line squares values cell v small rest groups pair h =

@@ -14,7 +14,7 @@ use Rattle.line_steps.specs.declared.reason.Reason.{Reason}
 use Rattle.line_steps.specs.declared.reason.Reason.TheVariants.{Given, Peer, Place, Set}
 use Rattle.line_steps.specs.Inner.LineStrikes.{IsRestQuiet}
 
--- what isn't left is gone
+-- a pair that isn't left is gone
 pub gone_from : (c : CandidatesValue) (cell v : ℕ) → IsPair c.size cell v → (IsLeft c cell v → ⊥) → may_be c cell v ≡ false
 gone_from c cell v pair none = false_from_ne_true (may_be c cell v) (λ may. none (record { pair = pair; may = may }))
 
@@ -29,7 +29,7 @@ peer_quiet c by cell v quiet pair h =
     subst (λ (n : ℕ). may_be c n v ≡ false) at.second_cell
     (quiet on.0 at.line_is on.2 v at.second there (inl (on.1, at.first, at.apart, alone)))
 
--- nor does a last place
+-- a last place strikes nothing that is left where no line does
 pub place_quiet : (c : CandidatesValue) (line index other cell v : ℕ) → ((line : ℕ) → line < 2 * c.size → IsRestQuiet line c) → IsPair c.size cell v
     → IsByPlace c.size c line index other cell v → may_be c cell v ≡ false
 place_quiet c line index other cell v quiet pair h =
@@ -37,7 +37,7 @@ place_quiet c line index other cell v quiet pair h =
     subst (λ (n : ℕ). may_be c n v ≡ false) (sym h.here)
     (quiet line h.line_is index v h.index_is there (inr (other, h.low, h.high, h.apart, h.alone)))
 
--- of some reasons none strikes anything that is left, where givens and lines don't, nor do clues, signs and groups of these
+-- no reason of a kind strikes anything more if givens, lines and the kind's clues, signs and groups don't
 pub settled_by : (p : Puzzle) (Own : Striking) (Which : Reason → Type 0) (c : CandidatesValue) → c.size ≡ p.size
     → AreGivensSettled p c → ((line : ℕ) → line < 2 * c.size → IsRestQuiet line c)
     → ((reason : Reason) (cell value : ℕ) → is_of_clues reason ≡ true → Which reason → IsPair c.size cell value

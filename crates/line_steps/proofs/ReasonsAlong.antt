@@ -28,7 +28,7 @@ use Rattle.line_steps.proofs.TakenLines.{changed_none}
 abbrev IsListed : ℕ → ℕ → Reason → Type 0
 IsListed w line reason = (n : ℕ) × (n < 2 * w + 4) × ((found : Reason) → IsNthAlong w line n found → found ≡ reason)
 
--- the clue at an end of the line
+-- the list along a line has the clue at either end of it, in each of three ways to look at it
 at_end : (w line n place : ℕ) (Kind : ℕ → Reason) → n < 3 → 0 < w → place < 4 * w → view_line w place ≡ line
     → ((found : Reason) → IsNthAlong w line n found → found ≡ Kind (front_place w line))
     → ((found : Reason) → IsNthAlong w line (n + 3) found → found ≡ Kind (front_place w line + w)) → IsListed w line (Kind place)
@@ -37,6 +37,7 @@ at_end w line n place Kind low some inside on front back = elim (ends w place li
   | inr second ↦ (n + 3, omega (arith, low, some), λ found is. back found is ∙ ap Kind (sym second))
 ]
 
+-- a grid with a square on some line is not of width 0
 on_some : (w line cell : ℕ) → IsOn w line cell → 0 < w
 on_some w line cell (k, low, here) = omega (arith, low)
 
@@ -54,7 +55,7 @@ listed w line (Sign from to) cell (same, inr (k, low, first, second)) =
     (2 * k + 7, omega (arith, low), λ found is. is.back k refl ∙ (λ i. Sign (second i) (first i)))
 listed w line reason cell along = absurd along
 
--- and strikes in one of its squares
+-- a reason that looks along the line strikes in one of its squares
 looked_on : (w line : ℕ) (reason : Reason) (cell : ℕ) → LooksAlong w line reason cell → IsOn w line cell
 looked_on w line (Bound place) cell (low, on, at) = at
 looked_on w line (Stand place) cell (low, on, at) = at
@@ -65,6 +66,7 @@ looked_on w line reason cell along = absurd along
 
 -- ---- one reason
 
+-- taking away what a reason strikes along a line is a chain of that reason
 pub reason_leads : (Struck : Striking) → IsAntitone Struck → (grade : Grade) (reason : Reason) (line : ℕ) (row : List ℕ) (a b : CandidatesValue)
     → has_reason grade reason ≡ true → AreStruckOn a.size (Struck a reason) line a.size row → Takes (IsInRow a.size line row) a b
     → LeadsTo Struck grade a b
@@ -72,6 +74,7 @@ reason_leads Struck less grade reason line row a b has on taken =
     leads_taken Struck less grade (IsInRow a.size line row) a b taken
     (λ cell v pair h. let (k, low, here, one) = h in (reason, has, subst (λ (n : ℕ). Struck a reason n v) (sym here) ((on.each k v low).0 one).1))
 
+-- if nothing goes when a reason takes away its row, it strikes nothing that is left along the line
 pub reason_quiet : (Struck : Striking) (reason : Reason) (line : ℕ) (row : List ℕ) (a b : CandidatesValue) → b ≡ a
     → AreStruckOn a.size (Struck a reason) line a.size row → Takes (IsInRow a.size line row) a b → IsQuietBy Struck reason line a
 reason_quiet Struck reason line row a b same on taken = λ k v low pair struck.
@@ -87,6 +90,7 @@ pub record GoesOn (Struck : Striking) (grade : Grade) (line n changed : ℕ) (fi
   pub quiet : IsEmpty changed → (m : ℕ) → m < n → (reason : Reason) × IsNthAlong first.size line m reason
       × (has_reason grade reason ≡ true → IsQuietBy Struck reason line first)
 
+-- at first no reason was gone through, and nothing went
 pub begins : (Struck : Striking) (grade : Grade) (line changed : ℕ) (first : CandidatesValue) → IsEmpty changed
     → GoesOn Struck grade line 0 changed first first
 begins Struck grade line changed first none = record {
@@ -95,6 +99,7 @@ begins Struck grade line changed first none = record {
   quiet = λ _ m below. absurd (omega (arith, below));
 }
 
+-- once the next reason has taken away what it strikes, one reason more was gone through
 pub goes_on : (Struck : Striking) (grade : Grade) (line n changed more both : ℕ) (found : Reason) (first now next : CandidatesValue)
     → ((k : ℕ) → has_number both k ≡ (has_number changed k || has_number more k))
     → IsNthAlong first.size line n found → LeadsTo Struck grade now next → AreChanged line more now next
@@ -117,7 +122,7 @@ goes_on Struck grade line n changed more both found first now next is nth leads 
       ];
     }
 
--- all of them were gone through
+-- if all reasons along the line were gone through and nothing went, none of them strikes anything more
 pub goes_through : (Struck : Striking) (grade : Grade) (line n changed : ℕ) (first now : CandidatesValue) → 2 * first.size + 4 ≤ n
     → GoesOn Struck grade line n changed first now → IsEmpty changed → IsQuietAlong Struck grade line now
 goes_through Struck grade line n changed first now all h none =

@@ -1,4 +1,4 @@
--- What the other squares of a line strike in one, as sets.
+-- Sets of at most one number, told by what is left without the least; what may stand in a square.
 use Rattle.std.proofs.lemmas.Nat.{and_le_r, and_mask}
 use Rattle.std.proofs.Common.{◌+◌, ◌/◌, ◌%◌, ◌≡◌, ◌≢◌, ◌↔◌, ℕ, ◌-◌, ◌*◌, ◌^◌, ◌<◌, ◌==◌, if◌then◌else◌, bit_and, zero-mul, true, ◌&&◌, ◌||◌, not, inl, inr, refl, sym, ap, ◌∙◌, subst, arith}
 use Rattle.std.proofs.lemmas.Bool.{both_ways, and_parts, and_from, or_cases, or_left, or_right, cases_eq, eq-eqb, ne_eqb, false_from_ne_true, not_from_false}
@@ -25,7 +25,7 @@ if_none_masked bits rest small low =
           nothing ∙ rw (ne_eqb rest 0 some) (omega arith)
     ]
 
--- what has one number alone is a set of which nothing is left without its least
+-- a set has just one number if nothing is left of it without its least
 pub single_by_rest : (set rest flag result v : ℕ) → set < 2 ^ 16 → (set ≢ 0 → rest ≡ bit_and set (set - 1)) → flag ≡ (if rest == 0 then 1 else 0)
     → result ≡ set * flag → (has_number result v ≡ true) ↔ IsSingle set v
 single_by_rest set rest flag result v small rest_is flag_is result_is =
@@ -59,7 +59,7 @@ single_by_rest set rest flag result v small rest_is flag_is result_is =
           ]
     ]
 
--- what stands in a square: its only number, or any where it has several
+-- the set of what may stand in a square: its only number where one is left, or any where several are
 pub standing_by_rest : (all left rest flag few result : ℕ) → left < 2 ^ 16 → (left ≢ 0 → rest ≡ bit_and left (left - 1)) → (left ≡ 0 → rest ≡ 0)
     → flag ≡ (if rest == 0 then 1 else 0) → few ≡ all * flag
     → ((v : ℕ) → has_number result v ≡ ((has_number all v && not (has_number few v)) || has_number left v)) → IsStandingSet all left result

@@ -20,7 +20,7 @@ use Rattle.line_steps.specs.declared.grade.Grade.{Grade}
 use Rattle.line_steps.specs.declared.grade.Grade.TheVariants.{Easy, Hard}
 use Rattle.line_steps.proofs.LinePasses.{lines_lift}
 
--- what is quiet kind by kind is settled
+-- if givens, lines, clues, signs and the grade's groups each strike nothing more, the grade is settled
 pub settled_all : (p : Puzzle) (Own : Striking) (grade : Grade) (c : CandidatesValue) → c.size ≤ 9
     → c.size ≡ p.size → AreGivensSettled p c → ((line : ℕ) → line < 2 * c.size → IsRestQuiet line c) → AreCluesSettled (AllStrikes p Own) grade c
     → (IsLower Easy grade → (line : ℕ) → line < 2 * c.size → IsGroupQuiet line c) → IsSettled (AllStrikes p Own) grade c
@@ -39,12 +39,12 @@ groups_lead p Own grade a b size highest h =
     leads_wider (IsByLine a.size) (AllStrikes p Own) Hard grade (lines_lift p Own a.size size)
     (λ reason has. subst (λ (g : Grade). has_reason g reason ≡ true) (sym highest) has) a b h
 
--- a chain leads there, and givens strike nothing more
+-- a chain leads from the first candidates to the present ones, and givens strike nothing more there
 pub record IsOnTheWay (p : Puzzle) (Own : Striking) (grade : Grade) (first now : CandidatesValue) : Type 0 where
   pub leads : LeadsTo (AllStrikes p Own) grade first now
   pub givens : AreGivensSettled p now
 
--- so it is further on
+-- a further chain keeps this: the whole leads there, and givens strike nothing more
 pub goes_further : {p : Puzzle} {Own : Striking} {grade : Grade} {first now next : CandidatesValue} → IsOnTheWay p Own grade first now
     → LeadsTo (AllStrikes p Own) grade now next → IsOnTheWay p Own grade first next
 goes_further {p = p} {Own = Own} {grade = grade} {first = first} {now = now} {next = next} h leads = record {
@@ -62,7 +62,7 @@ look_settled p Own stand grade c small size givens quiet groups =
     settled_all p Own grade c small size givens (λ line low. (quiet line low true).quiet)
     (along_settled p Own stand grade c size (λ line low. quiet line low false)) groups
 
--- what a chain leads to and is settled is what the grade leaves
+-- settled candidates that a chain of the grade leads to are those that the grade leaves
 pub closure_reached : (Struck : Striking) (grade : Grade) (a b : CandidatesValue) → LeadsTo Struck grade a b
     → IsSettled Struck grade b → IsClosure Struck grade a b
 closure_reached Struck grade a b lead settled = record {

@@ -31,7 +31,7 @@ quiet_stays line c d size fewer stays quiet =
     let left = fewer (line_cell c.size line k) v (record { pair = subst (λ (w : ℕ). IsPair w (line_cell c.size line k) v) (sym size) pair; may = may }) in
     both_ways (may_be c (line_cell c.size line k) v) (quiet k v low pair was) left.may))
 
--- and something is left there
+-- a line with something left of each square and number keeps this where nothing of its squares went
 pub live_stays : (line : ℕ) (c d : CandidatesValue) → d.size ≡ c.size → StaysOn line c d → IsLiveLine line c → IsLiveLine line d
 live_stays line c d size stays live =
     let Stays : ℕ → Type 0 = λ w. (k v : ℕ) → k < c.size → IsLeft c (line_cell c.size line k) v → IsLeft d (line_cell w line k) v in
@@ -45,7 +45,7 @@ live_stays line c d size stays live =
           (k, omega (arith, inside, size), on k v inside left);
     }
 
--- where nothing went of other squares than those at some places of a line, all stays on lines that don't cross it there
+-- if only squares at some places of a line lost candidates, all stays on lines that don't cross it there
 pub stays_apart : (line places other : ℕ) (a b : CandidatesValue) → line < 2 * a.size → other < 2 * a.size → other ≢ line
     → is_crossing a.size line places other ≡ false → LosesAt line places a b → StaysOn other a b
 stays_apart line places other a b line_is other_is apart uncrossed loses j v j_is left =
@@ -56,21 +56,21 @@ pub stays_all : (line places other : ℕ) (a b : CandidatesValue) → IsEmpty pl
 stays_all line places other a b none loses j v j_is left =
     loses.stays (line_cell a.size other j) v left (λ k k_is has. absurd (both_ways (has_number places k) (none k) has))
 
--- what stays stays at first
+-- if all stays on a line from a to c, and b lies between, all stays from a to b
 pub stays_first : (line : ℕ) (a b c : CandidatesValue) → IsFewer b c → StaysOn line a c → StaysOn line a b
 stays_first line a b c fewer stays = λ k v low left. fewer (line_cell a.size line k) v (stays k v low left)
 
--- and afterwards
+-- if all stays on a line from a to c, and b lies between, all stays from b to c
 pub stays_second : (line : ℕ) (a b c : CandidatesValue) → b.size ≡ a.size → IsFewer a b → StaysOn line a c → StaysOn line b c
 stays_second line a b c size fewer stays =
     let On : ℕ → Type 0 = λ w. (k v : ℕ) → k < w → IsLeft b (line_cell w line k) v → IsLeft c (line_cell w line k) v in
     subst On (sym size) (λ k v low left. stays k v low (fewer (line_cell a.size line k) v left))
 
--- the exact places serve
+-- if the places are exactly those that lost something, then only squares at them lost something
 pub loses_changed : (line places : ℕ) (a b : CandidatesValue) → AreChanged line places a b → LosesAt line places a b
 loses_changed line places a b h = record { stays = h.stays; went = h.went }
 
--- what goes at some places, and then at others
+-- candidates that go at some places, and then at others, go at the places of both
 pub loses_both : (line first second both : ℕ) (a b c : CandidatesValue) → b.size ≡ a.size → length a.trail ≤ length b.trail → length b.trail ≤ length c.trail
     → ((k : ℕ) → has_number both k ≡ (has_number first k || has_number second k)) → LosesAt line first a b → LosesAt line second b c → LosesAt line both a c
 loses_both line first second both a b c size longer further is h k = record {
@@ -89,7 +89,7 @@ loses_both line first second both a b c size longer further is h k = record {
   ];
 }
 
--- so it is with what was changed
+-- exact changes at some places, and then at others, are changes at the places of both
 pub changed_both : (line first second both : ℕ) (a b c : CandidatesValue) → b.size ≡ a.size → length a.trail ≤ length b.trail → length b.trail ≤ length c.trail
     → ((k : ℕ) → has_number both k ≡ (has_number first k || has_number second k)) → AreChanged line first a b → AreChanged line second b c
     → AreChanged line both a c

@@ -10,7 +10,7 @@ use Rattle.line_steps.proofs.Takes.{takes_struck, takes_length, takes_same, take
 
 -- ---- squares of which something went
 
--- at first nothing went
+-- candidates that stay the same are changed at no place
 pub changed_none : (line places : ℕ) (c : CandidatesValue) → IsEmpty places → AreChanged line places c c
 changed_none line places c none = record {
   stays = λ cell v left apart. left;
@@ -18,7 +18,7 @@ changed_none line places c none = record {
   same = λ e. refl;
 }
 
--- something goes of the next square
+-- if something goes of square k, its place is added to those that changed
 pub changed_next : (line places one more k values : ℕ) (a b c : CandidatesValue) → k < a.size → length a.trail ≤ length b.trail
     → ((j : ℕ) → has_number one j ≡ (j == k)) → ((j : ℕ) → has_number more j ≡ (has_number places j || has_number one j))
     → AreChanged line places a b → Strikes b c (line_cell a.size line k) values → (length c.trail ≡ length b.trail → ⊥) → AreChanged line more a c
@@ -34,7 +34,7 @@ changed_next line places one more k values a b c low longer is_one is_more h s m
       same = λ e. absurd (both_ways (has_number more k) (e k) last);
     }
 
--- of one square
+-- if something goes of one square alone, its place is the only one that changed
 pub changed_one : (line one k values : ℕ) (a b : CandidatesValue) → k < a.size → ((j : ℕ) → has_number one j ≡ (j == k))
     → Strikes a b (line_cell a.size line k) values → (length b.trail ≡ length a.trail → ⊥) → AreChanged line one a b
 changed_one line one k values a b low is s moved =
@@ -47,7 +47,7 @@ changed_one line one k values a b low is s moved =
       same = λ e. absurd (both_ways (has_number one k) (e k) has);
     }
 
--- or nothing
+-- if nothing goes of a square, the places that changed are as before
 pub changed_not : (line places cell values : ℕ) (a b c : CandidatesValue) → AreChanged line places a b → Strikes b c cell values
     → length c.trail ≡ length b.trail → AreChanged line places a c
 changed_not line places cell values a b c h s still =
@@ -57,10 +57,11 @@ changed_not line places cell values a b c h s still =
 
 -- ---- lines across
 
--- where a square of a row is, and one of a column
+-- square k of a row is in that row and in column k
 row_at : (w line k : ℕ) → line < w → k < w → (line_cell w line k / w ≡ line) × (line_cell w line k % w ≡ k)
 row_at w line k row low = rw (lt-ltb line w row) (div-mul-add line w k low, mod-mul-add line w k low)
 
+-- square k of a column is in row k and in that column
 column_at : (w line k : ℕ) → line < 2 * w → w ≤ line → k < w → (line_cell w line k / w ≡ k) × (line_cell w line k % w ≡ line - w)
 column_at w line k below column low = rw (le-ltb line w column)
     (div-mul-add k w (line - w) (omega (arith, below, column)), mod-mul-add k w (line - w) (omega (arith, below, column)))

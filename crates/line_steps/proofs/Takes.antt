@@ -66,7 +66,7 @@ gone_pair c d ps cell v is has =
 abbrev pub IsInRow : ℕ → ℕ → List ℕ → ℕ → ℕ → Type 0
 IsInRow w line row cell v = (k : ℕ) × (k < w) × (cell ≡ line_cell w line k) × (has_number (slice_index row k) v ≡ true)
 
--- nothing is taken
+-- if no pair is of the kind, taking the kind changes nothing
 pub takes_none : (Which : ℕ → ℕ → Type 0) (c : CandidatesValue) → ((cell v : ℕ) → Which cell v → ⊥) → Takes Which c c
 takes_none Which c none = record {
   pairs = [];
@@ -76,7 +76,7 @@ takes_none Which c none = record {
   gone = λ cell v pair is. absurd (none cell v is);
 }
 
--- nothing goes where nothing of the kind is left
+-- if no pair of the kind is left, taking the kind changes nothing
 pub takes_still : (Which : ℕ → ℕ → Type 0) (c : CandidatesValue) → ((cell v : ℕ) → Which cell v → IsLeft c cell v → ⊥) → Takes Which c c
 takes_still Which c still = record {
   pairs = [];
@@ -86,7 +86,7 @@ takes_still Which c still = record {
   gone = λ cell v pair is. false_from_ne_true (may_be c cell v) (λ may. still cell v is (record { pair = pair; may = may }));
 }
 
--- the same pairs under another name
+-- if two kinds have the same pairs of the size, taking one is taking the other
 pub takes_map : (Which More : ℕ → ℕ → Type 0) (c d : CandidatesValue) → ((cell v : ℕ) → Which cell v → More cell v)
     → ((cell v : ℕ) → IsPair c.size cell v → More cell v → Which cell v) → Takes Which c d → Takes More c d
 takes_map Which More c d forth back t = record {
@@ -97,7 +97,7 @@ takes_map Which More c d forth back t = record {
   gone = λ cell v pair is. t.gone cell v pair (back cell v pair is);
 }
 
--- two kinds, one after the other
+-- taking the pairs of one kind, and then those of another, is taking the pairs of either
 pub takes_both : (First Second : ℕ → ℕ → Type 0) (a b c : CandidatesValue) → Takes First a b → Takes Second b c
     → Takes (λ cell v. First cell v ⊎ Second cell v) a c
 takes_both First Second a b c t u = record {
@@ -120,7 +120,7 @@ takes_both First Second a b c t u = record {
   ];
 }
 
--- what a square loses
+-- striking values in a square takes its pairs with these values
 pub takes_struck : (a b : CandidatesValue) (cell values : ℕ) → Strikes a b cell values → Takes (λ c v. (c ≡ cell) × (has_number values v ≡ true)) a b
 takes_struck a b cell values s =
     let low = set_below a.size cell s.set s.small (λ v has. (s.left v has).0) in
@@ -143,7 +143,7 @@ takes_struck a b cell values s =
           ]);
     }
 
--- what is left and taken is struck
+-- taking values away that are all left of a square strikes them
 pub strikes_whole : (a b : CandidatesValue) (cell values : ℕ) → a.size ≤ 9 → AreCandidates a cell values → b.size ≡ a.size
     → b.trail ≡ a.trail ++ pairs_of cell values → Strikes a b cell values
 strikes_whole a b cell values small left size trail = record {
@@ -156,7 +156,7 @@ strikes_whole a b cell values small left size trail = record {
   trail = trail;
 }
 
--- what is struck of some values is what a square's set shares with them
+-- striking the values that a square's set shares with some values strikes those
 pub strikes_among : (a b : CandidatesValue) (cell set values struck : ℕ) → IsSetOf a cell set
     → ((n : ℕ) → has_number struck n ≡ (has_number set n && has_number values n)) → Strikes a b cell struck → Strikes a b cell values
 strikes_among a b cell set values struck is shared s = record {
@@ -177,7 +177,7 @@ struck_moved a b cell struck small left trail some e =
     let none : struck ≡ 0 = zero_from_ones struck (omega (arith, e, ap length trail, length-append a.trail (pairs_of cell struck), length-pairs_of cell struck low)) in
     both_ways (has_number struck some.0) (ap (λ (n : ℕ). has_number n some.0) none ∙ has_number-none some.0) some.1
 
--- what the next of a row of squares loses
+-- once square k has lost its values, the first k + 1 squares of a row have lost theirs
 pub takes_next : (at : ℕ → ℕ) (Values : ℕ → ℕ → Type 0) (k values : ℕ) (a b c : CandidatesValue)
     → Takes (λ cell v. (j : ℕ) × (j < k) × (cell ≡ at j) × Values j v) a b → Strikes b c (at k) values
     → ((v : ℕ) → IsPair a.size (at k) v → (has_number values v ≡ true) ↔ Values k v)
@@ -219,33 +219,33 @@ nil_from_length : (ps : List (ℕ × ℕ)) → length ps ≡ 0 → ps ≡ []
 nil_from_length [] e = refl
 nil_from_length (p ∷ ps) e = absurd (omega (arith, e))
 
--- and where it is as long all is as it was
+-- if the trail is as long as it was, nothing changed
 pub same_more : (a b : CandidatesValue) → HasMore a b → length b.trail ≡ length a.trail → b ≡ a
 same_more a b m e =
     let none : m.pairs ≡ [] = nil_from_length m.pairs (omega (arith, e, ap length m.trail, length-append a.trail m.pairs)) in
     let trail : b.trail ≡ a.trail = m.trail ∙ ap (λ (ps : List (ℕ × ℕ)). a.trail ++ ps) none ∙ append-nil a.trail in
     λ i. record { size = m.size i; trail = trail i }
 
--- what is taken makes the trail longer
+-- taking pairs makes the trail no shorter
 pub takes_length : (Which : ℕ → ℕ → Type 0) (a b : CandidatesValue) → Takes Which a b → length a.trail ≤ length b.trail
 takes_length Which a b t = omega (arith, ap length t.trail, length-append a.trail t.pairs)
 
--- so it is with what a square loses
+-- striking values in a square makes the trail no shorter
 pub strikes_length : (a b : CandidatesValue) (cell values : ℕ) → Strikes a b cell values → length a.trail ≤ length b.trail
 strikes_length a b cell values s = takes_length (λ n v. (n ≡ cell) × (has_number values v ≡ true)) a b (takes_struck a b cell values s)
 
--- and where it is no longer nothing was taken
+-- if the trail is as long as it was, no pair was taken
 pub takes_same : (Which : ℕ → ℕ → Type 0) (a b : CandidatesValue) → Takes Which a b → length b.trail ≡ length a.trail → b ≡ a
 takes_same Which a b t e = same_more a b (record { pairs = t.pairs; size = t.size; trail = t.trail }) e
 
--- what isn't of the kind stays
+-- a pair that is left and isn't of the kind stays
 pub takes_stays : (Which : ℕ → ℕ → Type 0) (a b : CandidatesValue) (cell v : ℕ) → Takes Which a b → IsLeft a cell v → (Which cell v → ⊥) → IsLeft b cell v
 takes_stays Which a b cell v t left other =
     let is : b ≡ without a t.pairs = λ i. record { size = t.size i; trail = t.trail i } in
     subst (λ d. IsLeft d cell v) (sym is)
     (still_left a t.pairs cell v left (false_from_ne_true (has_pair t.pairs cell v) (λ has. other (t.each cell v has).1)))
 
--- what went of the squares before leaves a square of a line as it was
+-- taking values from the first k squares of a line leaves square k as it was
 pub set_before : (Which : ℕ → ℕ → Type 0) (line k set : ℕ) (a b : CandidatesValue) → line < 2 * a.size
     → Takes (λ cell v. (j : ℕ) × (j < k) × (cell ≡ line_cell a.size line j) × Which j v) a b → IsSetOf b (line_cell a.size line k) set
     → IsSetOf a (line_cell a.size line k) set

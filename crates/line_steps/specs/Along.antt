@@ -49,8 +49,8 @@ abbrev pub StaysOn : ℕ → CandidatesValue → CandidatesValue → Type 0
 StaysOn line old new =
     (k v : ℕ) → k < old.size → IsLeft old (line_cell old.size line k) v → IsLeft new (line_cell old.size line k) v
 
--- all stays that was left of other squares than those at these places of the line, and something went where there are
--- any
+-- candidates may have gone from the squares at these places of the line, and from no others; if there is such
+-- a place, some have gone
 pub record LosesAt (line places : ℕ) (old new : CandidatesValue) : Type 0 where
   pub stays : (cell v : ℕ) → IsLeft old cell v
       → ((k : ℕ) → k < old.size → has_number places k ≡ true → cell ≢ line_cell old.size line k) → IsLeft new cell v

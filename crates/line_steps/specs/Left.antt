@@ -26,7 +26,7 @@ HasNoOther c cell value = (other : ℕ) → IsLeft c cell other → other ≡ va
 abbrev pub HasNoOtherPlace : CandidatesValue → ℕ → ℕ → ℕ → Type 0
 HasNoOtherPlace c line value index = (k : ℕ) → k < c.size → IsLeft c (line_cell c.size line k) value → k ≡ index
 
--- all pairs of a size
+-- the candidates of a size from which nothing has gone yet: all pairs
 abbrev pub all_of : ℕ → CandidatesValue
 all_of w = record { size = w; trail = [] }
 

@@ -12,7 +12,7 @@ use Rattle.line_steps.specs.Left.{IsLeft, HasNoOther}
 use Rattle.line_steps.specs.declared.reason.Reason.{Reason}
 use Rattle.line_steps.specs.declared.reason.Reason.TheVariants.{Given, Peer, Place, Set}
 
--- what reasons strike: by candidates, a reason, a square and a number
+-- which numbers reasons strike: a relation of candidates, a reason, a square and a number
 abbrev pub Striking : Type 1
 Striking = CandidatesValue → Reason → ℕ → ℕ → Type 0
 
@@ -81,7 +81,7 @@ IsGivensStruckBy p = AllStrikes (given_puzzle p) NoneOwn
 
 -- ---- many squares at once
 
--- the first n sets are of the values that are struck in each of the first n squares from a place at the edge
+-- the k-th of the first n sets has the values that are struck in the k-th square from a place at the edge
 pub record AreStruckFrom (w : ℕ) (Struck : ℕ → ℕ → Type 0) (place n : ℕ) (row : List ℕ) : Type 0 where
   pub count : length row ≡ 9
   pub each : (k v : ℕ) → k < n → (has_number (slice_index row k) v ≡ true)

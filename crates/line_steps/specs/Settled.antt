@@ -17,7 +17,7 @@ IsSettled Struck grade c =
     → Struck c reason cell value
     → may_be c cell value ≡ false
 
--- what the grade leaves of the first: a chain of its steps leads there, and nothing more is struck
+-- the grade leaves the second of the first: a chain of its steps leads there, and nothing more is struck
 pub record IsClosure (Struck : Striking) (grade : Grade) (c d : CandidatesValue) : Type 0 where
   pub steps : List StepValue
   pub chain : IsChain Struck c steps

@@ -17,13 +17,13 @@ is_narrowing (Clue place) = true
 is_narrowing (Sign from to) = true
 is_narrowing (Set line squares values) = false
 
--- such a reason strikes the pair
+-- the pair is struck by some reason that narrowing uses
 abbrev pub IsNarrowed : Striking → CandidatesValue → ℕ → ℕ → Type 0
 IsNarrowed Struck c cell value = (reason : Reason) × (is_narrowing reason ≡ true) × Struck c reason cell value
 
 -- ---- what narrowing the old candidates to the new ones leaves
 
--- no pair is left that the old candidates strike
+-- no pair is left in the new candidates that is struck by the old ones
 abbrev pub NoneLeft : (CandidatesValue → ℕ → ℕ → Type 0) → CandidatesValue → CandidatesValue → Type 0
 NoneLeft Struck old new =
     (cell value : ℕ) → IsPair old.size cell value → Struck old cell value → may_be new cell value ≡ false

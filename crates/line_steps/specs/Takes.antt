@@ -31,8 +31,8 @@ is_crossing w line places other =
     if nat_lt line w then (if nat_lt other w then false else has_number places (other - w))
     else (if nat_lt other w then has_number places other else false)
 
--- all stays that was left of other squares than those at these places of the line; something went where there are any,
--- and nothing where not
+-- candidates may have gone from the squares at these places of the line, and from no others; some have gone
+-- if there is such a place, and none if there is none
 pub record AreChanged (line places : ℕ) (old new : CandidatesValue) : Type 0 where
   pub stays : (cell v : ℕ) → IsLeft old cell v
       → ((k : ℕ) → k < old.size → has_number places k ≡ true → cell ≢ line_cell old.size line k) → IsLeft new cell v

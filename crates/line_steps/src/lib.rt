@@ -17,7 +17,7 @@ mod steps;
 
 pub use grade::Grade;
 pub use lines::by_givens::narrow_by_givens;
-pub use lines::given_squares::deny_given;
+pub use lines::denied_given::deny_given;
 pub use lines::line_pass::LinePass;
 pub use lines::line_passes::{strike_row, take_at};
 pub use lines::settling::{narrow_lines, narrow_lines_from};

@@ -2,7 +2,7 @@
 
 pub(crate) mod by_givens;
 pub(crate) mod changed;
-pub(crate) mod given_squares;
+pub(crate) mod denied_given;
 pub(crate) mod latin;
 pub(crate) mod line_pass;
 pub(crate) mod line_passes;

@@ -1,4 +1,4 @@
-//! What the steps of a game owe.
+//! What a game says of its steps, and the laws that these obey.
 ghost use Rattle.std.specs.Prelude.{◌≡◌, ◌≢◌, ◌↔◌, ℕ, ◌+◌, ◌*◌, ◌<◌, Bool, true, IfNone, IfSome};
 ghost use Rattle.number_sets.specs.Sets.{has_number, IsEmpty};
 ghost use Rattle.latin_board.specs.Squares.{GridValue, number_at};
@@ -116,7 +116,8 @@ pub trait Steps: Rules {
         None
     }
 
-    // What a clue or a sign strikes that looks along a line it struck before, where all stayed that was left of the line's squares.
+    // What a clue or a sign that looks along a line strikes, it struck before, if nothing went of the line's
+    // squares since then.
     ghost looks_along: { (p : Self) (c d : CandidatesValue) (reason : Reason) (cell value line : ℕ)
         → c.size ≡ (Self.Rules.puzzle p).size
         → line < 2 * c.size → LooksAlong c.size line reason cell → StaysOn line c d
@@ -126,17 +127,17 @@ pub trait Steps: Rules {
     ghost stands_along: { (p : Self) (c : CandidatesValue) (reason : Reason) (cell value : ℕ) → Self.Rules.valid p
         → own p c reason cell value → StandsAlong (Self.Rules.puzzle p).size reason cell };
 
-    // What it strikes from candidates it strikes from fewer.
+    // What a clue or a sign strikes from candidates it strikes from fewer.
     ghost own_less: { (p : Self) (c d : CandidatesValue) (reason : Reason) (cell value : ℕ) → IsFewer c d
         → own p c reason cell value → own p d reason cell value };
 
-    // What it strikes is in no solution within the candidates.
+    // What a clue or a sign strikes is in no solution within the candidates.
     ghost own_sound: { (p : Self) (c : CandidatesValue) (reason : Reason) (cell value : ℕ) (g : GridValue)
         → Self.Rules.valid p
         → c.size ≡ (Self.Rules.puzzle p).size → Solves (Self.Rules.puzzle p) g → IsWithin c g
         → own p c reason cell value → number_at g cell ≢ value };
 
-    // What it strikes in a cut it strikes in the whole puzzle.
+    // What a clue or a sign strikes in a cut of the puzzle it strikes in the whole.
     ghost own_cut: { (p : Self) (keep : ℕ → Bool) (c : CandidatesValue) (reason : Reason) (cell value : ℕ)
         → own (Self.Rules.cut p keep) c reason cell value → own p c reason cell value };
 }

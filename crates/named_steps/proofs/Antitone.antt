@@ -12,12 +12,6 @@ use Rattle.line_steps.specs.declared.grade.Grade.{Grade}
 use Rattle.line_steps.specs.Reasons.{Striking}
 use Rattle.line_steps.proofs.Chains.{IsAntitone, left_fewer}
 
--- ---- candidates without some pairs
-
--- ---- chains
-
--- ---- what is settled
-
 -- a step of the grade strikes nothing that is left where the grade is settled
 pub step_settled : (Struck : Striking) → IsAntitone Struck → (grade : Grade) (c d : CandidatesValue) (step : StepValue)
     → has_reason grade step.reason ≡ true → IsStep Struck c step → IsFewer c d → IsSettled Struck grade d → IsFewer (without c step.strikes) d
@@ -39,6 +33,7 @@ chain_settled Struck less grade c d (step ∷ steps) allowed h fewer settled =
 pub closure_fewer : (Struck : Striking) (grade : Grade) (c d : CandidatesValue) → IsClosure Struck grade c d → IsFewer c d
 closure_fewer Struck grade c d h = λ cell value left. left_fewer c h.steps cell value (h.left.0 cell value left)
 
+-- a pair that a grade leaves by one chain of its steps is left by each other, too
 closure_within : (Struck : Striking) → IsAntitone Struck → (grade : Grade) (c d e : CandidatesValue)
     → IsClosure Struck grade c d → IsClosure Struck grade c e → IsFewer d e
 closure_within Struck less grade c d e h k = λ cell value left.

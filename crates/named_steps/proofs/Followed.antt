@@ -1,4 +1,4 @@
--- What follows by a grade: it is the only solution, it follows by the next grade and with more items, and each board of it leads on.
+-- Grids that follow by a grade: each is the only solution, follows by higher grades, and boards lead to it.
 use Rattle.std.proofs.Common.{◌≡◌, ◌≢◌, ℕ, ◌*◌, ◌<◌, ◌≤◌, true, arith, List, [], ◌∷◌, refl, sym, ◌∙◌, subst}
 use Rattle.latin_board.specs.Squares.{GridValue, number_at}
 use Rattle.latin_board.proofs.Numbers.{same_numbers}
@@ -22,6 +22,7 @@ use Rattle.line_steps.specs.Reasons.{Striking}
 
 -- ---- the only solution
 
+-- each grid is within all pairs of its size
 within_all : (w : ℕ) (g : GridValue) → IsWithin (all_of w) g
 within_all w g = record { each = λ cell inside. refl }
 
@@ -42,7 +43,7 @@ follows_only p Struck sound grade g f s = record {
 
 -- ---- the next grade
 
--- what is of a grade is of one that has all its kinds
+-- steps of a grade are steps of each grade that has all its kinds
 pub next_has : (lower higher : Grade) → ((reason : Reason) → has_reason lower reason ≡ true → has_reason higher reason ≡ true)
     → (steps : List StepValue) → AreOfGrade lower steps → AreOfGrade higher steps
 next_has lower higher has [] h = tt
@@ -58,12 +59,14 @@ follows_up Struck lower higher g up f = record {
   alone = f.alone;
 }
 
+-- a grid that follows by a grade follows by each higher one
 pub grades_nested : (Struck : Striking) (lower higher : Grade) (g : GridValue) → IsLower lower higher → Follows Struck lower g
     → Follows Struck higher g
 grades_nested Struck lower higher g up f = follows_up Struck lower higher g (omega (arith, up)) f
 
 -- ---- more items
 
+-- a chain by one relation of strikes is a chain by a wider one
 chain_more : (Less More : Striking)
     → ((c : CandidatesValue) (reason : Reason) (cell value : ℕ) → Less c reason cell value → More c reason cell value)
     → (c : CandidatesValue) (steps : List StepValue) → IsChain Less c steps → IsChain More c steps
@@ -73,7 +76,7 @@ chain_more Less More more c (step ∷ steps) h = (
   chain_more Less More more (without c step.strikes) steps h.1,
 )
 
--- what follows by some strikes follows by more
+-- a grid that follows by one relation of strikes follows by a wider one
 pub follows_more : (Less More : Striking)
     → ((c : CandidatesValue) (reason : Reason) (cell value : ℕ) → Less c reason cell value → More c reason cell value)
     → (grade : Grade) (g : GridValue) → Follows Less grade g → Follows More grade g
@@ -86,10 +89,11 @@ follows_more Less More more grade g f = record {
 
 -- ---- boards
 
--- all pairs are left at first
+-- candidates are fewer than all pairs of their size, or as many
 all_fewer : (w : ℕ) (c : CandidatesValue) → c.size ≡ w → IsFewer (all_of w) c
 all_fewer w c size = λ cell value h. record { pair = subst (λ (n : ℕ). IsPair n cell value) size h.pair; may = refl }
 
+-- the chain by which a grid follows is a chain from any candidates of its size, and leaves no more of them
 from_view : (Struck : Striking) → IsAntitone Struck → (grade : Grade) (s : GridValue) (c : CandidatesValue)
     (f : Follows Struck grade s) → c.size ≡ s.size → IsChain Struck c f.steps × IsFewer (left_by (all_of s.size) f.steps) (left_by c f.steps)
 from_view Struck less grade s c f size = chain_less Struck less (all_of s.size) c f.steps (sym size) (all_fewer s.size c size) f.chain
@@ -108,7 +112,7 @@ boards_lead Struck less grade s g view cell f size in_view inside =
       },
     )
 
--- from a board with a wrong number, a chain leaves nothing of it
+-- from a board with a wrong number, a chain leaves nothing of that number's square
 pub boards_refuted : (Struck : Striking) → IsAntitone Struck → (grade : Grade) (s g : GridValue)
     (view : CandidatesValue) (cell : ℕ) → Follows Struck grade s → g.size ≡ s.size → IsView g view → cell < s.size * s.size
     → number_at g cell ≢ 0 → number_at g cell ≢ number_at s cell

@@ -29,7 +29,7 @@ shown_right p c (OnlyPlace line index value) g size s within is h =
     subst (λ (v : ℕ). IsLeft c (line_cell c.size line at.0) v) at.2 (number_left p c g (line_cell c.size line at.0) size s within (line_cell_inside c.size line at.0 is.0 at.1)) in
     ap (λ (k : ℕ). number_at g (line_cell c.size line k)) (sym (h at.0 at.1 left)) ∙ at.2
 
--- a solution that keeps the numbers of a grid is in view
+-- a solution that keeps the numbers of a grid is within the candidates in view of it
 pub completion_in_view : (p : Puzzle) (g h : GridValue) (c : CandidatesValue) → g.size ≡ p.size → IsView g c → Completes p g h → IsWithin c h
 completion_in_view p g h c size view done = record {
   each = λ cell inside.
@@ -46,7 +46,7 @@ completion_in_view p g h c size view done = record {
       ];
 }
 
--- the number that a chain explains is so in each solution that completes the grid
+-- the number that a chain explains stands in its square in each solution that completes the grid
 pub explained_right : (p : Puzzle) (Struck : Striking) → IsSoundFor p Struck → (grade : Grade) (g h : GridValue)
     (steps : List StepValue) (goal : Goal) → g.size ≡ p.size → IsExplained Struck grade g steps goal → Completes p g h
     → number_at h (goal_cell g.size goal) ≡ goal_value goal

@@ -65,13 +65,14 @@ part_fewer (step ∷ steps) part c d fewer h = elim h [
 
 -- ---- a chain in two pieces
 
+-- without one of them, steps of a grade are steps of the grade
 grade_split : (grade : Grade) (front back : List StepValue) (step : StepValue) → AreOfGrade grade (front ++ step ∷ back) → AreOfGrade grade (front ++ back)
 grade_split grade [] back step h = h.1
 grade_split grade (first ∷ front) back step h = (h.0, grade_split grade front back step h.1)
 
--- ----
+-- ---- parts that show the goal
 
--- with the steps before the last one that is lacking the rest shows as much
+-- if a part shows the goal, so do all steps but the last one that the part lacks
 shows_more : (Struck : Striking) → IsAntitone Struck → (grade : Grade) (c : CandidatesValue)
     (front back kept : List StepValue) (step : StepValue) (goal : Goal) → Shows Struck grade c (front ++ step ∷ back) goal → IsPart kept front
     → Shows Struck grade c (kept ++ back) goal → Shows Struck grade c (front ++ back) goal
@@ -88,6 +89,7 @@ shows_more Struck less grade c front back kept step goal whole of part =
           (subst (λ d. IsFewer (left_by (left_by c kept) back) d) (sym (left_append c front back)) more.1)) part.shown;
     }
 
+-- a part of a chain that shows its goal is the whole chain, if none of the steps can be left out
 pub tight_least : (Struck : Striking) → IsAntitone Struck → (grade : Grade) (c : CandidatesValue)
     (steps part : List StepValue) (goal : Goal) → Shows Struck grade c steps goal → IsTight Struck grade c steps goal → IsPart part steps
     → Shows Struck grade c part goal → part ≡ steps

@@ -13,6 +13,7 @@ use Rattle.named_steps.specs.declared.goal.Goal.{Goal}
 use Rattle.named_steps.specs.declared.goal.Goal.TheVariants.{OnlyValue, OnlyPlace}
 use Rattle.line_steps.specs.Reasons.{Striking}
 
+-- a value without another place in a line has none in fewer candidates
 no_place_less : (c d : CandidatesValue) (line value index : ℕ) → c.size ≡ d.size → IsFewer c d → HasNoOtherPlace c line value index
     → HasNoOtherPlace d line value index
 no_place_less c d line value index size fewer h =

@@ -21,13 +21,15 @@ use Rattle.line_steps.specs.declared.grade.Grade.{Grade}
 use Rattle.line_steps.specs.declared.grade.Grade.TheVariants.{Latin, Easy, Hard}
 use Rattle.line_steps.specs.Reasons.{Striking}
 
+-- candidates with an empty trail are all pairs of their size
 all_pairs : (c : CandidatesValue) (w : ℕ) → c.size ≡ w → c.trail ≡ [] → c ≡ all_of w
 all_pairs c w size none = λ i. record { size = size i; trail = none i }
 
+-- each grid is within all pairs
 within_all : (w : ℕ) (g : GridValue) → IsWithin (all_of w) g
 within_all w g = record { each = λ cell inside. refl }
 
--- what is left when a grade is settled are the numbers of each solution that follows
+-- when a grade is settled, a solution that follows has the only value that is left of each square
 follows_left : (p : Puzzle) (Struck : Striking) → IsSoundFor p Struck → IsAntitone Struck → (grade : Grade)
     (g : GridValue) (d : CandidatesValue) → Solves p g → IsClosure Struck grade (all_of g.size) d → Follows Struck grade g
     → (cell : ℕ) → cell < d.size * d.size → IsOnly d cell (number_at g cell)
@@ -46,6 +48,7 @@ follows_left p Struck sound less grade g d s h f = λ cell inside.
       alone = λ other low high may. f.alone cell here other (fewer cell other (record { pair = record { inside = inside; low = low; high = high }; may = may }));
     }
 
+-- what a grade leaves of candidates with an empty trail it leaves of all pairs
 from_all : (Struck : Striking) (grade : Grade) (w : ℕ) (c d : CandidatesValue) → c.size ≡ w → c.trail ≡ []
     → IsClosure Struck grade c d → IsClosure Struck grade (all_of w) d
 from_all Struck grade w c d size none h = subst (λ a. IsClosure Struck grade a d) (all_pairs c w size none) h
@@ -85,6 +88,7 @@ emptied_none p Struck sound grade c d size none h emptied f =
     subst (λ (a : CandidatesValue). IsWithin a f.0) (sym (all_pairs c f.0.size (size ∙ sym s.same_size) none)) (within_all f.0.size f.0) in
     solved_holds p Struck sound grade f.0 c d size s within h emptied
 
+-- a square has at most one only value
 only_same : (c : CandidatesValue) (cell a b : ℕ) → IsOnly c cell a → IsOnly c cell b → a ≡ b
 only_same c cell a b one other = other.alone a one.low one.high one.left
 
@@ -101,7 +105,7 @@ filled_none p Struck sound less grade c d g size none h fill wrong f =
     only_same d cell (number_at g cell) (number_at f.0 cell) (fill.each cell here) (follows_left p Struck sound less grade f.0 d s k f.1.follows cell here)) in
     wrong (subst (λ (x : GridValue). Solves p x) (sym same) s)
 
--- none of the grades is none at all
+-- a puzzle that follows by none of the three grades follows by no grade
 pub none_follows : (p : Puzzle) (Struck : Striking) → (FollowsBy p Struck Latin → ⊥) → (FollowsBy p Struck Easy → ⊥)
     → (FollowsBy p Struck Hard → ⊥) → (grade : Grade) → FollowsBy p Struck grade → ⊥
 none_follows p Struck latin easy hard Latin f = latin f
@@ -110,11 +114,11 @@ none_follows p Struck latin easy hard Hard f = hard f
 
 -- ---- the least grade
 
--- nothing is below the lowest one
+-- a puzzle that follows by the lowest grade has that grade
 pub graded_lowest : (p : Puzzle) (Struck : Striking) → FollowsBy p Struck Latin → IsGradeOf p Struck (Some Latin)
 graded_lowest p Struck follows = (follows, λ lower less f. absurd (omega (arith, less)))
 
--- what doesn't follow by a grade follows by none below it
+-- a puzzle that follows by a grade, but not by the one before it, has that grade
 pub graded_next : (p : Puzzle) (Struck : Striking) (before grade : Grade) → rank grade ≡ rank before + 1 → FollowsBy p Struck grade
     → (FollowsBy p Struck before → ⊥) → IsGradeOf p Struck (Some grade)
 graded_next p Struck before grade next follows none = (

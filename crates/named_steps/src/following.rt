@@ -17,7 +17,7 @@ pub fn solution_by<P: Steps>(p: &P, grade: Grade) -> Option<Grid>
     solution_knowing(p, grade, &mut P::Cache::default())
 }
 
-// The same with `cache`.
+// As `solution_by`, with `cache`, which is used and added to.
 fn solution_knowing<P: Steps>(p: &P, grade: Grade, cache: &mut P::Cache) -> Option<Grid>
     ensures { MatchOption result (FollowsBy (P.puzzle p.now) (StruckBy P.puzzle P.own p.now) grade → ⊥)
         (IsSolutionBy (P.puzzle p.now) (StruckBy P.puzzle P.own p.now) grade) }

@@ -1,6 +1,7 @@
 -- What follows of items being tried in turn.
+use Rattle.std.proofs.lemmas.Bool.Decides.{nat_tests}
 use Rattle.std.proofs.Common.{◌≡◌, ℕ, zero, suc, ◌-◌, ◌<◌, Bool, true, false, not, ◌&&◌, List, [], ◌∷◌, ◌++◌, length, slice_index, IsTrue, inl, inr, refl, sym, ◌∙◌, ap, subst, arith}
-use Rattle.std.proofs.lemmas.Bool.{and_parts, both_ways, cases_eq, ne_eqb}
+use Rattle.std.proofs.lemmas.Bool.{both_ways, cases_eq, ne_eqb}
 use Rattle.latin_board.specs.Squares.{GridValue}
 use Rattle.trail_solver.specs.declared.rules.Rules.{Ghosts}
 use Rattle.needed_items.specs.Needed.{HasOnly, IsThinned, all_but}
@@ -15,19 +16,17 @@ pub length_falling : (n : ℕ) → length (falling n) ≡ n
 length_falling zero = refl
 length_falling (suc n) = ap suc (length_falling n)
 
--- and what stands at a place of it
+-- what stands at a place of a falling order
 pub falling_at : (n k : ℕ) → k < n → slice_index (falling n) k ≡ n - 1 - k
 falling_at zero k inside = absurd (omega (arith, inside))
 falling_at (suc n) zero inside = omega arith
 falling_at (suc n) (suc k) inside = let rest = falling_at n k (omega (arith, inside)) in omega (arith, rest, inside)
 
--- each item of it is below the count
+-- each item of a falling order is below the count
 pub falling_below : (n m k : ℕ) → n ≡ m → k < length (falling n) → slice_index (falling n) k < m
-falling_below n m k same inside =
-    let within : k < n = omega (arith, inside, length_falling n) in
-    omega (arith, falling_at n k within, within, same)
+falling_below n m k same inside = grind (arith, nat_tests, length_falling, falling_at)
 
--- one order after another
+-- what is left by one order, and then by another, is left by both end to end
 pub in_turn_both : {P : Type 0} (f : Ghosts P) (Fails : P → Type 0) (first second : List ℕ) (p q r : P)
     → IsLeftInTurn f Fails first p q → IsLeftInTurn f Fails second q r → IsLeftInTurn f Fails (first ++ second) p r
 in_turn_both f Fails [] second p q r one two = subst (λ s. IsLeftInTurn f Fails second s r) one two
@@ -54,30 +53,23 @@ in_turn_once f Fails (item ∷ order) p q r first second = elim first [
 
 -- ---- the items that are left
 
--- the puzzle has only items of another, as they are there
+-- q is p cut down to the items that q has
 pub record IsCutDown {P : Type 0} (f : Ghosts P) (p q : P) : Type 0 where
   pub valid : f.valid q
   pub size : (f.puzzle q).size ≡ (f.puzzle p).size
   pub is_cut : q ≡ f.cut p (f.has q)
 
--- an item that is there was there
+-- an item that is left was there
 cut_had : {P : Type 0} (f : Ghosts P) (p q : P) (i : ℕ) → ItemLaws f → f.valid p → IsCutDown f p q
     → i < f.items_of (f.puzzle p).size
     → IsTrue (f.has q i) → IsTrue (f.has p i)
-cut_had {P} f p q i laws valid cut inside there =
-    (and_parts (f.has p i) (f.has q i)
-    (sym (laws.cut_has p (f.has q) i valid inside) ∙ ap (λ (r : P). f.has r i) (sym cut.is_cut) ∙ there)).0
+cut_had f p q i laws valid cut inside there = grind (arith, nat_tests)
 
--- one that went isn't there
+-- an item that was cut isn't left
 cut_lost : {P : Type 0} (f : Ghosts P) (p q : P) (item i : ℕ) → ItemLaws f → f.valid p
     → IsCutDown f (f.cut p (all_but item)) q
     → i < f.items_of (f.puzzle p).size → IsTrue (f.has q i) → IsTrue (all_but item i)
-cut_lost f p q item i laws valid cut inside there =
-    let r = f.cut p (all_but item) in
-    let within : i < f.items_of (f.puzzle r).size = subst (λ (n : ℕ). i < f.items_of n)
-    (sym (laws.cut_size p (all_but item))) inside in
-    let had = cut_had f r q i laws (laws.cut_valid p (all_but item) valid) cut within there in
-    (and_parts (f.has p i) (all_but item i) (sym (laws.cut_has p (all_but item) i valid inside) ∙ had)).1
+cut_lost f p q item i laws valid cut inside there = grind (arith, nat_tests, cut_had)
 
 -- what is left has only items of the puzzle
 pub cut_in_turn : {P : Type 0} (f : Ghosts P) (Fails : P → Type 0) (order : List ℕ) (p q : P) → ItemLaws f → f.valid p
@@ -111,7 +103,7 @@ cut_in_turn f Fails (item ∷ order) p q laws valid tried = elim tried [
 abbrev pub KeepsFailing : {P : Type 0} → Ghosts P → (P → Type 0) → P → Type 0
 KeepsFailing f Fails p = (a b : ℕ → Bool) → Fails (f.cut p a) → Fails (f.cut (f.cut p a) b)
 
--- without any set of items that has one that was tried and stayed, the test fails
+-- where an item was tried and stayed, each cut of what is left that takes it away fails
 pub needed_in_turn : {P : Type 0} (f : Ghosts P) (Fails : P → Type 0) (order : List ℕ) (p q : P) (k i : ℕ)
     (keep : ℕ → Bool) → ItemLaws f
     → f.valid p → KeepsFailing f Fails p → IsLeftInTurn f Fails order p q → k < length order → slice_index order k ≡ i
@@ -196,7 +188,7 @@ several_kept f p laws valid a b two =
       differ = two.differ;
     }
 
--- the only solution stays the only one
+-- the only solution of a puzzle stays the only one of what is left
 pub only_in_turn : {P : Type 0} (f : Ghosts P) (g : GridValue) (order : List ℕ) (p q : P) → ItemLaws f → f.valid p
     → HasOnly f g p → IsLeftInTurn f (HasSeveral f) order p q → HasOnly f g q
 only_in_turn f g [] p q laws valid only same = subst (HasOnly f g) (sym same) only

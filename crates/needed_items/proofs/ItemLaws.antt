@@ -1,4 +1,6 @@
 -- The laws of `Rules` on items, as a record that lemmas take, and what they say of puzzles without one.
+use Rattle.std.proofs.Common.{arith}
+use Rattle.std.proofs.lemmas.Bool.Decides.{nat_tests}
 use Rattle.std.proofs.Common.{◌≡◌, ℕ, ◌*◌, ◌<◌, Bool, true, false, not, ◌&&◌, refl, ap}
 use Rattle.std.proofs.lemmas.Bool.{eq-eqb}
 use Rattle.latin_board.specs.Squares.{GridValue, IsGrid, IsLatin, number_at}
@@ -30,22 +32,8 @@ pub record ItemLaws {P : Type 0} (f : Ghosts P) : Type 0 where
 -- the laws of a type that has `Rules`: the other names in braces are the kit's, the world that code runs in and the tables of methods
 pub laws_of : {M : Type 1} {U logic memory running routines type f methods clone cloning : _}
     → Met {M = M} {𝓤 = U} logic memory running routines type f methods clone cloning → ItemLaws f
-laws_of met = record {
-  cut_valid = met.cut_valid;
-  cut_size = met.cut_size;
-  givens_cut = met.givens_cut;
-  cut_has = met.cut_has;
-  cut_all = met.cut_all;
-  cut_cut = met.cut_cut;
-  cut_agrees = met.cut_agrees;
-  cut_solved = met.cut_solved;
-  full_valid = met.full_valid;
-  full_size = met.full_size;
-  full_given = met.full_given;
-  full_has = met.full_has;
-  full_solved = met.full_solved;
-}
+laws_of met = grind (arith, nat_tests)
 
--- the item itself is left out
+-- `all_but` leaves out the item itself
 pub all_but_itself : (i : ℕ) → all_but i i ≡ false
 all_but_itself i = ap not (eq-eqb i i refl)

@@ -22,7 +22,7 @@ pub trait Test<P: Rules> {
         ensures fails { OnTrue result (fails self.now (P.cut puzzle.now (all_but item))) }
         ensures passes { OnFalse result (passes self.now (P.cut puzzle.now (all_but item))) };
 
-    // No puzzle does both.
+    // No puzzle both passes and fails.
     ghost apart: { (test : Self) (p : P) → passes test p → fails test p → ⊥ };
 }
 

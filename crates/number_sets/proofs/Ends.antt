@@ -30,7 +30,7 @@ least_is set some small =
 pow_next : (k : ℕ) → 2 ^ (k + 1) ≡ 2 ^ k * 2
 pow_next k = rw add-one (pow-suc 2 k)
 
--- it is the one whose power of two is at most the set, and more than half of it
+-- the greatest number of a set is that whose power of two is at most the set, and more than half of it
 pub greatest_is : (set k : ℕ) → 2 ^ k ≤ set → set < 2 * 2 ^ k → IsGreatest set k
 greatest_is set k low high = record {
   has = elim (cases_Bool (has_number set k)) [
@@ -74,7 +74,7 @@ and_before a p k is =
     let parts' : bit_and ((a * 2 + 1) * p) ((a * 2) * p + (p - 1)) ≡ bit_and (a * 2 + 1) (a * 2) * p = simp add-zero at parts in
     rw pred (parts' ∙ ap (λ x. x * p) high')
 
--- a number that is not 0 without the number before it is the power of two of its least
+-- a number n above 0, less what it shares with n - 1, is the power of two of its least
 pub lowest_power : (n : ℕ) → 0 < n → n < 2 ^ 64 → (k : ℕ) × (n - bit_and n (n - 1) ≡ 2 ^ k) × (has_number n k ≡ true)
 lowest_power n p h =
     let k = trailing_zeros w64 n in

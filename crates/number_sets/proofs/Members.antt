@@ -13,7 +13,7 @@ use Rattle.number_sets.specs.Sets.{has_number, flip_number, numbers_to, IsEmpty,
 pub bit-from_number : (m k : ℕ) → has_number m k ≡ true → bit_at m k ≡ 1
 bit-from_number m k e = eqb-true (bit_at m k) 1 e
 
--- where the bit is set, the number is in
+-- where the bit is set, the number is in the set
 pub number-from_bit : (m k : ℕ) → bit_at m k ≡ 1 → has_number m k ≡ true
 number-from_bit m k e = eq-eqb (bit_at m k) 1 e
 
@@ -23,7 +23,7 @@ bit-from_no_number m k e =
     let small = bit_at-lt m k in
     elim (cases_eq (bit_at m k) 1) [ inl one ↦ absurd (both_ways (has_number m k) e (number-from_bit m k one)) | inr other ↦ omega arith ]
 
--- where the bit isn't set, the number isn't in
+-- where the bit isn't set, the number isn't in the set
 pub no_number-from_bit : (m k : ℕ) → bit_at m k ≡ 0 → has_number m k ≡ false
 no_number-from_bit m k e = ap (λ b. eqb b 1) e
 
@@ -39,12 +39,12 @@ has_number-none k = no_number-from_bit 0 k (bit_at-zero k)
 pub has_number-above : (m k j : ℕ) → m < 2 ^ k → k ≤ j → has_number m j ≡ false
 has_number-above m k j h l = no_number-from_bit m j (bit_at_above m k j h l)
 
--- so each number that it has is less than the count of its bits
+-- each number of a set below 2 ^ k is below k
 pub below_from_number : (m k j : ℕ) → m < 2 ^ k → has_number m j ≡ true → j < k
 below_from_number m k j h e =
     elim (cases_lt j k) [ inl l ↦ l | inr l ↦ absurd (both_ways (has_number m j) (has_number-above m k j h l) e) ]
 
--- what either of two has
+-- a number is in the union of two sets if it is in either
 pub has_number-or : (a b k : ℕ) → has_number (bit_or a b) k ≡ (has_number a k || has_number b k)
 has_number-or a b k =
     let e = bit_at_or a b k in
@@ -55,7 +55,7 @@ has_number-or a b k =
           rw x (number-from_same_bit (bit_or a b) k b k (omega (arith, e))))
     ]
 
--- what both of two have
+-- a number is in what two sets share if it is in both
 pub has_number-and : (a b k : ℕ) → has_number (bit_and a b) k ≡ (has_number a k && has_number b k)
 has_number-and a b k =
     let e = bit_at_and a b k in
@@ -90,10 +90,11 @@ below_from_numbers m k h =
     let e : 0 * 2 ^ k + m % 2 ^ k ≡ m = rw none at (shr_split m k) in
     omega arith
 
--- a set moved down by one
+-- a set moved down by one has what is one higher in it
 pub has_number-half : (m k : ℕ) → has_number (m / 2) k ≡ has_number m (k + 1)
 has_number-half m k = number-from_same_bit (m / 2) k m (k + 1) (rw add-one (sym (bit_at-suc m k)))
 
+-- a set moved up by one has what is one lower in it
 pub has_number-double : (m k : ℕ) → has_number (m * 2) (k + 1) ≡ has_number m k
 has_number-double m k = let e : m * 2 / 2 ≡ m = omega arith in sym (has_number-half (m * 2) k) ∙ ap (λ n. has_number n k) e
 
@@ -110,7 +111,7 @@ has_number-mod m w k h =
 pub has_number-one_same : (k : ℕ) → has_number (2 ^ k) k ≡ true
 has_number-one_same k = number-from_bit (2 ^ k) k (bit_at-pow_same k)
 
--- and nothing else
+-- the set of k alone has no other number
 pub number_of_one : (k j : ℕ) → has_number (2 ^ k) j ≡ true → j ≡ k
 number_of_one k j e =
     elim (cases_eq j k) [
@@ -118,7 +119,7 @@ number_of_one k j e =
       | inr other ↦ absurd (both_ways (has_number (2 ^ k) j) (no_number-from_bit (2 ^ k) j (bit_at-pow_other k j other)) e)
     ]
 
--- both at once, as a test
+-- the set of n alone has just n, as a test
 pub has_number-one : (n k : ℕ) → has_number (2 ^ n) k ≡ eqb k n
 has_number-one n k =
     elim (cases_eq k n) [
@@ -138,7 +139,7 @@ power_most m k e =
 
 -- ---- the numbers of a range
 
--- from 1 to w
+-- `numbers_to w` has the numbers from 1 to w
 pub has_number-numbers_to : (w n : ℕ) → has_number (numbers_to w) n ≡ (leb 1 n && leb n w)
 has_number-numbers_to w n =
     elim (cases_lt n 1) [
@@ -149,7 +150,7 @@ has_number-numbers_to w n =
       ]
     ]
 
--- below k
+-- 2 ^ k - 1 has the numbers below k
 pub has_number-below : (k n : ℕ) → has_number (2 ^ k - 1) n ≡ ltb n k
 has_number-below k n =
     elim (cases_lt n k) [
@@ -157,7 +158,7 @@ has_number-below k n =
       | inr high ↦ rw (le-ltb n k high) (no_number-from_bit (2 ^ k - 1) n (bit_at_ones_above k n high))
     ]
 
--- from k on, below 16
+-- 2 ^ 16 - 2 ^ k has the numbers from k on, of those below 16
 pub has_number-from : (k n : ℕ) → n < 16 → has_number (2 ^ 16 - 2 ^ k) n ≡ leb k n
 has_number-from k n low =
     elim (cases_lt n k) [
@@ -167,7 +168,7 @@ has_number-from k n low =
 
 -- ---- one number turned over
 
--- a bit of the flipped set, where the one that is flipped is here, and where it is not
+-- a bit to which 1 is added becomes the other one, and a bit to which 0 is added stays
 one_flipped : (b : ℕ) → b < 2 → eqb ((b + 1) % 2) 1 ≡ not (eqb b 1)
 one_flipped zero h = refl
 one_flipped (suc zero) h = refl
@@ -189,7 +190,7 @@ has_number-flip set n k =
           rw (bit_at_xor set (2 ^ n) k, bit_at-pow_other n k other, ne_eqb k n other) (none_flipped (bit_at set k) (bit_at-lt set k))
     ]
 
--- a number that was in goes
+-- to flip a number that is in the set takes it out
 pub has_number-taken : (m n k : ℕ) → has_number m n ≡ true → has_number (flip_number m n) k ≡ (has_number m k && not (eqb k n))
 has_number-taken m n k was =
     elim (cases_eq k n) [
@@ -222,7 +223,7 @@ has_number-without a b k a_small b_small =
           has_number-and a (bit_not w16 b) k ∙ rw none refl
     ]
 
--- up to n
+-- a set cut to its bits up to n has its numbers up to n
 pub has_number-at_most : (set n k : ℕ) → has_number (bit_and set (2 ^ (n + 1) - 1)) k ≡ (has_number set k && leb k n)
 has_number-at_most set n k =
     has_number-and set (2 ^ (n + 1) - 1) k ∙ ap (λ b. has_number set k && b) (has_number-below (n + 1) k ∙ elim (cases_lt n k) [

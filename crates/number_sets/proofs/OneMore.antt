@@ -34,7 +34,7 @@ added_with m k n e h =
       to = h ∙ ap (λ x. x + 2 ^ k) (sym parts) ∙ odd_multiple (q / 2) (2 ^ k) (m % 2 ^ k);
     }
 
--- what was before the power of a number was added
+-- without the power of a number that is in, a set is what it was before this number was added
 pub added_without : (m k n : ℕ) → has_number n k ≡ true → m + 2 ^ k ≡ n → IsAdded m k n
 added_without m k n e h =
     let q = n / 2 ^ k in
@@ -55,12 +55,12 @@ bit-here b k r h =
     let none : k - k ≡ 0 = omega arith in
     bit_at_cat_high b k r k h (omega arith) ∙ ap (bit_at b) none ∙ bit_at_lowest b
 
--- the number wasn't in before
+-- the number that is added wasn't in before
 pub added_lacks : {m k n : ℕ} → IsAdded m k n → has_number m k ≡ false
 added_lacks {m} {k} {n} h =
     rw h.from (no_number-from_bit _ k (bit-here (h.above * 2) k h.below h.small ∙ omega arith))
 
--- it is in now
+-- the number that is added is in then
 pub added_has : {m k n : ℕ} → IsAdded m k n → has_number n k ≡ true
 added_has {m} {k} {n} h =
     rw h.to (number-from_bit _ k (bit-here (h.above * 2 + 1) k h.below h.small ∙ omega arith))

@@ -3,8 +3,7 @@
 ghost use Rattle.std.specs.Prelude.{◌≡◌, ℕ, ◌+◌, ◌-◌, ◌^◌, ◌<◌, ◌==◌, ◌&&◌, ◌||◌, ◌↔◌, true, not, nat_le};
 ghost use Rattle.std.specs.Prelude.{if◌then◌else◌, bit_and, bit_or, count_ones, MatchOption, IfSome};
 ghost use Rattle.std.specs.Bool.{MatchBool};
-ghost use Rattle.number_sets.specs.Sets.{has_number, no_numbers, numbers_to, flip_number, IsEmpty, IsShared, IsSubset};
-ghost use Rattle.number_sets.specs.Sets.{IsSingle, IsLeast, IsGreatest};
+ghost use Rattle.number_sets.specs.Sets.{has_number, no_numbers, numbers_to, flip_number, IsEmpty, IsShared, IsSubset, IsSingle, IsLeast, IsGreatest};
 
 use std::marker::Model;
 

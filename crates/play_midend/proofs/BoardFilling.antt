@@ -1,4 +1,5 @@
--- Loops over the squares of a board that write each in turn.
+-- Loops that write the squares of a board in turn: what they have written before square i.
+use Rattle.std.proofs.lemmas.Bool.Decides.{nat_tests}
 use Rattle.std.proofs.Common.{◌≡◌, ℕ, ◌+◌, ◌*◌, ◌<◌, ◌≤◌, true, List, length, get_or, set, map, replicate, slice_set, slice_index, sym, ap, ◌∙◌, arith}
 use Rattle.std.specs.List.{range_with_len}
 use Rattle.std.proofs.lemmas.List.{length-set, set-get_or, length-replicate, get_or-replicate}
@@ -12,16 +13,13 @@ use Rattle.latin_board.specs.Boards.{BoardValue, grid_of}
 use Rattle.latin_board.specs.Changes.{OneSquare, board_after}
 use Rattle.play_midend.specs.Steps.{marks_of_all, all_marked, filled, givens_of}
 
--- of n places those before i hold what f says
+-- the list has n places, and those before i hold what f says
 pub record PlacesHold (f : ℕ → ℕ) (n i : ℕ) (xs : List ℕ) : Type 0 where
   pub long : length xs ≡ n
   pub each : (k : ℕ) → k < i → get_or xs k 0 ≡ f k
 
 pub places_more : (f : ℕ → ℕ) (n i x : ℕ) (xs : List ℕ) → PlacesHold f n i xs → i < n → x ≡ f i → PlacesHold f n (i + 1) (set xs i x)
-places_more f n i x xs h inside is = record {
-  long = length-set xs i x ∙ h.long;
-  each = rw is (fill_by_more f xs i 0 (omega (arith, h.long)) h.each);
-}
+places_more f n i x xs h inside is = grind (arith, nat_tests, length-set, fill_by_more)
 
 pub places_all : (f : ℕ → ℕ) (n i : ℕ) (xs : List ℕ) → PlacesHold f n i xs → n ≤ i → xs ≡ map f (range_with_len 0 n)
 places_all f n i xs h all = fill_by_all f xs n 0 h.long (λ k less. h.each k (omega arith))
@@ -30,27 +28,22 @@ places_same : (n i : ℕ) (ys xs : List ℕ) → PlacesHold (λ k. slice_index y
 places_same n i ys xs h all long = same_number_lists xs ys (h.long ∙ sym long) (λ k less. h.each k (omega (arith, h.long)))
 
 places_alike : (n i x : ℕ) (xs : List ℕ) → PlacesHold (λ _. x) n i xs → n ≤ i → xs ≡ replicate n x
-places_alike n i x xs h all =
-    same_number_lists xs (replicate n x) (h.long ∙ sym (length-replicate n x)) (λ k less.
-    let inside : k < n = omega (arith, h.long) in
-    h.each k (omega arith) ∙ sym (get_or-replicate n k x 0 inside))
+places_alike n i x xs h all = grind (arith, nat_tests, same_number_lists, length-replicate, get_or-replicate)
 
--- the givens of all squares before i
+-- the grid has the puzzle's size, and its givens in all squares before i
 pub record HasGivens (p : Puzzle) (grid : GridValue) (i : ℕ) : Type 0 where
   pub size : grid.size ≡ p.size
   pub numbers : PlacesHold p.given (p.size * p.size) i grid.numbers
 
 pub givens_all : (p : Puzzle) (grid : GridValue) (i : ℕ) → HasGivens p grid i → p.size * p.size ≤ i → grid ≡ givens_of p
-givens_all p grid i h all =
-    let numbers = places_all p.given (p.size * p.size) i grid.numbers h.numbers all in
-    λ k. record { size = h.size k; numbers = numbers k }
+givens_all p grid i h all = grind (arith, nat_tests, places_all)
 
--- the marks of all squares before i
+-- the new board is the old one, but in all squares before i it has the marks of `marks_of_all`
 pub record HasMarks (board next : BoardValue) (i : ℕ) : Type 0 where
   pub rest : next ≡ record board { marks = next.marks }
   pub marks : PlacesHold (marks_of_all board) (board.size * board.size) i next.marks
 
--- the numbers of all squares before i
+-- the new board has the grid's numbers and no marks in all squares before i, and both flags if i isn't 0
 pub record HasNumbers (board next : BoardValue) (grid : GridValue) (i : ℕ) : Type 0 where
   pub size : next.size ≡ board.size
   pub done : next.done ≡ board.done
@@ -63,7 +56,7 @@ pub marks_all : (board next : BoardValue) (i : ℕ) → HasMarks board next i �
 marks_all board next i h all =
     h.rest ∙ ap (λ ms. record board { marks = ms }) (places_all (marks_of_all board) (board.size * board.size) i next.marks h.marks all)
 
--- a square that is written with its own number and its marks
+-- a loop that writes square i with its own number and its marks has the marks of one square more
 pub marks_more : (board next new : BoardValue) (i marks : ℕ) → HasMarks board next i → i < board.size * board.size
     → marks ≡ marks_of_all board i
     → new ≡ board_after next (OneSquare (record {

@@ -1,8 +1,9 @@
--- What the flags of help and of completion say of the moves since the last restart.
+-- What the flags `cheated` (help) and `completed` say of the moves since the last restart.
+use Rattle.std.proofs.lemmas.Bool.Decides.{nat_tests}
 use Rattle.std.proofs.Common.{◌≡◌, ◌⊎◌, ℕ, ◌-◌, ◌*◌, ◌<◌, ◌≤◌, ◌==◌, true, false, not, ◌&&◌, ◌||◌, cond, Some, None, refl, sym, ◌∙◌, subst, inl, inr, arith, List, [], ◌∷◌}
 use Rattle.std.specs.Option.{option_map_or}
 use Rattle.std.proofs.Math.Bool.{and-true, and-false}
-use Rattle.std.proofs.lemmas.Bool.{cond_both, and_parts, or_cases, or_left, or_right, not-true}
+use Rattle.std.proofs.lemmas.Bool.{cond_both, or_cases, or_left, or_right}
 use Rattle.std.proofs.lemmas.List.{get_or-set_same, length-set}
 use Rattle.std.proofs.lemmas.Nat.{mul-add-lt}
 use Rattle.std.proofs.lemmas.List.Elements.{All-set}
@@ -24,42 +25,24 @@ use Rattle.play_midend.proofs.Replaying.{ArePlayable-take, after_step}
 use Rattle.play_midend.proofs.Making.{step_allowed}
 use Rattle.play_midend.proofs.Flagging.{IsSetBy, flagged}
 
--- help: a solution sets it, a restart takes it back, and any other move leaves it
+-- the flag `cheated` after a move: a solution sets it, a restart takes it back, any other move leaves it
 helped_is : (p : Puzzle) (b : BoardValue) (m : Move) → (moved p b m).cheated ≡ (fills_in m || (b.cheated && not (is_restart m)))
-helped_is p b (Pencil x y n) =
-    cond_both (n == 0) _ _ (λ (c : BoardValue). c.cheated ≡ (b.cheated && true)) (λ none. sym (and-true b.cheated)) (λ some. sym (and-true b.cheated))
-helped_is p b (Solve g) = refl
-helped_is p b Restart = sym (and-false b.cheated)
-helped_is p b (Done x y) =
-    elim (edge_place p.size x y) as (λ place. (option_map_or (with_done_flipped b) place b).cheated ≡ (b.cheated && true)) [
-      | None ↦ sym (and-true b.cheated)
-      | Some place ↦ sym (and-true b.cheated)
-    ]
-helped_is p b m = sym (and-true b.cheated)
+helped_is p b m = grind (arith, nat_tests, cond_both, and-true, and-false)
 
 helped_kept : (p : Puzzle) (b : BoardValue) (m : Move) → b.cheated ≡ true → is_restart m ≡ false → (moved p b m).cheated ≡ true
 helped_kept p b m is other = helped_is p b m ∙ or_right (fills_in m) _ (rw (is, other) refl)
 
 helped_only : (p : Puzzle) (b : BoardValue) (m : Move) → (moved p b m).cheated ≡ true
     → (fills_in m ≡ true) ⊎ ((b.cheated ≡ true) × (is_restart m ≡ false))
-helped_only p b m is =
-    elim (or_cases (fills_in m) (b.cheated && not (is_restart m)) (sym (helped_is p b m) ∙ is)) [
-      | inl fills ↦ inl fills
-      | inr both ↦ let parts = and_parts b.cheated (not (is_restart m)) both in inr (parts.0, not-true (is_restart m) parts.1)
-    ]
+helped_only p b m is = grind (arith, nat_tests, helped_is)
 
 helped_set : (p : Puzzle) (b : BoardValue) (m : Move) → fills_in m ≡ true → (moved p b m).cheated ≡ true
 helped_set p b m is = helped_is p b m ∙ or_left (fills_in m) _ is
 
 help_set_by : (p : Puzzle) → IsSetBy p (λ b. b.cheated) (λ b m. fills_in m ≡ true) (λ b. Unit {0})
-help_set_by p = record {
-  goes_on = λ b m fine none. tt;
-  set = λ b m fine is. helped_set p b m is;
-  kept = λ b m fine is other. helped_kept p b m is other;
-  only = λ b m fine none is. helped_only p b m is;
-}
+help_set_by p = grind (arith, nat_tests, helped_set, helped_kept, helped_only)
 
--- the flag of help
+-- the flag `cheated` is set just if a solution was filled in since the last restart
 pub help_is_flagged : {P : Type 0} (puzzle : P → Puzzle) → HelpIsFlagged puzzle
 help_is_flagged puzzle h valid =
     let p = puzzle h.puzzle in
@@ -72,29 +55,13 @@ record IsOf (p : Puzzle) (b : BoardValue) : Type 0 where
   pub size : b.size ≡ p.size
 
 start_is_of : (p : Puzzle) → 3 ≤ p.size → p.size ≤ 9 → ((cell : ℕ) → cell < p.size * p.size → p.given cell ≤ p.size) → IsOf p (start_of p)
-start_is_of p low high small =
-    let long = length-map-range_with_len p.given 0 (p.size * p.size) in
-    record {
-      grid = record {
-        smallest = low;
-        largest = high;
-        count = long;
-        within = λ cell d inside.
-            let within = small cell (omega (arith, long)) in
-            let is = get_or-map-range_with_len p.given 0 (p.size * p.size) cell cell d (omega (arith, long)) (omega arith) in
-            rw is within;
-      };
-      size = refl;
-    }
+start_is_of p low high small = grind (arith, nat_tests, length-map-range_with_len, get_or-map-range_with_len)
 
 entry_small : (p : Puzzle) (x y n : ℕ) → entry_refusal p x y n ≡ None → n ≤ p.size
 entry_small p x y n none = grind arith
 
 entry_inside : (p : Puzzle) (x y n : ℕ) → entry_refusal p x y n ≡ None → cell_of p.size x y < p.size * p.size
-entry_inside p x y n none =
-    let across : x < p.size = grind arith in
-    let down : y < p.size = grind arith in
-    mul-add-lt y p.size x p.size down across
+entry_inside p x y n none = grind (arith, nat_tests, mul-add-lt)
 
 number_is_of : (p : Puzzle) (b : BoardValue) (cell n : ℕ) → IsOf p b → n ≤ p.size → IsOf p (with_number p b cell n)
 number_is_of p b cell n of small = record {
@@ -140,7 +107,7 @@ blank_unsolved p b cell of inside solves =
     let blank = get_or-set_same b.numbers cell 0 0 (omega (arith, count)) in
     absurd (omega (arith, blank))
 
--- a number completes a board, or it was
+-- if a board is completed after a number, it is solved then, or it was completed before
 number_only : (p : Puzzle) (b : BoardValue) (cell n : ℕ) → IsOf p (with_number p b cell n) → (with_number p b cell n).completed ≡ true
     → Solves p (grid_of (with_number p b cell n)) ⊎ (b.completed ≡ true)
 number_only p b cell n of is =
@@ -190,32 +157,12 @@ solved_set p b (Solve g) is = refl
 solved_set p b m is = cc (is.0)
 
 solved_kept : (p : Puzzle) (b : BoardValue) (m : Move) → b.completed ≡ true → is_restart m ≡ false → (moved p b m).completed ≡ true
-solved_kept p b (Real x y n) is other =
-    or_left b.completed (solves_test p (grid_of (with_number p b (cell_of p.size x y) n))) is
-solved_kept p b (Pencil x y n) is other =
-    let cell = cell_of p.size x y in
-    elim (n == 0) as (λ t. (cond t (with_number p b cell 0) (with_mark_flipped b cell n)).completed ≡ true) [
-      | true ↦ or_left b.completed (solves_test p (grid_of (with_number p b cell 0))) is
-      | false ↦ is
-    ]
-solved_kept p b MarkAll is other = is
-solved_kept p b (Solve g) is other = refl
-solved_kept p b Restart is other = cc
-solved_kept p b (Done x y) is other =
-    elim (edge_place p.size x y) as (λ place. (option_map_or (with_done_flipped b) place b).completed ≡ true) [
-      | None ↦ is
-      | Some place ↦ is
-    ]
+solved_kept p b m is other = grind (arith, nat_tests)
 
 solution_set_by : (p : Puzzle) → IsOf p (start_of p) → IsSetBy p (λ b. b.completed) (LeavesSolution p) (IsOf p)
-solution_set_by p start = record {
-  goes_on = λ b m of none. moved_is_of p b m start of none;
-  set = λ b m of is. solved_set p b m is;
-  kept = λ b m of is other. solved_kept p b m is other;
-  only = λ b m of none is. solved_only p b m of none is;
-}
+solution_set_by p start = grind (arith, nat_tests, moved_is_of, solved_set, solved_kept, solved_only)
 
--- the flag of completion
+-- the flag `completed` is set just if a number or a solution left the puzzle solved since the last restart
 pub completion_is_flagged : {P : Type 0} (puzzle : P → Puzzle) (of_game : P → Type 0)
     → ((q : P) → of_game q → (3 ≤ (puzzle q).size) × ((puzzle q).size ≤ 9))
     → ((q : P) (cell : ℕ) → of_game q → cell < (puzzle q).size * (puzzle q).size → (puzzle q).given cell ≤ (puzzle q).size)
@@ -234,10 +181,7 @@ filled_completed p b m is = cc
 
 both_moved : (p : Puzzle) (b : BoardValue) (m : Move) → (b.cheated ≡ true → b.completed ≡ true) → (moved p b m).cheated ≡ true
     → (moved p b m).completed ≡ true
-both_moved p b m both is = elim (helped_only p b m is) [
-  | inl fills ↦ filled_completed p b m fills
-  | inr (was, other) ↦ solved_kept p b m (both was) other
-]
+both_moved p b m both is = grind (arith, nat_tests, helped_only, filled_completed, solved_kept)
 
 both_replayed : (p : Puzzle) (b : BoardValue) (ms : List Move) → ArePlayable p b ms → (b.cheated ≡ true → b.completed ≡ true)
     → (replay_from p b ms).cheated ≡ true → (replay_from p b ms).completed ≡ true
@@ -248,7 +192,7 @@ both_replayed p b (m ∷ ms) playable both is =
     both_replayed p (after_move p b m) ms playable.1
     (subst (λ (c : BoardValue). c.cheated ≡ true → c.completed ≡ true) (sym at) (λ set. both_moved p b m both set)) is
 
--- with help comes completion
+-- where `cheated` is set, so is `completed`
 pub help_completes : {P : Type 0} (puzzle : P → Puzzle) → HelpCompletes puzzle
 help_completes puzzle h valid is =
     let p = puzzle h.puzzle in

@@ -10,7 +10,7 @@ use Rattle.play_midend.proofs.Making.{step_allowed}
 use Rattle.play_midend.proofs.Playing.{not_refused}
 use Rattle.play_midend.proofs.Replaying.{after_step}
 
--- what is known of a flag: such moves set it, a restart takes it back, and any other move leaves it
+-- what is known of a flag: moves that are `such` set it, a restart takes it back, and any other leaves it
 pub record IsSetBy (p : Puzzle) (flag : BoardValue → Bool) (such : BoardValue → Move → Type 0) (good : BoardValue → Type 0) : Type 0 where
   pub goes_on : (b : BoardValue) (m : Move) → good b → refusal_of p b m ≡ None → good (moved p b m)
   pub set : (b : BoardValue) (m : Move) → good b → such b m → flag (moved p b m) ≡ true
@@ -24,7 +24,7 @@ NoRestart ms = AllByRecursion (λ m. is_restart m ≡ false) ms
 
 module _ (p : Puzzle) (flag : BoardValue → Bool) (such : BoardValue → Move → Type 0) (good : BoardValue → Type 0)
     (law : IsSetBy p flag such good) where
-  -- a move of a list that can be played
+  -- the first move of a list that can be played isn't refused, and is made
   made_is : (b : BoardValue) (m : Move) (ms : List Move) → ArePlayable p b (m ∷ ms)
       → (refusal_of p b m ≡ None) × (after_move p b m ≡ moved p b m)
   made_is b m ms playable =
@@ -36,7 +36,7 @@ module _ (p : Puzzle) (flag : BoardValue → Bool) (such : BoardValue → Move �
       let one = made_is b m ms playable in
       subst (λ (c : BoardValue). good c) (sym one.1) (law.goes_on b m fine one.0)
 
-  -- it stays set until a restart
+  -- a flag that is set stays set along moves without a restart
   stays_set : (b : BoardValue) (ms : List Move) → good b → ArePlayable p b ms → flag b ≡ true → NoRestart ms
       → flag (replay_from p b ms) ≡ true
   stays_set b [] fine playable is none_after = is
@@ -44,7 +44,7 @@ module _ (p : Puzzle) (flag : BoardValue → Bool) (such : BoardValue → Move �
       stays_set (after_move p b m) ms (stays_good b m ms fine playable) playable.1
       (ap flag (made_is b m ms playable).1 ∙ law.kept b m fine is none_after.0) none_after.1
 
-  -- such a move sets it
+  -- after a move that sets the flag, and with no restart since then, it is set
   set_at : (b : BoardValue) (before : List Move) (m : Move) (after : List Move) → good b → ArePlayable p b (before ++ m ∷ after)
       → such (replay_from p b before) m → NoRestart after → flag (replay_from p b (before ++ m ∷ after)) ≡ true
   set_at b [] m after fine playable is none_after =
@@ -63,7 +63,7 @@ module _ (p : Puzzle) (flag : BoardValue → Bool) (such : BoardValue → Move �
     no_restart = w.no_restart;
   }
 
-  -- where it is set, such a move was made, or it was set before
+  -- if the flag is set, a move has set it since the last restart, or it was set before and no restart came
   set_by : (b : BoardValue) (ms : List Move) → good b → ArePlayable p b ms → flag (replay_from p b ms) ≡ true
       → StandsSinceRestart p such b ms ⊎ ((flag b ≡ true) × NoRestart ms)
   set_by b [] fine playable is = inr (is, tt)
@@ -77,7 +77,7 @@ module _ (p : Puzzle) (flag : BoardValue → Bool) (such : BoardValue → Move �
         ]
       ]
 
-  -- along a list of moves from a board where it isn't set
+  -- from a board where the flag isn't set: it is set just if a move has set it since the last restart
   pub flagged : (b : BoardValue) (ms : List Move) → good b → flag b ≡ false → ArePlayable p b ms
       → (flag (replay_from p b ms) ≡ true) ↔ StandsSinceRestart p such b ms
   flagged b ms fine off playable = (

@@ -1,7 +1,7 @@
 -- The givens of a puzzle stand on each board that moves lead to.
-use Rattle.std.proofs.Common.{◌≡◌, ◌≢◌, ℕ, ◌*◌, ◌==◌, true, false, cond, List, [], ◌∷◌, Option, Some, None, refl, ap, ◌∙◌, arith}
+use Rattle.std.proofs.lemmas.Bool.Decides.{nat_tests}
+use Rattle.std.proofs.Common.{◌≡◌, ℕ, ◌*◌, ◌==◌, true, false, cond, List, [], ◌∷◌, Option, Some, None, refl, arith}
 use Rattle.std.specs.Option.{option_map_or, option_or}
-use Rattle.std.specs.Result.{result_unwrap_or}
 use Rattle.std.proofs.lemmas.List.{get_or-set_other}
 use Rattle.std.proofs.lemmas.List.FromFn.{get_or-map-range_with_len}
 use Rattle.latin_board.specs.Boards.{BoardValue, grid_of, with_done_flipped}
@@ -10,32 +10,30 @@ use Rattle.trail_solver.specs.Puzzles.{Puzzle, HoldsGivens, Solves}
 use Rattle.play_midend.specs.declared.moves.Move.{Move}
 use Rattle.play_midend.specs.declared.moves.Move.TheVariants.{Real, Pencil, MarkAll, Solve, Restart, Done}
 use Rattle.play_midend.specs.declared.fault.PlayFault.{PlayFault}
-use Rattle.play_midend.specs.Steps.{cell_of, entry_refusal, mark_refusal, refusal_of, with_number, with_mark_flipped, start_of, moved, unless_refused, after_move, replay_from}
+use Rattle.play_midend.specs.Steps.{cell_of, entry_refusal, mark_refusal, refusal_of, with_number, with_mark_flipped, start_of, moved, after_move, replay_from}
 use Rattle.play_midend.specs.Histories.{past}
 use Rattle.play_midend.specs.Laws.{GivensStay}
 use Rattle.play_midend.proofs.TestedSolutions.{solutions_are_filled_in}
 
--- they stand on the first board
+-- the givens stand on the first board
 start_holds : (p : Puzzle) → HoldsGivens p (grid_of (start_of p))
 start_holds p cell inside given = get_or-map-range_with_len p.given 0 (p.size * p.size) cell cell 0 inside (omega arith)
 
--- a number in a square that has no given
+-- a number in a square without a given leaves the givens as they are
 number_kept : (p : Puzzle) (b : BoardValue) (cell n : ℕ) → p.given cell ≡ 0 → HoldsGivens p (grid_of b)
     → HoldsGivens p (grid_of (with_number p b cell n))
-number_kept p b cell n free holds other inside given =
-    let apart : other ≢ cell = λ same. let none : p.given other ≡ 0 = ap p.given same ∙ free in absurd (omega arith) in
-    get_or-set_other b.numbers cell other n 0 apart ∙ holds other inside given
+number_kept p b cell n free holds other inside given = grind (arith, nat_tests, get_or-set_other)
 
--- an entry that isn't refused is for such a square
+-- a number or a mark that isn't refused is for a square without a given
 entry_free : (p : Puzzle) (x y n : ℕ) → entry_refusal p x y n ≡ None → p.given (cell_of p.size x y) ≡ 0
 entry_free p x y n none = grind arith
 
--- of two refusals there is none, so the first is none
+-- if neither of two refusals applies, the first doesn't
 first_none : (first second : Option PlayFault) → option_or first second ≡ None → first ≡ None
 first_none None second none = refl
 first_none (Some fault) second none = none
 
--- a move that isn't refused
+-- a move that isn't refused leaves the givens as they are
 moved_kept : (p : Puzzle) (b : BoardValue) (m : Move) → refusal_of p b m ≡ None → HoldsGivens p (grid_of b)
     → HoldsGivens p (grid_of (moved p b m))
 moved_kept p b (Real x y n) none holds = number_kept p b (cell_of p.size x y) n (entry_free p x y n none) holds
@@ -56,19 +54,15 @@ moved_kept p b (Done x y) none holds =
       | Some place ↦ holds
     ]
 
--- any move
+-- any move, refused or not, leaves the givens as they are
 after_kept : (p : Puzzle) (b : BoardValue) (m : Move) → HoldsGivens p (grid_of b) → HoldsGivens p (grid_of (after_move p b m))
-after_kept p b m holds =
-    elim (refusal_of p b m) as (λ r. refusal_of p b m ≡ r → HoldsGivens p (grid_of (result_unwrap_or (unless_refused r (moved p b m)) b))) [
-      | None ↦ λ none. moved_kept p b m none holds
-      | Some fault ↦ λ refused. holds
-    ] refl
+after_kept p b m holds = grind (arith, nat_tests, moved_kept)
 
--- moves in turn
+-- moves in turn leave the givens as they are
 replay_kept : (p : Puzzle) (b : BoardValue) (ms : List Move) → HoldsGivens p (grid_of b) → HoldsGivens p (grid_of (replay_from p b ms))
 replay_kept p b [] holds = holds
 replay_kept p b (m ∷ ms) holds = replay_kept p (after_move p b m) ms (after_kept p b m holds)
 
--- the board that a session shows
+-- the board that a session shows has the givens of its puzzle
 pub givens_stay : {P : Type 0} (puzzle : P → Puzzle) → GivensStay puzzle
 givens_stay puzzle h valid = let p = puzzle h.puzzle in replay_kept p (start_of p) (past h) (start_holds p)

@@ -1,5 +1,6 @@
--- A move that isn't refused has a text or is a restart, and so are all moves of a legal list.
-use Rattle.std.proofs.Common.{◌≡◌, ℕ, zero, ◌≤◌, ℤ, pos, negsuc, false, List, [], ◌∷◌, Option, Some, None, cond, refl, arith}
+-- A move that isn't refused is a restart or has a text, and so it is with each move of a legal list.
+use Rattle.std.proofs.lemmas.Bool.Decides.{nat_tests}
+use Rattle.std.proofs.Common.{◌≡◌, ℕ, ◌≤◌, ℤ, false, List, [], ◌∷◌, Option, Some, None, cond, refl, arith}
 use Rattle.std.specs.List.{AllByRecursion}
 use Rattle.std.specs.Option.{option_map_or}
 use Rattle.latin_board.specs.Boards.{BoardValue}
@@ -14,7 +15,7 @@ use Rattle.play_midend.specs.Steps.{cell_of, entry_refusal, mark_refusal, refusa
 use Rattle.play_midend.proofs.TestedSolutions.{solutions_are_filled_in}
 use Rattle.play_midend.proofs.Playing.{or_none, not_refused}
 
--- the move has a text, but for a restart
+-- the move is a restart or has a text
 abbrev pub FitsText : Move → Type 0
 FitsText Restart = Unit {0}
 FitsText m = IsWritable m
@@ -24,10 +25,7 @@ entry_fits p x y n small none = record { x_is = grind arith; y_is = grind arith;
 
 -- an edge place has coordinates that a text holds
 edge_fits : (w : ℕ) (x y : ℤ) (k : ℕ) → w ≤ 9 → edge_place w x y ≡ Some k → IsCoordinate x × IsCoordinate y
-edge_fits w (pos x) (negsuc zero) k small is = (grind arith, refl)
-edge_fits w (pos x) (pos y) k small is = (grind arith, grind arith)
-edge_fits w (negsuc zero) (pos y) k small is = (refl, grind arith)
-edge_fits w x y k small is = cc
+edge_fits w x y k small is = grind (arith, nat_tests)
 
 pub move_fits : (p : Puzzle) (b : BoardValue) (m : Move) → p.size ≤ 9 → refusal_of p b m ≡ None → FitsText m
 move_fits p b (Real x y n) small none = entry_fits p x y n small none
@@ -46,7 +44,7 @@ move_fits p b (Done x y) small none = by_place (edge_place p.size x y) refl none
     by_place None at no_fault = cc
     by_place (Some k) at no_fault = edge_fits p.size x y k small at
 
--- all moves of a legal list
+-- each move of a list that can be played is a restart or has a text
 pub all_fit : (p : Puzzle) (b : BoardValue) (ms : List Move) → p.size ≤ 9 → ArePlayable p b ms → AllByRecursion FitsText ms
 all_fit p b [] small playable = tt
 all_fit p b (m ∷ ms) small playable =

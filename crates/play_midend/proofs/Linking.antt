@@ -1,4 +1,5 @@
 -- A session's links still lead from board to board once the board is exchanged with the link before or after it.
+use Rattle.std.proofs.lemmas.Bool.Decides.{nat_tests}
 use Rattle.std.proofs.Common.{◌≡◌, ◌≢◌, ℕ, suc, ◌+◌, ◌-◌, ◌<◌, ◌≤◌, false, List, [], ◌∷◌, ◌++◌, length, get_or, set, take, drop, Ok, refl, sym, ap, ◌∙◌, subst, arith, add-one, drop-cons}
 use Rattle.std.proofs.lemmas.List.{length-set, length-append, length-map, take_at, drop_at, take-set, drop-set, drop-set-lt, map-append, length-take-le, get_or-set_same, take-map, take-append-drop}
 use Rattle.std.proofs.Math.Seq.{take-suc, map-set_same}
@@ -7,17 +8,17 @@ use Rattle.latin_board.specs.Changes.{ChangeValue, OneSquare, WholeBoard, FitsBo
 use Rattle.trail_solver.specs.Puzzles.{Puzzle}
 use Rattle.play_midend.specs.declared.moves.Move.{Move}
 use Rattle.play_midend.specs.declared.session.Link.{Link}
-use Rattle.play_midend.specs.Steps.{step, start_of, replay_from, ArePlayable, IsLegal, is_restart, begins_with_restart}
+use Rattle.play_midend.specs.Steps.{step, start_of, replay_from, ArePlayable, IsLegal, is_restart}
 use Rattle.play_midend.specs.declared.session.TheConstants.{MOST_STATES}
 use Rattle.play_midend.specs.Inner.Links.{moves_of, IsBack, IsAhead, ArePast, AreLater, AreLinked}
 use Rattle.play_midend.proofs.Replaying.{after_step, ArePlayable-append, restart_first-take, restart_first-push}
 
--- the exchange keeps the size
+-- a change that fits a board keeps its size
 pub size_after : (b : BoardValue) (change : ChangeValue) → FitsBoard b change → (board_after b change).size ≡ b.size
 size_after b (OneSquare s) fits = refl
 size_after b (WholeBoard other) fits = fits
 
--- the last of the past links
+-- the past links end with a link that takes the board back to the one before it
 pub record LastBack (p : Puzzle) (first : BoardValue) (rs : List Link) (r : Link) (now : BoardValue) : Type 0 where
   pub before : BoardValue
   pub past : ArePast p first rs before
@@ -36,7 +37,7 @@ past_more : (p : Puzzle) (first : BoardValue) (rs : List Link) (r : Link) (befor
 past_more p first [] r before now h back = (now, subst (λ (b : BoardValue). IsBack p b r now) h back, refl)
 past_more p first (q ∷ rs) r before now (mid, one, past) back = (mid, one, past_more p mid rs r before now past back)
 
--- the links round a place
+-- the first n + 1 links are the first n and the link at place n
 take_there : (links : List Link) (n : ℕ) (r : Link) → n < length links → r ≡ get_or links n r
     → take (n + 1) links ≡ take n links ++ r ∷ []
 take_there links n r inside is =
@@ -52,7 +53,7 @@ pub moves_of-set : (links : List Link) (n : ℕ) (r q : Link) → r ≡ get_or l
     → moves_of (set links n q) ≡ moves_of links
 moves_of-set links n r q is made = map-set_same (λ (k : Link). k.made) links n q r (made ∙ ap (λ (k : Link). k.made) is)
 
--- the link that stands before the position
+-- the link before the position takes the board that is shown back
 pub last_back : (p : Puzzle) (links : List Link) (n : ℕ) (board : BoardValue) (r : Link) → AreLinked p links (n + 1) board
     → r ≡ get_or links n r → LastBack p (start_of p) (take n links) r board
 last_back p links n board r h is =
@@ -79,7 +80,7 @@ linked_back p links n board r q new h is at made fits back =
     at_size : (p : Puzzle) (board : BoardValue) (change : ChangeValue) (new : BoardValue) → board.size ≡ p.size → FitsBoard board change → new ≡ board_after board change → new.size ≡ p.size
     at_size p board change new size fits at = ap (λ (b : BoardValue). b.size) at ∙ size_after board change fits ∙ size
 
--- the link that stands after the position
+-- the first of the later links makes its move on the board, and those after it lead on from there
 pub record FirstAhead (p : Puzzle) (now : BoardValue) (r : Link) (rs : List Link) : Type 0 where
   pub next : BoardValue
   pub is_ahead : IsAhead p now r next
@@ -87,10 +88,7 @@ pub record FirstAhead (p : Puzzle) (now : BoardValue) (r : Link) (rs : List Link
 
 pub first_ahead : (p : Puzzle) (links : List Link) (n : ℕ) (board : BoardValue) (r : Link) → AreLinked p links n board
     → n < length links → r ≡ get_or links n r → FirstAhead p board r (drop (n + 1) links)
-first_ahead p links n board r h inside is =
-    let all : AreLater p board (r ∷ drop (n + 1) links) = subst (λ (rs : List Link). AreLater p board rs) (drop_there links n r inside is) h.later in
-    let (next, ahead, later) = all in
-    record { next = next; is_ahead = ahead; later = later }
+first_ahead p links n board r h inside is = grind (arith, nat_tests, drop_there)
 
 pub linked_ahead : (p : Puzzle) (links : List Link) (n : ℕ) (board : BoardValue) (r q : Link) (new : BoardValue)
     → AreLinked p links n board → n < length links → r ≡ get_or links n r → new ≡ board_after board r.change → q.made ≡ r.made
@@ -114,30 +112,26 @@ linked_ahead p links n board r q new h inside is at made fits back =
           (subst (λ (b : BoardValue). AreLater p b (drop (n + 1) links)) (sym e) first.later);
     }
 
--- a new link after the past ones
+-- the past links with a new one after them, whose change makes its move on the board, are linked
 pub linked_new : (p : Puzzle) (links : List Link) (n : ℕ) (board : BoardValue) (r : Link) (next : BoardValue)
     → AreLinked p links n board → IsAhead p board r next → n + 2 ≤ MOST_STATES → (n ≡ 0 → is_restart r.made ≡ false)
     → AreLinked p (take n links ++ r ∷ []) n board
 linked_new p links n board r next h ahead room restart =
-    let inside = h.inside in
-    let front : length (take n links) ≡ n = length-take-le n links inside in
-    let long : length (take n links ++ r ∷ []) ≡ n + 1 = length-append (take n links) (r ∷ []) ∙ ap (λ k. k + 1) front in
-    let made : Link → Move = λ k. k.made in
-    let moves : moves_of (take n links ++ r ∷ []) ≡ moves_of (take n links) ++ r.made ∷ [] = map-append made (take n links) (r ∷ []) in
-    let first : begins_with_restart (moves_of (take n links)) ≡ false =
-    ap begins_with_restart (sym (take-map made n links)) ∙ restart_first-take n (moves_of links) h.no_restart_first in
-    let count : length (moves_of (take n links)) ≡ n = length-map (take n links) made ∙ front in
-    record {
-      size = h.size;
-      inside = rw long (omega arith);
-      few = rw long (omega arith);
-      no_restart_first = ap begins_with_restart moves
-          ∙ restart_first-push (moves_of (take n links)) r.made first (λ none. restart (omega arith));
-      past = subst (λ (rs : List Link). ArePast p (start_of p) rs board) (sym (take_at (take n links) (r ∷ []) n front)) h.past;
-      later = subst (λ (rs : List Link). AreLater p board rs) (sym (drop_at (take n links) (r ∷ []) n front)) (next, ahead, tt);
-    }
+    grind (
+      arith,
+      nat_tests,
+      length-take-le,
+      length-append,
+      map-append,
+      take-map,
+      restart_first-take,
+      length-map,
+      restart_first-push,
+      take_at,
+      drop_at,
+    )
 
--- what links say of replay
+-- the moves of the past links, replayed from the first board, lead to the board after them
 pub replay_past : (p : Puzzle) (first : BoardValue) (rs : List Link) (now : BoardValue) → ArePast p first rs now
     → replay_from p first (moves_of rs) ≡ now
 replay_past p first [] now h = sym h
@@ -172,7 +166,7 @@ legal_linked p links n board h =
       no_restart_first = h.no_restart_first;
     }
 
--- one less than a position, and back
+-- a count of past links that isn't 0 is one more than its predecessor
 pub with_one_less : (p : Puzzle) (links : List Link) (n : ℕ) (board : BoardValue) → AreLinked p links n board → n ≢ 0
     → AreLinked p links ((n - 1) + 1) board
 with_one_less p links n board h some = let e : n ≡ (n - 1) + 1 = omega arith in subst (λ k. AreLinked p links k board) e h

@@ -1,7 +1,7 @@
 -- A list of moves that is played along from a new session, and undos in turn.
-use Rattle.std.proofs.Common.{◌≡◌, ◌≢◌, ℕ, zero, suc, ◌+◌, ◌-◌, ◌≤◌, true, false, ◌==◌, cond, List, [], ◌∷◌, ◌++◌, length, None, Result, Ok, Err, IsOk, refl, sym, ap, ◌∙◌, subst, arith}
+use Rattle.std.proofs.lemmas.Bool.Decides.{nat_tests}
+use Rattle.std.proofs.Common.{◌≡◌, ℕ, zero, suc, ◌+◌, ◌-◌, ◌≤◌, false, List, [], ◌∷◌, ◌++◌, length, None, Result, Ok, Err, IsOk, refl, sym, ap, ◌∙◌, subst, arith}
 use Rattle.std.proofs.lemmas.List.{append-nil, append_assoc, length-append, take_all}
-use borrow.Author.Tests.{apart_eqb}
 use Rattle.latin_board.specs.Boards.{BoardValue}
 use Rattle.trail_solver.specs.Puzzles.{Puzzle}
 use Rattle.game_texts.specs.declared.params.Params.{Params}
@@ -10,14 +10,14 @@ use Rattle.play_midend.specs.declared.moves.Move.{Move}
 use Rattle.play_midend.specs.declared.fault.PlayFault.{PlayFault}
 use Rattle.play_midend.specs.Steps.{refusal_of, moved, step, start_of, replay, ArePlayable, IsLegal, is_restart, begins_with_restart}
 use Rattle.play_midend.specs.declared.session.TheConstants.{MOST_STATES}
-use Rattle.play_midend.specs.Histories.{History, past, shown, started, with_move, at_position, first_state_refusal, restart_refusal, full_refusal, refusal_in, played, undone}
+use Rattle.play_midend.specs.Histories.{History, past, shown, started, with_move, at_position, first_state_refusal, full_refusal, refusal_in, played, undone}
 use Rattle.play_midend.specs.MoveLists.{result_and_then, played_all, with_moves, undone_times}
 use Rattle.play_midend.specs.Laws.{LegalListsPlay, AcceptedListsAreLegal, UndoLeadsBack, HistoriesAreReached}
 use Rattle.play_midend.proofs.Making.{step_allowed}
 use Rattle.play_midend.proofs.Replaying.{replay_from-append}
 use Rattle.play_midend.proofs.Playing.{Allowed, allowed_in, accepted, not_refused, played_allowed}
 
--- what is accepted after an accepted call
+-- of two calls, one after the other, the first was accepted, and the second with this answer
 record AcceptedThen {A B : Type 0} (f : A → Result B PlayFault) (r : Result A PlayFault) (b : B) : Type 0 where
   pub mid : A
   pub first : r ≡ Ok mid
@@ -41,23 +41,14 @@ with_move_last {P} h ks m =
     ap (λ ms. at_position (with_moves h (ms ++ m ∷ [])) (length ks + 1 + 1)) (past_all h ks)
     ∙ ap (λ n. at_position (with_moves h (ks ++ m ∷ [])) n) long
 
--- a move that nothing refuses
+-- a move isn't refused for the first state, if no restart is made there
 restart_allowed : (position : ℕ) (m : Move) → (position ≡ 1 → is_restart m ≡ false) → first_state_refusal position m ≡ None
-restart_allowed position m restart =
-    elim (is_restart m) as (λ t. is_restart m ≡ t → cond t (restart_refusal position) None ≡ None) [
-      | true ↦ λ is.
-          let later : position ≢ 1 = λ first. (let no = restart first in cc) in
-          let test : (position == 1) ≡ false = apart_eqb position 1 later in
-          rw test refl
-      | false ↦ λ is. refl
-    ] refl
+restart_allowed position m restart = grind (arith, nat_tests)
 
 room_left : (position : ℕ) → position + 1 ≤ MOST_STATES → full_refusal position ≡ None
-room_left position room =
-    let test : (position == MOST_STATES) ≡ false = apart_eqb position MOST_STATES (λ full. absurd (omega arith)) in
-    rw test refl
+room_left position room = grind (arith, nat_tests)
 
--- a move after the last
+-- after all moves of a session one more is accepted, if the board allows it and there is room
 pub played_last : {P : Type 0} (p : Puzzle) (h : History P) (ks : List Move) (m : Move) → IsOk (step p (replay p ks) m)
     → length ks + 2 ≤ MOST_STATES → (length ks ≡ 0 → is_restart m ≡ false) → played p (with_moves h ks) m ≡ Ok (with_moves h (ks ++ m ∷ []))
 played_last {P} p h ks m stepped room restart =
@@ -81,7 +72,7 @@ played_along {P} p h ks (m ∷ ms) playable room restart =
     ap (result_and_then (λ (next : History P). played_all p next ms)) one ∙ more
     ∙ ap (λ xs. let r : Result (History P) PlayFault = Ok (with_moves h xs) in r) (append_assoc ks (m ∷ []) ms)
 
--- and what is accepted are such moves
+-- moves that were accepted: they can be made in turn, there is room, and they are the moves of the session
 record AcceptedAlong {P : Type 0} (p : Puzzle) (h : History P) (ks ms : List Move) (last : History P) : Type 0 where
   pub playable : ArePlayable p (replay p ks) ms
   pub restart : length ks ≡ 0 → begins_with_restart ms ≡ false
@@ -116,7 +107,7 @@ accepted_along {P} p h ks (m ∷ ms) last room is =
       last_is = more.last_is ∙ ap (λ xs. with_moves h xs) same;
     }
 
--- from a new session
+-- from a new session a legal list that has room is accepted, and leads to the session with these moves
 pub legal_list_played : {P : Type 0} (p : Puzzle) (puzzle : P) (params next_params : Params) (extras : Extras) (ms : List Move)
     → IsLegal p ms → length ms + 1 ≤ MOST_STATES
     → played_all p (started puzzle params next_params extras) ms ≡ Ok (with_moves (started puzzle params next_params extras) ms)
@@ -138,13 +129,10 @@ legal_lists_play puzzle first params next_params extras ms legal few = legal_lis
 pub accepted_lists_are_legal : {P : Type 0} (puzzle : P → Puzzle) → AcceptedListsAreLegal puzzle
 accepted_lists_are_legal puzzle first params next_params extras ms last is = accepted_list_legal (puzzle first) first params next_params extras ms last is
 
--- undos
+-- one undo, and so many of them, lead back along the positions
 pub undone_once : {P : Type 0} (h : History P) (position : ℕ) → 1 ≤ position
     → undone (at_position h (position + 1)) ≡ Ok (at_position h position)
-undone_once {P} h position low =
-    let test : (position + 1 == 1) ≡ false = apart_eqb (position + 1) 1 (λ e. absurd (omega arith)) in
-    let back : position + 1 - 1 ≡ position = omega arith in
-    rw test (ap (λ k. let r : Result (History P) PlayFault = Ok (at_position h k) in r) back)
+undone_once h position low = grind (arith, nat_tests)
 
 pub undone_to : {P : Type 0} (h : History P) (n position : ℕ) → 1 ≤ position
     → undone_times n (at_position h (position + n)) ≡ Ok (at_position h position)
@@ -158,12 +146,12 @@ undone_to {P} h (suc n) position low =
     ∙ ap (result_and_then (λ (before : History P). undone_times n before)) (undone_once h (position + n) more)
     ∙ undone_to h n position low
 
--- undoing all moves leads back to the start
+-- n undos lead from a position to the one that is n lower
 pub undo_leads_back : (P : Type 0) → UndoLeadsBack P
 undo_leads_back P h n position low at =
     subst (λ k. undone_times n (at_position h k) ≡ Ok (at_position h position)) (sym at) (undone_to h n position low)
 
--- each valid session is its moves played from the start, and undos
+-- each valid session is reached from a new one by its moves, and then by undos
 pub histories_are_reached : {P : Type 0} (puzzle : P → Puzzle) → HistoriesAreReached puzzle
 histories_are_reached {P} puzzle h v =
     let low = v.first in
@@ -173,5 +161,5 @@ histories_are_reached {P} puzzle h v =
     ap (result_and_then (λ (last : History P). undone_times (length h.moves + 1 - h.position) last)) whole
     ∙ undo_leads_back P (with_moves h h.moves) (length h.moves + 1 - h.position) h.position low back
 
--- the laws of a list of moves
+-- the laws of lists of moves, for the prover's search
 pub ruleset list_laws = (legal_lists_play, accepted_lists_are_legal, histories_are_reached)

@@ -1,10 +1,10 @@
 -- What is read of a text is the move that it spells, and each move's text is read.
-use Rattle.std.proofs.Common.{◌≡◌, ℕ, zero, ◌≤◌, ℤ, pos, negsuc, true, false, ◌==◌, cond, List, [], ◌∷◌, ◌++◌, codes, bytes_eq, Option, Some, None, option_map, option_and_then, Result, Ok, Err, IfOk, IfErr, ok_or, refl, sym, ap, ◌∙◌, subst, arith}
+use Rattle.std.proofs.lemmas.Bool.Decides.{nat_tests}
+use Rattle.std.proofs.Common.{◌≡◌, ℕ, zero, ◌≤◌, ℤ, pos, negsuc, false, ◌==◌, cond, List, [], ◌∷◌, ◌++◌, codes, bytes_eq, Option, Some, None, option_map, Result, Ok, Err, IfOk, IfErr, ok_or, refl, sym, ap, ◌∙◌, subst, arith}
 use Rattle.std.specs.Fmt.{decimal}
 use Rattle.std.proofs.lemmas.Fmt.{decimal_digit}
 use Rattle.std.proofs.lemmas.Slice.Eq.{bytes_eq-Decides}
 use Rattle.std.proofs.lemmas.Bool.{cond_both}
-use borrow.Author.Tests.{eqb-true}
 use Rattle.byte_text.specs.Cuts.{Lacks, before, behind}
 use Rattle.byte_text.specs.Decimals.{decimal_value}
 use Rattle.byte_text.proofs.CutLaws.{cut_parts, before_at, behind_at}
@@ -12,21 +12,17 @@ use Rattle.byte_text.proofs.DecimalLaws.{number_taken, number_again, lacks_decim
 use Rattle.play_midend.specs.declared.moves.Move.{Move}
 use Rattle.play_midend.specs.declared.moves.Move.TheVariants.{Real, Pencil, MarkAll, Solve, Restart, Done}
 use Rattle.play_midend.specs.declared.fault.PlayFault.{PlayFault}
-use Rattle.play_midend.specs.MoveTexts.{three_text, coordinate_text, move_text, AreBytes, IsCoordinate, IsWritable, IsMoveText, move_fault, all_three, three_from, three_at, coordinate_at, both, two_at, solution_at, mark_all_at, move_by, move_at}
+use Rattle.play_midend.specs.MoveTexts.{three_text, coordinate_text, move_text, AreBytes, IsCoordinate, IsWritable, IsMoveText, move_fault, all_three, three_at, coordinate_at, both, two_at, solution_at, mark_all_at, move_by, move_at}
 use Rattle.play_midend.proofs.OptionSteps.{map_taken, and_then_taken, ok_or_taken}
 use Rattle.play_midend.proofs.SolutionTexts.{solution_digits_taken, solution_digits_again}
 use Rattle.byte_text.specs.Bytes.{capital_r, capital_p, capital_m, capital_s, capital_d, comma}
 
--- three numbers
+-- the text is these three numbers, each up to 255, with commas between them
 abbrev IsThree : List ℕ → ℕ × ℕ × ℕ → Type 0
 IsThree text (x, y, n) = AreBytes x y n × (text ≡ three_text x y n)
 
 all_three_taken : (x y n : Option ℕ) (i j k : ℕ) → all_three x y n ≡ Some (i, j, k) → (x ≡ Some i) × (y ≡ Some j) × (n ≡ Some k)
-all_three_taken (Some x) (Some y) (Some n) i j k e =
-    let same : (x, y, n) ≡ (i, j, k) = cc in (ap (λ (a, b, c). Some a) same, ap (λ (a, b, c). Some b) same, ap (λ (a, b, c). Some c) same)
-all_three_taken None y n i j k e = cc
-all_three_taken (Some x) None n i j k e = cc
-all_three_taken (Some x) (Some y) None i j k e = cc
+all_three_taken x y n i j k e = grind (arith, nat_tests)
 
 three_taken : (text : List ℕ) (t : ℕ × ℕ × ℕ) → three_at text ≡ Some t → IsThree text t
 three_taken text (i, j, k) read =
@@ -51,7 +47,7 @@ three_again x y n h =
     let rest : List ℕ = decimal y ++ (comma ∷ decimal n) in
     rw (behind_at comma (decimal x) rest (lacks x h.x_is), before_at comma (decimal x) rest (lacks x h.x_is), behind_at comma (decimal y) (decimal n) (lacks y h.y_is), before_at comma (decimal y) (decimal n) (lacks y h.y_is), back x h.x_is, back y h.y_is, back n h.n_is) refl
 
--- the numbers of a done mark's place
+-- the text of the coordinate -1 of a done mark's place
 pub minus_one : coordinate_text (negsuc zero) ≡ codes "-1"
 minus_one = ap (λ ds. 45 ∷ ds) (decimal_digit 1 (omega arith))
 
@@ -70,12 +66,7 @@ coordinate_taken text z =
     )
 
 not_minus : (text : List ℕ) → Lacks 45 text → bytes_eq text (codes "-1") ≡ false
-not_minus [] h = refl
-not_minus (b ∷ bs) h =
-    elim (bytes_eq (b ∷ bs) (codes "-1")) as (λ t. bytes_eq (b ∷ bs) (codes "-1") ≡ t → t ≡ false) [
-      | true ↦ λ is. let same : b ∷ bs ≡ 45 ∷ 49 ∷ [] = (bytes_eq-Decides (b ∷ bs) (codes "-1")).0 is in let first : b ≡ 45 = cc in absurd (h.0 first)
-      | false ↦ λ is. refl
-    ] refl
+not_minus text h = grind (arith, nat_tests, bytes_eq-Decides)
 
 coordinate_again : (z : ℤ) → IsCoordinate z → (Lacks comma (coordinate_text z)) × (coordinate_at (coordinate_text z) ≡ Some z)
 coordinate_again (pos n) h = (
@@ -87,14 +78,12 @@ coordinate_again (negsuc n) h =
     (subst (λ (text : List ℕ). Lacks comma text × (coordinate_at text ≡ Some (negsuc zero))) (sym minus_one)
     ((λ e. absurd (omega arith), (λ e. absurd (omega arith), tt)), refl))
 
--- a text of two coordinates
+-- the text is these two coordinates, with a comma between them
 abbrev IsTwo : List ℕ → ℤ × ℤ → Type 0
 IsTwo text t = IsCoordinate t.0 × IsCoordinate t.1 × (text ≡ coordinate_text t.0 ++ (comma ∷ coordinate_text t.1))
 
 both_taken : (x y : Option ℤ) (t : ℤ × ℤ) → both x y ≡ Some t → (x ≡ Some t.0) × (y ≡ Some t.1)
-both_taken (Some x) (Some y) t e = let f : (x, y) ≡ t = cc in (ap (λ u. Some u.0) f, ap (λ u. Some u.1) f)
-both_taken None y t e = cc
-both_taken (Some x) None t e = cc
+both_taken x y t e = grind (arith, nat_tests)
 
 two_taken : (text : List ℕ) (t : ℤ × ℤ) → two_at text ≡ Some t → IsTwo text t
 two_taken text t read =
@@ -106,20 +95,15 @@ two_taken text t read =
     (x.0, y.0, e ∙ ap (λ front. front ++ (comma ∷ cut.value)) x.1 ∙ ap (λ end. coordinate_text t.0 ++ (comma ∷ end)) y.1)
 
 two_again : (x y : ℤ) → IsCoordinate x → IsCoordinate y → two_at (coordinate_text x ++ (comma ∷ coordinate_text y)) ≡ Some (x, y)
-two_again x y hx hy =
-    let a = coordinate_again x hx in
-    let b = coordinate_again y hy in
-    rw (behind_at comma (coordinate_text x) (coordinate_text y) a.0, before_at comma (coordinate_text x) (coordinate_text y) a.0, a.1, b.1) refl
+two_again x y hx hy = grind (arith, nat_tests, coordinate_again, behind_at, before_at)
 
--- the moves of each letter
+-- if a move is read of a text that begins with b, the text is that move's
 abbrev ReadsMove : Option Move → ℕ → List ℕ → Move → Type 0
 ReadsMove read b bs m = read ≡ Some m → IsMoveText m (b ∷ bs)
 
 made_taken : {T : Type 0} (make : T → Move) (o : Option T) (b : ℕ) (bs : List ℕ) (m : Move)
     → ((t : T) → o ≡ Some t → IsMoveText (make t) (b ∷ bs)) → ReadsMove (option_map make o) b bs m
-made_taken make o b bs m text read =
-    let part = map_taken make o m read in
-    subst (λ (k : Move). IsMoveText k (b ∷ bs)) part.rest (text part.value part.gives)
+made_taken make o b bs m text read = grind (arith, nat_tests, map_taken)
 
 real_taken : (bs : List ℕ) (m : Move) → ReadsMove (option_map (λ (x, y, n). Real x y n) (three_at bs)) capital_r bs m
 real_taken bs m =
@@ -132,10 +116,7 @@ pencil_taken bs m =
     (λ t is. let h = three_taken bs t is in record { writable = h.0; spelled = ap (λ xs. capital_p ∷ xs) h.1 })
 
 mark_all_taken : (bs : List ℕ) (m : Move) → ReadsMove (mark_all_at bs) capital_m bs m
-mark_all_taken [] m read =
-    let e : MarkAll ≡ m = cc in
-    subst (λ (k : Move). IsMoveText k (capital_m ∷ [])) e (record { writable = tt; spelled = refl })
-mark_all_taken (b ∷ bs) m read = cc
+mark_all_taken bs m read = grind (arith, nat_tests)
 
 solve_taken : (bs : List ℕ) (m : Move) → ReadsMove (option_map Solve (solution_at bs)) capital_s bs m
 solve_taken bs m =
@@ -151,11 +132,7 @@ done_taken bs m =
 -- one letter's row of the table: its move, or what the rows after it give
 letter_taken : (b k : ℕ) (bs : List ℕ) (m : Move) (here later : Option Move) → ReadsMove here k bs m → ReadsMove later b bs m
     → ReadsMove (cond (b == k) here later) b bs m
-letter_taken b k bs m here later this others =
-    elim (b == k) as (λ t. (b == k) ≡ t → ReadsMove (cond t here later) b bs m) [
-      | true ↦ λ same read. subst (λ (x : ℕ). ReadsMove here x bs m) (sym (eqb-true b k same)) this read
-      | false ↦ λ other read. others read
-    ] refl
+letter_taken b k bs m here later this others = grind (arith, nat_tests)
 
 -- what is read of a text is the move that it spells
 pub move_taken : (text : List ℕ) (m : Move) → move_by text ≡ Some m → IsMoveText m text
@@ -179,7 +156,7 @@ spelled_again (Done x y) h = rw (two_again x y h.0 h.1) refl
 pub move_again : (text : List ℕ) (m : Move) → IsMoveText m text → move_by text ≡ Some m
 move_again text m h = rw h.spelled (spelled_again m h.writable)
 
--- the clauses of a reader
+-- if the answer of reading is a move, the text is that move's
 pub read_found : (text : List ℕ) (result : Result Move PlayFault) → result ≡ move_at text → IfOk result (λ m. IsMoveText m text)
 unfolding move_at
 read_found text (Ok m) is = move_taken text m (ok_or_taken (move_by text) (move_fault text) m (sym is))
@@ -196,5 +173,5 @@ read_fault text (Ok m) is = tt
 read_fault text (Err e) is =
     elim (move_by text) as (λ o. Err e ≡ ok_or o (move_fault text) → e ≡ move_fault text) [ None ↦ λ e. cc | Some k ↦ λ e. cc ] is
 
--- what `read_move` promises
+-- what `read_move` promises, for the prover's search
 pub ruleset reads = (read_found, read_fault)

@@ -1,14 +1,13 @@
 -- The laws of a session's calls.
-use Rattle.std.proofs.Common.{◌≡◌, ◌≢◌, ℕ, ◌+◌, ◌-◌, ◌≤◌, true, false, ◌==◌, cond, List, [], ◌∷◌, ◌++◌, length, take, Result, Ok, Err, refl, sym, ap, ◌∙◌, subst, arith, inl, inr}
+use Rattle.std.proofs.lemmas.Bool.Decides.{nat_tests}
+use Rattle.std.proofs.Common.{◌≡◌, ◌≢◌, ℕ, ◌+◌, ◌-◌, ◌≤◌, true, List, [], ◌∷◌, ◌++◌, length, Result, Ok, Err, refl, sym, ◌∙◌, subst, arith, inl, inr}
 use Rattle.std.specs.Result.{IsOkAnd}
 use Rattle.std.proofs.lemmas.List.{length-take-le, length-append, take_at}
-use borrow.Author.Tests.{eqb-false, apart_eqb}
 use Rattle.trail_solver.specs.Puzzles.{Puzzle}
 use Rattle.play_midend.specs.declared.moves.Move.{Move}
 use Rattle.play_midend.specs.declared.moves.Move.TheVariants.{Solve, Restart}
 use Rattle.play_midend.specs.declared.fault.PlayFault.{PlayFault}
-use Rattle.play_midend.specs.declared.fault.PlayFault.TheVariants.{NothingToUndo, NothingToRedo}
-use Rattle.play_midend.specs.Steps.{start_of, replay_from}
+use Rattle.play_midend.specs.Steps.{start_of}
 use Rattle.play_midend.specs.Histories.{History, IsValid, past, shown, refusal_in, with_move, at_position, played, SolveGives, undone, redone}
 use Rattle.play_midend.specs.Laws.{Call, Play, FromStart, ToSolution, Undo, Redo, CallGives, may_take_memory, Answered, AnsweredInTurn, RunsStayValid, IsSameBack, UndoTakesBack, UndoTakesRestartBack, UndoTakesSolveBack, RedoTakesUndoBack}
 use Rattle.play_midend.proofs.OptionSteps.{ok_else}
@@ -53,31 +52,18 @@ valid_at p h position v first last = record { size = v.size; legal = v.legal; fe
 
 -- an accepted undo or redo shows the state beside the one that was shown
 pub undone_is : {P : Type 0} (h new : History P) → undone h ≡ Ok new → (h.position ≢ 1) × (at_position h (h.position - 1) ≡ new)
-undone_is h new is =
-    let made = ok_else (h.position == 1) NothingToUndo (Ok (at_position h (h.position - 1))) new is in
-    (eqb-false h.position 1 made.0, cc (made.1))
+undone_is h new is = grind (arith, nat_tests, ok_else)
 
 -- where redo gives a session, it wasn't at the last state, and is one further
 pub redone_is : {P : Type 0} (h new : History P) → redone h ≡ Ok new
     → (h.position ≢ length h.moves + 1) × (at_position h (h.position + 1) ≡ new)
-redone_is h new is =
-    let made = ok_else (h.position == length h.moves + 1) NothingToRedo (Ok (at_position h (h.position + 1))) new is in
-    (eqb-false h.position (length h.moves + 1) made.0, cc (made.1))
+redone_is h new is = grind (arith, nat_tests, ok_else)
 
 valid_undone : {P : Type 0} (p : Puzzle) (h new : History P) → IsValid p h → undone h ≡ Ok new → IsValid p new
-valid_undone {P} p h new v is =
-    let u = undone_is h new is in
-    let low = v.first in
-    let high = v.last in
-    let later = u.0 in
-    subst (λ (k : History P). IsValid p k) u.1 (valid_at p h (h.position - 1) v (omega arith) (omega arith))
+valid_undone p h new v is = grind (arith, nat_tests, undone_is, valid_at)
 
 valid_redone : {P : Type 0} (p : Puzzle) (h new : History P) → IsValid p h → redone h ≡ Ok new → IsValid p new
-valid_redone {P} p h new v is =
-    let r = redone_is h new is in
-    let high = v.last in
-    let before = r.0 in
-    subst (λ (k : History P). IsValid p k) r.1 (valid_at p h (h.position + 1) v (omega arith) (omega arith))
+valid_redone p h new v is = grind (arith, nat_tests, redone_is, valid_at)
 
 valid_solved : {P : Type 0} (p : Puzzle) (h new : History P) → IsValid p h → SolveGives p h (Ok new) → IsValid p new
 valid_solved p h new v (inl none) = cc (none.1)
@@ -106,25 +92,9 @@ valid_run p h new ((call, answer) ∷ calls) v (next, first, run) = valid_run p 
 pub runs_stay_valid : {P : Type 0} (puzzle : P → Puzzle) → RunsStayValid puzzle
 runs_stay_valid puzzle old new calls v run = valid_run (puzzle old.puzzle) old new calls v run
 
--- an accepted move, undone
+-- an undo after a move gives back the session before it, but that later moves may be gone
 move_taken_back : {P : Type 0} (p : Puzzle) (h : History P) (m : Move) → IsValid p h → IsOkAnd (undone (with_move h m)) (IsSameBack p h)
-move_taken_back {P} p h m v =
-    let low = v.first in
-    let later : History P = with_move h m in
-    let test : (h.position + 1 == 1) ≡ false = apart_eqb (h.position + 1) 1 (λ e. absurd (omega arith)) in
-    let front = length-past p h v in
-    let seam : take (h.position - 1) (past h ++ m ∷ []) ≡ past h = take_at (past h) (m ∷ []) (h.position - 1) front in
-    let back : h.position + 1 - 1 ≡ h.position = omega arith in
-    let past_is : past (at_position later (h.position + 1 - 1)) ≡ past h = rw back seam in
-    rw test (record {
-      puzzle = refl;
-      params = refl;
-      next_params = refl;
-      extras = refl;
-      past_is = past_is;
-      position = back;
-      board = ap (λ ms. replay_from p (start_of p) ms) past_is;
-    })
+move_taken_back p h m v = grind (arith, nat_tests, length-past, take_at)
 
 -- undo takes a move back
 pub undo_takes_back : {P : Type 0} (puzzle : P → Puzzle) → UndoTakesBack puzzle
@@ -148,22 +118,13 @@ undo_takes_solve_back puzzle old new v (inr (inr (grid, only, made))) =
 pub call_taken_back : {P : Type 0} (puzzle : P → Puzzle) (h new : History P) (call : Call) → IsValid (puzzle h.puzzle) h
     → may_take_memory call ≡ true → CallGives (puzzle h.puzzle) h call (Ok new)
     → IsOkAnd (undone new) (IsSameBack (puzzle h.puzzle) h)
-call_taken_back puzzle h new (Play m) v takes is = undo_takes_back puzzle h new m v (sym is)
-call_taken_back puzzle h new FromStart v takes is = undo_takes_restart_back puzzle h new v (sym is)
-call_taken_back puzzle h new ToSolution v takes is = undo_takes_solve_back puzzle h new v is
-call_taken_back puzzle h new call v takes is = cc
+call_taken_back puzzle h new call v takes is =
+    grind (arith, nat_tests, undo_takes_back, undo_takes_restart_back, undo_takes_solve_back)
 
--- what is undone and made again
+-- a redo from the state before gives back the session
 redone_back : {P : Type 0} (p : Puzzle) (h : History P) → IsValid p h → h.position ≢ 1 → redone (at_position h (h.position - 1)) ≡ Ok h
-redone_back {P} p h v other =
-    let low = v.first in
-    let high = v.last in
-    let test : (h.position - 1 == length h.moves + 1) ≡ false = apart_eqb (h.position - 1) (length h.moves + 1) (λ e. absurd (omega arith)) in
-    let again : h.position - 1 + 1 ≡ h.position = omega arith in
-    rw test (ap (λ k. let r : Result (History P) PlayFault = Ok (at_position h k) in r) again)
+redone_back p h v other = grind (arith, nat_tests)
 
 -- redo makes again what was undone
 pub redo_takes_undo_back : {P : Type 0} (puzzle : P → Puzzle) → RedoTakesUndoBack puzzle
-redo_takes_undo_back {P} puzzle old new v is =
-    let u = undone_is old new is in
-    subst (λ (k : History P). redone k ≡ Ok old) u.1 (redone_back (puzzle old.puzzle) old v u.0)
+redo_takes_undo_back puzzle old new v is = grind (arith, nat_tests, undone_is, redone_back)

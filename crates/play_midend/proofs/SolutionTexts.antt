@@ -1,16 +1,15 @@
 -- The digits of a solution: what is read of them is the grid that they spell.
-use Rattle.std.proofs.Common.{◌≡◌, ℕ, ◌+◌, ◌-◌, ◌*◌, ◌<◌, ◌≤◌, true, false, ◌==◌, ◌&&◌, nat_le, cond, List, [], ◌∷◌, ◌++◌, length, map, slice_index, Option, Some, None, option_map, option_and_then, refl, sym, ap, ◌∙◌, subst, inl, inr, arith}
+use Rattle.std.proofs.lemmas.Bool.Decides.{nat_tests}
+use Rattle.std.proofs.Common.{◌≡◌, ℕ, ◌+◌, ◌*◌, ◌<◌, ◌≤◌, ◌==◌, cond, List, [], ◌∷◌, ◌++◌, length, map, slice_index, Option, Some, option_map, refl, sym, ap, ◌∙◌, subst, arith}
 use Rattle.std.specs.List.{AllByRecursion}
 use Rattle.std.proofs.lemmas.List.{length-map}
 use Rattle.std.proofs.lemmas.List.Elements.{All-from_recursion, All-from_get_or, recursion_from_All}
-use Rattle.std.proofs.lemmas.Bool.{cases_eq, and_parts}
 use Rattle.std.proofs.lemmas.Option.{cond_some}
-use borrow.Author.Tests.{eqb-true, leb-true, le-leb}
 use Rattle.latin_board.specs.Squares.{GridValue}
 use Rattle.play_midend.proofs.OptionSteps.{map_taken, and_then_taken}
-use Rattle.play_midend.specs.MoveTexts.{digit_at, digits_at, size_by_count, solution_of, solution_at, IsFullGrid}
+use Rattle.play_midend.specs.MoveTexts.{digit_at, digits_at, size_by_count, solution_at, IsFullGrid}
 
--- what is read so far, in front of what more is read
+-- the numbers read so far, in front of those that the rest gives, if it can be read
 abbrev pub read_onto : List ℕ → Option (List ℕ) → Option (List ℕ)
 read_onto front more = option_map (λ ns. front ++ ns) more
 
@@ -19,20 +18,10 @@ abbrev Within : ℕ → ℕ → Type 0
 Within w n = (1 ≤ n) × (n ≤ w)
 
 digit_taken : (w b n : ℕ) → digit_at w b ≡ Some n → Within w n × (b ≡ 48 + n)
-digit_taken w b n read =
-    let found = cond_some (nat_le 49 b && nat_le b (48 + w)) (b - 48) n read in
-    let range = and_parts (nat_le 49 b) (nat_le b (48 + w)) found.0 in
-    let low = leb-true _ _ range.0 in
-    let high = leb-true _ _ range.1 in
-    let e = found.1 in
-    ((omega arith, omega arith), omega arith)
+digit_taken w b n read = grind (arith, nat_tests, cond_some)
 
 digit_again : (w n : ℕ) → Within w n → digit_at w (48 + n) ≡ Some n
-digit_again w n h =
-    let low : 49 ≤ 48 + n = let l = h.0 in omega arith in
-    let high : 48 + n ≤ 48 + w = let l = h.1 in omega arith in
-    let back : (48 + n) - 48 ≡ n = omega arith in
-    rw (le-leb _ _ low, le-leb _ _ high, back) refl
+digit_again w n h = grind (arith, nat_tests)
 
 digits_taken : (w : ℕ) (text ns : List ℕ) → digits_at w text ≡ Some ns → AllByRecursion (Within w) ns × (text ≡ map (λ n. 48 + n) ns)
 digits_taken w [] ns read =
@@ -50,13 +39,9 @@ digits_again : (w : ℕ) (ns : List ℕ) → AllByRecursion (Within w) ns → di
 digits_again w [] h = refl
 digits_again w (n ∷ ns) h = rw (digit_again w n h.0, digits_again w ns h.1) refl
 
--- the sizes that a count of squares gives, one after another
+-- what holds of n, and of each size from n + 1 to 9, holds of each size from n to 9
 from_size : (P : ℕ → Type 0) (n : ℕ) → P n → ((w : ℕ) → n + 1 ≤ w → w ≤ 9 → P w) → (w : ℕ) → n ≤ w → w ≤ 9 → P w
-from_size P n here later w low high =
-    elim (cases_eq w n) [
-      | inl is ↦ subst P (sym is) here
-      | inr other ↦ later w (omega arith) high
-    ]
+from_size P n here later w low high = grind (arith, nat_tests)
 
 square_size_again : (w : ℕ) → 3 ≤ w → w ≤ 9 → size_by_count (w * w) ≡ Some w
 square_size_again =
@@ -73,28 +58,14 @@ pub record IsSize (n w : ℕ) : Type 0 where
 -- one row of the table: its size, or what the rows after it give
 row_taken : (n k v w : ℕ) (rest : Option ℕ) → IsSize k v → (rest ≡ Some w → IsSize n w) → cond (n == k) (Some v) rest ≡ Some w
     → IsSize n w
-row_taken n k v w rest here later =
-    elim (n == k) as (λ t. (n == k) ≡ t → cond t (Some v) rest ≡ Some w → IsSize n w) [
-      | true ↦ λ same read.
-          let size : v ≡ w = cc in
-          let count = eqb-true n k same in
-          subst (λ x. IsSize n x) size (subst (λ x. IsSize x v) (sym count) here)
-      | false ↦ λ other read. later read
-    ] refl
+row_taken n k v w rest here later = grind (arith, nat_tests)
 
--- a width from 3 to 9 is that of its own squares
+-- so many squares as w times w have the width w
 square_of : (w : ℕ) → 3 ≤ w → w ≤ 9 → IsSize (w * w) w
 square_of w low high = record { smallest = low; largest = high; count = refl }
 
 square_size_taken : (n w : ℕ) → size_by_count n ≡ Some w → IsSize n w
-square_size_taken n w =
-    row_taken n 9 3 w _ (square_of 3 (omega arith) (omega arith))
-    (row_taken n 16 4 w _ (square_of 4 (omega arith) (omega arith))
-    (row_taken n 25 5 w _ (square_of 5 (omega arith) (omega arith))
-    (row_taken n 36 6 w _ (square_of 6 (omega arith) (omega arith))
-    (row_taken n 49 7 w _ (square_of 7 (omega arith) (omega arith))
-    (row_taken n 64 8 w _ (square_of 8 (omega arith) (omega arith))
-    (row_taken n 81 9 w _ (square_of 9 (omega arith) (omega arith)) (λ read. cc)))))))
+square_size_taken n w = grind (arith, nat_tests, row_taken, square_of)
 
 full_grid : (text ns : List ℕ) (w : ℕ) → IsSize (length text) w → AllByRecursion (Within w) ns → text ≡ map (λ n. 48 + n) ns
     → IsFullGrid (record { size = w; numbers = ns })

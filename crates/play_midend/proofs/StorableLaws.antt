@@ -1,12 +1,11 @@
--- A session that can be stored stays one.
-use Rattle.std.proofs.Common.{◌≡◌, ℕ, ◌+◌, ◌-◌, List, [], ◌∷◌, Result, Ok, Err, refl, sym, ◌∙◌, subst, arith, inl, inr}
+-- A session that can be stored can still be stored after any calls.
+use Rattle.std.proofs.lemmas.Bool.Decides.{nat_tests}
+use Rattle.std.proofs.Common.{◌≡◌, ℕ, ◌+◌, ◌-◌, List, [], ◌∷◌, Result, Ok, Err, refl, sym, subst, arith}
 use Rattle.trail_solver.specs.Puzzles.{Puzzle}
-use Rattle.game_texts.specs.declared.params.Params.{Params}
-use Rattle.game_texts.specs.Parameters.{IsParams}
 use Rattle.play_midend.specs.declared.moves.Move.{Move}
-use Rattle.play_midend.specs.declared.moves.Move.TheVariants.{Solve, Restart}
+use Rattle.play_midend.specs.declared.moves.Move.TheVariants.{Restart}
 use Rattle.play_midend.specs.declared.fault.PlayFault.{PlayFault}
-use Rattle.play_midend.specs.Histories.{History, IsValid, IsStorable, with_move, at_position, refusal_in, played, SolveGives}
+use Rattle.play_midend.specs.Histories.{History, IsStorable, with_move, at_position, refusal_in, played, SolveGives}
 use Rattle.play_midend.specs.Laws.{Call, Play, FromStart, ToSolution, Undo, Redo, CallGives, Answered, AnsweredInTurn, StartsStorable, RunsStayStorable}
 use Rattle.play_midend.proofs.GivenSquares.{givens_stay}
 use Rattle.play_midend.proofs.Playing.{accepted, solved_as_played}
@@ -29,10 +28,7 @@ same_game_at {P} h new position e =
     subst (λ (k : History P). IsSameGame h k) e (record { puzzle = refl; params = refl; next_params = refl; extras = refl })
 
 pub same_game_solved : {P : Type 0} (p : Puzzle) (h new : History P) → SolveGives p h (Ok new) → IsSameGame h new
-same_game_solved p h new (inl none) = cc (none.1)
-same_game_solved p h new (inr (inl several)) = cc (several.1)
-same_game_solved p h new (inr (inr (grid, only, made))) =
-    same_game_played p h new (Solve grid) (solved_as_played p h grid only ∙ sym made)
+same_game_solved p h new here = grind (arith, nat_tests, same_game_played, solved_as_played)
 
 -- a call changes neither the puzzle of a session nor its parameters
 pub same_game_called : {P : Type 0} (p : Puzzle) (h new : History P) (call : Call) → CallGives p h call (Ok new) → IsSameGame h new
@@ -42,19 +38,12 @@ same_game_called p h new ToSolution is = same_game_solved p h new is
 same_game_called p h new Undo is = same_game_at h new (h.position - 1) (undone_is h new (sym is)).1
 same_game_called p h new Redo is = same_game_at h new (h.position + 1) (redone_is h new (sym is)).1
 
--- what a call that is accepted leaves of a storable session
+-- a call that is accepted leaves a storable session storable
 pub storable_called : {P : Type 0} (puzzle : P → Puzzle) (of_game : P → Type 0) (letters : List ℕ) (h new : History P) (call : Call)
     → IsStorable puzzle of_game letters h → CallGives (puzzle h.puzzle) h call (Ok new) → IsStorable puzzle of_game letters new
-storable_called {P} puzzle of_game letters h new call s is =
-    let same = same_game_called (puzzle h.puzzle) h new call is in
-    record {
-      session = subst (λ (q : P). IsValid (puzzle q) new) (sym same.puzzle) (valid_called (puzzle h.puzzle) h new call s.session is);
-      puzzle_is = subst of_game (sym same.puzzle) s.puzzle_is;
-      params_are = subst (λ (q : Params). IsParams letters q) (sym same.params) s.params_are;
-      next_params_are = subst (λ (q : Params). IsParams letters q) (sym same.next_params) s.next_params_are;
-    }
+storable_called puzzle of_game letters h new call s is = grind (arith, nat_tests, same_game_called, valid_called)
 
--- calls in turn
+-- a call leaves a storable session storable, accepted or refused
 pub storable_answered : {P : Type 0} (puzzle : P → Puzzle) (of_game : P → Type 0) (letters : List ℕ) (h new : History P) (call : Call)
     (answer : Result (Unit {0}) PlayFault)
     → IsStorable puzzle of_game letters h → Answered (puzzle h.puzzle) h call answer new → IsStorable puzzle of_game letters new
@@ -79,20 +68,10 @@ pub runs_stay_storable : {P : Type 0} (puzzle : P → Puzzle) (of_game : P → T
     → RunsStayStorable puzzle of_game letters
 runs_stay_storable puzzle of_game letters old new calls s run = storable_run puzzle of_game letters old new calls s run
 
--- a new session
+-- a new session, of a puzzle and parameters of the game, is storable
 pub starts_storable : {P : Type 0} (puzzle : P → Puzzle) (of_game : P → Type 0) (letters : List ℕ) → StartsStorable puzzle of_game letters
-starts_storable puzzle of_game letters first params next_params extras valid params_are next_are size = record {
-  session = record {
-    size = size;
-    legal = record { playable = tt; no_restart_first = refl };
-    few = omega arith;
-    first = omega arith;
-    last = omega arith;
-  };
-  puzzle_is = valid;
-  params_are = params_are;
-  next_params_are = next_are;
-}
+starts_storable puzzle of_game letters first params next_params extras valid params_are next_are size =
+    grind (arith, nat_tests)
 
--- the laws of calls
+-- the laws of calls, for the prover's search
 pub ruleset laws = (givens_stay, runs_stay_valid, starts_storable, undo_takes_back, undo_takes_restart_back, undo_takes_solve_back, redo_takes_undo_back)

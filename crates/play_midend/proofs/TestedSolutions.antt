@@ -22,7 +22,7 @@ Decides-grid_test g =
     (λ grid. (((grid.smallest, grid.largest), grid.count), grid.within))
     (Decides-and _ _ (Decides-and _ _ size (Decides-eqb (length g.numbers) (g.size * g.size))) each)
 
--- a solution of the puzzle is filled in where it is played
+-- a grid can be filled in just if it solves the puzzle, whatever the board shows
 pub solutions_are_filled_in : SolutionsAreFilledIn
 solutions_are_filled_in p b g = (
   λ none.
@@ -33,6 +33,6 @@ solutions_are_filled_in p b g = (
       rw ((Decides-solves_test p g grid).1 solves, (Decides-grid_test g).1 grid) refl,
 )
 
--- each grid of the code passes its test
+-- a grid passes the test for grids
 pub grid_tested : (g : GridValue) → IsGrid g → grid_test g ≡ true
 grid_tested g grid = (Decides-grid_test g).1 grid

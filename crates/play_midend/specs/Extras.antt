@@ -1,7 +1,7 @@
 -- The bytes that a session keeps, as contracts see them.
 use Rattle.std.specs.Prelude.{ℕ, List, Option}
 
--- the bytes that a session keeps, each where there are some
+-- the bytes that a session keeps of each kind, or none
 pub record ExtrasValue : Type 0 where
   pub seed : Option (List ℕ)
   pub auxinfo : Option (List ℕ)

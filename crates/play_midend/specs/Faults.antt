@@ -3,8 +3,7 @@ use Rattle.std.specs.Prelude.{ℕ, List, codes}
 use Rattle.play_midend.specs.declared.fault.PlayFault.{PlayFault}
 use Rattle.play_midend.specs.declared.fault.PlayFault.TheVariants.{BadMove, Unsupported, OffGrid, OffRange, GivenSquare}
 use Rattle.play_midend.specs.declared.fault.PlayFault.TheVariants.{FilledSquare, BadSolution, HistoryFull, OutOfMemory}
-use Rattle.play_midend.specs.declared.fault.PlayFault.TheVariants.{NothingToUndo, NothingToRedo, NothingToRestart}
-use Rattle.play_midend.specs.declared.fault.PlayFault.TheVariants.{NoSolution, SeveralSolutions}
+use Rattle.play_midend.specs.declared.fault.PlayFault.TheVariants.{NothingToUndo, NothingToRedo, NothingToRestart, NoSolution, SeveralSolutions}
 
 -- the number of a fault
 abbrev pub play_fault_number : PlayFault → ℕ

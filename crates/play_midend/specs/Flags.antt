@@ -8,7 +8,7 @@ use Rattle.play_midend.specs.declared.moves.Move.TheVariants.{Real, Solve}
 use Rattle.play_midend.specs.Steps.{start_of, moved, replay_from, is_restart}
 use Rattle.play_midend.specs.Histories.{History, IsValid, past, shown}
 
--- one of the moves that are made in turn from a board is such a move, there where it was made, and no restart follows it
+-- one of the moves, made in turn from the first board, is `such` where it was made, and no restart follows it
 pub record StandsSinceRestart (p : Puzzle) (such : BoardValue → Move → Type 0) (first : BoardValue) (ms : List Move) : Type 0 where
   pub before : List Move
   pub made : Move
@@ -22,29 +22,29 @@ abbrev pub fills_in : Move → Bool
 fills_in (Solve g) = true
 fills_in _ = false
 
--- whether it writes a number, or those of a solution
+-- whether the move writes a number, or those of a solution
 abbrev pub writes_numbers : Move → Bool
 writes_numbers (Real x y n) = true
 writes_numbers (Solve g) = true
 writes_numbers _ = false
 
--- it does, and the numbers then solve the puzzle
+-- the move writes numbers, and these solve the puzzle then
 abbrev pub LeavesSolution : Puzzle → BoardValue → Move → Type 0
 LeavesSolution p b m = (writes_numbers m ≡ true) × Solves p (grid_of (moved p b m))
 
--- the flag of help is set just where a solution was filled in since the last restart, by `solve` or by a move
+-- the flag `cheated` is set just if a solution was filled in since the last restart, by `solve` or by a move
 abbrev pub HelpIsFlagged : {P : Type 0} → (P → Puzzle) → Type 0
 HelpIsFlagged {P} puzzle =
     (h : History P) → let p = puzzle h.puzzle in IsValid p h
     → ((shown p h).cheated ≡ true) ↔ StandsSinceRestart p (λ b m. fills_in m ≡ true) (start_of p) (past h)
 
--- the flag of completion is set just where a number or a solution left the puzzle solved since then
+-- the flag `completed` is set just if a number or a solution left the puzzle solved since the last restart
 abbrev pub CompletionIsFlagged : {P : Type 0} → (P → Puzzle) → (P → Type 0) → Type 0
 CompletionIsFlagged {P} puzzle of_game =
     (h : History P) → let p = puzzle h.puzzle in of_game h.puzzle → IsValid p h
     → ((shown p h).completed ≡ true) ↔ StandsSinceRestart p (LeavesSolution p) (start_of p) (past h)
 
--- with help comes completion: the solution that was filled in left the puzzle solved
+-- where `cheated` is set, so is `completed`: the solution that was filled in left the puzzle solved
 abbrev pub HelpCompletes : {P : Type 0} → (P → Puzzle) → Type 0
 HelpCompletes {P} puzzle =
     (h : History P) → let p = puzzle h.puzzle in IsValid p h → (shown p h).cheated ≡ true → (shown p h).completed ≡ true

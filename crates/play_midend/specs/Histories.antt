@@ -14,8 +14,7 @@ use Rattle.play_midend.specs.declared.moves.Move.TheVariants.{Solve, Restart}
 use Rattle.play_midend.specs.declared.session.TheConstants.{MOST_STATES}
 use Rattle.play_midend.specs.declared.fault.PlayFault.{PlayFault}
 use Rattle.play_midend.specs.declared.fault.PlayFault.TheVariants.{HistoryFull, OutOfMemory, NothingToUndo}
-use Rattle.play_midend.specs.declared.fault.PlayFault.TheVariants.{NothingToRedo, NothingToRestart, NoSolution}
-use Rattle.play_midend.specs.declared.fault.PlayFault.TheVariants.{SeveralSolutions}
+use Rattle.play_midend.specs.declared.fault.PlayFault.TheVariants.{NothingToRedo, NothingToRestart, NoSolution, SeveralSolutions}
 use Rattle.play_midend.specs.Steps.{is_restart, refusal_of, unless_refused, replay, IsLegal}
 
 -- a session as a value: the position is the number of the state that is shown, counted from 1
@@ -27,15 +26,15 @@ pub record History (P : Type 0) : Type 0 where
   pub moves : List Move
   pub position : ℕ
 
--- the moves that lead to the state that is shown, and its board
+-- the moves that lead to the state that is shown
 abbrev pub past : {P : Type 0} → History P → List Move
 past h = take (h.position - 1) h.moves
 
--- the board at the position
+-- the board of the state that is shown
 abbrev pub shown : {P : Type 0} → Puzzle → History P → BoardValue
 shown p h = replay p (past h)
 
--- what is so of each session: its moves can be made in turn, and its position is one of its states
+-- the session is valid: its moves can be made in turn, and its position is one of its states
 pub record IsValid {P : Type 0} (p : Puzzle) (h : History P) : Type 0 where
   pub size : h.params.size ≡ p.size
   pub legal : IsLegal p h.moves
@@ -62,7 +61,7 @@ started puzzle params next_params extras = record {
   position = 1;
 }
 
--- the state after the one that is shown: a move drops those that stood there
+-- the session after a move: the states after the one that was shown go, and the new one is shown
 abbrev pub with_move : {P : Type 0} → History P → Move → History P
 with_move h m = record h { moves = past h ++ m ∷ []; position = h.position + 1 }
 
@@ -70,15 +69,15 @@ with_move h m = record h { moves = past h ++ m ∷ []; position = h.position + 1
 abbrev pub at_position : {P : Type 0} → History P → ℕ → History P
 at_position h position = record h { position = position }
 
--- at the first state a restart is refused, and any move at the last position that a history has
+-- the refusal of a restart by the position: only at the first state it is refused
 abbrev pub restart_refusal : ℕ → Option PlayFault
 restart_refusal position = if position == 1 then Some NothingToRestart else None
 
--- the refusal of a move at the first state, where it is a restart
+-- the refusal of a move by the position, if it is a restart at the first state
 abbrev pub first_state_refusal : ℕ → Move → Option PlayFault
 first_state_refusal position m = if is_restart m then restart_refusal position else None
 
--- the refusal of a move at the last position
+-- the refusal of a move at the last position that a history has
 abbrev pub full_refusal : ℕ → Option PlayFault
 full_refusal position = if position == MOST_STATES then Some HistoryFull else None
 
@@ -96,7 +95,7 @@ abbrev pub restarted : {P : Type 0} → History P → Result (History P) PlayFau
 restarted h =
     unless_refused (option_or (restart_refusal h.position) (full_refusal h.position)) (with_move h Restart)
 
--- solving: the only solution is a move, whatever the board shows
+-- what solving gives: the only solution, filled in as a move whatever the board shows, or why there is none
 abbrev pub SolveGives : {P : Type 0} → Puzzle → History P → Result (History P) PlayFault → Type 0
 SolveGives p h exact =
     (HasNoSolution p × (exact ≡ Err NoSolution))
@@ -104,11 +103,11 @@ SolveGives p h exact =
     ⊎ ((g : GridValue) × IsOnlySolution p g
     × (exact ≡ unless_refused (full_refusal h.position) (with_move h (Solve g))))
 
--- the state before
+-- an undo: the session at the state before, or its refusal
 abbrev pub undone : {P : Type 0} → History P → Result (History P) PlayFault
 undone h = if h.position == 1 then Err NothingToUndo else Ok (at_position h (h.position - 1))
 
--- the next state, which a session has where moves were undone
+-- a redo: the session at the next state, which it has if moves were undone, or its refusal
 abbrev pub redone : {P : Type 0} → History P → Result (History P) PlayFault
 redone h =
     if h.position == length h.moves + 1 then Err NothingToRedo else Ok (at_position h (h.position + 1))

@@ -1,6 +1,5 @@
 -- The laws of a session's calls, over its value alone, and what a list of calls leaves.
-use Rattle.std.specs.Prelude.{◌≡◌, ◌↔◌, ℕ, ◌+◌, ◌-◌, ◌≤◌, Bool, true, false, List, [], ◌∷◌, length, None, Result, Ok}
-use Rattle.std.specs.Prelude.{Err}
+use Rattle.std.specs.Prelude.{◌≡◌, ◌↔◌, ℕ, ◌+◌, ◌-◌, ◌≤◌, Bool, true, false, List, [], ◌∷◌, length, None, Result, Ok, Err}
 use Rattle.std.specs.Bool.{MatchBool}
 use Rattle.std.specs.Result.{IsOkAnd}
 use Rattle.latin_board.specs.Boards.{BoardValue, grid_of}
@@ -18,7 +17,7 @@ use Rattle.play_midend.specs.Histories.{History, IsValid, IsStorable, past, show
 use Rattle.play_midend.specs.Histories.{restarted, SolveGives, undone, redone, IsRefusal}
 use Rattle.play_midend.specs.MoveLists.{result_and_then, played_all, with_moves, undone_times}
 
--- a grid can be filled in just where it solves the puzzle, whatever the board shows
+-- a grid can be filled in just if it solves the puzzle, whatever the board shows
 abbrev pub SolutionsAreFilledIn : Type 0
 SolutionsAreFilledIn = (p : Puzzle) (b : BoardValue) (g : GridValue) → (refusal_of p b (Solve g) ≡ None) ↔ Solves p g
 
@@ -77,14 +76,14 @@ StartsStorable {P} puzzle of_game letters =
     of_game first → IsParams letters params → IsParams letters next_params → params.size ≡ (puzzle first).size
     → IsStorable puzzle of_game letters (started first params next_params extras)
 
--- and so is what each list of calls leaves of a storable one
+-- from a storable session each list of calls leaves a storable one
 abbrev pub RunsStayStorable : {P : Type 0} → (P → Puzzle) → (P → Type 0) → List ℕ → Type 0
 RunsStayStorable {P} puzzle of_game letters =
     (old new : History P) (calls : List (Call × Result (Unit {0}) PlayFault)) →
     IsStorable puzzle of_game letters old → AnsweredInTurn (puzzle old.puzzle) old calls new
     → IsStorable puzzle of_game letters new
 
--- the same puzzle, parameters, kept bytes, past, position and board; what stood after the position may be gone
+-- the session is as before: puzzle, parameters, kept bytes, past, position, board; later moves may be gone
 pub record IsSameBack {P : Type 0} (p : Puzzle) (old new : History P) : Type 0 where
   pub puzzle : new.puzzle ≡ old.puzzle
   pub params : new.params ≡ old.params
@@ -94,31 +93,31 @@ pub record IsSameBack {P : Type 0} (p : Puzzle) (old new : History P) : Type 0 w
   pub position : new.position ≡ old.position
   pub board : shown p new ≡ shown p old
 
--- a move that is accepted and then undone, a restart among them
+-- a move that is accepted, a restart among them, is taken back by an undo
 abbrev pub UndoTakesBack : {P : Type 0} → (P → Puzzle) → Type 0
 UndoTakesBack {P} puzzle =
     (old new : History P) (m : Move) → let p = puzzle old.puzzle in
     IsValid p old → played p old m ≡ Ok new → IsOkAnd (undone new) (IsSameBack p old)
 
--- the same of a restart by its own call
+-- a restart by its own call is taken back by an undo
 abbrev pub UndoTakesRestartBack : {P : Type 0} → (P → Puzzle) → Type 0
 UndoTakesRestartBack {P} puzzle =
     (old new : History P) → let p = puzzle old.puzzle in
     IsValid p old → restarted old ≡ Ok new → IsOkAnd (undone new) (IsSameBack p old)
 
--- the same of a solution that was filled in
+-- a solution that `solve` filled in is taken back by an undo
 abbrev pub UndoTakesSolveBack : {P : Type 0} → (P → Puzzle) → Type 0
 UndoTakesSolveBack {P} puzzle =
     (old new : History P) → let p = puzzle old.puzzle in
     IsValid p old → SolveGives p old (Ok new) → IsOkAnd (undone new) (IsSameBack p old)
 
--- what is undone and then made again is the whole session as it was
+-- a redo after an undo gives back the whole session, its later moves included
 abbrev pub RedoTakesUndoBack : {P : Type 0} → (P → Puzzle) → Type 0
 RedoTakesUndoBack {P} puzzle =
     (old new : History P) → let p = puzzle old.puzzle in
     IsValid p old → undone old ≡ Ok new → redone new ≡ Ok old
 
--- played along from a new session, a legal list that a history has room for is accepted
+-- a legal list of moves that a history has room for is accepted, played from a new session
 abbrev pub LegalListsPlay : {P : Type 0} → (P → Puzzle) → Type 0
 LegalListsPlay {P} puzzle =
     (first : P) (params next_params : Params) (extras : Extras) (ms : List Move) →
@@ -126,7 +125,7 @@ LegalListsPlay {P} puzzle =
     → let new = started first params next_params extras in
     played_all (puzzle first) new ms ≡ Ok (with_moves new ms)
 
--- and what is accepted is such a list, and leaves the session with these moves at its last position
+-- a list that is accepted from a new session is legal, has room, and leaves these moves, at the last position
 abbrev pub AcceptedListsAreLegal : {P : Type 0} → (P → Puzzle) → Type 0
 AcceptedListsAreLegal {P} puzzle =
     (first : P) (params next_params : Params) (extras : Extras) (ms : List Move) (last : History P) →
@@ -134,13 +133,13 @@ AcceptedListsAreLegal {P} puzzle =
     played_all (puzzle first) new ms ≡ Ok last
     → IsLegal (puzzle first) ms × (length ms + 1 ≤ MOST_STATES) × (last ≡ with_moves new ms)
 
--- so many undos show the state with that position
+-- n undos lead from a position to the one that is n lower
 abbrev pub UndoLeadsBack : Type 0 → Type 0
 UndoLeadsBack P =
     (h : History P) (n position : ℕ) → 1 ≤ position → h.position ≡ position + n
     → undone_times n h ≡ Ok (at_position h position)
 
--- each valid session is its moves, played along from a new one, and then undos
+-- each valid session is reached from a new one by its moves, and then by undos
 abbrev pub HistoriesAreReached : {P : Type 0} → (P → Puzzle) → Type 0
 HistoriesAreReached {P} puzzle =
     (h : History P) → let p = puzzle h.puzzle in

@@ -5,7 +5,7 @@ use Rattle.play_midend.specs.declared.moves.Move.{Move}
 use Rattle.play_midend.specs.declared.fault.PlayFault.{PlayFault}
 use Rattle.play_midend.specs.Histories.{History, played, undone}
 
--- what follows an accepted call; a refusal stays as it is
+-- one call after another: the second on what the first gives, and a refusal of the first stays
 abbrev pub result_and_then : {A B : Type 0} → (A → Result B PlayFault) → Result A PlayFault
     → Result B PlayFault
 result_and_then f (Ok a) = f a
@@ -20,7 +20,7 @@ played_all p h (m ∷ ms) = result_and_then (λ next. played_all p next ms) (pla
 abbrev pub with_moves : {P : Type 0} → History P → List Move → History P
 with_moves h ms = record h { moves = ms; position = length ms + 1 }
 
--- so many undos
+-- so many undos, one after another
 abbrev pub undone_times : {P : Type 0} → ℕ → History P → Result (History P) PlayFault
 undone_times zero h = Ok h
 undone_times (suc n) h = result_and_then (λ before. undone_times n before) (undone h)

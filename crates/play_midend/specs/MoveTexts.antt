@@ -1,7 +1,6 @@
 -- Moves as text: the grammar, the fault of a text that is no move, and reading as a function on lists.
 use Rattle.std.specs.Prelude.{◌≡◌, ℕ, zero, ◌+◌, ◌-◌, ◌≤◌, ℤ, pos, negsuc, ◌==◌, ◌||◌, ◌&&◌, nat_le, if◌then◌else◌}
-use Rattle.std.specs.Prelude.{List, [], ◌∷◌, ◌++◌, length, map, codes, bytes_eq, Option, Some, None, option_map}
-use Rattle.std.specs.Prelude.{option_and_then, Result, ok_or}
+use Rattle.std.specs.Prelude.{List, [], ◌∷◌, ◌++◌, length, map, codes, bytes_eq, Option, Some, None, option_map, option_and_then, Result, ok_or}
 use Rattle.std.specs.Fmt.{decimal}
 use Rattle.latin_board.specs.Squares.{GridValue, IsGrid, IsFull}
 use Rattle.byte_text.specs.Cuts.{before, behind}
@@ -10,14 +9,13 @@ use Rattle.play_midend.specs.declared.moves.Move.{Move}
 use Rattle.play_midend.specs.declared.moves.Move.TheVariants.{Real, Pencil, MarkAll, Solve, Restart, Done}
 use Rattle.play_midend.specs.declared.fault.PlayFault.{PlayFault}
 use Rattle.play_midend.specs.declared.fault.PlayFault.TheVariants.{BadMove, Unsupported}
-use Rattle.byte_text.specs.Bytes.{capital_r, capital_p, capital_m, capital_s, capital_d, capital_h, capital_f, comma}
-use Rattle.byte_text.specs.Bytes.{dash, digit_zero, digit}
+use Rattle.byte_text.specs.Bytes.{capital_r, capital_p, capital_m, capital_s, capital_d, capital_h, capital_f, comma, dash, digit_zero, digit}
 
 -- three numbers in decimal, with commas
 abbrev pub three_text : ℕ → ℕ → ℕ → List ℕ
 three_text x y n = decimal x ++ (comma ∷ (decimal y ++ (comma ∷ decimal n)))
 
--- one number of a done mark's place
+-- the text of one coordinate of a done mark's place
 abbrev pub coordinate_text : ℤ → List ℕ
 coordinate_text (pos n) = decimal n
 coordinate_text (negsuc n) = dash ∷ decimal (n + 1)
@@ -66,12 +64,12 @@ abbrev pub move_fault : List ℕ → PlayFault
 move_fault [] = BadMove
 move_fault (b ∷ bs) = if (b == capital_h) || (b == capital_f) then Unsupported else BadMove
 
--- reading: the pieces round two commas, as numbers
+-- three numbers, if each of them was read
 abbrev pub all_three : Option ℕ → Option ℕ → Option ℕ → Option (ℕ × ℕ × ℕ)
 all_three (Some x) (Some y) (Some n) = Some (x, y, n)
 all_three _ _ _ = None
 
--- the first of three numbers, which was read, with the two after
+-- three numbers, the first of which was read, with the two that are read of the rest
 abbrev pub three_from : Option ℕ → List ℕ → Option (ℕ × ℕ × ℕ)
 three_from x rest =
     option_and_then (λ last. all_three x (decimal_value 255 (before comma rest)) (decimal_value 255 last))
@@ -85,7 +83,7 @@ three_at text = option_and_then (λ rest. three_from (decimal_value 255 (before 
 abbrev pub coordinate_at : List ℕ → Option ℤ
 coordinate_at text = if bytes_eq text (codes "-1") then Some (negsuc zero) else option_map pos (decimal_value 127 text)
 
--- both coordinates, where both are there
+-- both coordinates, if each of them was read
 abbrev pub both : Option ℤ → Option ℤ → Option (ℤ × ℤ)
 both (Some x) (Some y) = Some (x, y)
 both _ _ = None
@@ -101,7 +99,7 @@ size_by_count n =
     if n == 9 then Some 3 else (if n == 16 then Some 4 else (if n == 25 then Some 5 else (if n == 36 then Some 6
     else (if n == 49 then Some 7 else (if n == 64 then Some 8 else (if n == 81 then Some 9 else None))))))
 
--- digits from 1 to w
+-- the number that a byte is as a digit, if this is from 1 to w
 abbrev pub digit_at : ℕ → ℕ → Option ℕ
 digit_at w b = if nat_le (digit 1) b && nat_le b (digit w) then Some (b - digit_zero) else None
 
@@ -118,7 +116,7 @@ solution_of text w = option_map (λ ns. record { size = w; numbers = ns }) (digi
 abbrev pub solution_at : List ℕ → Option GridValue
 solution_at text = option_and_then (λ w. solution_of text w) (size_by_count (length text))
 
--- nothing stands after the letter
+-- the move that marks all, if nothing stands after the letter
 abbrev pub mark_all_at : List ℕ → Option Move
 mark_all_at [] = Some MarkAll
 mark_all_at (b ∷ bs) = None

@@ -1,7 +1,6 @@
 -- One move on a board, and a list of moves replayed from the start.
 use Rattle.std.specs.Prelude.{◌≡◌, ℕ, ◌+◌, ◌*◌, ℤ, Bool, true, false, not, ◌==◌, ◌&&◌, ◌||◌, nat_lt, nat_le}
-use Rattle.std.specs.Prelude.{if◌then◌else◌, List, [], ◌∷◌, length, map, replicate, slice_set, Option, Some, None}
-use Rattle.std.specs.Prelude.{Result, Ok, Err, IsOk, IsTrue}
+use Rattle.std.specs.Prelude.{if◌then◌else◌, List, [], ◌∷◌, length, map, replicate, slice_set, Option, Some, None, Result, Ok, Err, IsOk, IsTrue}
 use Rattle.std.specs.Option.{option_map_or, option_or}
 use Rattle.std.specs.List.{range_with_len, list_all}
 use Rattle.std.specs.Result.{result_unwrap_or}
@@ -14,21 +13,20 @@ use Rattle.trail_solver.specs.Puzzles.{Puzzle, solves_test}
 use Rattle.play_midend.specs.declared.moves.Move.{Move}
 use Rattle.play_midend.specs.declared.moves.Move.TheVariants.{Real, Pencil, MarkAll, Solve, Restart, Done}
 use Rattle.play_midend.specs.declared.fault.PlayFault.{PlayFault}
-use Rattle.play_midend.specs.declared.fault.PlayFault.TheVariants.{OffGrid, OffRange, GivenSquare, FilledSquare}
-use Rattle.play_midend.specs.declared.fault.PlayFault.TheVariants.{BadSolution, OutOfMemory}
+use Rattle.play_midend.specs.declared.fault.PlayFault.TheVariants.{OffGrid, OffRange, GivenSquare, FilledSquare, BadSolution, OutOfMemory}
 
 -- the square at column x and row y
 abbrev pub cell_of : ℕ → ℕ → ℕ → ℕ
 cell_of w x y = y * w + x
 
--- the first refusal of a number or a mark n at a square, which the board doesn't matter for
+-- the first refusal of a number or a mark n at the square (x, y), whatever the board shows
 abbrev pub entry_refusal : Puzzle → ℕ → ℕ → ℕ → Option PlayFault
 entry_refusal p x y n =
     if not (nat_lt x p.size && nat_lt y p.size) then Some OffGrid
     else (if nat_lt p.size n then Some OffRange
     else (if p.given (cell_of p.size x y) == 0 then None else Some GivenSquare))
 
--- a pencil mark is for an empty square
+-- the refusal of a pencil mark at a square that holds a number
 abbrev pub mark_refusal : BoardValue → ℕ → ℕ → Option PlayFault
 mark_refusal b cell n = if (n == 0) || (number_at (grid_of b) cell == 0) then None else Some FilledSquare
 
@@ -36,7 +34,7 @@ mark_refusal b cell n = if (n == 0) || (number_at (grid_of b) cell == 0) then No
 abbrev pub has_clue : Puzzle → ℤ → ℤ → Bool
 has_clue p x y = option_map_or p.clued (edge_place p.size x y) false
 
--- `IsGrid` as a test that computes
+-- `IsGrid` as a test that can be computed
 unfoldable pub grid_test : GridValue → Bool
 grid_test g =
     ((nat_le 3 g.size && nat_le g.size 9) && (length g.numbers == g.size * g.size))
@@ -63,11 +61,11 @@ with_number p b cell n = record b {
 abbrev pub with_mark_flipped : BoardValue → ℕ → ℕ → BoardValue
 with_mark_flipped b cell n = record b { marks = slice_set b.marks cell (flip_number (marks_at b cell) n) }
 
--- the board with all marks at each square without a number
+-- the marks of a square once all are marked: all numbers if it is empty, and otherwise the marks that it has
 abbrev pub marks_of_all : BoardValue → ℕ → ℕ
 marks_of_all b cell = if number_at (grid_of b) cell == 0 then numbers_to b.size else marks_at b cell
 
--- the board after `M`
+-- the board after the move that marks all
 abbrev pub all_marked : BoardValue → BoardValue
 all_marked b = record b { marks = map (marks_of_all b) (range_with_len 0 (b.size * b.size)) }
 
@@ -80,7 +78,7 @@ filled b g = record b {
   cheated = true;
 }
 
--- the givens of a puzzle, and the board of a new game
+-- the grid with the givens of a puzzle
 abbrev pub givens_of : Puzzle → GridValue
 givens_of p = record { size = p.size; numbers = map p.given (range_with_len 0 (p.size * p.size)) }
 
@@ -108,7 +106,7 @@ unless_refused (Some fault) a = Err fault
 abbrev pub step : Puzzle → BoardValue → Move → Result BoardValue PlayFault
 step p b m = unless_refused (refusal_of p b m) (moved p b m)
 
--- moves in turn, where a refused one changes nothing
+-- the board after a move, or the same board if the move is refused
 abbrev pub after_move : Puzzle → BoardValue → Move → BoardValue
 after_move p b m = result_unwrap_or (step p b m) b
 
@@ -117,11 +115,11 @@ abbrev pub replay_from : Puzzle → BoardValue → List Move → BoardValue
 replay_from p b [] = b
 replay_from p b (m ∷ ms) = replay_from p (after_move p b m) ms
 
--- and from the start of the puzzle
+-- a list of moves, made in turn from the start of the puzzle
 abbrev pub replay : Puzzle → List Move → BoardValue
 replay p ms = replay_from p (start_of p) ms
 
--- no move is refused
+-- none of the moves is refused, made in turn from this board
 abbrev pub ArePlayable : Puzzle → BoardValue → List Move → Type 0
 ArePlayable p b [] = Unit {0}
 ArePlayable p b (m ∷ ms) = IsOk (step p b m) × ArePlayable p (after_move p b m) ms
@@ -131,7 +129,7 @@ abbrev pub is_restart : Move → Bool
 is_restart Restart = true
 is_restart _ = false
 
--- whether the first move is one
+-- whether the first move of a list is a restart
 abbrev pub begins_with_restart : List Move → Bool
 begins_with_restart [] = false
 begins_with_restart (m ∷ ms) = is_restart m
@@ -147,7 +145,7 @@ takes_memory (Real x y n) = false
 takes_memory (Pencil x y n) = false
 takes_memory _ = true
 
--- a refusal of a move that takes memory at most for its change: OutOfMemory in place of success alone
+-- a refusal of a move: its first one, or OutOfMemory in place of success if the move takes memory
 abbrev pub IsRefusalOf : Move → Result BoardValue PlayFault → PlayFault → Type 0
 IsRefusalOf m exact OutOfMemory = IsOk exact × IsTrue (takes_memory m)
 IsRefusalOf m exact fault = exact ≡ Err fault

@@ -28,7 +28,7 @@ pub enum PlayFault {
     BadSolution,
     /// The position is the last that a history has.
     HistoryFull,
-    /// A growth was refused.
+    /// Memory was refused.
     OutOfMemory,
     /// The first state is shown.
     NothingToUndo,

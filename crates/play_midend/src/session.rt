@@ -59,7 +59,7 @@ impl<P: Game> Model for Session<P> {
         × AreLinked (P.puzzle s.puzzle) s.links.items s.past s.board };
 }
 
-// A restart needs a move to take back.
+// A restart is refused at the first state, where there is no move to take back.
 fn check_restart(position: usize, m: &Move) -> Result<(), PlayFault>
     ensures ok { OnOk result (first_state_refusal position m.now ≡ None) }
     ensures err { IfErr result (λ fault. first_state_refusal position m.now ≡ Some fault) }
@@ -81,7 +81,7 @@ fn check_room(position: usize) -> Result<(), PlayFault>
     Ok(())
 }
 
-// Puts a link after the past ones, in place of all that stand there, which takes no memory where one does.
+// Puts a link after the past ones, in place of all that stand there. If one does, that takes no memory.
 fn put(links: &mut Vec<Link>, past: usize, last: Link) -> Result<(), AllocError>
     requires { past ≤ length links.old.items }
     ensures ok { OnOk result (links.new.items ≡ take past links.old.items ++ last ∷ []) }

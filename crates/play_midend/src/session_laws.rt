@@ -2,8 +2,7 @@
 
 ghost use Rattle.play_midend.specs.Laws.{SolutionsAreFilledIn, GivensStay, RunsStayValid, StartsStorable};
 ghost use Rattle.play_midend.specs.Laws.{RunsStayStorable, UndoTakesBack, UndoTakesRestartBack, UndoTakesSolveBack};
-ghost use Rattle.play_midend.specs.Laws.{RedoTakesUndoBack, LegalListsPlay, AcceptedListsAreLegal, UndoLeadsBack};
-ghost use Rattle.play_midend.specs.Laws.{HistoriesAreReached};
+ghost use Rattle.play_midend.specs.Laws.{RedoTakesUndoBack, LegalListsPlay, AcceptedListsAreLegal, UndoLeadsBack, HistoriesAreReached};
 ghost use Rattle.play_midend.specs.Flags.{HelpIsFlagged, CompletionIsFlagged, HelpCompletes};
 
 use game_texts::Game;

@@ -4,8 +4,7 @@ ghost use Rattle.std.specs.Prelude.{◌≡◌, ◌<◌, ◌≤◌, ◌+◌, ◌*
 ghost use Rattle.latin_board.specs.Marks.{IsMarkSet};
 ghost use Rattle.latin_board.specs.Changes.{FitsBoard, OneSquare, board_after};
 ghost use Rattle.play_midend.specs.Steps.{cell_of, entry_refusal, refusal_of, with_number, with_mark_flipped};
-ghost use Rattle.play_midend.specs.Steps.{marks_of_all, all_marked, filled, givens_of, start_of, moved, step};
-ghost use Rattle.play_midend.specs.Steps.{IsRefusalOf, Makes};
+ghost use Rattle.play_midend.specs.Steps.{marks_of_all, all_marked, filled, givens_of, start_of, moved, step, IsRefusalOf, Makes};
 ghost use Rattle.play_midend.specs.Inner.Effects.{effect_on, IsOfBoard, IsOfSquare, IsEffect};
 
 use crate::fault::PlayFault;

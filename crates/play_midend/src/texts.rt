@@ -13,12 +13,14 @@ use byte_text::{cut, number};
 use latin_board::{Grid, Size};
 use std::alloc::{AllocError, Global};
 
+// A number from 0 to 255 in decimal.
 fn byte_at(text: &[u8]) -> Option<u8>
     ensures { result ≡ decimal_value 255 text.now }
 {
     Some(number(text, 255)? as u8)
 }
 
+// Three numbers from 0 to 255, with commas between them.
 fn three(text: &[u8]) -> Option<(u8, u8, u8)>
     ensures { result ≡ three_at text.now }
 {
@@ -41,6 +43,7 @@ fn coordinate(text: &[u8]) -> Option<i8>
     Some(number(text, 127)? as i8)
 }
 
+// The two coordinates of an edge place, with a comma between them.
 fn two(text: &[u8]) -> Option<(i8, i8)>
     ensures { result ≡ two_at text.now }
 {
@@ -50,6 +53,7 @@ fn two(text: &[u8]) -> Option<(i8, i8)>
     Some((x, coordinate(y)?))
 }
 
+// The size of a grid with so many squares.
 fn size_of_squares(count: usize) -> Option<Size>
     ensures value { result ≡ size_by_count count }
     ensures square { IfSome result (λ w. w * w ≡ count) }
@@ -66,6 +70,7 @@ fn size_of_squares(count: usize) -> Option<Size>
     }
 }
 
+// The number of a digit from 1 to the width.
 fn digit(width: u8, byte: u8) -> Option<u8>
     requires { width ≤ 9 }
     ensures { result ≡ digit_at width byte }
@@ -77,6 +82,7 @@ fn digit(width: u8, byte: u8) -> Option<u8>
     }
 }
 
+// The grid that the digits fill in reading order.
 fn solution(text: &[u8]) -> Option<Grid>
     ensures { result ≡ solution_at text.now }
 {
@@ -89,6 +95,7 @@ fn solution(text: &[u8]) -> Option<Grid>
     Some(grid)
 }
 
+// The move that the text spells, by its first byte.
 fn move_of(text: &[u8]) -> Option<Move>
     ensures { result ≡ move_by text.now }
 {
@@ -102,6 +109,7 @@ fn move_of(text: &[u8]) -> Option<Move>
     }
 }
 
+// The fault of a text that is no move.
 fn fault_of(text: &[u8]) -> PlayFault
     ensures { result ≡ move_fault text.now }
 {
@@ -162,6 +170,7 @@ fn text_of(alloc: Global, m: &Move) -> Result<Vec<u8>, AllocError>
     Ok(text)
 }
 
+// The text of a move that fills in a grid: `S` and the digits.
 fn solution_text(alloc: Global, grid: &Grid) -> Result<Vec<u8>, AllocError>
     ensures { IfOk result (λ text. text.items ≡ capital_s ∷ map digit grid.now.numbers) }
 {

@@ -1,14 +1,15 @@
 -- The counts of states: how they are read, and what they say of the records that were met.
-use Rattle.std.proofs.Common.{◌≡◌, ℕ, zero, suc, ◌+◌, ◌≤◌, lit<, Bool, true, false, ◌&&◌, nat_le, cond, option_and_then, List, [], ◌∷◌, ◌++◌, length, Option, Some, None, is_some, Result, Ok, refl, sym, ap, ◌∙◌, subst, arith, length-append}
+use Rattle.std.proofs.lemmas.Bool.Decides.{nat_tests}
+use Rattle.std.proofs.Common.{◌≡◌, ℕ, zero, suc, ◌+◌, ◌≤◌, lit<, Bool, true, false, ◌&&◌, cond, List, [], ◌∷◌, ◌++◌, length, Option, Some, None, is_some, Result, Ok, refl, sym, ap, ◌∙◌, subst, arith, length-append}
 use Rattle.std.specs.Fmt.{decimal}
 use Rattle.std.proofs.lemmas.List.{append-nil, append_assoc}
-use borrow.Author.Tests.{leb-true, leb-false}
+use borrow.Author.Tests.{leb-true}
 use Rattle.byte_text.specs.Decimals.{decimal_value}
 use Rattle.byte_text.proofs.DecimalLaws.{number_taken, number_again}
 use Rattle.byte_text.proofs.ReadingLaws.{bind_taken}
 use Rattle.play_midend.specs.declared.session.TheConstants.{MOST_STATES}
 use Rattle.play_save.specs.declared.fault.LoadFault.{LoadFault}
-use Rattle.play_save.specs.declared.fault.LoadFault.TheVariants.{BadCount, EarlyState}
+use Rattle.play_save.specs.declared.fault.LoadFault.TheVariants.{EarlyState}
 use Rattle.play_save.specs.declared.key.StateKey.{StateKey}
 use Rattle.play_save.specs.declared.key.WhoseParams.TheVariants.{Next}
 use Rattle.play_save.specs.declared.key.KeptKey.TheVariants.{Seed}
@@ -19,13 +20,13 @@ use Rattle.play_save.specs.declared.key.Key.{Key}
 use Rattle.play_save.specs.declared.key.Key.TheVariants.{Header, State}
 use Rattle.play_save.specs.KeyedRecords.{KeyedRecord, states_in}
 use Rattle.play_save.specs.SaveTexts.{SavedGame}
-use Rattle.play_save.specs.FirstFaults.{MetValue, met, count_met, positive, count_at, fault_unless, go_together, count_fault, behind_counts, state_fault, fault_by, has_all, is_complete, Listing, needed, met_in}
+use Rattle.play_save.specs.FirstFaults.{MetValue, met, count_met, positive, count_at, fault_unless, go_together, count_fault, behind_counts, fault_by, has_all, is_complete, Listing, needed, met_in}
 use Rattle.play_save.specs.Inner.Taking.{IsPlayable, added}
 use Rattle.play_midend.proofs.OptionSteps.{and_then_taken}
 use Rattle.play_save.proofs.Meeting.{once_taken, met_added}
 use Rattle.play_save.proofs.RightLists.{AreRight, right_end, needed_taken}
 
--- a count that is read
+-- a number that isn't 0 is taken as it is, and no other
 positive_taken : (m n : ℕ) → positive m ≡ Some n → (m ≡ n) × (1 ≤ n)
 positive_taken zero n is = cc
 positive_taken (suc m) n is = let same : suc m ≡ n = cc in (same, omega arith)
@@ -42,25 +43,21 @@ count_taken value n is =
     let number = number_taken MOST_STATES read.value value (lit< tt) read.gives in
     (number.0 ∙ ap decimal some.0, some.1, omega (arith, number.1, some.0))
 
--- the decimal of such a number is read as that count
+-- the decimal of a number from 1 to MOST_STATES is read as this count
 pub count_again : (n : ℕ) → 1 ≤ n → n ≤ MOST_STATES → count_at (decimal n) ≡ Some n
 count_again n some few = rw (number_again MOST_STATES n few (lit< tt)) (positive_again n some)
 
--- where no fault comes of it, the test holds
+-- if a test gives no fault, it holds
 pub fault_unless_taken : (test : Bool) (fault : LoadFault) → fault_unless test fault ≡ None → test ≡ true
 fault_unless_taken true fault none = refl
 fault_unless_taken false fault none = cc
 
--- a count without a fault
+-- a count without a fault can be read, and goes together with the other one, if that was met
 pub count_faultless : (which : WhichCount) (read other : Option ℕ) → count_fault which read other ≡ None
     → (n : ℕ) × (read ≡ Some n) × ((m : ℕ) → other ≡ Some m → go_together which n m ≡ true)
-count_faultless which None other none = cc
-count_faultless which (Some n) None none = (n, refl, λ m is. cc)
-count_faultless which (Some n) (Some k) none =
-    let together = fault_unless_taken (go_together which n k) BadCount none in
-    (n, refl, λ m is. let same : k ≡ m = cc in ap (go_together which n) (sym same) ∙ together)
+count_faultless which read other none = grind (arith, nat_tests, fault_unless_taken)
 
--- both counts were met before each state, and go together with each other and with the states
+-- no state was met before the count of states, and counts go together with each other and with the states
 pub record IsSound (m : MetValue) : Type 0 where
   pub early : count_met m States ≡ None → length m.states ≡ 0
   pub few : (n : ℕ) → count_met m States ≡ Some n → length m.states + 1 ≤ n
@@ -86,44 +83,11 @@ counts_met m fault none = by_counts (count_met m States) (count_met m Position) 
 
 sound_count : {P : Type 0} (game : SavedGame P) (m : MetValue) (which : WhichCount) (value : List ℕ)
     → IsSound m → fault_by game m (Header (Count which)) value ≡ None → IsSound (added m (Header (Count which)) value)
-sound_count game m States value s none =
-    let fresh = once_taken (is_some (m.first (Count States))) _ none in
-    let (count, read, together) = count_faultless States (count_at value) (count_met m Position) fresh.1 in
-    let some = count_taken value count read in
-    let empty = s.early (unmet (m.first (Count States)) fresh.0) in
-    record {
-      early = λ is. cc;
-      few = λ n is. let same : count ≡ n = cc read in omega (arith, same, empty, some.1);
-      inside = λ n p is at. let same : count ≡ n = cc read in omega (arith, same, leb-true p count (together p at));
-    }
-  where
-    unmet : (o : Option (List ℕ)) → is_some o ≡ false → option_and_then count_at o ≡ None
-    unmet None none = refl
-    unmet (Some v) none = cc
-sound_count game m Position value s none =
-    let fresh = once_taken (is_some (m.first (Count Position))) _ none in
-    let (position, read, together) = count_faultless Position (count_at value) (count_met m States) fresh.1 in
-    record {
-      early = s.early;
-      few = s.few;
-      inside = λ n p is at. let same : position ≡ p = cc read in omega (arith, same, leb-true position n (together n is));
-    }
+sound_count game m which value s none = grind (arith, nat_tests, once_taken, count_faultless, count_taken)
 
 sound_state : {P : Type 0} (game : SavedGame P) (m : MetValue) (k : StateKey) (value : List ℕ)
     → IsSound m → is_complete m ≡ false → fault_by game m (State k) value ≡ None → IsSound (added m (State k) value)
-sound_state game m k value s undone none =
-    let both = (counts_met m (state_fault k value) none).0 in
-    let n = both States in
-    let q = both Position in
-    let test : nat_le n.0 (length m.states + 1) ≡ false = rw (n.1, q.1) at undone in
-    let above = leb-false n.0 (length m.states + 1) test in
-    let longer : length (m.states ++ record { key = k; value = value } ∷ []) ≡ length m.states + 1 =
-    length-append m.states (record { key = k; value = value } ∷ []) in
-    record {
-      early = λ is. let some = n.1 in cc;
-      few = λ i is. let some = n.1 in let same : n.0 ≡ i = cc in omega (arith, same, above, longer);
-      inside = s.inside;
-    }
+sound_state game m k value s undone none = grind (arith, nat_tests, counts_met, length-append)
 
 pub sound_added : {P : Type 0} (game : SavedGame P) (m : MetValue) (k : Key) (value : List ℕ)
     → IsSound m → is_complete m ≡ false → fault_by game m k value ≡ None → IsSound (added m k value)
@@ -135,7 +99,7 @@ sound_added game m (Header (Kept Seed)) value s undone none =
     record { early = s.early; few = s.few; inside = s.inside }
 sound_added game m k value s undone none = record { early = s.early; few = s.few; inside = s.inside }
 
--- along records that are right
+-- what was met stays sound along records without a fault
 sound_along : {P : Type 0} (game : SavedGame P) (before rs : List KeyedRecord)
     → IsSound (met before) → AreRight game before rs → IsSound (met (before ++ rs))
 sound_along game before [] s right = rw (append-nil before) s
@@ -144,7 +108,7 @@ sound_along game before (r ∷ rs) s (undone, faultless, right) =
     subst (λ b. IsSound (met b)) (append_assoc before (r ∷ []) rs)
     (sound_along game (before ++ r ∷ []) rs (rw (met_added game before r.key r.value faultless) next) right)
 
--- the counts of complete records
+-- both counts were met, with all states that they ask for
 pub record Counted (m : MetValue) : Type 0 where
   pub n : ℕ
   pub p : ℕ
@@ -155,7 +119,7 @@ pub record Counted (m : MetValue) : Type 0 where
   pub first : 1 ≤ p
   pub inside : p ≤ n
 
--- in records without a fault, the counts that were met go together
+-- if no record has a fault up to the last that is needed, both counts were met, with all their states
 pub counted : {P : Type 0} (game : SavedGame P) (rs : List KeyedRecord) → AreRight game [] rs → Counted (met rs)
 counted game rs right = by_counts (count_met (met rs) States) (count_met (met rs) Position) refl refl (right_end game [] rs right)
   where

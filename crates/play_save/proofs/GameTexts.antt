@@ -1,5 +1,7 @@
--- What a game owes of its descriptions, and that puzzles with the same written description are the same.
-use Rattle.std.proofs.Common.{◌≡◌, ◌≢◌, ℕ, ◌≤◌, true, List, Some, None, Ok, bytes_eq, refl, sym, ap}
+-- What saves ask of a game's descriptions; and puzzles with the same written description are the same.
+use Rattle.std.proofs.Common.{arith}
+use Rattle.std.proofs.lemmas.Bool.Decides.{nat_tests}
+use Rattle.std.proofs.Common.{◌≡◌, ◌≢◌, ℕ, ◌≤◌, List, Some, None, Ok, refl}
 use Rattle.std.proofs.lemmas.Bool.{cond_both}
 use Rattle.std.proofs.lemmas.Option.{cond_some}
 use Rattle.std.proofs.lemmas.Slice.Eq.{bytes_eq-Decides}
@@ -17,12 +19,12 @@ pub record IsGame {P : Type 0} (game : SavedGame P) : Type 0 where
   pub sized : (w : ℕ) (p : P) (text : List ℕ) → game.Describes w p text → (game.puzzle p).size ≡ w
   pub canonical : (w : ℕ) (p : P) (text : List ℕ) → game.Describes w p text → game.Describes w p (game.desc_of p)
 
--- the same of a game whose puzzles these are
+-- a game's texts, and the written description of each of its puzzles
 pub record Owes {P : Type 0} (game : SavedGame P) (of_game : P → Type 0) : Type 0 where
   pub texts : IsGame game
   pub own_text : (p : P) → of_game p → game.Describes (game.puzzle p).size p (game.desc_of p)
 
--- a game owes it by three of its laws
+-- a game has what saves ask of its descriptions, by three of its laws
 pub game_owes : {P : Type 0} (rules : RulesGhosts P) (game : GameGhosts P)
     → ((w : ℕ) (t : List ℕ) (p : P) → 3 ≤ w → w ≤ 9 → game.desc_at w t ≡ Ok p → (saves_of rules game).Describes w p t)
     → ((t : List ℕ) (p : P) → rules.valid p → game.describes t p → game.desc_at (rules.puzzle p).size t ≡ Ok p)
@@ -40,18 +42,12 @@ game_owes {P} rules game taken again canonical = record {
 -- the written description tells puzzles of a width apart
 pub same_puzzle : {P : Type 0} (game : SavedGame P) (w : ℕ) (p q : P) (p_text q_text : List ℕ)
     → IsGame game → game.Describes w p p_text → game.Describes w q q_text → game.desc_of q ≡ game.desc_of p → q ≡ p
-same_puzzle game w p q p_text q_text owes p_is q_is same =
-    let read_p = owes.reads.again w (game.desc_of p) p (owes.canonical w p p_text p_is) in
-    let read_q = owes.reads.again w (game.desc_of q) q (owes.canonical w q q_text q_is) in
-    let both : game.desc_at w (game.desc_of q) ≡ game.desc_at w (game.desc_of p) = ap (game.desc_at w) same in
-    cc
+same_puzzle game w p q p_text q_text owes p_is q_is same = grind (arith, nat_tests)
 
--- a description that is read restarts the puzzle just where it is the same
+-- a puzzle that was read is a restart just if its written description is the one of the session's puzzle
 pub restart_taken : {P : Type 0} (game : SavedGame P) (p q : P) (m : Move)
     → restart_of game p q ≡ Some m → (m ≡ Restart) × (game.desc_of q ≡ game.desc_of p)
-restart_taken game p q m is =
-    let restarted = cond_some (bytes_eq (game.desc_of q) (game.desc_of p)) Restart m is in
-    (sym restarted.1, (bytes_eq-Decides (game.desc_of q) (game.desc_of p)).0 restarted.0)
+restart_taken game p q m is = grind (arith, nat_tests, cond_some, bytes_eq-Decides)
 
 pub restart_again : {P : Type 0} (game : SavedGame P) (p : P) → restart_of game p p ≡ Some Restart
 restart_again game p = rw ((bytes_eq-Decides (game.desc_of p) (game.desc_of p)).1 refl) refl
@@ -60,8 +56,4 @@ restart_again game p = rw ((bytes_eq-Decides (game.desc_of p) (game.desc_of p)).
 pub other_puzzle : {P : Type 0} (game : SavedGame P) (w : ℕ) (p q : P) (p_text q_text : List ℕ)
     → IsGame game → game.Describes w p p_text → game.Describes w q q_text → q ≢ p → restart_of game p q ≡ None
 other_puzzle game w p q p_text q_text owes p_is q_is other =
-    cond_both (bytes_eq (game.desc_of q) (game.desc_of p)) (Some Restart) None (λ restart. restart ≡ None)
-    (λ same. absurd (other (same_puzzle game w p q p_text q_text owes p_is q_is (same_desc same)))) (λ differs. refl)
-  where
-    same_desc : bytes_eq (game.desc_of q) (game.desc_of p) ≡ true → game.desc_of q ≡ game.desc_of p
-    same_desc same = (bytes_eq-Decides (game.desc_of q) (game.desc_of p)).0 same
+    grind (arith, nat_tests, cond_both, same_puzzle, bytes_eq-Decides)

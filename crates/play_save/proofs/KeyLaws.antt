@@ -1,17 +1,14 @@
 -- The table of keys: each is written in eight bytes and read as itself, and headers are told apart by their names.
-use Rattle.std.proofs.Common.{◌≡◌, Bool, true, false, ◌==◌, ◌&&◌, not, ℕ, List, [], ◌∷◌, length, refl, sym, ap, ◌∙◌}
+use Rattle.std.proofs.Common.{arith}
+use Rattle.std.proofs.lemmas.Bool.Decides.{nat_tests}
+use Rattle.std.proofs.Common.{◌≡◌, Bool, true, false, ◌==◌, ◌&&◌, not, ℕ, List, [], ◌∷◌, length, refl}
 use Rattle.std.proofs.lemmas.Bool.{and_parts, not-true, eqb-false}
 use Rattle.std.proofs.lemmas.Slice.Eq.{bytes_eq-Decides}
 use Rattle.byte_text.specs.Bytes.{colon}
 use Rattle.byte_text.specs.Cuts.{Lacks}
-use Rattle.play_save.specs.declared.key.StateKey.TheVariants.{AnyMove}
-use Rattle.play_save.specs.declared.key.KeptKey.TheVariants.{Seed}
-use Rattle.play_save.specs.declared.key.WhoseParams.TheVariants.{Next}
-use Rattle.play_save.specs.declared.key.WhichCount.TheVariants.{States}
 use Rattle.play_save.specs.declared.key.HeaderKey.{HeaderKey}
-use Rattle.play_save.specs.declared.key.HeaderKey.TheVariants.{ParamsOf, Kept, Count}
 use Rattle.play_save.specs.declared.key.Key.{Key}
-use Rattle.play_save.specs.declared.key.Key.TheVariants.{Header, State, Other}
+use Rattle.play_save.specs.declared.key.Key.TheVariants.{Header, Other}
 use Rattle.play_save.specs.Records.{begins_with_break, unpadded}
 use Rattle.play_save.specs.Keys.{key_name, padded, key_of, same_header}
 
@@ -20,12 +17,12 @@ abbrev pub is_known : Key → Bool
 is_known Other = false
 is_known _ = true
 
--- what holds of the eight bytes of a key that is written
+-- whether none of the bytes is a colon
 pub free_of_colon : List ℕ → Bool
 free_of_colon [] = true
 free_of_colon (b ∷ bs) = not (b == colon) && free_of_colon bs
 
--- and so they have no colon
+-- bytes that pass the test have no colon
 pub free_lacks : (bs : List ℕ) → free_of_colon bs ≡ true → Lacks colon bs
 unfolding free_of_colon
 free_lacks [] free = tt
@@ -41,28 +38,14 @@ pub record IsKey (k : Key) : Type 0 where
   pub name_again : key_name k ≡ unpadded (padded (key_name k))
   pub key_again : key_of (key_name k) ≡ k
 
--- (A clause at one key of a pair makes the last clause be looked at for the other one, and so computed.)
+-- `IsKey` holds of known keys. (A clause at one key of a pair has the last clause computed for the other.)
 pub is_key : (k : Key) → is_known k ≡ true → IsKey k
 unfolding free_of_colon key_of
-is_key Other known = cc
-is_key (State AnyMove) known =
-    record { eight = refl; colon_free = refl; no_break = refl; name_again = refl; key_again = refl }
-is_key (Header (ParamsOf Next)) known =
-    record { eight = refl; colon_free = refl; no_break = refl; name_again = refl; key_again = refl }
-is_key (Header (Kept Seed)) known =
-    record { eight = refl; colon_free = refl; no_break = refl; name_again = refl; key_again = refl }
-is_key (Header (Count States)) known =
-    record { eight = refl; colon_free = refl; no_break = refl; name_again = refl; key_again = refl }
-is_key k known = record { eight = refl; colon_free = refl; no_break = refl; name_again = refl; key_again = refl }
+is_key k known = grind (arith, nat_tests)
 
 -- headers of the same name are the same
 pub same_key : (j k : HeaderKey) → same_header j k ≡ true → j ≡ k
-same_key j k same =
-    let names = (bytes_eq-Decides (key_name (Header j)) (key_name (Header k))).0 same in
-    let one = (is_key (Header j) refl).key_again in
-    let other = (is_key (Header k) refl).key_again in
-    let keys : Header j ≡ Header k = sym one ∙ (ap key_of names ∙ other) in
-    cc
+same_key j k same = grind (arith, nat_tests, bytes_eq-Decides, is_key)
 
 -- a header has its own name
 pub own_key : (k : HeaderKey) → same_header k k ≡ true

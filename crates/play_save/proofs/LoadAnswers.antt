@@ -1,4 +1,4 @@
--- The laws of save texts, of an answer.
+-- What the answer of loading says of the text, by the laws of save texts.
 use Rattle.std.proofs.Common.{◌≡◌, ℕ, ◌<◌, List, length, Result, Ok, Err, IfOk, refl, subst}
 use Rattle.std.proofs.lemmas.Bool.{lt-ltb}
 use Rattle.byte_text.specs.Reading.{GivesUnless}
@@ -48,7 +48,7 @@ faults_where_none {P} game owes text = (
     by_read (Ok h) is none = absurd (none h (load_taken game text h owes is))
     by_read (Err fault) is none = (fault, refl)
 
--- what saves ask of a game, each game gives: a session that a text is a save of can be stored
+-- a session that a text is a save of can be stored
 pub saves_are_storable : {P : Type 0} (rules : RulesGhosts P) (game : GameGhosts P) → SavesAreStorable (saves_of rules game) rules.valid
 saves_are_storable rules game h text save =
     let values = save.saved.values in
@@ -60,7 +60,7 @@ saves_are_storable rules game h text save =
       next_params_are = (values (ParamsOf Next)).holds.params;
     }
 
--- the first fault of a text that is too long
+-- the first fault of a text that is too long is TooLarge
 pub too_large : {P : Type 0} (game : SavedGame P) (text : List ℕ) → MOST_BYTES < length text → load_at game text ≡ Err TooLarge
 unfolding load_at
 too_large game text long = rw (lt-ltb MOST_BYTES (length text) long) refl

@@ -1,5 +1,7 @@
 -- What reading the next record answers.
-use Rattle.std.proofs.Common.{◌≡◌, ℕ, List, Option, Some, None, option_map, Result, Ok, Err, IfOk, IfErr, MatchOption, Bor}
+use Rattle.std.proofs.Common.{arith}
+use Rattle.std.proofs.lemmas.Bool.Decides.{nat_tests}
+use Rattle.std.proofs.Common.{◌≡◌, ℕ, List, Option, option_map, Result, Ok, Err, IfOk, IfErr, MatchOption, Bor}
 use Rattle.byte_text.specs.Reading.{Gives}
 use Rattle.play_save.specs.declared.fault.LoadFault.{LoadFault}
 use Rattle.play_save.specs.declared.fault.LoadFault.TheVariants.{Malformed}
@@ -15,9 +17,7 @@ Answer = Result (Option (Record × Bor (List ℕ))) LoadFault
 pub record_found : (bs : List ℕ) (answer : Answer)
     → Gives (option_map entry_and_rest) answer (record_at bs)
     → IfOk answer (λ o. MatchOption o (AreBreaks bs) (λ p. BeginsWith (entry_of p.0) p.1.now bs))
-record_found bs (Ok (Some p)) gives = record_taken bs (entry_of p.0) p.1.now gives
-record_found bs (Ok None) gives = end_taken bs gives
-record_found bs (Err e) gives = tt
+record_found bs answer gives = grind (arith, nat_tests, record_taken, end_taken)
 
 pub record_refused : (bs : List ℕ) (answer : Answer)
     → Gives (option_map entry_and_rest) answer (record_at bs) → IfErr answer (λ f. f ≡ Malformed)

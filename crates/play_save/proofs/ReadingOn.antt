@@ -29,7 +29,7 @@ met_by_needed : {P : Type 0} (game : SavedGame P) (text : List ℕ) (all : Resul
     → all ≡ needed game [] (records_of text) → met_in game (records_of text) ≡ (all >>= λ rs. Ok (met rs))
 met_by_needed game text all is = ap (λ (x : Result (List KeyedRecord) LoadFault). x >>= λ rs. Ok (met rs)) (sym is)
 
--- the end of reading
+-- once all that is needed was met, this is what was met in the text
 pub reads_done : {P : Type 0} {game : SavedGame P} {text rest : List ℕ} {m : MetValue}
     → Reads game text rest m → is_complete m ≡ true → met_in game (records_of text) ≡ Ok m
 reads_done {P} {game} {text} {rest} {m} r complete =
@@ -42,7 +42,7 @@ reads_done {P} {game} {text} {rest} {m} r complete =
     finished before nothing done = rw done refl
     finished before listing done = rw done refl
 
--- with no byte left, no record is left
+-- the records of a text are its first one and those after it, and a bound of their number
 listing_at : (n : ℕ) (rest : List ℕ) → length rest ≤ n
     → (k : ℕ) × (listing_within n rest ≡ listed (listing_within k) (record_at rest))
     × ((e : Entry) (after : List ℕ) → record_at rest ≡ Ok (Some (e, after)) → length after ≤ k)
@@ -75,21 +75,21 @@ onward {P} {game} {text} {rest} {m} read r undone is =
     } in
     rw is at made
 
--- a place where no record is left
+-- if no record is left at a place where more is needed, the text is refused as Missing
 pub reads_end : {P : Type 0} {game : SavedGame P} {text rest : List ℕ} {m : MetValue}
     → Reads game text rest m → is_complete m ≡ false → record_at rest ≡ Ok None → met_in game (records_of text) ≡ Err Missing
 reads_end {P} {game} {text} r undone read =
     let o = onward (Ok None) r undone read in
     met_by_needed game text (Err Missing) (rw o.undone at o.same)
 
--- a place where no record can be read
+-- if no record can be read at a place where more is needed, the text is refused with the fault of reading
 pub reads_broken : {P : Type 0} {game : SavedGame P} {text rest : List ℕ} {m : MetValue} {fault : LoadFault}
     → Reads game text rest m → is_complete m ≡ false → record_at rest ≡ Err fault → met_in game (records_of text) ≡ Err fault
 reads_broken {P} {game} {text} {rest} {m} {fault} r undone read =
     let o = onward (Err fault) r undone read in
     met_by_needed game text (Err Malformed) (rw o.undone at o.same) ∙ ap Err (sym (record_fault rest fault read))
 
--- a record that is refused, with its fault or for memory
+-- if a record that is needed is refused, with its fault or for memory, so is the text
 pub reads_fault : {P : Type 0} {game : SavedGame P} {text rest : List ℕ} {m : MetValue} {e : Entry} {after : List ℕ} (fault : LoadFault)
     → Reads game text rest m → is_complete m ≡ false → record_at rest ≡ Ok (Some (e, after))
     → (fault ≡ OutOfMemory) ⊎ (fault_by game m (key_of e.key) e.value ≡ Some fault)
@@ -100,7 +100,7 @@ reads_fault {P} {game} {text} {rest} {m} {e} {after} fault r undone read (inr ha
     let has_it = rw o.now at has in
     inr (met_by_needed game text (Err fault) (rw (o.undone, has_it) at o.same))
 
--- a record without a fault
+-- after a record without a fault this record is added to what was met, and reading goes on behind it
 pub reads_more : {P : Type 0} {game : SavedGame P} {text rest : List ℕ} {m new : MetValue} {e : Entry} {after : List ℕ}
     → Reads game text rest m → is_complete m ≡ false → record_at rest ≡ Ok (Some (e, after))
     → fault_by game m (key_of e.key) e.value ≡ None → new ≡ added m (key_of e.key) e.value → Reads game text after new

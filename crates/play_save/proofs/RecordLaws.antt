@@ -1,11 +1,12 @@
--- The record that is read is the one with which the text begins, and that one is read.
-use Rattle.std.proofs.Common.{◌≡◌, ℕ, ◌<◌, ◌≤◌, Bool, true, false, ◌==◌, ◌&&◌, nat_le, List, [], ◌∷◌, ◌++◌, length, take, drop, Option, Some, None, option_map, Ok, Err, ok_or, cond, refl, sym, ap, ◌∙◌, subst, arith, length-append}
+-- A record that is read is one with which the text begins, and one with which it begins is read.
+use Rattle.std.proofs.lemmas.Bool.Decides.{nat_tests}
+use Rattle.std.proofs.Common.{◌≡◌, ℕ, ◌<◌, Bool, true, false, ◌==◌, ◌&&◌, nat_le, List, [], ◌∷◌, ◌++◌, length, Some, None, Ok, Err, cond, refl, sym, ap, ◌∙◌, subst, arith, length-append}
 use Rattle.std.proofs.Math.Bool.{and-true, and-false}
-use Rattle.std.proofs.lemmas.Bool.{eqb-true, eq-eqb, leb-true, le-leb, cond_both}
+use Rattle.std.proofs.lemmas.Bool.{eqb-true, cond_both}
 use Rattle.std.proofs.lemmas.Option.{cond_some}
 use Rattle.std.proofs.lemmas.List.{take-append-drop, length-take-le, take_at, drop_at}
 use Rattle.byte_text.specs.Bytes.{space, colon}
-use Rattle.byte_text.specs.Cuts.{Lacks, before, behind}
+use Rattle.byte_text.specs.Cuts.{Lacks, behind}
 use Rattle.byte_text.specs.Decimals.{digit_onto, number_from}
 use Rattle.byte_text.proofs.CutLaws.{cut_parts, before_at, behind_at, lacks_before}
 use Rattle.play_save.specs.declared.fault.LoadFault.{LoadFault}
@@ -13,7 +14,7 @@ use Rattle.play_save.specs.declared.fault.LoadFault.TheVariants.{Malformed}
 use Rattle.play_save.specs.Records.{Entry, is_break, begins_with_break, AreBreaks, is_empty, unpadded, length_at, BeginsWith, skip_breaks, field_at, value_at, value_behind, record_of, record_behind, record_or_end, record_at}
 use Rattle.play_midend.proofs.OptionSteps.{map_taken, and_then_taken, ok_or_taken, where_taken}
 
--- a name and one more byte
+-- one more byte at the end of a name: a blank is dropped, and after any other byte nothing is
 pub unpadded-snoc : (xs : List ℕ) (b : ℕ) → unpadded (xs ++ b ∷ []) ≡ cond (b == space) (unpadded xs) (xs ++ b ∷ [])
 unpadded-snoc [] b = ap (λ t. cond t [] (b ∷ [])) (and-true (b == space))
 unpadded-snoc (x ∷ xs) b = rw (unpadded-snoc xs b) (by_blank (b == space))
@@ -28,7 +29,7 @@ unpadded-snoc (x ∷ xs) b = rw (unpadded-snoc xs b) (by_blank (b == space))
     by_blank true = refl
     by_blank false = rw (some xs, and-false) refl
 
--- the line breaks in front
+-- a text is its line breaks in front, and then the text without them
 skip_split : (bs : List ℕ) → (breaks : List ℕ) × (bs ≡ breaks ++ skip_breaks bs) × AreBreaks breaks
 skip_split [] = ([], refl, tt)
 skip_split (b ∷ bs) =
@@ -56,7 +57,7 @@ all_skipped (b ∷ bs) none =
     cond_both (is_break b) _ _ (λ (rest : List ℕ). rest ≡ [] → AreBreaks (b ∷ bs))
     (λ is empty. (is, all_skipped bs empty)) (λ is empty. cc) none
 
--- a length has no colon
+-- digits that are read as a number have no colon among them
 digits_lack_colon : (n : ℕ) (bs : List ℕ) (m : ℕ) → number_from 99999999 n bs ≡ Some m → Lacks colon bs
 digits_lack_colon n [] m is = tt
 digits_lack_colon n (b ∷ bs) m is =
@@ -70,39 +71,29 @@ length_lacks_colon : (digits : List ℕ) (n : ℕ) → length_at digits ≡ Some
 length_lacks_colon digits n is =
     digits_lack_colon 0 digits n (where_taken (nat_le 1 (length digits) && nat_le (length digits) 8) _ n is).1
 
--- fields
+-- a text with a colon is what stands before the first one, this colon, and what stands after it
 field_taken : (bs : List ℕ) (parts : List ℕ × List ℕ)
     → field_at bs ≡ Some parts → (bs ≡ parts.0 ++ (colon ∷ parts.1)) × Lacks colon parts.0
-field_taken bs parts is =
-    let found = map_taken (λ (rest : List ℕ). (before colon bs, rest)) (behind colon bs) parts is in
-    let split : (bs ≡ before colon bs ++ (colon ∷ found.value)) × Lacks colon (before colon bs) =
-    (cut_parts colon bs found.value found.gives, lacks_before colon bs) in
-    subst (λ (p : List ℕ × List ℕ). (bs ≡ p.0 ++ (colon ∷ p.1)) × Lacks colon p.0) found.rest split
+field_taken bs parts is = grind (arith, nat_tests, map_taken, cut_parts, lacks_before)
 
 field_again : (front rest : List ℕ) → Lacks colon front → field_at (front ++ (colon ∷ rest)) ≡ Some (front, rest)
 field_again front rest lacks = rw (behind_at colon front rest lacks, before_at colon front rest lacks) refl
 
--- a value after its length
+-- a value of a length and the rest after it are, together, the text
 value_taken : (n : ℕ) (bs : List ℕ) (parts : List ℕ × List ℕ)
     → value_at n bs ≡ Some parts → (length parts.0 ≡ n) × (bs ≡ parts.0 ++ parts.1)
-value_taken n bs parts is =
-    let some = cond_some (nat_le n (length bs)) (take n bs, drop n bs) parts is in
-    subst (λ (p : List ℕ × List ℕ). (length p.0 ≡ n) × (bs ≡ p.0 ++ p.1)) some.1
-    (length-take-le n bs (leb-true n (length bs) some.0), sym (take-append-drop n bs))
+value_taken n bs parts is = grind (arith, nat_tests, cond_some, length-take-le, take-append-drop)
 
 value_again : (value rest : List ℕ) → value_at (length value) (value ++ rest) ≡ Some (value, rest)
-value_again value rest =
-    let within : length value ≤ length (value ++ rest) = omega (arith, length-append value rest) in
-    rw (le-leb (length value) (length (value ++ rest)) within)
-    (rw (take_at value rest (length value) refl, drop_at value rest (length value) refl) refl)
+value_again value rest = grind (arith, nat_tests, length-append, take_at, drop_at)
 
--- what is read of a text that is a length, a colon, the value of that length, and the rest
+-- a length, a colon, a value of this length and the rest are read as this value and this rest
 sized_again : (digits value rest : List ℕ)
     → length_at digits ≡ Some (length value) → value_behind (digits ++ (colon ∷ (value ++ rest))) ≡ Some (value, rest)
 sized_again digits value rest sized =
     rw (field_again digits (value ++ rest) (length_lacks_colon digits (length value) sized), sized) (value_again value rest)
 
--- a record after line breaks, where it begins with its key
+-- if a record is read behind line breaks, the text with them begins with this record, and the other way
 keyed_taken : (front bs : List ℕ) (e : Entry) (rest : List ℕ) → AreBreaks front → begins_with_break bs ≡ false
     → record_behind bs ≡ Some (e, rest) → BeginsWith e rest (front ++ bs)
 unfolding record_behind
@@ -139,20 +130,12 @@ keyed_again : (e : Entry) (rest key digits : List ℕ)
     → length key ≡ 8 → Lacks colon key → e.key ≡ unpadded key → length_at digits ≡ Some (length e.value)
     → record_behind (key ++ (colon ∷ (digits ++ (colon ∷ (e.value ++ rest))))) ≡ Some (e, rest)
 unfolding record_behind
-keyed_again e rest key digits eight lacks name sized =
-    let made : (record_of key (e.value, rest)) ≡ (e, rest) =
-    ap (λ (n : List ℕ). let x : Entry × List ℕ = (record { key = n; value = e.value }, rest) in x) (sym name) in
-    rw (field_again key (digits ++ (colon ∷ (e.value ++ rest))) lacks, eq-eqb (length key) 8 eight)
-    (rw (sized_again digits e.value rest sized) (ap Some made))
+keyed_again e rest key digits eight lacks name sized = grind (arith, nat_tests, field_again, sized_again)
 
--- the record of a whole text
+-- what is read as a record, and not as the end, is the record that begins with its key
 or_end_taken : (bs : List ℕ) (e : Entry) (rest : List ℕ)
     → record_or_end bs ≡ Ok (Some (e, rest)) → record_behind bs ≡ Some (e, rest)
-or_end_taken [] e rest is = cc
-or_end_taken (b ∷ bs) e rest is =
-    let made = map_taken Some (record_behind (b ∷ bs)) (Some (e, rest)) (ok_or_taken _ Malformed _ is) in
-    let same : made.value ≡ (e, rest) = cc made.rest in
-    made.gives ∙ ap Some same
+or_end_taken bs e rest is = grind (arith, nat_tests, map_taken, ok_or_taken)
 
 or_end_again : (bs : List ℕ) (e : Entry) (rest : List ℕ)
     → 0 < length bs → record_behind bs ≡ Some (e, rest) → record_or_end bs ≡ Ok (Some (e, rest))
@@ -170,25 +153,11 @@ record_taken bs e rest is =
 -- what a text begins with is read as its record
 pub record_again : (bs : List ℕ) (e : Entry) (rest : List ℕ) → BeginsWith e rest bs → record_at bs ≡ Ok (Some (e, rest))
 unfolding record_at
-record_again bs e rest h =
-    let end = colon ∷ (h.digits ++ (colon ∷ (e.value ++ rest))) in
-    let skipped : skip_breaks bs ≡ h.key ++ end =
-    ap skip_breaks h.spelled
-    ∙ skip_again h.breaks (h.key ++ end) h.are_breaks (no_break_on h.key end h.eight h.no_break) in
-    let some : 0 < length (h.key ++ end) = omega (arith, length-append h.key end, h.eight) in
-    ap record_or_end skipped
-    ∙ or_end_again (h.key ++ end) e rest some (keyed_again e rest h.key h.digits h.eight h.no_colon h.name_is h.length_is)
-  where
-    no_break_on : (xs ys : List ℕ) → length xs ≡ 8 → begins_with_break xs ≡ false → begins_with_break (xs ++ ys) ≡ false
-    no_break_on [] ys eight is_none = absurd (omega arith)
-    no_break_on (x ∷ xs) ys eight is_none = is_none
+record_again bs e rest h = grind (arith, nat_tests, skip_again, length-append, or_end_again, keyed_again)
 
--- the end of a text
+-- if the end is read, no byte is left but line breaks
 or_end_none : (bs : List ℕ) → record_or_end bs ≡ Ok None → bs ≡ []
-or_end_none [] is = refl
-or_end_none (b ∷ bs) is =
-    let made = map_taken Some (record_behind (b ∷ bs)) None (ok_or_taken _ Malformed _ is) in
-    cc made.rest
+or_end_none bs is = grind (arith, nat_tests, map_taken, ok_or_taken)
 
 pub end_taken : (bs : List ℕ) → record_at bs ≡ Ok None → AreBreaks bs
 unfolding record_at
@@ -199,14 +168,9 @@ pub end_again : (bs : List ℕ) → AreBreaks bs → record_at bs ≡ Ok None
 unfolding record_at
 end_again bs are = ap record_or_end (skip_all bs are)
 
--- the only fault
+-- the only fault of reading a record is Malformed
 or_end_fault : (bs : List ℕ) (fault : LoadFault) → record_or_end bs ≡ Err fault → fault ≡ Malformed
-or_end_fault [] fault is = cc
-or_end_fault (b ∷ bs) fault is = by_read (record_behind (b ∷ bs)) is
-  where
-    by_read : (o : Option (Entry × List ℕ)) → ok_or (option_map Some o) Malformed ≡ Err fault → fault ≡ Malformed
-    by_read (Some parts) none = cc
-    by_read None none = cc
+or_end_fault bs fault is = grind (arith, nat_tests)
 
 -- what is no record is Malformed
 pub record_fault : (bs : List ℕ) (fault : LoadFault) → record_at bs ≡ Err fault → fault ≡ Malformed

@@ -1,17 +1,19 @@
 -- Lists of records: the values of a key, and the state records, along a list that is put together.
-use Rattle.std.proofs.Common.{◌≡◌, ℕ, Bool, true, false, List, [], ◌∷◌, ◌++◌, Option, is_some, cond, refl, ap, ◌∙◌}
+use Rattle.std.proofs.Common.{arith}
+use Rattle.std.proofs.lemmas.Bool.Decides.{nat_tests}
+use Rattle.std.proofs.Common.{◌≡◌, ℕ, false, List, [], ◌∷◌, ◌++◌, Option, is_some, refl, ap, ◌∙◌}
 use Rattle.play_midend.specs.declared.extras.Extras.{Extras}
 use Rattle.play_save.specs.declared.key.KeptKey.{KeptKey}
 use Rattle.play_save.specs.declared.key.KeptKey.TheVariants.{Seed, AuxInfo, Ui, Time}
 use Rattle.play_save.specs.declared.key.HeaderKey.{HeaderKey}
 use Rattle.play_save.specs.declared.key.Key.{Key}
 use Rattle.play_save.specs.declared.key.Key.TheVariants.{Header, State}
-use Rattle.play_save.specs.Keys.{same_header, kept_at, each_kept}
+use Rattle.play_save.specs.Keys.{kept_at, each_kept}
 use Rattle.play_save.specs.KeyedRecords.{KeyedRecord, KeyedState, onto_values, values_of, onto_states, states_in}
 use Rattle.play_save.specs.FirstFaults.{first_of}
 use Rattle.play_save.proofs.KeyLaws.{own_key}
 
--- what is kept, by its keys
+-- of values that are kept by their keys, each stands at its key
 pub kept_each : (value : KeptKey → Option (List ℕ)) (k : KeptKey) → kept_at (each_kept value) k ≡ value k
 kept_each value Seed = refl
 kept_each value k = refl
@@ -28,15 +30,10 @@ same_extras a b same =
     let whole : one ≡ other = cc in
     whole
 
--- lists that are put together
+-- a value in front of two lists, one after the other, is in front of the first
 onto_values-append : (k : HeaderKey) (key : Key) (value : List ℕ) (xs ys : List (List ℕ))
     → onto_values k key value (xs ++ ys) ≡ onto_values k key value xs ++ ys
-onto_values-append k (Header j) value xs ys = by_name (same_header j k)
-  where
-    by_name : (own : Bool) → cond own (value ∷ (xs ++ ys)) (xs ++ ys) ≡ cond own (value ∷ xs) xs ++ ys
-    by_name true = refl
-    by_name false = refl
-onto_values-append k key value xs ys = refl
+onto_values-append k key value xs ys = grind (arith, nat_tests)
 
 -- the values in two lists of records, one after the other
 pub values_of-append : (k : HeaderKey) (xs ys : List KeyedRecord)
@@ -58,7 +55,7 @@ states_in-append (x ∷ xs) ys =
     ap (onto_states x.key x.value) (states_in-append xs ys)
     ∙ onto_states-append x.key x.value (states_in xs) (states_in ys)
 
--- a record alone, and the values of its key where it stands between others
+-- the list of one record
 abbrev pub one : Key → List ℕ → List KeyedRecord
 one k value = record { key = k; value = value } ∷ []
 
@@ -70,7 +67,7 @@ pub append_none : {A : Type 0} (xs ys : List A) → xs ++ ys ≡ [] → (xs ≡ 
 append_none [] ys none = (refl, none)
 append_none (x ∷ xs) ys none = cc
 
--- the first of some values
+-- if there is no first value, there is none
 pub no_first : {A : Type 0} (xs : List A) → is_some (first_of xs) ≡ false → xs ≡ []
 no_first [] none = refl
 no_first (x ∷ xs) none = cc

@@ -40,7 +40,7 @@ pub record IsNeeded {P : Type 0} (game : SavedGame P) (before : List KeyedRecord
   pub right : AreRight game before more
   pub follow : Follow more listing
 
--- before a place where nothing more is needed
+-- if the records before a place are complete, they are all that is needed
 done_needed : {P : Type 0} (game : SavedGame P) (before all : List KeyedRecord) (listing : Listing)
     → is_complete (met before) ≡ true → before ≡ all → IsNeeded game before listing all
 done_needed game before all listing done same =
@@ -89,7 +89,7 @@ needed_again game before (r ∷ rs) (first m more) (undone, faultless, right) (s
     subst (λ (x : KeyedRecord). needed game before (first x more) ≡ Ok (before ++ r ∷ rs)) same
     (rw (undone, faultless) (rest ∙ ap Ok (append_assoc before (r ∷ []) rs)))
 
--- the listing of a text, and the records with which the text begins
+-- records with which the listing of a text begins are records with which the text begins
 follows_taken : (n : ℕ) (rs : List KeyedRecord) (text : List ℕ)
     → Follow rs (listing_within n text) → BeginsWithAll rs text
 unfolding listing_within
@@ -125,7 +125,7 @@ pub records_again : (rs : List KeyedRecord) (text : List ℕ) → BeginsWithAll 
 unfolding records_of
 records_again rs text begins = follows_again (length text) rs text (omega arith) begins
 
--- right lists end complete
+-- records without a fault, up to the last that is needed, are complete
 pub right_end : {P : Type 0} (game : SavedGame P) (before rs : List KeyedRecord)
     → AreRight game before rs → is_complete (met (before ++ rs)) ≡ true
 right_end game before [] right = rw (append-nil before) right
@@ -155,7 +155,7 @@ none_again game before (r ∷ rs) k some (undone, faultless, right) =
     by_key (Header j) none rest = by_name j (same_header j k) refl none rest
     by_key key none rest = rest
 
--- where a value of such a key stands, it stands alone and has no fault
+-- the value is the only one of its header, and has no fault after the records in front of it
 pub record StandsAlone {P : Type 0} (game : SavedGame P) (k : HeaderKey) (value : List ℕ) (values : List (List ℕ)) : Type 0 where
   pub alone : values ≡ value ∷ []
   pub front : List KeyedRecord
@@ -194,7 +194,7 @@ stands_alone {P} game before (r ∷ rs) k value more (undone, faultless, right) 
     by_key (Header j) key none e along = by_name j (same_header j k) key refl none e along
     by_key c key none e along = along e
 
--- what holds where no value stands, and where one stands alone, holds of the values that stand
+-- what holds of no value, and of a value that stands alone, holds of the values of a header
 pub by_standing : {P : Type 0} (game : SavedGame P) (rs : List KeyedRecord) (k : HeaderKey) (R : List (List ℕ) → Type 0)
     → AreRight game [] rs → R [] → ((value : List ℕ) → StandsAlone game k value (values_of k rs) → R (value ∷ [])) → R (values_of k rs)
 by_standing game rs k R right none some = by_values (values_of k rs) refl

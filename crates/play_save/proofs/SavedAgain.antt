@@ -1,8 +1,7 @@
 -- A save of a session is read as that session.
-use Rattle.std.proofs.Common.{◌≡◌, ◌⊎◌, ℕ, ◌+◌, ◌<◌, ◌≤◌, true, false, nat_lt, List, [], ◌∷◌, ◌++◌, length, codes, bytes_eq, Option, Some, None, option_and_then, is_some, Result, Ok, refl, sym, ap, ◌∙◌, subst, arith, inl, inr, length-append}
+use Rattle.std.proofs.Common.{◌≡◌, ◌⊎◌, ℕ, ◌+◌, ◌<◌, ◌≤◌, true, false, nat_lt, List, [], ◌∷◌, ◌++◌, length, bytes_eq, Option, Some, None, is_some, Result, Ok, refl, sym, ap, ◌∙◌, subst, arith, inl, inr, length-append}
 use Rattle.std.specs.List.{AllByRecursion}
 use Rattle.std.specs.Fmt.{decimal}
-use Rattle.std.specs.Result.{result_ok}
 use Rattle.trail_solver.specs.Puzzles.{Puzzle}
 use Rattle.std.proofs.lemmas.List.{append-nil, append_assoc}
 use Rattle.std.proofs.lemmas.Slice.Eq.{bytes_eq-Decides}
@@ -17,21 +16,19 @@ use Rattle.play_midend.specs.Histories.{History, IsValid, started}
 use Rattle.play_midend.specs.MoveLists.{with_moves}
 use Rattle.play_midend.proofs.MoveListLaws.{legal_list_played}
 use Rattle.play_save.specs.declared.fault.LoadFault.{LoadFault}
-use Rattle.play_save.specs.declared.fault.LoadFault.TheVariants.{Version, WrongGame}
 use Rattle.play_save.specs.declared.key.WhoseParams.{WhoseParams}
 use Rattle.play_save.specs.declared.key.WhoseParams.TheVariants.{Next, Current}
 use Rattle.play_save.specs.declared.key.WhichCount.{WhichCount}
 use Rattle.play_save.specs.declared.key.WhichCount.TheVariants.{States, Position}
 use Rattle.play_save.specs.declared.key.HeaderKey.{HeaderKey}
-use Rattle.play_save.specs.declared.key.HeaderKey.TheVariants.{SaveFile, FormatVersion, Title, ParamsOf, Desc, PrivateDesc, Kept, Count}
+use Rattle.play_save.specs.declared.key.HeaderKey.TheVariants.{FormatVersion, Title, Desc, Count}
 use Rattle.play_save.specs.declared.key.Key.{Key}
 use Rattle.play_save.specs.declared.key.Key.TheVariants.{Header, State, Other}
 use Rattle.play_save.specs.declared.save_format.TheConstants.{MOST_BYTES}
 use Rattle.play_save.specs.Records.{record_at}
-use Rattle.play_save.specs.Keys.{kept_at}
 use Rattle.play_save.specs.KeyedRecords.{KeyedRecord, KeyedState, values_of, states_in, onto_states, once_if_kept, is_state, CountsStandFirst, may_be_last, EndsWithState}
 use Rattle.play_save.specs.SaveTexts.{SavedGame, params_of, count_of, HasValues, format_record, HaveStates, AreSaved, SaveText}
-use Rattle.play_save.specs.FirstFaults.{saved_params_at, count_at, first_of, met, params_met, count_met, extras_met, fault_unless, params_fault, go_together, other_count, count_fault, behind_counts, state_fault, value_fault, fault_by, has_all, is_complete, records_of, needed, states_played, session_of, behind_head, met_in, load_at}
+use Rattle.play_save.specs.FirstFaults.{saved_params_at, count_at, first_of, met, params_met, count_met, extras_met, go_together, other_count, behind_counts, state_fault, value_fault, fault_by, has_all, is_complete, records_of, needed, states_played, session_of, behind_head, met_in, load_at}
 use Rattle.play_save.proofs.RecordLaws.{record_again}
 use Rattle.play_save.proofs.RecordLists.{one, values_of-append, values_at, states_in-append, append_none, kept_each, same_extras}
 use Rattle.play_save.proofs.RightLists.{AreRight, needed_again, records_again}
@@ -46,12 +43,9 @@ kept_at_most (Some value) = omega arith
 
 one_at_most : {P : Type 0} (game : SavedGame P) (h : History P) (k : HeaderKey) (values : List (List ℕ))
     → HasValues game h k values → length values ≤ 1
-one_at_most game h (ParamsOf whose) values has = omega (arith, ap length has.alone)
-one_at_most game h Desc values has = omega (arith, ap length has.alone)
-one_at_most game h (Kept k) values has = omega (arith, ap length has, kept_at_most (kept_at h.extras k))
-one_at_most game h k values has = omega (arith, ap length has)
+one_at_most game h k values has = grind (arith, nat_tests, kept_at_most)
 
--- a value of a save, at its place
+-- the value is one that a save has of its header, and none of this header stands before it
 record IsAlone {P : Type 0} (game : SavedGame P) (h : History P) (k : HeaderKey) (value : List ℕ) (before : List KeyedRecord)
     : Type 0 where
   first : values_of k before ≡ []
@@ -71,7 +65,7 @@ alone_at game h k value before later s =
     none [] e = refl
     none (x ∷ xs) e = cc
 
--- the same bytes by their test
+-- equal bytes pass the test for equality
 same_bytes : (xs ys : List ℕ) → xs ≡ ys → bytes_eq xs ys ≡ true
 same_bytes xs ys e = (bytes_eq-Decides xs ys).1 e
 
@@ -90,9 +84,7 @@ all_faultless game p (m ∷ ms) (s ∷ ss) have =
 -- the counts of a save are read, and go together
 count_good : {P : Type 0} (p : Puzzle) (h : History P) → IsValid p h → (which : WhichCount)
     → count_at (decimal (count_of h which)) ≡ Some (count_of h which)
-count_good p h valid States = count_again (length h.moves + 1) (omega arith) valid.few
-count_good p h valid Position =
-    let few = valid.few in let last = valid.last in count_again h.position valid.first (omega arith)
+count_good p h valid which = grind (arith, nat_tests, count_again)
 
 go_good : {P : Type 0} (p : Puzzle) (h : History P) → IsValid p h → (which : WhichCount)
     → go_together which (count_of h which) (count_of h (other_count which)) ≡ true
@@ -119,7 +111,7 @@ count_side game h before later s which =
         let same : v ≡ decimal (count_of h which) = cc in
         inr (rw (some, same) (count_good (game.puzzle h.puzzle) h s.valid which), rest.1)
 
--- the same parameters are read
+-- the parameters of a save are read as the session's
 params_good : {P : Type 0} (game : SavedGame P) (p : Params) (value : List ℕ)
     → IsParamText game.letters p value → saved_params_at game value ≡ Ok p
 params_good game p value is = params_again game.letters game.has_adjacent value p is
@@ -131,24 +123,8 @@ head_same x y e = cc
 value_good : {P : Type 0} (game : SavedGame P) (h : History P) (before later : List KeyedRecord) (k : HeaderKey) (value : List ℕ)
     → IsValid (game.puzzle h.puzzle) h → ((which : WhichCount) → IsOnSide h which before later) → HasValues game h k (value ∷ [])
     → value_fault game (met before) k value ≡ None
-value_good game h before later SaveFile value valid side has = cc
-value_good game h before later PrivateDesc value valid side has = cc
-value_good game h before later FormatVersion value valid side has =
-    ap (λ t. fault_unless t Version) (same_bytes value (codes "1") (head_same value (codes "1") has))
-value_good game h before later Title value valid side has =
-    ap (λ t. fault_unless t WrongGame) (same_bytes value game.title (head_same value game.title has))
-value_good game h before later (ParamsOf whose) value valid side has =
-    ap params_fault (ap (saved_params_at game) (head_same value has.value has.alone)
-    ∙ params_good game (params_of h whose) has.value has.holds)
-value_good game h before later (Count which) value valid side has =
-    let read = ap count_at (head_same value _ has) ∙ count_good (game.puzzle h.puzzle) h valid which in
-    rw read (by_other (side (other_count which)))
-  where
-    by_other : IsOnSide h (other_count which) before later
-        → count_fault which (Some (count_of h which)) (count_met (met before) (other_count which)) ≡ None
-    by_other (inl none) = rw none refl
-    by_other (inr some) = rw (some.0, go_good (game.puzzle h.puzzle) h valid which) refl
-value_good game h before later k value valid side has = refl
+value_good game h before later k value valid side has =
+    grind (arith, nat_tests, same_bytes, head_same, params_good, count_good, go_good)
 
 -- no record of a save has a fault after those before it
 faultless_at : {P : Type 0} (game : SavedGame P) (h : History P) (before later : List KeyedRecord) (k : Key) (value : List ℕ)
@@ -233,12 +209,10 @@ undone_at game h before later s ends =
         let above : length (states_in before) + 1 < length h.moves + 1 = omega arith in
         rw (some.0, place.0) (grind (arith, nat_tests))
 
--- the records of a save are right
+-- the records of a save have no fault, and the last is the first that completes them
 count_saved : {P : Type 0} (game : SavedGame P) (rs : List KeyedRecord) (h : History P)
     → AreSaved game h rs → (which : WhichCount) → count_met (met rs) which ≡ Some (count_of h which)
-count_saved game rs h s which =
-    ap (λ vs. option_and_then count_at (first_of vs)) (s.values (Count which))
-    ∙ count_good (game.puzzle h.puzzle) h s.valid which
+count_saved game rs h s which = grind (arith, nat_tests, count_good)
 
 right_along : {P : Type 0} (game : SavedGame P) (h : History P) (before later : List KeyedRecord)
     → AreSaved game h (before ++ later) → CountsStandFirst later → EndsIfAny later → AreFaultless (states_in later)
@@ -271,24 +245,18 @@ saved_right game rs h s =
     right_along game h [] rs s s.counts_first (ends_at_all rs s.last)
     (all_faultless game h.puzzle h.moves (states_in rs) s.states)
 
--- and they are played as the session
+-- the records of a save give the session: what it keeps, its parameters, and its moves, played
 first_kept : (kept : Option (List ℕ)) (values : List (List ℕ)) → values ≡ once_if_kept kept → first_of values ≡ kept
 first_kept None values is = ap first_of is
 first_kept (Some v) values is = ap first_of is
 
 extras_saved : {P : Type 0} (game : SavedGame P) (rs : List KeyedRecord) (h : History P)
     → AreSaved game h rs → extras_met (met rs) ≡ h.extras
-extras_saved game rs h s =
-    same_extras (extras_met (met rs)) h.extras (λ k.
-    kept_each (λ j. first_of (values_of (Kept j) rs)) k
-    ∙ first_kept (kept_at h.extras k) (values_of (Kept k) rs) (s.values (Kept k)))
+extras_saved game rs h s = grind (arith, nat_tests, same_extras, kept_each, first_kept)
 
 params_saved : {P : Type 0} (game : SavedGame P) (rs : List KeyedRecord) (h : History P)
     → AreSaved game h rs → (whose : WhoseParams) → params_met game (met rs) whose ≡ Some (params_of h whose)
-params_saved game rs h s whose =
-    let own = s.values (ParamsOf whose) in
-    ap (λ vs. option_and_then (λ v. result_ok (saved_params_at game v)) (first_of vs)) own.alone
-    ∙ ap result_ok (params_good game (params_of h whose) own.value own.holds)
+params_saved game rs h s whose = grind (arith, nat_tests, params_good)
 
 pub session_again : {P : Type 0} (game : SavedGame P) (rs : List KeyedRecord) (h : History P)
     → IsGame game → AreSaved game h rs → session_of game (met rs) ≡ Ok h
@@ -312,7 +280,7 @@ session_again {P} game rs h owes s =
     let extras = extras_saved game rs h s in
     rw (version, name, next, now, desc, place, puzzle, extras, played) refl
 
--- the whole text
+-- a text that is a save of a session is read as this session
 pub load_again : {P : Type 0} (game : SavedGame P) (text : List ℕ) (h : History P)
     → IsGame game → SaveText game h text → load_at game text ≡ Ok h
 unfolding load_at

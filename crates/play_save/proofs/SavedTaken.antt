@@ -1,4 +1,5 @@
 -- What is read as a session is a save of it.
+use Rattle.std.proofs.lemmas.Bool.Decides.{nat_tests}
 use Rattle.std.proofs.Common.{◌≡◌, length-append, option_and_then, ℕ, ◌<◌, true, false, ◌&&◌, nat_lt, List, [], ◌∷◌, ◌++◌, length, codes, bytes_eq, Option, Some, None, is_some, Result, Ok, ok_or, refl, sym, ap, ◌∙◌, subst, arith}
 use Rattle.std.specs.Result.{result_ok, result_unwrap_or}
 use Rattle.std.specs.Fmt.{decimal}
@@ -12,20 +13,19 @@ use Rattle.play_midend.specs.Histories.{History, started, at_position}
 use Rattle.play_midend.specs.MoveLists.{with_moves}
 use Rattle.play_midend.proofs.MoveListLaws.{accepted_list_legal}
 use Rattle.play_save.specs.declared.fault.LoadFault.{LoadFault}
-use Rattle.play_save.specs.declared.fault.LoadFault.TheVariants.{NotASave, Version, WrongGame, Repeated, Unsupported, BadDesc, Missing, TooLarge}
+use Rattle.play_save.specs.declared.fault.LoadFault.TheVariants.{Version, WrongGame, Repeated, Unsupported, BadDesc, Missing, TooLarge}
 use Rattle.play_save.specs.declared.key.WhoseParams.{WhoseParams}
 use Rattle.play_save.specs.declared.key.WhoseParams.TheVariants.{Next, Current}
-use Rattle.play_save.specs.declared.key.KeptKey.TheVariants.{Seed}
 use Rattle.play_save.specs.declared.key.WhichCount.{WhichCount}
 use Rattle.play_save.specs.declared.key.WhichCount.TheVariants.{States, Position}
 use Rattle.play_save.specs.declared.key.HeaderKey.{HeaderKey}
 use Rattle.play_save.specs.declared.key.HeaderKey.TheVariants.{SaveFile, FormatVersion, Title, ParamsOf, Desc, PrivateDesc, Kept, Count}
 use Rattle.play_save.specs.declared.key.Key.{Key}
-use Rattle.play_save.specs.declared.key.Key.TheVariants.{Header, State}
+use Rattle.play_save.specs.declared.key.Key.TheVariants.{State}
 use Rattle.play_save.specs.declared.save_format.TheConstants.{MOST_BYTES}
 use Rattle.play_save.specs.Records.{Entry, BeginsWith, record_at}
 use Rattle.play_save.specs.KeyedRecords.{KeyedRecord, values_of, states_in, IsOne, once_if_kept, is_state, CountsStandFirst, may_be_last, EndsWithState}
-use Rattle.play_save.specs.SaveTexts.{SavedGame, HasValues, collection, format_record, AreSaved, SaveText}
+use Rattle.play_save.specs.SaveTexts.{SavedGame, HasValues, format_record, AreSaved, SaveText}
 use Rattle.play_save.specs.FirstFaults.{MetValue, saved_params_at, count_at, first_of, met, params_met, count_met, extras_met, fault_unless, state_fault, value_fault, fault_by, is_complete, records_of, unless, needed, states_played, session_of, head_or_fault, behind_head, met_in, load_at}
 use Rattle.play_save.specs.Inner.Taking.{added}
 use Rattle.play_midend.proofs.OptionSteps.{and_then_taken, ok_or_taken, result_taken, ok_else, ok_where}
@@ -37,19 +37,19 @@ use Rattle.play_save.proofs.Counting.{count_taken, fault_unless_taken, counts_me
 use Rattle.play_save.proofs.GameTexts.{IsGame}
 use Rattle.play_save.proofs.StatesPlayed.{IsDescribed, ok_taken, states_taken, have_length}
 
--- what was met of a key is its only value
+-- what was met of a header is its only value
 only_value : {P : Type 0} (game : SavedGame P) (rs : List KeyedRecord) (k : HeaderKey) (value : List ℕ)
     → AreRight game [] rs → (met rs).first k ≡ Some value → values_of k rs ≡ value ∷ []
 only_value game rs k value right is =
     by_standing game rs k (λ vs. first_of vs ≡ Some value → vs ≡ value ∷ []) right (λ e. cc) (λ v at e. cc) is
 
--- a key whose value always has a fault never stands
+-- a header whose value always has a fault never stands
 never : {P : Type 0} (game : SavedGame P) (rs : List KeyedRecord) (k : HeaderKey) (fault : LoadFault)
     → AreRight game [] rs → ((m : MetValue) (value : List ℕ) → value_fault game m k value ≡ Some fault) → values_of k rs ≡ []
 never game rs k fault right refused =
     by_standing game rs k (λ vs. vs ≡ []) right refl (λ v at. let some = refused (met at.front) v in let none = at.faultless in cc)
 
--- a key that stands with one value alone
+-- a header that may have one value alone has this value, if it was met
 fixed_value : {P : Type 0} (game : SavedGame P) (rs : List KeyedRecord) (k : HeaderKey) (value : List ℕ) (fault : LoadFault)
     → AreRight game [] rs
     → ((m : MetValue) (v : List ℕ) → value_fault game m k v ≡ None → fault_unless (bytes_eq v value) fault ≡ None)
@@ -72,9 +72,7 @@ params_taken_of game rs whose p right is =
 
 count_taken_of : {P : Type 0} (game : SavedGame P) (rs : List KeyedRecord) (which : WhichCount) (n : ℕ)
     → AreRight game [] rs → count_met (met rs) which ≡ Some n → values_of (Count which) rs ≡ decimal n ∷ []
-count_taken_of game rs which n right is =
-    let read = and_then_taken count_at ((met rs).first (Count which)) n is in
-    only_value game rs (Count which) read.value right read.gives ∙ ap (λ v. v ∷ []) (count_taken read.value n read.rest).0
+count_taken_of game rs which n right is = grind (arith, nat_tests, and_then_taken, only_value, count_taken)
 
 -- no count follows a state record
 right_counts_first : {P : Type 0} (game : SavedGame P) (before rs : List KeyedRecord)
@@ -101,14 +99,10 @@ right_counts_first {P} game before (r ∷ rs) (undone, faultless, right) =
         none_again game (before ++ r ∷ []) rs (Count which) stands right
     by_key k value state none = cc
 
--- the last record is one that completes
+-- a record that completes those before it is a state record or a count
 completes : (m : MetValue) (k : Key) (value : List ℕ)
     → is_complete m ≡ false → is_complete (added m k value) ≡ true → may_be_last k ≡ true
-completes m (Header (Count which)) value undone done = refl
-completes m (State k) value undone done = refl
-completes m (Header (ParamsOf Next)) value undone done = cc
-completes m (Header (Kept Seed)) value undone done = cc
-completes m k value undone done = cc
+completes m k value undone done = grind (arith, nat_tests)
 
 right_ends : {P : Type 0} (game : SavedGame P) (before : List KeyedRecord) (r : KeyedRecord) (rs : List KeyedRecord)
     → AreRight game before (r ∷ rs) → EndsWithState (r ∷ rs)
@@ -122,7 +116,7 @@ ends_with_state : {P : Type 0} (game : SavedGame P) (rs : List KeyedRecord) → 
 ends_with_state game [] right = cc
 ends_with_state game (r ∷ rs) right = right_ends game [] r rs right
 
--- the session of the records
+-- if records without a fault give a session, they are the records of a save of it
 unless_taken : {A : Type 0} (fault : Option LoadFault) (r : Result A LoadFault) (a : A)
     → unless fault r ≡ Ok a → (fault ≡ None) × (r ≡ Ok a)
 unless_taken None r a is = (refl, is)
@@ -201,25 +195,15 @@ saved_taken {P} game rs h owes right is =
     let whole = ap (λ (x : History P). at_position x place.value) (sym played_on) ∙ given in
     subst (λ (x : History P). AreSaved game x rs) whole made
 
--- the first record
+-- a first record that is accepted names the format
 head_taken : (e : Entry) (after rest : List ℕ) → head_or_fault e after ≡ Ok rest → (e ≡ format_record) × (after ≡ rest)
-head_taken e after rest is =
-    let named = ok_where (bytes_eq e.key (codes "SAVEFILE") && bytes_eq e.value collection) after NotASave rest is in
-    let both = and_parts (bytes_eq e.key (codes "SAVEFILE")) (bytes_eq e.value collection) named.0 in
-    let key = (bytes_eq-Decides e.key (codes "SAVEFILE")).0 both.0 in
-    let value = (bytes_eq-Decides e.value collection).0 both.1 in
-    let own : Entry = record e { key = e.key } in
-    let same : own ≡ format_record = cc in
-    (same, named.1)
+head_taken e after rest is = grind (arith, nat_tests, ok_where, bytes_eq-Decides)
 
 behind_head_taken : (text rest : List ℕ) (read : Result (Option (Entry × List ℕ)) LoadFault)
     → record_at text ≡ read → behind_head read ≡ Ok rest → BeginsWith format_record rest text
-behind_head_taken text rest (Ok (Some parts)) read is =
-    let head = head_taken parts.0 parts.1 rest is in
-    rw (head.0, head.1) at (record_taken text parts.0 parts.1 read)
-behind_head_taken text rest other read is = cc
+behind_head_taken text rest read h is = grind (arith, nat_tests, head_taken, record_taken)
 
--- the whole text
+-- a text that is read as a session is a save of it
 pub load_taken : {P : Type 0} (game : SavedGame P) (text : List ℕ) (h : History P)
     → IsGame game → load_at game text ≡ Ok h → SaveText game h text
 unfolding load_at

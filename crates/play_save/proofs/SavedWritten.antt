@@ -1,5 +1,6 @@
 -- What is written of a session is a save of it, and of no other.
-use Rattle.std.proofs.Common.{◌≡◌, ℕ, ◌≤◌, List, [], ◌∷◌, ◌++◌, length, map, Result, Ok, Err, IfOk, IfErr, inl, inr, refl, sym, ap, ◌∙◌, subst, arith, length-append, lit≤}
+use Rattle.std.proofs.lemmas.Bool.Decides.{nat_tests}
+use Rattle.std.proofs.Common.{◌≡◌, ℕ, ◌≤◌, List, [], ◌∷◌, ◌++◌, length, map, Result, Ok, Err, IfOk, IfErr, refl, sym, ap, ◌∙◌, subst, arith, length-append, lit≤}
 use Rattle.std.proofs.lemmas.Option.{some_pair_parts}
 use Rattle.std.specs.List.{AllByRecursion}
 use Rattle.byte_text.specs.Bytes.{line_feed}
@@ -8,7 +9,6 @@ use Rattle.trail_solver.specs.Puzzles.{Puzzle}
 use Rattle.game_texts.specs.Parameters.{IsParams, params_text}
 use Rattle.game_texts.proofs.ParameterLemmas.{same_params}
 use Rattle.play_midend.specs.declared.moves.Move.{Move}
-use Rattle.play_midend.specs.declared.moves.Move.TheVariants.{Solve, Restart}
 use Rattle.play_midend.specs.Steps.{start_of}
 use Rattle.play_midend.specs.Histories.{History, IsValid, IsStorable, shown}
 use Rattle.play_save.specs.declared.fault.LoadFault.{LoadFault}
@@ -20,7 +20,7 @@ use Rattle.play_save.specs.declared.key.Key.TheVariants.{Header}
 use Rattle.play_save.specs.declared.save_format.TheConstants.{MOST_BYTES}
 use Rattle.play_save.specs.Records.{BeginsWith}
 use Rattle.play_save.specs.KeyedRecords.{KeyedRecord, BeginsWithAll, values_of}
-use Rattle.play_save.specs.SaveTexts.{SavedGame, params_of, HasValues, collection, format_record, IsStateOf, HaveStates, AreSaved, SaveText}
+use Rattle.play_save.specs.SaveTexts.{SavedGame, params_of, HasValues, collection, format_record, IsStateOf, HaveStates, SaveText}
 use Rattle.play_save.specs.Written.{with_value, state_value, record_text, records_text, save_of}
 use Rattle.play_save.specs.Laws.{WrittenIsSaved, WrittenSavesNoOther}
 use Rattle.play_save.proofs.RecordLaws.{record_again}
@@ -30,13 +30,11 @@ use Rattle.play_save.proofs.WrittenRecords.{written_begins, all_written, same_al
 use Rattle.play_save.proofs.SessionRecords.{tail_records, values_tail, states_tail, counts_first_tail, ends_tail, known_tail}
 use Rattle.play_midend.proofs.LegalMoves.{FitsText, all_fit}
 
--- a state record that is written has its move
+-- the state record that is written of a move is this move's
 state_again : {P : Type 0} (game : SavedGame P) (p : P) (desc : List ℕ) (m : Move)
     → game.Describes (game.puzzle p).size p desc → FitsText m
     → IsStateOf game p m (state_value desc m).key (state_value desc m).value
-state_again game p desc (Solve g) described fits = (record { writable = fits; spelled = refl }, refl)
-state_again game p desc Restart described fits = (refl, described)
-state_again game p desc m described fits = record { writable = fits; spelled = refl }
+state_again game p desc m described fits = grind (arith, nat_tests)
 
 states_again : {P : Type 0} (game : SavedGame P) (p : P) (desc : List ℕ) (ms : List Move)
     → game.Describes (game.puzzle p).size p desc → AllByRecursion FitsText ms
@@ -45,7 +43,7 @@ states_again game p desc [] described fits = tt
 states_again game p desc (m ∷ ms) described fits =
     (state_again game p desc m described fits.0, states_again game p desc ms described fits.1)
 
--- the records that are written after the first, and their text
+-- the records that are written after the first
 abbrev tail_of : {P : Type 0} → SavedGame P → History P → List KeyedRecord
 tail_of game h = tail_records game.title (game.desc_of h.puzzle) h
 
@@ -53,7 +51,7 @@ tail_of game h = tail_records game.title (game.desc_of h.puzzle) h
 abbrev behind_first : {P : Type 0} → SavedGame P → History P → List ℕ
 behind_first game h = line_feed ∷ records_text (tail_of game h)
 
--- the written text, record by record
+-- the written text is that of the first record, and then that of the others
 written_text : {P : Type 0} (game : SavedGame P) (h : History P)
     → save_of game.title game.desc_of h ≡ record_text (with_value (Header SaveFile) collection) ++ records_text (tail_of game h)
 unfolding save_of
@@ -77,7 +75,7 @@ read_written {P} game h small =
       all = all_written rs (line_feed ∷ []) (refl, tt) (known_tail game.title (game.desc_of h.puzzle) h) short;
     }
 
--- what is written is a save
+-- what is written of a storable session is a save of it, if it isn't too long
 pub written_is_saved : {P : Type 0} (game : SavedGame P) (of_game : P → Type 0)
     → Owes game of_game → WrittenIsSaved game of_game
 written_is_saved {P} game of_game owes h storable small =
@@ -153,14 +151,12 @@ written_saves_no_other {P} game of_game owes h other valid of t =
     let saved = written_is_saved game of_game owes h storable t.small in
     (saves_one_session game owes.texts other h text t saved, storable)
 
--- the same of an answer
+-- if what was written of a session is loaded, the answer is this session
 pub round_same : {P : Type 0} (game : SavedGame P) (of_game : P → Type 0) (h : History P) (text : List ℕ)
     (answer : Result (History P) LoadFault)
     → WrittenSavesNoOther game of_game → IsValid (game.puzzle h.puzzle) h → of_game h.puzzle
     → text ≡ save_of game.title game.desc_of h → IfOk answer (λ s. SaveText game s text) → IfOk answer (λ s. s ≡ h)
-round_same game of_game h text (Ok s) law valid of written is =
-    (law h s valid of (subst (λ t. SaveText game s t) written is)).0
-round_same game of_game h text (Err e) law valid of written is = tt
+round_same game of_game h text answer law valid of written is = grind (arith, nat_tests)
 
 pub round_board : {P : Type 0} (puzzle : P → Puzzle) (h : History P) (answer : Result (History P) LoadFault)
     → IfOk answer (λ s. s ≡ h) → IfOk answer (λ s. shown (puzzle s.puzzle) s ≡ shown (puzzle h.puzzle) h)
@@ -169,6 +165,4 @@ round_board puzzle h (Err e) same = tt
 
 pub round_refused : {P : Type 0} (game : SavedGame P) (h : History P) (answer : Result (History P) LoadFault)
     → GivesUnless OutOfMemory (λ s. s) answer (Ok h) → IfErr answer (λ fault. fault ≡ OutOfMemory)
-round_refused game h (Ok s) gives = tt
-round_refused game h (Err e) (inl memory) = memory
-round_refused game h (Err e) (inr refused) = cc
+round_refused game h answer gives = grind (arith, nat_tests)

@@ -1,4 +1,6 @@
 -- The records that are written for a session: which value stands with which key, and where.
+use Rattle.std.proofs.Common.{arith}
+use Rattle.std.proofs.lemmas.Bool.Decides.{nat_tests}
 use Rattle.std.proofs.Common.{◌≡◌, ℕ, true, List, [], ◌∷◌, ◌++◌, drop, take, map, Option, Some, None, cond, refl, ap, ◌∙◌}
 use Rattle.std.specs.Fmt.{decimal}
 use Rattle.std.specs.List.{flat_map}
@@ -7,14 +9,12 @@ use Rattle.std.proofs.lemmas.Grind.{flat_map-append}
 use Rattle.std.proofs.lemmas.List.{append-nil, append_assoc}
 use Rattle.play_midend.specs.declared.moves.Move.{Move}
 use Rattle.play_midend.specs.Histories.{History}
-use Rattle.play_save.specs.declared.key.KeptKey.TheVariants.{Seed}
-use Rattle.play_save.specs.declared.key.WhoseParams.TheVariants.{Next}
-use Rattle.play_save.specs.declared.key.WhichCount.TheVariants.{States, Position}
+use Rattle.play_save.specs.declared.key.WhichCount.TheVariants.{Position}
 use Rattle.play_save.specs.declared.key.HeaderKey.{HeaderKey}
-use Rattle.play_save.specs.declared.key.HeaderKey.TheVariants.{SaveFile, ParamsOf, Kept, Count}
+use Rattle.play_save.specs.declared.key.HeaderKey.TheVariants.{SaveFile, Count}
 use Rattle.play_save.specs.declared.key.Key.{Key}
 use Rattle.play_save.specs.declared.key.Key.TheVariants.{Header}
-use Rattle.play_save.specs.Keys.{keys, same_header, kept_at}
+use Rattle.play_save.specs.Keys.{keys, same_header}
 use Rattle.play_save.specs.KeyedRecords.{KeyedRecord, values_of, states_in, once_if_kept, CountsStandFirst, may_be_last, EndsWithState}
 use Rattle.play_save.specs.Written.{value_written, header_records, key_records, with_value, state_value, state_record}
 use Rattle.play_save.proofs.RecordLists.{values_of-append}
@@ -28,23 +28,23 @@ tail_records title desc h = flat_map (key_records title desc h) (drop 1 keys) ++
 abbrev states_of : List ℕ → List Move → List KeyedRecord
 states_of desc ms = map (state_record desc) ms
 
--- a state record has no value of another key
+-- state records have no value of a header
 states_none : (k : HeaderKey) (desc : List ℕ) (ms : List Move) → values_of k (states_of desc ms) ≡ []
 states_none k desc [] = refl
 states_none k desc (m ∷ ms) = states_none k desc ms
 
--- a value that is written stands with its own key
+-- a value that is written stands with its own header, and with no other
 own_values : (k j : HeaderKey) (value : Option (List ℕ))
     → values_of k (header_records j value) ≡ cond (same_header j k) (once_if_kept value) []
 own_values k j None = cond_both (same_header j k) [] [] (λ (values : List (List ℕ)). [] ≡ values) (λ is. refl) (λ is. refl)
 own_values k j (Some v) = refl
 
--- the values that are written with a key after the first record
+-- the values that are written with a header after the first record
 abbrev pub values_behind : {P : Type 0} → List ℕ → List ℕ → History P → HeaderKey → List (List ℕ)
 values_behind title desc h SaveFile = []
 values_behind title desc h k = once_if_kept (value_written title desc h k)
 
--- the values of a header among those of a key
+-- the values of the header k among those written with a key: none, unless the key is that header
 abbrev values_if : {P : Type 0} → List ℕ → List ℕ → History P → HeaderKey → Key → List (List ℕ)
 values_if title desc h k (Header j) = cond (same_header j k) (once_if_kept (value_written title desc h j)) []
 values_if title desc h k _ = []
@@ -58,22 +58,12 @@ values_flat title desc h k (Header j ∷ ks) =
     ∙ ap (λ vs. values_if title desc h k (Header j) ++ vs) (values_flat title desc h k ks))
 values_flat title desc h k (j ∷ ks) = values_flat title desc h k ks
 
--- the values that are written are those that stand there
+-- the values that a header has in the records after the first are those that are written with it
 pub values_tail : {P : Type 0} (title desc : List ℕ) (h : History P) (k : HeaderKey)
     → values_of k (tail_records title desc h) ≡ values_behind title desc h k
-values_tail {P} title desc h k =
-    values_of-append k (flat_map (key_records title desc h) (drop 1 keys)) (states_of desc h.moves)
-    ∙ (ap (λ vs. values_of k (flat_map (key_records title desc h) (drop 1 keys)) ++ vs) (states_none k desc h.moves)
-    ∙ (append-nil (values_of k (flat_map (key_records title desc h) (drop 1 keys))) ∙ (values_flat title desc h k (drop 1 keys) ∙ of_key k)))
-  where
-    of_key : (j : HeaderKey) → flat_map (values_if title desc h j) (drop 1 keys) ≡ values_behind title desc h j
-    of_key (ParamsOf Next) = refl
-    of_key (Kept Seed) = append-nil (once_if_kept h.extras.seed)
-    of_key (Kept j) = append-nil (once_if_kept (kept_at h.extras j))
-    of_key (Count States) = refl
-    of_key j = refl
+values_tail title desc h k = grind (arith, nat_tests, values_of-append, states_none, append-nil, values_flat)
 
--- what holds of the states holds of all, where it goes on to hold with a header's record more in front
+-- what holds of the state records, and also with one more header in front, holds of all records
 headers_in_front : {P : Type 0} (title desc : List ℕ) (h : History P) (Q : List KeyedRecord → Type 0) (rest : List KeyedRecord)
     → ((j : HeaderKey) (v : List ℕ) (rs : List KeyedRecord) → Q rs → Q (with_value (Header j) v ∷ rs))
     → Q rest → (ks : List Key) → Q (flat_map (key_records title desc h) ks ++ rest)
@@ -86,7 +76,7 @@ headers_in_front {P} title desc h Q rest more base (Header j ∷ ks) =
     of_value (Some v) rs q = more j v (rs ++ rest) q
 headers_in_front title desc h Q rest more base (k ∷ ks) = headers_in_front title desc h Q rest more base ks
 
--- all keys are known
+-- the records that are written have known keys
 pub known_tail : {P : Type 0} (title desc : List ℕ) (h : History P) → AreKnown (tail_records title desc h)
 known_tail title desc h =
     headers_in_front title desc h AreKnown (states_of desc h.moves) (λ j v rs known. (refl, known)) (states h.moves) (drop 1 keys)

@@ -19,7 +19,7 @@ use Rattle.play_save.specs.FirstFaults.{solution_alone, restart_of, state_move, 
 use Rattle.play_midend.proofs.OptionSteps.{and_then_taken, result_taken}
 use Rattle.play_save.proofs.GameTexts.{IsGame, same_puzzle, restart_taken, restart_again, other_puzzle}
 
--- where a result gives a value, it was this one
+-- if a result gives a value, it is `Ok` of it
 pub ok_taken : {A E : Type 0} (r : Result A E) (a : A) → result_ok r ≡ Some a → r ≡ Ok a
 ok_taken (Ok b) a is = cc
 ok_taken (Err e) a is = cc
@@ -35,7 +35,7 @@ pub record IsDescribed {P : Type 0} (game : SavedGame P) (p : P) : Type 0 where
   pub smallest : 3 ≤ (game.puzzle p).size
   pub largest : (game.puzzle p).size ≤ 9
 
--- one state record
+-- a move that a state record says is the record's move, and the other way
 pub move_of_state : {P : Type 0} (game : SavedGame P) (p : P) (k : StateKey) (value : List ℕ) (m : Move)
     → IsGame game → IsDescribed game p → state_move game p k value ≡ Some m → IsStateOf game p m k value
 move_of_state game p AnyMove value m owes d is = text_taken value m (ok_taken (move_at value) m is)
@@ -60,20 +60,20 @@ state_of_move game p RestartMove value m owes is =
     let w = (game.puzzle p).size in
     rw (owes.reads.again w value p is.1) (restart_again game p ∙ ap Some (sym is.0))
 
--- a state record with a move is no hint
+-- a state record of a move holds no hint and no spent sign
 pub state_faultless : {P : Type 0} (game : SavedGame P) (p : P) (k : StateKey) (value : List ℕ) (m : Move)
     → IsStateOf game p m k value → state_fault k value ≡ None
 state_faultless game p AnyMove value m is = rw (text_again value m is) refl
 state_faultless game p SolveMove value m is = rw (text_again value m is.0) refl
 state_faultless game p RestartMove value m is = refl
 
--- a move that was played was there
+-- if a state record was played, it said a move, and this was played
 move_taken : {P : Type 0} (game : SavedGame P) (h next : History P) (i : ℕ) (o : Option Move)
     → move_played game h i o ≡ Ok next → (m : Move) × (o ≡ Some m) × (played (game.puzzle h.puzzle) h m ≡ Ok next)
 move_taken game h next i None made = cc
 move_taken game h next i (Some m) made = (m, refl, result_taken (played (game.puzzle h.puzzle) h m) (BadState i) next made)
 
--- all state records
+-- these state records are those of some moves, and the moves lead to this session
 pub record ArePlayed {P : Type 0} (game : SavedGame P) (h : History P) (ss : List KeyedState) (last : History P) : Type 0 where
   pub moves : List Move
   pub have : HaveStates game h.puzzle moves ss
@@ -122,7 +122,7 @@ states_again {P} game h last i (m ∷ ms) (s ∷ ss) owes have is =
         let rest = along (rw keeps have.1) (subst (λ p. played_all (game.puzzle p) next ms ≡ Ok last) (sym keeps) all) in
         bind_again (state_played game h i s) (λ after. states_played game after (i + 1) ss) next one ∙ rest
 
--- as many moves as state records
+-- there are as many moves as state records of them
 pub have_length : {P : Type 0} (game : SavedGame P) (p : P) (ms : List Move) (ss : List KeyedState)
     → HaveStates game p ms ss → length ms ≡ length ss
 have_length game p [] [] have = refl
@@ -130,7 +130,7 @@ have_length game p [] (s ∷ ss) have = absurd have
 have_length game p (m ∷ ms) [] have = absurd have
 have_length game p (m ∷ ms) (s ∷ ss) have = ap suc (have_length game p ms ss have.1)
 
--- a description that isn't read, or is another puzzle's
+-- a description that can't be read, or is another puzzle's, is no restart
 pub no_restart : {P : Type 0} (game : SavedGame P) (p : P) (value : List ℕ) (e : IdFault)
     → game.desc_at (game.puzzle p).size value ≡ Err e → state_move game p RestartMove value ≡ None
 no_restart game p value e is = rw is refl

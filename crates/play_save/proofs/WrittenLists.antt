@@ -13,7 +13,7 @@ use Rattle.play_save.specs.Written.{record_text, records_text, state_record}
 pub records_text-append : (xs ys : List KeyedRecord) → records_text (xs ++ ys) ≡ records_text xs ++ records_text ys
 records_text-append xs ys = flat_map-append record_text xs ys
 
--- the records of one key more
+-- one more key: its records are written after those of the keys before it
 pub key_more : (records : Key → List KeyedRecord) (ks : List Key) (i : ℕ) (d : Key) (front old new : List ℕ) → i < length ks
     → old ≡ front ++ records_text (flat_map records (take i ks)) → new ≡ old ++ records_text (records (get_or ks i d))
     → new ≡ front ++ records_text (flat_map records (take (i + 1) ks))
@@ -23,7 +23,7 @@ key_more records ks i d front old new inside before here =
     rw (here, before, take_more ks i d inside, one, append-nil (records (get_or ks i d)), all)
     (append_assoc front (records_text (flat_map records (take i ks))) (records_text (records (get_or ks i d))))
 
--- one state more
+-- one more move: its state record is written after those of the moves before it
 pub state_more : (desc : List ℕ) (ms : List Move) (i : ℕ) (m : Move) → i < length ms → slice_get ms i ≡ Some m
     → records_text (map (state_record desc) (take i ms)) ++ record_text (state_record desc m)
     ≡ records_text (map (state_record desc) (take (i + 1) ms))

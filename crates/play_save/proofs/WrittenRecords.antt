@@ -1,11 +1,11 @@
 -- A record that is written is read, and so is a list of them up to its end.
+use Rattle.std.proofs.lemmas.Bool.Decides.{nat_tests}
 use Rattle.std.proofs.Common.{◌≡◌, ℕ, ◌<◌, ◌≤◌, ◌^◌, lit<, Bool, true, false, cond, List, [], ◌∷◌, ◌++◌, length, Some, refl, sym, ap, ◌∙◌, subst, arith, length-append, append_assoc}
 use Rattle.std.specs.Fmt.{decimal}
 use Rattle.std.proofs.lemmas.Fmt.{decimal_nonempty, length-decimal-le}
 use Rattle.std.proofs.lemmas.Bool.{le-leb}
 use Rattle.std.proofs.lemmas.Option.{some_pair_parts}
-use Rattle.std.proofs.lemmas.List.{append-nil}
-use Rattle.byte_text.specs.Bytes.{colon, line_feed}
+use Rattle.byte_text.specs.Bytes.{line_feed}
 use Rattle.byte_text.proofs.DecimalLaws.{digits_again}
 use Rattle.play_save.specs.declared.save_format.TheConstants.{MOST_BYTES}
 use Rattle.play_save.specs.declared.key.HeaderKey.{HeaderKey}
@@ -18,7 +18,7 @@ use Rattle.play_save.specs.Written.{record_text, records_text}
 use Rattle.play_save.proofs.KeyLaws.{is_known, free_lacks, is_key}
 use Rattle.play_save.proofs.RecordLaws.{record_again}
 
--- the length of a value is read
+-- the decimal of a value's length is read as this length
 length_written : (n : ℕ) → n ≤ 99999999 → length_at (decimal n) ≡ Some n
 length_written n few =
     let fits : n < 2 ^ 64 = omega (arith, few, big) in
@@ -30,7 +30,7 @@ length_written n few =
     big : 99999999 < 2 ^ 64
     big = lit< tt
 
--- a record after line breaks
+-- the record that is read of a written one
 abbrev pub entry_written : KeyedRecord → Entry
 entry_written r = record { key = key_name r.key; value = r.value }
 
@@ -56,18 +56,14 @@ written_begins r breaks more are known few =
       length_is = length_written (length r.value) few;
     }
 
--- all keys are known
+-- the records have known keys
 abbrev pub AreKnown : List KeyedRecord → Type 0
 AreKnown [] = Unit {0}
 AreKnown (r ∷ rs) = (is_known r.key ≡ true) × AreKnown rs
 
 value_within : (r : KeyedRecord) → length r.value ≤ length (record_text r)
 unfolding record_text
-value_within r =
-    let key = padded (key_name r.key) in
-    let size = decimal (length r.value) in
-    let behind = colon ∷ (r.value ++ (line_feed ∷ [])) in
-    omega (arith, length-append key (colon ∷ (size ++ behind)), length-append size behind, length-append r.value (line_feed ∷ []))
+value_within r = grind (arith, nat_tests, length-append)
 
 own_record : (r : KeyedRecord) → is_known r.key ≡ true → keyed (entry_written r) ≡ r
 own_record r known =

@@ -1,7 +1,6 @@
 -- Reading a save text: the session, or the first fault.
 use Rattle.std.specs.Prelude.{ℕ, zero, suc, ◌+◌, Bool, true, false, ◌&&◌, nat_lt, nat_le, bytes_eq, is_some}
-use Rattle.std.specs.Prelude.{if◌then◌else◌, List, [], ◌∷◌, ◌++◌, length, codes, Option, Some, None, option_and_then}
-use Rattle.std.specs.Prelude.{Result, Ok, Err, ok_or}
+use Rattle.std.specs.Prelude.{if◌then◌else◌, List, [], ◌∷◌, ◌++◌, length, codes, Option, Some, None, option_and_then, Result, Ok, Err, ok_or}
 use Rattle.std.specs.Result.{result_ok}
 use Rattle.byte_text.specs.Decimals.{decimal_value}
 use Rattle.byte_text.specs.Reading.{◌>>=◌}
@@ -18,8 +17,7 @@ use Rattle.play_midend.specs.declared.session.TheConstants.{MOST_STATES}
 use Rattle.play_midend.specs.Histories.{History, started, at_position, played}
 use Rattle.play_save.specs.declared.fault.LoadFault.{LoadFault}
 use Rattle.play_save.specs.declared.fault.LoadFault.TheVariants.{NotASave, Malformed, Version, WrongGame, Repeated}
-use Rattle.play_save.specs.declared.fault.LoadFault.TheVariants.{EarlyState, Unsupported, BadParams, BadDesc, BadCount}
-use Rattle.play_save.specs.declared.fault.LoadFault.TheVariants.{Missing, BadState, TooLarge}
+use Rattle.play_save.specs.declared.fault.LoadFault.TheVariants.{EarlyState, Unsupported, BadParams, BadDesc, BadCount, Missing, BadState, TooLarge}
 use Rattle.play_save.specs.declared.key.StateKey.{StateKey}
 use Rattle.play_save.specs.declared.key.StateKey.TheVariants.{AnyMove, SolveMove, RestartMove}
 use Rattle.play_save.specs.declared.key.WhoseParams.{WhoseParams}
@@ -27,8 +25,7 @@ use Rattle.play_save.specs.declared.key.WhoseParams.TheVariants.{Next, Current}
 use Rattle.play_save.specs.declared.key.WhichCount.{WhichCount}
 use Rattle.play_save.specs.declared.key.WhichCount.TheVariants.{States, Position}
 use Rattle.play_save.specs.declared.key.HeaderKey.{HeaderKey}
-use Rattle.play_save.specs.declared.key.HeaderKey.TheVariants.{SaveFile, FormatVersion, Title, ParamsOf, Desc}
-use Rattle.play_save.specs.declared.key.HeaderKey.TheVariants.{PrivateDesc, Kept, Count}
+use Rattle.play_save.specs.declared.key.HeaderKey.TheVariants.{SaveFile, FormatVersion, Title, ParamsOf, Desc, PrivateDesc, Kept, Count}
 use Rattle.play_save.specs.declared.key.Key.{Key}
 use Rattle.play_save.specs.declared.key.Key.TheVariants.{Header, State, Other}
 use Rattle.play_save.specs.declared.save_format.TheConstants.{MOST_BYTES}
@@ -37,11 +34,11 @@ use Rattle.play_save.specs.Keys.{each_kept}
 use Rattle.play_save.specs.KeyedRecords.{KeyedRecord, keyed, KeyedState, values_of, states_in}
 use Rattle.play_save.specs.SaveTexts.{SavedGame, collection, is_solve}
 
--- parameters of the game, and a count of states: decimal from 1 to MOST_STATES
+-- the parameters of the game that a value says, or the first fault of the value
 abbrev pub saved_params_at : {P : Type 0} → SavedGame P → List ℕ → Result Params IdFault
 saved_params_at game value = params_at game.letters game.has_adjacent value
 
--- a number that isn't 0
+-- the number, if it isn't 0
 abbrev pub positive : ℕ → Option ℕ
 positive zero = None
 positive (suc n) = Some (suc n)
@@ -64,11 +61,11 @@ first_of (v ∷ vs) = Some v
 abbrev pub met : List KeyedRecord → MetValue
 met rs = record { first = λ k. first_of (values_of k rs); states = states_in rs }
 
--- the parameters and the counts that were met, as they read, and what is kept
+-- the parameters that were met, of the next game or the current one, if they can be read
 abbrev pub params_met : {P : Type 0} → SavedGame P → MetValue → WhoseParams → Option Params
 params_met game m whose = option_and_then (λ value. result_ok (saved_params_at game value)) (m.first (ParamsOf whose))
 
--- a count, as it reads
+-- the count that was met, if it can be read
 abbrev pub count_met : MetValue → WhichCount → Option ℕ
 count_met m which = option_and_then count_at (m.first (Count which))
 
@@ -86,7 +83,7 @@ abbrev pub once : Bool → Option LoadFault → Option LoadFault
 once true fault = Some Repeated
 once false fault = fault
 
--- parameters that can't be read
+-- the fault of parameters that can't be read
 abbrev pub params_fault : Result Params IdFault → Option LoadFault
 params_fault (Ok p) = None
 params_fault (Err fault) = Some BadParams
@@ -101,24 +98,24 @@ abbrev pub other_count : WhichCount → WhichCount
 other_count States = Position
 other_count Position = States
 
--- a count that is none, or that doesn't go together with the other one, where that was met
+-- the fault of a count: it can't be read, or doesn't go together with the other one, if that was met
 abbrev pub count_fault : WhichCount → Option ℕ → Option ℕ → Option LoadFault
 count_fault which None other = Some BadCount
 count_fault which (Some n) None = None
 count_fault which (Some n) (Some other) = fault_unless (go_together which n other) BadCount
 
--- a hint or a spent sign
+-- the fault of a move's text: it is a hint or a spent sign
 abbrev pub text_fault : Result Move PlayFault → Option LoadFault
 text_fault (Err HintOrSign) = Some Unsupported
 text_fault _ = None
 
--- a state record that holds a hint or a spent sign; a restart's text is no move
+-- the fault of a state record: it holds a hint or a spent sign; a restart's text is no move
 abbrev pub state_fault : StateKey → List ℕ → Option LoadFault
 state_fault AnyMove value = text_fault (move_at value)
 state_fault SolveMove value = text_fault (move_at value)
 state_fault RestartMove value = None
 
--- a state record may come only after both counts
+-- the fault of a state record, EarlyState if it comes before both counts
 abbrev pub behind_counts : MetValue → Option LoadFault → Option LoadFault
 behind_counts m fault =
     if is_some (count_met m States) && is_some (count_met m Position) then fault else Some EarlyState
@@ -161,7 +158,7 @@ listed more (Err fault) = broken
 listed more (Ok None) = nothing
 listed more (Ok (Some parts)) = first (keyed parts.0) (more parts.1)
 
--- a text has no more records than bytes
+-- the first n records of a text at most; a text has no more records than bytes
 unfoldable pub listing_within : ℕ → List ℕ → Listing
 listing_within zero text = nothing
 listing_within (suc n) text = listed (listing_within n) (record_at text)
@@ -170,7 +167,7 @@ listing_within (suc n) text = listed (listing_within n) (record_at text)
 unfoldable pub records_of : List ℕ → Listing
 records_of text = listing_within (length text) text
 
--- the records up to the last that is needed, or the first fault among them
+-- the fault, or what comes after if there is none
 abbrev pub unless : {A : Type 0} → Option LoadFault → Result A LoadFault → Result A LoadFault
 unless None more = more
 unless (Some fault) more = Err fault
@@ -183,7 +180,7 @@ needed game before (first r more) =
     if is_complete (met before) then Ok before
     else unless (fault_by game (met before) r.key r.value) (needed game (before ++ r ∷ []) more)
 
--- the move of a state record, where it is one of the puzzle: a restart has a description of it
+-- the move, if it fills in a solution
 abbrev pub solution_alone : Move → Option Move
 solution_alone m = if is_solve m then Some m else None
 
@@ -198,7 +195,7 @@ state_move game p SolveMove value = option_and_then solution_alone (result_ok (m
 state_move game p RestartMove value =
     option_and_then (restart_of game p) (result_ok (game.desc_at (game.puzzle p).size value))
 
--- the state record with the number i, played
+-- the move of the state record with the number i, played, or BadState if there is none or it is refused
 abbrev pub move_played : {P : Type 0} → SavedGame P → History P → ℕ → Option Move → Result (History P) LoadFault
 move_played game h i None = Err (BadState i)
 move_played game h i (Some m) = ok_or (result_ok (played (game.puzzle h.puzzle) h m)) (BadState i)

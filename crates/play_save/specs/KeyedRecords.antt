@@ -14,7 +14,7 @@ pub record KeyedRecord : Type 0 where
   pub key : Key
   pub value : List ℕ
 
--- an entry, by its key
+-- an entry as a record, by what its key is about
 abbrev pub keyed : Entry → KeyedRecord
 keyed e = record { key = key_of e.key; value = e.value }
 
@@ -29,33 +29,33 @@ BeginsWithAll [] text = Unit {0}
 BeginsWithAll (r ∷ rs) text =
     (e : Entry) × (rest : List ℕ) × (keyed e ≡ r) × BeginsWith e rest text × BeginsWithAll rs rest
 
--- the values that stand with a key, in turn
+-- the values of a header, with one more in front if the record is of this header
 abbrev pub onto_values : HeaderKey → Key → List ℕ → List (List ℕ) → List (List ℕ)
 onto_values k (Header j) value values = if same_header j k then (value ∷ values) else values
 onto_values k _ value values = values
 
--- the values that a header has in some records
+-- the values that a header has in some records, in turn
 abbrev pub values_of : HeaderKey → List KeyedRecord → List (List ℕ)
 values_of k [] = []
 values_of k (r ∷ rs) = onto_values k r.key r.value (values_of k rs)
 
--- the state records, in turn
+-- the state records, with one more in front if the record is a state's
 abbrev pub onto_states : Key → List ℕ → List KeyedState → List KeyedState
 onto_states (State k) value states = record { key = k; value = value } ∷ states
 onto_states _ value states = states
 
--- the state records among them
+-- the state records among some records, in turn
 abbrev pub states_in : List KeyedRecord → List KeyedState
 states_in [] = []
 states_in (r ∷ rs) = onto_states r.key r.value (states_in rs)
 
--- one value stands, of which this holds
+-- there is one value, and P holds of it
 pub record IsOne (P : List ℕ → Type 0) (values : List (List ℕ)) : Type 0 where
   pub value : List ℕ
   pub alone : values ≡ value ∷ []
   pub holds : P value
 
--- bytes that are kept stand once, and nothing stands where none are
+-- the values that stand for kept bytes: these bytes once, or nothing if none are kept
 abbrev pub once_if_kept : Option (List ℕ) → List (List ℕ)
 once_if_kept None = []
 once_if_kept (Some value) = value ∷ []
@@ -71,13 +71,13 @@ CountsStandFirst [] = Unit {0}
 CountsStandFirst (r ∷ rs) =
     (is_state r.key ≡ true → (which : WhichCount) → values_of (Count which) rs ≡ []) × CountsStandFirst rs
 
--- the last record is a state record or a count
+-- whether a record with this key may be the last: a state record or a count
 abbrev pub may_be_last : Key → Bool
 may_be_last (State k) = true
 may_be_last (Header (Count which)) = true
 may_be_last _ = false
 
--- the last record is a state's
+-- the last record is a state record or a count
 abbrev pub EndsWithState : List KeyedRecord → Type 0
 EndsWithState [] = ⊥
 EndsWithState (r ∷ []) = may_be_last r.key ≡ true

@@ -9,8 +9,7 @@ use Rattle.play_save.specs.declared.key.KeptKey.{KeptKey}
 use Rattle.play_save.specs.declared.key.KeptKey.TheVariants.{Seed, AuxInfo, Ui, Time}
 use Rattle.play_save.specs.declared.key.WhichCount.TheVariants.{States, Position}
 use Rattle.play_save.specs.declared.key.HeaderKey.{HeaderKey}
-use Rattle.play_save.specs.declared.key.HeaderKey.TheVariants.{SaveFile, FormatVersion, Title, ParamsOf, Desc}
-use Rattle.play_save.specs.declared.key.HeaderKey.TheVariants.{PrivateDesc, Kept, Count}
+use Rattle.play_save.specs.declared.key.HeaderKey.TheVariants.{SaveFile, FormatVersion, Title, ParamsOf, Desc, PrivateDesc, Kept, Count}
 use Rattle.play_save.specs.declared.key.Key.{Key}
 use Rattle.play_save.specs.declared.key.Key.TheVariants.{Header, State, Other}
 use Rattle.byte_text.specs.Bytes.{space}
@@ -56,7 +55,7 @@ same_header j k = bytes_eq (key_name (Header j)) (key_name (Header k))
 abbrev pub padded : List ℕ → List ℕ
 padded name = name ++ replicate (8 - length name) space
 
--- the value that is kept with a key, and all of them by their keys
+-- the value that is kept with a key
 abbrev pub kept_at : Extras → KeptKey → Option (List ℕ)
 kept_at extras Seed = extras.seed
 kept_at extras AuxInfo = extras.auxinfo

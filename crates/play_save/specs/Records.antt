@@ -54,7 +54,7 @@ pub record BeginsWith (e : Entry) (rest : List ℕ) (text : List ℕ) : Type 0 w
   pub name_is : e.key ≡ unpadded key
   pub length_is : length_at digits ≡ Some (length e.value)
 
--- reading: the line breaks in front go
+-- the text without the line breaks in front
 abbrev pub skip_breaks : List ℕ → List ℕ
 skip_breaks [] = []
 skip_breaks (b ∷ bs) = if is_break b then skip_breaks bs else (b ∷ bs)
@@ -83,7 +83,7 @@ record_behind bytes =
     (λ field. if length field.0 == 8 then option_map (record_of field.0) (value_behind field.1) else None)
     (field_at bytes)
 
--- the first record and the rest, where line breaks were passed
+-- the first record and the rest of a text without line breaks in front, or nothing of an empty one
 abbrev pub record_or_end : List ℕ → Result (Option (Entry × List ℕ)) LoadFault
 record_or_end [] = Ok None
 record_or_end (b ∷ bs) = ok_or (option_map Some (record_behind (b ∷ bs))) Malformed

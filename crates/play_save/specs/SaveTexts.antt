@@ -20,8 +20,7 @@ use Rattle.play_save.specs.declared.key.WhoseParams.TheVariants.{Next, Current}
 use Rattle.play_save.specs.declared.key.WhichCount.{WhichCount}
 use Rattle.play_save.specs.declared.key.WhichCount.TheVariants.{States, Position}
 use Rattle.play_save.specs.declared.key.HeaderKey.{HeaderKey}
-use Rattle.play_save.specs.declared.key.HeaderKey.TheVariants.{SaveFile, FormatVersion, Title, ParamsOf, Desc}
-use Rattle.play_save.specs.declared.key.HeaderKey.TheVariants.{PrivateDesc, Kept, Count}
+use Rattle.play_save.specs.declared.key.HeaderKey.TheVariants.{SaveFile, FormatVersion, Title, ParamsOf, Desc, PrivateDesc, Kept, Count}
 use Rattle.play_save.specs.Keys.{kept_at}
 use Rattle.play_save.specs.Records.{Entry, BeginsWith}
 use Rattle.play_save.specs.KeyedRecords.{KeyedRecord, KeyedState, BeginsWithAll, values_of, states_in, IsOne}
@@ -38,7 +37,7 @@ pub record SavedGame (P : Type 0) : Type 1 where
   pub desc_at : ℕ → List ℕ → Result P IdFault
   pub desc_of : P → List ℕ
 
--- the same, of the ghost members of a game
+-- what saves ask of a game, by the ghost members of the game
 abbrev pub saved_game : {P : Type 0} → List ℕ → List ℕ → Bool → (P → Puzzle) → (P → Type 0) → (List ℕ → P → Type 0)
     → (ℕ → List ℕ → Result P IdFault) → (P → List ℕ) → SavedGame P
 saved_game title letters has_adjacent puzzle of_game describes desc_at desc_of = record {
@@ -51,7 +50,7 @@ saved_game title letters has_adjacent puzzle of_game describes desc_at desc_of =
   desc_of = desc_of;
 }
 
--- the same, of what `Rules` and `Game` say of a type P: `saves_of P.Rules P.Game.own`
+-- what saves ask of a game, by what `Rules` and `Game` say of a type P: `saves_of P.Rules P.Game.own`
 abbrev pub saves_of : {P : Type 0} → RulesGhosts P → GameGhosts P → SavedGame P
 saves_of rules game =
     saved_game game.title game.letter_codes
@@ -61,7 +60,7 @@ saves_of rules game =
 abbrev pub collection : List ℕ
 collection = codes "Simon Tatham's Portable Puzzle Collection"
 
--- the record itself
+-- the record that names the format
 abbrev pub format_record : Entry
 format_record = record { key = codes "SAVEFILE"; value = collection }
 
@@ -70,7 +69,7 @@ abbrev pub is_solve : Move → Bool
 is_solve (Solve g) = true
 is_solve _ = false
 
--- the state record's move: any move but a restart by its text, a solution also as SOLVE, a restart by the puzzle
+-- the move is the record's: by its text, as a solution also by SOLVE, a restart by the puzzle's description
 abbrev pub IsStateOf : {P : Type 0} → SavedGame P → P → Move → StateKey → List ℕ → Type 0
 IsStateOf game p m AnyMove text = IsMoveText m text
 IsStateOf game p m SolveMove text = IsMoveText m text × (is_solve m ≡ true)
@@ -93,7 +92,7 @@ abbrev pub count_of : {P : Type 0} → History P → WhichCount → ℕ
 count_of h States = length h.moves + 1
 count_of h Position = h.position
 
--- which values stand with a key, and how many
+-- these values, and no more, a save of the session has with a header
 abbrev pub HasValues : {P : Type 0} → SavedGame P → History P → HeaderKey → List (List ℕ) → Type 0
 HasValues game h SaveFile values = values ≡ []
 HasValues game h FormatVersion values = values ≡ codes "1" ∷ []
@@ -104,7 +103,7 @@ HasValues game h PrivateDesc values = values ≡ []
 HasValues game h (Kept k) values = values ≡ once_if_kept (kept_at h.extras k)
 HasValues game h (Count which) values = values ≡ decimal (count_of h which) ∷ []
 
--- the records after the first, up to the last that is needed
+-- the records after the first, up to the last that is needed, are the session's
 pub record AreSaved {P : Type 0} (game : SavedGame P) (h : History P) (rs : List KeyedRecord) : Type 0 where
   pub values : (k : HeaderKey) → HasValues game h k (values_of k rs)
   pub states : HaveStates game h.puzzle h.moves (states_in rs)

@@ -10,8 +10,7 @@ use Rattle.play_midend.specs.Histories.{History}
 use Rattle.play_save.specs.declared.key.StateKey.TheVariants.{AnyMove, SolveMove, RestartMove}
 use Rattle.play_save.specs.declared.key.Key.{Key}
 use Rattle.play_save.specs.declared.key.HeaderKey.{HeaderKey}
-use Rattle.play_save.specs.declared.key.HeaderKey.TheVariants.{SaveFile, FormatVersion, Title, ParamsOf, Desc}
-use Rattle.play_save.specs.declared.key.HeaderKey.TheVariants.{PrivateDesc, Kept, Count}
+use Rattle.play_save.specs.declared.key.HeaderKey.TheVariants.{SaveFile, FormatVersion, Title, ParamsOf, Desc, PrivateDesc, Kept, Count}
 use Rattle.play_save.specs.declared.key.Key.TheVariants.{Header, State}
 use Rattle.play_save.specs.Keys.{key_name, keys, padded, kept_at}
 use Rattle.play_save.specs.KeyedRecords.{KeyedRecord, KeyedState}
@@ -47,22 +46,22 @@ abbrev pub header_records : HeaderKey → Option (List ℕ) → List KeyedRecord
 header_records k None = []
 header_records k (Some value) = with_value (Header k) value ∷ []
 
--- the records of a key: those of states come by their moves
+-- the records that are written with a key: none for a state's, since these are written move by move
 abbrev pub key_records : {P : Type 0} → List ℕ → List ℕ → History P → Key → List KeyedRecord
 key_records title desc h (Header k) = header_records k (value_written title desc h k)
 key_records title desc h _ = []
 
--- the state of a move, with the description of the puzzle for a restart
+-- the state record of a move by its key and its value: of a restart, the description of the puzzle
 abbrev pub state_value : List ℕ → Move → KeyedState
 state_value desc m =
     if is_restart m then record { key = RestartMove; value = desc }
     else record { key = if is_solve m then SolveMove else AnyMove; value = move_text m }
 
--- its record
+-- the state record of a move
 abbrev pub state_record : List ℕ → Move → KeyedRecord
 state_record desc m = with_value (State (state_value desc m).key) (state_value desc m).value
 
--- all of them, of a game with this name: those of the table, and the states after the first
+-- all records of a session, of a game with this name: its headers in order, and its state records
 abbrev pub session_records : {P : Type 0} → List ℕ → (P → List ℕ) → History P → List KeyedRecord
 session_records title desc_of h =
     flat_map (key_records title (desc_of h.puzzle) h) keys ++ map (state_record (desc_of h.puzzle)) h.moves

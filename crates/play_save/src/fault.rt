@@ -36,7 +36,7 @@ pub enum LoadFault {
     BadState(u32),
     /// The text has more than `MOST_BYTES` bytes.
     TooLarge,
-    /// A growth was refused.
+    /// Memory was refused.
     OutOfMemory,
 }
 

@@ -1,7 +1,6 @@
 //! Loading: a save text is read record by record, and its session is played.
 
-ghost use Rattle.std.specs.Prelude.{◌≡◌, ◌+◌, ◌-◌, ◌<◌, ◌≤◌, Some, None, Ok, Err, ok_or, IfOk, IfErr, length, map};
-ghost use Rattle.std.specs.Prelude.{option_map, vec_items};
+ghost use Rattle.std.specs.Prelude.{◌≡◌, ◌+◌, ◌-◌, ◌<◌, ◌≤◌, Some, None, Ok, Err, ok_or, IfOk, IfErr, length, map, option_map, vec_items};
 ghost use Rattle.std.specs.Result.{result_ok};
 ghost use Rattle.byte_text.specs.Reading.{Gives, GivesUnless};
 ghost use Rattle.play_midend.specs.declared.session.TheConstants.{MOST_STATES};
@@ -64,6 +63,7 @@ fn kept(alloc: Global, bytes: Option<&[u8]>) -> Result<Option<Vec<u8>>, AllocErr
     }
 }
 
+// What a session keeps, of the records that were met.
 fn extras(alloc: Global, met: &Met) -> Result<Extras, AllocError>
     ensures { IfOk result (λ extras. extras ≡ extras_met (met_of met.now)) }
 {
@@ -141,6 +141,7 @@ fn go_back<P: Game>(session: &mut Session<P>, position: usize)
     }
 }
 
+// The puzzle of a description at this size, or `BadDesc`.
 fn read_puzzle<P: Game>(size: Size, desc: &[u8]) -> Result<P, LoadFault>
     ensures value { result ≡ ok_or (result_ok (P.desc_at size desc.now)) LoadFault.BadDesc }
     ensures size { IfOk result (λ puzzle. size ≡ (P.puzzle puzzle).size) }
@@ -213,6 +214,7 @@ pub fn load<P: Game>(alloc: Global, bytes: &[u8]) -> Result<Session<P>, LoadFaul
     read(alloc, bytes)
 }
 
+// Apart from `load`, so that `load_at` is opened here alone: there its laws say what it is.
 #[tactic(auto, unfolding(crate::specs::FirstFaults::load_at))]
 fn read<P: Game>(alloc: Global, bytes: &[u8]) -> Result<Session<P>, LoadFault>
     ensures { GivesUnless LoadFault.OutOfMemory (λ s. s) result

@@ -93,6 +93,7 @@ fn go_together(which: WhichCount, count: usize, other: usize) -> bool
     }
 }
 
+// Of two counts, the other one.
 fn other_count(which: WhichCount) -> WhichCount
     ensures { result ≡ other_count which }
 {
@@ -184,6 +185,7 @@ impl<'a> Met<'a> {
         }
     }
 
+    // Takes a record that may stand once.
     fn take_header<P: Game>(&mut self, key: HeaderKey, value: &'a [u8]) -> Result<(), LoadFault>
         ensures { Taken (saves_of P.Rules P.Game.own)
             (met_of self.old) (Header key) value.now result (met_of self.new) }
@@ -256,6 +258,7 @@ impl<'a> Met<'a> {
         }
     }
 
+    // Takes a state record.
     fn take_state<P: Game>(&mut self, key: StateKey, value: &'a [u8]) -> Result<(), LoadFault>
         ensures { Taken (saves_of P.Rules P.Game.own)
             (met_of self.old) (State key) value.now result (met_of self.new) }

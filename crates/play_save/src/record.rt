@@ -1,7 +1,6 @@
 //! Records: the pieces that a save file is made of.
 
-ghost use Rattle.std.specs.Prelude.{◌≡◌, ℕ, ◌≤◌, List, Some, None, Ok, Err, Option, option_map, length, IfOk, IfErr};
-ghost use Rattle.std.specs.Prelude.{MatchOption};
+ghost use Rattle.std.specs.Prelude.{◌≡◌, ℕ, ◌≤◌, List, Some, None, Ok, Err, Option, option_map, length, IfOk, IfErr, MatchOption};
 ghost use Rattle.byte_text.specs.Reading.{Gives};
 ghost use Rattle.byte_text.specs.Decimals.{digit_onto};
 ghost use Rattle.play_save.specs.Records.{Entry, BeginsWith, AreBreaks, is_break, skip_breaks, unpadded, field_at};
@@ -20,12 +19,14 @@ pub struct Record<'a> {
     pub value: &'a [u8],
 }
 
+// LF or CR.
 fn is_break(byte: u8) -> bool
     ensures { result ≡ is_break byte }
 {
     matches!(byte, b'\n' | b'\r')
 }
 
+// The bytes without the line breaks in front.
 fn without_breaks(bytes: &[u8]) -> &[u8]
     ensures { result.now ≡ skip_breaks bytes.now }
 {
@@ -60,6 +61,7 @@ fn field(bytes: &[u8]) -> Option<(&[u8], &[u8])>
     Some((front, rest?))
 }
 
+// The number with one more digit at its end; `None` if the byte is no digit, or above 99,999,999.
 fn with_digit(n: u32, digit: u8) -> Option<u32>
     requires { n ≤ 99999999 }
     ensures { result ≡ digit_onto 99999999 n digit }
@@ -97,6 +99,7 @@ fn value(bytes: &[u8]) -> Option<(&[u8], &[u8])>
     Some(rest.split_at(length))
 }
 
+// The record that begins with its key, and what follows it.
 #[tactic(auto, unfolding(crate::specs::Records::record_behind))]
 fn first_record(bytes: &[u8]) -> Option<(Record, &[u8])>
     ensures { option_map entry_and_rest result ≡ record_behind bytes.now }
@@ -115,6 +118,7 @@ fn first_record(bytes: &[u8]) -> Option<(Record, &[u8])>
     ))
 }
 
+// The first record after line breaks and what follows it, `None` if no byte is left, or `Malformed`.
 #[tactic(auto, unfolding(crate::specs::Records::record_at))]
 fn read_record(bytes: &[u8]) -> Result<Option<(Record, &[u8])>, LoadFault>
     ensures { Gives (option_map entry_and_rest) result (record_at bytes.now) }

@@ -1,4 +1,4 @@
-//! What saving and loading share: the size of a save text, the line that names the format, and which moves are solutions.
+//! What saving and loading share: the most bytes of a save text, the format's name, and what a solution is.
 
 ghost use Rattle.std.specs.Prelude.{◌≡◌};
 ghost use Rattle.play_save.specs.SaveTexts.{is_solve};

@@ -1,8 +1,7 @@
 //! The laws of save texts. They speak of definitions alone, so the function here does nothing.
 
 ghost use Rattle.play_save.specs.SaveTexts.{saves_of};
-ghost use Rattle.play_save.specs.Laws.{SavesOneSession, FaultsWhereNone, SavesAreStorable, WrittenIsSaved};
-ghost use Rattle.play_save.specs.Laws.{WrittenSavesNoOther};
+ghost use Rattle.play_save.specs.Laws.{SavesOneSession, FaultsWhereNone, SavesAreStorable, WrittenIsSaved, WrittenSavesNoOther};
 
 use game_texts::Game;
 

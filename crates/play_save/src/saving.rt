@@ -1,14 +1,12 @@
 //! Saving: the records of a session, written in their order.
 
-ghost use Rattle.std.specs.Prelude.{◌≡◌, ◌≤◌, ◌-◌, ◌++◌, map, replicate, Some, option_map, vec_items, IfOk, IfErr};
-ghost use Rattle.std.specs.Prelude.{OnOk};
+ghost use Rattle.std.specs.Prelude.{◌≡◌, ◌≤◌, ◌-◌, ◌++◌, map, replicate, Some, option_map, vec_items, IfOk, IfErr, OnOk};
 ghost use Rattle.std.specs.List.{flat_map};
 ghost use Rattle.std.specs.Fmt.{decimal};
 ghost use Rattle.byte_text.specs.Bytes.{space};
 ghost use Rattle.play_midend.specs.Steps.{is_restart};
 ghost use Rattle.play_save.specs.Keys.{keys};
-ghost use Rattle.play_save.specs.Written.{with_value, record_text, records_text, value_written, header_records};
-ghost use Rattle.play_save.specs.Written.{key_records, state_record, save_of};
+ghost use Rattle.play_save.specs.Written.{with_value, record_text, records_text, value_written, header_records, key_records, state_record, save_of};
 
 use crate::fault::LoadFault;
 use crate::key::{HeaderKey, KEYS, KeptKey, Key, StateKey, WhichCount, WhoseParams};
@@ -137,6 +135,7 @@ fn put_key<P: Game>(
     }
 }
 
+// Whether the move is a restart.
 fn is_restart(made: &Move) -> bool
     ensures { result ≡ is_restart made.now }
 {

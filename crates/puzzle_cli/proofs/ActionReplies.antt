@@ -22,7 +22,7 @@ use Rattle.puzzle_cli.specs.SessionReplies.{IsCallRead, call_sentence, sentence_
 use Rattle.puzzle_cli.specs.Inner.Answers.{ReadAnswered, ActionAnswered}
 
 module _ {P : Type 0} (p : Puzzle) (h new : History P) where
-  -- a call's answer, out of what the call promises
+  -- what a call promises is what an action that asks for the call is to answer
   pub answered : (action : Action (List ℕ)) (call : Call) (exact : Result (History P) PlayFault) (result : Result (Unit {0}) PlayFault)
       → IsCallRead action (Ok call) → CallGives p h call exact → OnOk result (exact ≡ Ok new) → OnErr result (new ≡ h)
       → IfErr result (λ fault. MatchBool (may_take_memory call) (IsRefusal exact fault) (exact ≡ Err fault))
@@ -35,12 +35,12 @@ module _ {P : Type 0} (p : Puzzle) (h new : History P) where
   solve_answered (Ok u) ok err why = (Ok ToSolution, refl, ok)
   solve_answered (Err fault) ok err why = (Ok ToSolution, refl, (err, why))
 
-  -- a text that is no move
+  -- a text that is no move is refused by the name of its fault
   pub unread_answered : (text : List ℕ) (result : Result (Unit {0}) PlayFault) (fault : PlayFault) → result ≡ Err fault
       → ((m : Move) → IsMoveText m text → ⊥) → fault ≡ move_fault text → new ≡ h → ActionAnswered p h (Play text) result new
   unread_answered text result fault is none named stays = (Err fault, (none, named), (stays, is))
 
--- the call that solves has its own word
+-- no action but `solve` asks for the call that solves
 no_solution : (action : Action (List ℕ)) (read : Result Call PlayFault) → action ≢ Solve → IsCallRead action read → read ≢ Ok ToSolution
 no_solution Solve read n is = absurd (n refl)
 no_solution (Play text) (Ok call) n (m, spelled, is) = λ e. cc
@@ -51,7 +51,7 @@ pub still_other : {X : Type 0} (action : Action (Bor X)) → action ≢ Solve �
 still_other Solve n = absurd (n refl)
 still_other action n = λ e. cc
 
--- a call that was refused so is exactly refused so, or found no memory
+-- a call that was refused is refused so with ample memory, too, or lacked memory
 refused_or_no_memory : {P : Type 0} (exact : Result (History P) PlayFault) (fault : PlayFault) (takes : Bool)
     → MatchBool takes (IsRefusal exact fault) (exact ≡ Err fault)
     → (exact ≡ Err fault) ⊎ ((takes ≡ true) × (fault ≡ OutOfMemory) × ((k : History P) × (exact ≡ Ok k)))
@@ -61,7 +61,7 @@ refused_or_no_memory (Err other) OutOfMemory true why = cc
 refused_or_no_memory exact fault true why = inl why
 
 module _ {P : Type 0} (f : GameFacts P) (h new : History P) where
-  -- why an action is refused
+  -- the refusal of an action is explained
   abbrev IsExplained : Action (List ℕ) → Refusal → Type 0
   IsExplained action refusal = Explains (RequestGives f h (Act action)) (RequestTakesMemory f h (Act action)) refusal
 
@@ -86,6 +86,7 @@ module _ {P : Type 0} (f : GameFacts P) (h new : History P) where
         )
       ]
 
+  -- no sentence stands for a refusal of a call that doesn't solve
   no_sentence : (call : Call) (fault : PlayFault) → call ≢ ToSolution → call_sentence call fault ≡ None
   no_sentence ToSolution fault n = absurd (n refl)
   no_sentence call fault n = refl
@@ -99,7 +100,7 @@ module _ {P : Type 0} (f : GameFacts P) (h new : History P) where
   explained action (Ok call) fault is (inr none) answer = call_explained action call fault is refl answer
   explained action (Err other) fault is none (stays, e) = inl (Err other, is, cc)
 
-  -- a refused action is told by its refusal
+  -- the refusal by which a refused action is told is explained
   pub refused_said : (action : Action (List ℕ)) (fault : PlayFault) (refusal : Refusal) → refusal ≡ play_refusal fault
       → (action ≢ Solve) ⊎ (solve_sentence fault ≡ None)
       → ActionAnswered (f.rules.puzzle h.puzzle) h action (Err fault) new → IsExplained action refusal

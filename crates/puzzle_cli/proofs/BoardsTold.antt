@@ -23,12 +23,13 @@ use Rattle.puzzle_cli.proofs.OptionalLines.{line_or_none, LacksIn, empty_list, l
 
 -- ---- marks
 
--- the content of the line of a square
+-- the content of the line of a square, if it has marks
 abbrev pub marks_content : BoardValue → ℕ → Option (List ℕ)
 marks_content b cell =
     cond (length (mark_digits (marks_at b cell)) == 0) None
     (Some (digit (cell % b.size) ∷ comma ∷ digit (cell / b.size) ∷ colon ∷ mark_digits (marks_at b cell)))
 
+-- the line of a square is its content as a line, or nothing
 marks_line_is : (b : BoardValue) (cell : ℕ) → marks_line b cell ≡ line_or_none (marks_content b cell)
 marks_line_is b cell =
     let digits = mark_digits (marks_at b cell) in
@@ -38,10 +39,12 @@ marks_line_is b cell =
       | false ↦ refl
     ]
 
+-- digits lack a byte that is no digit
 digits_lack : (c : ℕ) (ns : List ℕ) → ((n : ℕ) → digit n ≢ c) → Lacks c (map digit ns)
 digits_lack c [] apart = tt
 digits_lack c (n ∷ ns) apart = (apart n, digits_lack c ns apart)
 
+-- the content of a line of marks lacks a byte that is no digit, comma or colon
 content_lacks : (c : ℕ) (b : BoardValue) (cell : ℕ) → ((n : ℕ) → digit n ≢ c) → comma ≢ c → colon ≢ c → LacksIn c (marks_content b cell)
 content_lacks c b cell apart no_comma no_colon =
     let digits = mark_digits (marks_at b cell) in
@@ -68,7 +71,7 @@ marks_some b cell content =
       | false ↦ λ is. cc
     ]
 
--- a line of marks tells its square
+-- lines of marks with the same content are those of one square
 marks_apart : (w : ℕ) (b c : BoardValue) → b.size ≡ w → c.size ≡ w → (j k : ℕ) (content : List ℕ) → marks_content b j ≡ Some content
     → marks_content c k ≡ Some content → j ≡ k
 marks_apart w b c b_size c_size j k content one other =
@@ -81,11 +84,12 @@ marks_apart w b c b_size c_size j k content one other =
     let down : j / w ≡ k / w = sym (ap (λ n. j / n) b_size) ∙ rows ∙ ap (λ n. k / n) c_size in
     sym (div-add-mod' j w) ∙ ap (λ n. n * w + j % w) down ∙ ap (λ n. k / w * w + n) across ∙ div-add-mod' k w
 
--- the marks of a line's content
+-- the digits of the marks in a line's content
 abbrev pub digits_in : Option (List ℕ) → List ℕ
 digits_in (Some (x ∷ first ∷ y ∷ second ∷ digits)) = digits
 digits_in _ = []
 
+-- the digits in the content of a square's line are those of its marks
 digits_of : (b : BoardValue) (cell : ℕ) → digits_in (marks_content b cell) ≡ mark_digits (marks_at b cell)
 digits_of b cell =
     let digits = mark_digits (marks_at b cell) in
@@ -95,7 +99,7 @@ digits_of b cell =
       | false ↦ λ some. refl
     ] refl
 
--- numbers that pass, as digits
+-- no number that passes the test, as a digit, is below the first number of the range
 first_digit : (q : ℕ → Bool) (a n x : ℕ) (rest : List ℕ) → map digit (filter q (range_with_len a n)) ≡ digit x ∷ rest → a ≤ x
 first_digit q a zero x rest same = cc
 first_digit q a (suc n) x rest same =
@@ -104,6 +108,7 @@ first_digit q a (suc n) x rest same =
       | false ↦ λ e. let low = first_digit q (a + 1) n x rest e in omega (arith, low)
     ] same
 
+-- if the numbers of a range that pass two tests have the same digits, the tests agree along the range
 digits_tell : (p q : ℕ → Bool) (a n : ℕ) → map digit (filter p (range_with_len a n)) ≡ map digit (filter q (range_with_len a n)) → (v : ℕ)
     → a ≤ v → v < a + n → p v ≡ q v
 digits_tell p q a zero same v low high = absurd (omega arith)
@@ -153,7 +158,7 @@ digits_same w one other small first second same = same_set one other each
               ] refl
         ] refl
 
--- the marks of a board
+-- boards of which the same lines of marks are told have the same marks
 pub marks_told : (w : ℕ) (b c : BoardValue) → IsBoard b → IsBoard c → b.size ≡ w → c.size ≡ w → marks_lines b ≡ marks_lines c → b.marks ≡ c.marks
 marks_told w b c first second b_size c_size same =
     same_number_lists b.marks c.marks (first.mark_count ∙ ap (λ n. n * n) (b_size ∙ sym c_size) ∙ sym second.mark_count) each
@@ -194,7 +199,7 @@ marks_told w b c first second b_size c_size same =
 
 -- ---- done clues
 
--- a place is one of the four sides'
+-- what holds of the places of each of the four sides holds of every place
 by_side : (P : ℕ → Type 0) (w place : ℕ) → place < 4 * w → ((x : ℕ) → x < w → P x) → ((x : ℕ) → x < w → P (w + x))
     → ((y : ℕ) → y < w → P (2 * w + y)) → ((y : ℕ) → y < w → P (3 * w + y)) → P place
 by_side P w place inside top bottom left right = elim (cases_lt place w) [
@@ -214,7 +219,7 @@ by_side P w place inside top bottom left right = elim (cases_lt place w) [
   ]
 ]
 
--- where it is leads back to it, and has a text
+-- the coordinates of a place lead back to it, and each of them has a text
 record IsTold (w place : ℕ) : Type 0 where
   pub back : edge_place w (edge_xy w place).0 (edge_xy w place).1 ≡ Some place
   pub first : IsCoordinate (edge_xy w place).0
@@ -229,6 +234,7 @@ told_from w place x y at x_is y_is =
       second = subst (λ (q : ℤ × ℤ). IsCoordinate q.1) (sym there) y_is;
     }
 
+-- each place of the edge is told by its coordinates
 place_is_told : (w place : ℕ) → w ≤ 9 → place < 4 * w → IsTold w place
 place_is_told w place small inside = by_side (IsTold w) w place inside
     (λ x low. told_from w x (pos x) (negsuc zero) (rw (lt-ltb x w low) refl) (omega (arith, low)) refl)
@@ -237,11 +243,12 @@ place_is_told w place small inside = by_side (IsTold w) w place inside
     (λ y low. told_from w (3 * w + y) (pos w) (pos y) (rw (le-ltb w w (omega arith), lt-ltb y w low, eq-eqb w w refl) refl)
     (omega arith) (omega (arith, low)))
 
--- the text of a place tells it
+-- the place of the clue that a move marks as done, if it is such a move
 abbrev pub place_of_move : ℕ → Move → Option ℕ
 place_of_move w (Done x y) = edge_place w x y
 place_of_move w _ = None
 
+-- places with the same text are the same
 place_apart : (w j k : ℕ) → w ≤ 9 → j < 4 * w → k < 4 * w → place_text w j ≡ place_text w k → j ≡ k
 place_apart w j k small j_in k_in same =
     let one = place_is_told w j small j_in in
@@ -257,6 +264,7 @@ coordinate_lacks : (c : ℕ) (z : ℤ) → IsCoordinate z → is_digit c ≡ fal
 coordinate_lacks c (pos n) of other dashed = lacks_decimal c n (omega (arith, of)) other
 coordinate_lacks c (negsuc n) of other dashed = (dashed, lacks_decimal c (n + 1) (omega (arith, of)) other)
 
+-- the text of a place lacks a byte that is no digit, sign or comma
 place_lacks : (c w place : ℕ) → w ≤ 9 → place < 4 * w → is_digit c ≡ false → 45 ≢ c → comma ≢ c → Lacks c (place_text w place)
 place_lacks c w place small inside other dashed no_comma =
     let told = place_is_told w place small inside in
@@ -264,10 +272,11 @@ place_lacks c w place small inside other dashed no_comma =
     (coordinate_lacks c (edge_xy w place).0 told.first other dashed)
     (no_comma, coordinate_lacks c (edge_xy w place).1 told.second other dashed)
 
--- the content of the line of a place
+-- the content of the line of a place, if its clue is done
 abbrev pub done_content : ℕ → BoardValue → ℕ → Option (List ℕ)
 done_content w b place = cond (is_done b place) (Some (place_text w place)) None
 
+-- the line of a place is its content as a line, or nothing
 done_line_is : (w : ℕ) (b : BoardValue) (place : ℕ) → b.size ≡ w → done_line b place ≡ line_or_none (done_content w b place)
 done_line_is w b place size =
     elim (is_done b place) as (λ t. (if t then place_text b.size place ++ line_feed ∷ [] else []) ≡ line_or_none (cond t (Some (place_text w place)) None)) [
@@ -275,6 +284,7 @@ done_line_is w b place size =
       | false ↦ refl
     ]
 
+-- the content of the line of a place lacks a byte that is no digit, sign or comma
 done_lacks : (c w : ℕ) (b : BoardValue) (place : ℕ) → w ≤ 9 → place < 4 * w → is_digit c ≡ false → 45 ≢ c → comma ≢ c
     → LacksIn c (done_content w b place)
 done_lacks c w b place small inside other dashed no_comma =
@@ -283,6 +293,7 @@ done_lacks c w b place small inside other dashed no_comma =
       | false ↦ tt
     ]
 
+-- the content of the line of a place is the text of the place
 done_some : (w : ℕ) (b : BoardValue) (place : ℕ) (content : List ℕ) → done_content w b place ≡ Some content → content ≡ place_text w place
 done_some w b place content =
     elim (is_done b place) as (λ t. cond t (Some (place_text w place)) None ≡ Some content → content ≡ place_text w place) [
@@ -290,6 +301,7 @@ done_some w b place content =
       | false ↦ λ is. cc
     ]
 
+-- the line of a place has content if its clue is done
 done_is : (w : ℕ) (b : BoardValue) (place : ℕ) → is_some (done_content w b place) ≡ is_done b place
 done_is w b place =
     elim (is_done b place) as (λ t. is_some (cond t (Some (place_text w place)) None) ≡ t) [
@@ -297,7 +309,7 @@ done_is w b place =
       | false ↦ refl
     ]
 
--- the done clues of a board
+-- boards of which the same lines of done clues are told have the same done clues
 pub done_told : (w : ℕ) (b c : BoardValue) → IsBoard b → IsBoard c → b.size ≡ w → c.size ≡ w → done_lines b ≡ done_lines c → b.done ≡ c.done
 done_told w b c first second b_size c_size same = same_set b.done c.done each
   where
@@ -345,10 +357,11 @@ done_told w b c first second b_size c_size same = same_set b.done c.done each
 
 -- ---- the flags
 
--- where help comes with completion, the word tells both
+-- the word of the status, which tells both flags where help comes with completion
 abbrev pub flag_word : Bool → Bool → List ℕ
 flag_word cheated completed = if cheated then codes "helped" else (if completed then codes "solved" else codes "playing")
 
+-- if two texts begin with the words for flags and are the same, so are the flags
 pub flags_told : (h s : Bool) (x : List ℕ) (k t : Bool) (y : List ℕ) → (h ≡ true → s ≡ true) → (k ≡ true → t ≡ true)
     → flag_word h s ++ x ≡ flag_word k t ++ y → (h ≡ k) × (s ≡ t)
 flags_told true s x true t y first second same = (refl, first refl ∙ sym (second refl))

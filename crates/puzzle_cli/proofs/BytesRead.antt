@@ -14,15 +14,17 @@ use Rattle.puzzle_cli.specs.declared.run_end.End.TheVariants.{Finished, ReadFaul
 use Rattle.puzzle_cli.proofs.LinesCut.{ended_from-append, last_from-append, all_lines-by-parts, ended_lines-by-parts}
 use Rattle.puzzle_cli.proofs.LinesInTurn.{before_quit-all, ComeTo-after, Quit-more, Unsent-more}
 
+-- the part of a line after more bytes is the part after all bytes
 last_from-bytes : (part now : Line) (xs ys : List ℕ) → now ≡ last_from part xs → last_from now ys ≡ last_from part (xs ++ ys)
 last_from-bytes part now xs ys here = ap (λ l. last_from l ys) here ∙ sym (last_from-append part xs ys)
 
+-- the part of a line after the next byte of a piece is the part after one byte more
 pub last_from-byte : (part now : Line) (piece : List ℕ) (i : ℕ) → i < length piece → now ≡ last_from part (take i piece)
     → last_from now (get_or piece i 0 ∷ []) ≡ last_from part (take (i + 1) piece)
 last_from-byte part now piece i inside here =
     last_from-bytes part now (take i piece) (get_or piece i 0 ∷ []) here ∙ ap (last_from part) (sym (take_more piece i 0 inside))
 
--- a read that gave nothing
+-- after a read that gave no byte, the bytes that were read are the same
 Consumes-none : (a b c : Option (List ℕ)) (xs ys : List ℕ) (n : ℕ) → n ≡ 0 → Consumes a b xs → Consumes b c (take n ys) → Consumes a c xs
 Consumes-none a b c xs ys n none p q =
     let rest : Consumes b c [] = subst (λ k. Consumes b c (take k ys)) none q in
@@ -31,7 +33,7 @@ Consumes-none a b c xs ys n none p q =
 module _ {S : Type 0} (reply : ReplyRule S) (quit : Line → Bool) where
   -- ---- more bytes
 
-  -- more bytes after those whose lines were answered
+  -- a step over more bytes, after bytes whose lines were answered, is a step over all of them
   pub ComeTo-bytes : (flow : Flow) (part now : Line) (xs ys : List ℕ) (old mid new : Progress S)
       → ComeTo reply quit More (ended_from part xs) old mid → now ≡ last_from part xs → ComeTo reply quit flow (ended_from now ys) mid new
       → ComeTo reply quit flow (ended_from part (xs ++ ys)) old new
@@ -41,7 +43,7 @@ module _ {S : Type 0} (reply : ReplyRule S) (quit : Line → Bool) where
       subst (λ l. ComeTo reply quit flow l old new) (sym (ended_from-append part xs ys))
       (ComeTo-after reply quit flow (ended_from part xs) (ended_from (last_from part xs) ys) old mid new p next)
 
-  -- one more byte of a piece
+  -- a step over the next byte of a piece, after those whose lines were answered, is a step over one byte more
   pub ComeTo-byte : (flow : Flow) (part now : Line) (piece : List ℕ) (i : ℕ) (old mid new : Progress S) → i < length piece
       → ComeTo reply quit More (ended_from part (take i piece)) old mid → now ≡ last_from part (take i piece)
       → ComeTo reply quit flow (ended_from now (get_or piece i 0 ∷ [])) mid new
@@ -50,7 +52,7 @@ module _ {S : Type 0} (reply : ReplyRule S) (quit : Line → Bool) where
       subst (λ l. ComeTo reply quit flow (ended_from part l) old new) (sym (take_more piece i 0 inside))
       (ComeTo-bytes flow part now (take i piece) (get_or piece i 0 ∷ []) old mid new p here q)
 
-  -- a step that stopped didn't see the bytes after
+  -- a step that stopped comes to the same with more lines behind its own
   more_behind : (flow : Flow) (xs ys : List Line) (old new : Progress S) → (flow ≡ More → ⊥)
       → ComeTo reply quit flow xs old new → ComeTo reply quit flow (xs ++ ys) old new
   more_behind More xs ys old new stops q = absurd (stops refl)
@@ -68,7 +70,7 @@ module _ {S : Type 0} (reply : ReplyRule S) (quit : Line → Bool) where
 
   -- ---- the ends of a run
 
-  -- the steps of all that was read, the last line with them
+  -- a step over all that was read, and then one over the last line, are a step over all lines
   all_read : (flow : Flow) (read : List ℕ) (now : Line) (old mid new : Progress S)
       → ComeTo reply quit More (ended_from (Some []) read) old mid → now ≡ last_from (Some []) read
       → ComeTo reply quit flow (as_line now ∷ []) mid new
@@ -83,7 +85,7 @@ module _ {S : Type 0} (reply : ReplyRule S) (quit : Line → Bool) where
       → ComeTo reply quit flow (ended_from (Some []) read) old new → ComeTo reply quit flow (ended_lines read) old new
   ended_read flow read old new p = subst (λ l. ComeTo reply quit flow l old new) (sym (ended_lines-by-parts read)) p
 
-  -- a step that went out served the lines before quit
+  -- a step that sent its replies served the lines before quit
   served : (flow : Flow) (lines : List Line) (old new : Progress S) → (flow ≡ Unsent → ⊥) → ComeTo reply quit flow lines old new
       → (new.failed ≡ false) × Served reply (before_quit quit lines) old new
   served More lines old new went (no_quit, works, done) =
@@ -103,7 +105,7 @@ module _ {S : Type 0} (reply : ReplyRule S) (quit : Line → Bool) where
 
 module _ {S : Type 0} {reply : ReplyRule S} {quit : Line → Bool} {old now : Point S} {count : ℕ} {part : Line}
     (so_far : HasRead reply quit old now count part) where
-  -- a read failed, or all that a run reads was read
+  -- the run ends with ReadFault if a read failed, or if all that a run reads was read
   pub ReadFault-ends : count ≤ INPUT_BYTES → (now.read_failed ≡ true) ⊎ (count ≡ INPUT_BYTES) → Ends reply quit ReadFault old now
   ReadFault-ends most cause =
       let (no_quit, works, done) = ended_read reply quit More so_far.read old.answers now.answers so_far.answered in
@@ -112,7 +114,7 @@ module _ {S : Type 0} {reply : ReplyRule S} {quit : Line → Bool} {old now : Po
       (works, (so_far.read, (so_far.consumed, omega (arith, so_far.counted)), why, no_quit, done))
 
   module _ (new : Point S) where
-    -- no more was read
+    -- if no more was read, what was read so far is the same
     pub stays_read : Keeps now.to_come new.to_come → now.answers ≡ new.answers → HasRead reply quit old new count part
     stays_read keeps same = record {
       read = so_far.read;
@@ -137,7 +139,7 @@ module _ {S : Type 0} {reply : ReplyRule S} {quit : Line → Bool} {old now : Po
       all_gone flow goes =
           all_read reply quit flow so_far.read part old.answers now.answers new.answers so_far.answered so_far.rest goes
 
-      -- it was answered or is quit
+      -- the run is Finished if its last line was answered or is quit
       pub Finished-at-end : (flow : Flow) → (flow ≡ Unsent → ⊥)
           → ComeTo reply quit flow (as_line part ∷ []) now.answers new.answers
           → Ends reply quit Finished old new
@@ -145,7 +147,7 @@ module _ {S : Type 0} {reply : ReplyRule S} {quit : Line → Bool} {old now : Po
           let done = served reply quit flow (all_lines so_far.read) old.answers new.answers went (all_gone flow goes) in
           (works, done.0, (so_far.read, were_all.0, inl (were_all.1, done.1)))
 
-      -- its reply didn't go out
+      -- the run ends with WriteFault if the reply to its last line didn't go out
       pub WriteFault-at-end : ComeTo reply quit Unsent (as_line part ∷ []) now.answers new.answers
           → Ends reply quit WriteFault old new
       WriteFault-at-end goes =
@@ -155,7 +157,7 @@ module _ {S : Type 0} {reply : ReplyRule S} {quit : Line → Bool} {old now : Po
     -- ---- a piece was read
 
     module _ (n : ℕ) (piece : List ℕ) (fits : n ≤ length piece) (consumed : Consumes now.to_come new.to_come (take n piece)) where
-      -- what was read so far, with the beginning of the piece
+      -- what was read so far, and the front of the piece that was read now
       abbrev more : List ℕ
       more = so_far.read ++ take n piece
 
@@ -182,14 +184,14 @@ module _ {S : Type 0} {reply : ReplyRule S} {quit : Line → Bool} {old now : Po
       }
 
       module _ (within : count + n ≤ INPUT_BYTES) (works : new.read_failed ≡ false) where
-        -- a line that ends in it is quit
+        -- the run is Finished if a line that ends in the piece is quit
         pub Finished-at-quit : ComeTo reply quit Quit (ended_from part (take n piece)) now.answers new.answers
             → Ends reply quit Finished old new
         Finished-at-quit goes =
             let (quits, still_works, done) = ended_read reply quit Quit more old.answers new.answers (more_answered Quit goes) in
             (works, still_works, (more, (more_consumed, omega (arith, length-more)), inr (quits, done)))
 
-        -- the reply to a line that ends in it didn't go out
+        -- the run ends with WriteFault if the reply to a line that ends in the piece didn't go out
         pub WriteFault-in-piece : ComeTo reply quit Unsent (ended_from part (take n piece)) now.answers new.answers
             → Ends reply quit WriteFault old new
         WriteFault-in-piece goes =

@@ -19,13 +19,13 @@ use Rattle.puzzle_cli.specs.RunLaws.{AnswersCall, IsCallOf, IsMade, IsToldOfCall
 use Rattle.puzzle_cli.proofs.CommandLaws.{read_once}
 use Rattle.puzzle_cli.proofs.RepliesOnce.{call_read_once}
 
--- what a line makes, by its reading
+-- what a line makes of a session may come of what the line is read as
 pub given_to : {P : Type 0} (f : GameFacts P) (old : Option (History P)) (line : Line) (read : Reading (List ℕ)) (outcome : Outcome P)
     → IsRead line read → LineGives f old line outcome → ReadMayGive f old read outcome
 given_to f old line read outcome is (r, scan, gives) =
     subst (λ (x : Reading (List ℕ)). ReadMayGive f old x outcome) (read_once line r scan ∙ sym (read_once line read is)) gives
 
--- it is what comes with ample memory, or the refusal Memory
+-- what may come of a line is what comes with ample memory, or the refusal Memory
 pub ample_or_none : {P : Type 0} (f : GameFacts P) (old : Option (History P)) (read : Reading (List ℕ)) (outcome : Outcome P)
     → ReadMayGive f old read outcome → ReadGives f old read outcome ⊎ (ReadTakesMemory f old read × (outcome ≡ Err Memory))
 ample_or_none f old read (Ok said) gives = inl gives
@@ -35,7 +35,7 @@ ample_or_none f old read (Err refusal) (inr (takes, memory)) = inr (takes, ap Er
 module _ {P : Type 0} (f : GameFacts P) (h : History P) where
   -- ---- a call
 
-  -- an exact refusal is one, whether the call takes memory or not
+  -- a refusal for another reason than memory is one, whether the call takes memory or not
   refused_so : (call : Call) (fault : PlayFault) → fault ≢ OutOfMemory
       → (let exact : Result (History P) PlayFault = Err fault in
       MatchBool (may_take_memory call) (IsRefusal exact fault) (exact ≡ Err fault))
@@ -58,11 +58,12 @@ module _ {P : Type 0} (f : GameFacts P) (h : History P) where
       (subst (λ (e : PlayFault). CallGives (f.rules.puzzle h.puzzle) h call (Err e)) e gives) in
       (Err fault, h, (refl, (Err fault, gives, refused_so call fault not_for_memory)), is)
 
+  -- OutOfMemory in answer to a call is told as the refusal Memory
   no_memory_told : (call : Call) → IsToldOfCall call (Err OutOfMemory) h (Err Memory)
   no_memory_told ToSolution = refl
   no_memory_told call = refl
 
-  -- OutOfMemory in place of success
+  -- a call that takes memory and would succeed may be answered by OutOfMemory
   no_memory_answered : (call : Call) → may_take_memory call ≡ true → (k : History P) → CallGives (f.rules.puzzle h.puzzle) h call (Ok k)
       → AnswersCall f h call (Err Memory)
   no_memory_answered call takes k gives =
@@ -73,13 +74,13 @@ module _ {P : Type 0} (f : GameFacts P) (h : History P) where
 
   -- ---- a request: a call is answered, or the session left
 
-  -- the call of a request, and its answer
+  -- the outcome answers the call that the request is; or the request is no call, and the session is left
   abbrev pub IsTold : Request (List ℕ) → Outcome P → Type 0
   IsTold request outcome =
       ((call : Call) × IsCallOf request call × AnswersCall f h call outcome)
       ⊎ (((call : Call) → IsCallOf request call → ⊥) × (left (Some h) outcome ≡ Some h))
 
-  -- what is asked and given is told by a call
+  -- what is given to a request answers its call, or leaves the session
   pub told : (request : Request (List ℕ)) (outcome : Outcome P)
       → RequestGives f h request outcome ⊎ (RequestTakesMemory f h request × (outcome ≡ Err Memory)) → IsTold request outcome
   told (Act action) outcome (inl (Ok call, is, (exact, gives, says))) = inl (call, is, exactly_answered call exact outcome gives says)
@@ -95,6 +96,7 @@ module _ {P : Type 0} (f : GameFacts P) (h : History P) where
       → IsTold request outcome
   request_told request outcome gives = told request outcome (ample_or_none f (Some h) (Ok (Some (Ask request))) outcome gives)
 
+  -- a request that is a call is answered by the call
   call_answered : (request : Request (List ℕ)) (call : Call) (outcome : Outcome P) → IsCallOf request call
       → IsTold request outcome → AnswersCall f h call outcome
   call_answered (Act action) call outcome is (inl (other, so, answers)) =
@@ -103,6 +105,7 @@ module _ {P : Type 0} (f : GameFacts P) (h : History P) where
   call_answered request call outcome is (inr (none, stays)) = absurd (none call is)
   call_answered request call outcome is told = absurd is
 
+  -- a request that is no call leaves the session
   other_leaves : (request : Request (List ℕ)) (outcome : Outcome P)
       → ((call : Call) → IsCallOf request call → ⊥) → IsTold request outcome → left (Some h) outcome ≡ Some h
   other_leaves request outcome none (inl (call, is, answers)) = absurd (none call is)

@@ -28,6 +28,7 @@ entry_taken {A} (row ∷ rows) line a h =
       | false ↦ λ other e. inr ((λ same. let is = (bytes_eq-Decides line row.0).1 same in cc), entry_taken rows line a e)
     ] refl h
 
+-- the entry of a table under a line is found there
 entry_again : {A : Type 0} (rows : List (List ℕ × A)) (line : List ℕ) (a : A) → IsEntry rows line a → entry_at rows line ≡ Some a
 entry_again [] line a h = absurd h
 entry_again (row ∷ rows) line a (inl h) = rw ((bytes_eq-Decides line row.0).1 h.0) (ap Some (sym h.1))
@@ -47,13 +48,13 @@ map_taken : {A B : Type 0} (make : A → B) (o : Option A) (b : B) → option_ma
 map_taken make None b h = cc
 map_taken make (Some a) b h = let is : make a ≡ b = cc in (a, refl, is)
 
--- of what comes next
+-- an option of what comes next holds something only if the first option holds something
 pub then_taken : {A B : Type 0} (next : A → Option B) (o : Option A) (b : B) → option_and_then next o ≡ Some b
     → (a : A) × (o ≡ Some a) × (next a ≡ Some b)
 then_taken next None b h = cc
 then_taken next (Some a) b h = (a, refl, h)
 
--- what stands after a front stands there
+-- a line of which something stands behind a front is the front and this
 pub behind_taken : (front line text : List ℕ) → rest_behind front line ≡ Some text → line ≡ front ++ text
 behind_taken front line text h =
     elim (bytes_eq (take (length front) line) front) as (λ t. bytes_eq (take (length front) line) front ≡ t
@@ -74,6 +75,7 @@ nonzero_taken m n h =
       | false ↦ λ other e. let is : m ≡ n = cc in (grind (arith, nat_tests), is)
     ] refl h
 
+-- a limit that is read is from 1 to MOST_LISTED, and the text is its decimal
 limit_taken : (text : List ℕ) (n : ℕ) → limit_at text ≡ Some n → (1 ≤ n) × (n ≤ MOST_LISTED) × (text ≡ decimal n)
 limit_taken text n h =
     let (m, read, most) = then_taken nonzero (decimal_value MOST_LISTED text) n h in
@@ -81,6 +83,7 @@ limit_taken text n h =
     let (least, is) = nonzero_taken m n most in
     (least, omega (arith, is, within), spelled ∙ ap decimal is)
 
+-- the decimal of a limit is read as the limit
 limit_again : (n : ℕ) → 1 ≤ n → n ≤ MOST_LISTED → limit_at (decimal n) ≡ Some n
 limit_again n least most =
     let some : (n == 0) ≡ false = grind (arith, nat_tests) in
@@ -88,6 +91,7 @@ limit_again n least most =
 
 -- ---- commands
 
+-- a text that is read as a command with an argument is a line of that command
 argument_taken : (line : List ℕ) (c : Command (List ℕ)) → argument_at line ≡ Some c → HasArgument c line
 argument_taken line c h =
     elim (or_taken (option_map New (rest_behind (codes "new ") line)) _ c h) [
@@ -105,12 +109,14 @@ argument_taken line c h =
       ]
     ]
 
+-- a text that is read as a command is a line of that command
 command_taken : (line : List ℕ) (c : Command (List ℕ)) → command_at line ≡ Some c → IsLineOfCommand c line
 unfolding command_at
 command_taken line c h =
     elim (or_taken (word_at line) (argument_at line) c h)
     [ inl e ↦ inl (entry_taken words line c e) | inr e ↦ inr (argument_taken line c e) ]
 
+-- a line of a command is read as the command
 command_again : (c : Command (List ℕ)) (line : List ℕ) → IsLineOfCommand c line → command_at line ≡ Some c
 unfolding command_at
 command_again c line (inl h) = ap (λ o. option_or o (argument_at line)) (entry_again words line c h)
@@ -124,6 +130,7 @@ not_empty : (line : List ℕ) → line ≢ [] → (length line == 0) ≡ false
 not_empty [] h = absurd (h refl)
 not_empty (b ∷ bs) h = grind (arith, nat_tests)
 
+-- no line of a command has length 0
 command_full : (c : Command (List ℕ)) (line : List ℕ) → IsLineOfCommand c line → (length line == 0) ≡ false
 unfolding command_at
 command_full c [] h = let again : command_at [] ≡ Some c = command_again c [] h in cc
@@ -143,6 +150,7 @@ read_once line (Err BadCommand) (text, is, full, other) =
     ] refl
 read_once line (Err NoGame) h = absurd h
 
+-- a line with bytes is read as its command, or as BadCommand
 spelled_read : (b : ℕ) (bs : List ℕ) → IsRead (Some (b ∷ bs)) (ok_or (option_map Some (command_at (b ∷ bs))) BadCommand)
 spelled_read b bs =
     elim (command_at (b ∷ bs)) as (λ o. command_at (b ∷ bs) ≡ o → IsRead (Some (b ∷ bs)) (ok_or (option_map Some o) BadCommand)) [
@@ -158,12 +166,12 @@ line_is_read (Some (b ∷ bs)) =
     let P : Bool → Type 0 = λ t. IsRead (Some (b ∷ bs)) (if t then Ok None else ok_or (option_map Some (command_at (b ∷ bs))) BadCommand) in
     subst P (sym (not_empty (b ∷ bs) (λ e. cc))) (spelled_read b bs)
 
--- what was read, seen by a view
+-- what was read, if it is as the function on lists reads the line, is what the line is read as
 pub read_found : {X : Type 0} (view : X → List ℕ) (line : Line) (result : Reading X)
     → read_map view result ≡ read_at line → IsRead line (read_map view result)
 read_found view line result h = subst (λ (r : Reading (List ℕ)). IsRead line r) (sym h) (line_is_read line)
 
--- a word alone is the line of its command
+-- a line that is the word of a command is that command's line
 pub word_read : (line : List ℕ) (c : Command (List ℕ)) → word_at line ≡ Some c → IsLineOfCommand c line
 word_read line c h = inl (entry_taken words line c h)
 

@@ -9,8 +9,7 @@ use Rattle.clap.specs.declared.error.kind.ErrorKind.TheVariants.{DisplayHelp, Di
 use Rattle.clap.specs.declared.parser.matches.ArgMatches.{ArgMatches}
 use Rattle.clap.specs.declared.parser.matches.Found.{Found}
 use Rattle.puzzle_cli.specs.declared.start.command_fault.CommandFault.{CommandFault}
-use Rattle.puzzle_cli.specs.declared.start.command_fault.CommandFault.TheVariants.{BadWords, HelpAsked}
-use Rattle.puzzle_cli.specs.declared.start.command_fault.CommandFault.TheVariants.{OutOfMemory as NoMemory}
+use Rattle.puzzle_cli.specs.declared.start.command_fault.CommandFault.TheVariants.{BadWords, HelpAsked, OutOfMemory as NoMemory}
 use Rattle.puzzle_cli.specs.declared.start.command_line.Args.{Args}
 use Rattle.puzzle_cli.specs.CommandLine.{AreRead, AreRefused, AreTaken, AreUnfit, AskForHelp, IsCommandLine, NotBoth, command_line, named, option_rule, program_line}
 use Rattle.puzzle_cli.specs.Inner.WordReading.{AreParsed, AreValuesFound, IsGameRule, IsParseFault, AreWordsRefused, IsToldOfKind}
@@ -25,7 +24,7 @@ line_is_simple name games = refl
 pub is_simple_line : (app : App) → IsCommandLine app → is_simple app ≡ true
 is_simple_line app is = ap is_simple is.line ∙ line_is_simple is.name is.games
 
--- and the faults
+-- the command line is one of which clap tells the faults
 pub is_free_line : (app : App) → IsCommandLine app → is_simple_and_free app ≡ true
 is_free_line app is = ap is_simple_and_free is.line ∙ line_is_free is.name is.games
 
@@ -51,7 +50,7 @@ is_parsed app words (Ok m) is matches kinds = record {
 }
 is_parsed app words (Err e) is matches kinds = tt
 
--- and where it fails, memory was refused, or the words have a fault of this kind
+-- where the parse of a command line fails, memory was refused, or the words have a fault of this kind
 pub is_parse_fault : (app : App) (words : List Text) (result : Result ArgMatches Error) → IsCommandLine app
     → (is_simple_and_free app ≡ true → FailsBy (fault_of app words) result) → IfErr result (λ e. IsParseFault words (kind_of e))
 is_parse_fault app words (Ok m) is kinds = tt
@@ -79,7 +78,7 @@ found_is_read words found args p is = record {
   one_start = is.one_start;
 }
 
--- or refused
+-- parsed words of which the values are unfit are refused
 pub unfit_is_refused : (words : List Text) (found : Found) → AreParsed words found
     → AreUnfit (first_value found (codes "game")) (first_value found (codes "id")) (first_value found (codes "load")) → AreRefused words
 unfit_is_refused words found p unfit = record {
@@ -101,13 +100,13 @@ fault_is_refused words kind (inr has) not_memory mistake = record {
   why = inl (kind, has.among, mistake.0, mistake.1);
 }
 
--- a kind that isn't another than these two is one of them
+-- a kind of error that is no other than a request for help or the version is one of these
 asks : (kind : ErrorKind) → ((kind ≢ DisplayHelp) × (kind ≢ DisplayVersion) → ⊥) → (kind ≡ DisplayHelp) ⊎ (kind ≡ DisplayVersion)
 asks DisplayHelp not_other = inl refl
 asks DisplayVersion not_other = inr refl
 asks kind not_other = absurd (not_other ((λ e. cc), (λ e. cc)))
 
--- or ask for help
+-- words of which the fault is a request for help or the version ask for one of them
 request_is_answered : (words : List Text) (kind : ErrorKind) → IsParseFault words kind → kind ≢ OutOfMemory
     → ((kind ≢ DisplayHelp) × (kind ≢ DisplayVersion) → ⊥) → AskForHelp words
 request_is_answered words kind (inl memory) not_memory not_other = absurd (not_memory memory)
@@ -120,7 +119,7 @@ request_is_answered words kind (inr has) not_memory not_other = record {
   ];
 }
 
--- what is told of such an error is what is read of the words
+-- what is told of an error in the parse of the words is what the words are read as
 pub told_is_read : (words : List Text) (kind : ErrorKind) (fault : CommandFault) → IsParseFault words kind → kind ≢ OutOfMemory
     → IsToldOfKind kind fault → AreWordsRefused words fault
 told_is_read words kind (BadWords text) is not_memory told = fault_is_refused words kind is not_memory told

@@ -31,7 +31,7 @@ one_digit n h = let small : n < 10 = omega arith in ap length (decimal_digit n s
 minus_one : length (coordinate_text (negsuc zero)) ≡ 2
 minus_one = ap (λ ds. length (45 ∷ ds)) (decimal_digit 1 (omega arith))
 
--- no edge place has -1 twice
+-- both coordinates of an edge place have at most 3 bytes together, since -1 isn't there twice
 pub place_short : (w place : ℕ) → w ≤ 9 → place < 4 * w
     → length (coordinate_text (edge_xy w place).0) + length (coordinate_text (edge_xy w place).1) ≤ 3
 place_short w place h k = grind (arith, nat_tests, one_digit, minus_one)

@@ -23,22 +23,24 @@ AreCanonical {P} f = (p : P) → f.rules.valid p → f.describes (f.desc_of p) p
 
 module _ {P : Type 0} (f : GameFacts P) (canonical : AreCanonical f) (params : Params) (puzzle : P) (letters : IsParams f.letters params)
     (valid : f.rules.valid puzzle) (size : params.size ≡ (f.rules.puzzle puzzle).size) where
+  -- the ID of a described game begins a new session of the puzzle
   id_begins : TextBegins f (params_text params ++ colon ∷ f.desc_of puzzle) (Ok (new_game params puzzle))
   id_begins = (Ok (Described params puzzle), (letters, (f.desc_of puzzle, refl, (canonical puzzle valid, valid, sym size))), refl)
 
+  -- the line of a described game is read as `new` with the ID of the game
   line_read : IsRead (described_line f params puzzle) (Ok (Some (New (params_text params ++ colon ∷ f.desc_of puzzle))))
   line_read = (codes "new " ++ params_text params ++ colon ∷ f.desc_of puzzle, refl, inr refl)
 
-  -- such a line begins a new game
+  -- the line of a described game begins a new game
   pub begins : (old : Option (History P)) → AmpleGives f old (described_line f params puzzle) (Ok (ok_line, Some (new_game params puzzle)))
   begins old = (Ok (Some (New (params_text params ++ colon ∷ f.desc_of puzzle))), line_read, (Ok (new_game params puzzle), id_begins, refl))
 
-  -- the line may lack memory
+  -- the line of a described game may be refused for want of memory
   pub described_may_lack : (old : Option (History P)) → LineGives f old (described_line f params puzzle) (Err Memory)
   described_may_lack old =
       (Ok (Some (New (params_text params ++ colon ∷ f.desc_of puzzle))), line_read, inr ((new_game params puzzle, id_begins), refl))
 
--- with ample memory it begins that game, and has no other answer
+-- with ample memory the line of a described game begins that game, and has no other answer
 pub described_lines_begin : {P : Type 0} (f : GameFacts P) → ItemLaws f.rules → IdsAreReadOnce f → AreCanonical f → DescribedLinesBegin f
 described_lines_begin f laws ids canonical old params puzzle letters valid size =
     let ample = begins f canonical params puzzle letters valid size old in

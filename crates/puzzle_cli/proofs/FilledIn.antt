@@ -48,6 +48,7 @@ module _ {P : Type 0} (puzzle : P → Puzzle) (h : History P) (valid : IsValid (
       let allowed : refusal_of p (shown p h) (Filling g) ≡ None = (solutions_are_filled_in p (shown p h) g).1 only.solves in
       record { last = ends_in h g; on_board = rw (whole, replay_from-append p (start_of p) (past h) (Filling g ∷ []), allowed) refl }
 
+  -- the solution that the call for it fills in is the last move and on the board
   solution_filled_in : (new : History P) → SolveGives (puzzle h.puzzle) h (Ok new) → (g : GridValue) × IsFilledIn (puzzle new.puzzle) new g
   solution_filled_in new (inl (none, is)) = cc
   solution_filled_in new (inr (inl (several, is))) = cc
@@ -55,7 +56,7 @@ module _ {P : Type 0} (puzzle : P → Puzzle) (h : History P) (valid : IsValid (
       let made = accepted (full_refusal h.position) (with_move h (Filling g)) new (sym is) in
       (g, subst (λ (k : History P). IsFilledIn (puzzle k.puzzle) k g) made.1 (fills_in g only))
 
-  -- so it is once `solve` has filled it in
+  -- once `solve` has filled in a solution, it is the last move and on the board
   pub solve_fills_in : (new : History P) (answer : Result (Unit {0}) PlayFault) → ActionAnswered (puzzle h.puzzle) h Solve answer new
       → OnOk answer ((g : GridValue) × IsFilledIn (puzzle new.puzzle) new g)
   solve_fills_in new (Ok u) (read, is, answer) =

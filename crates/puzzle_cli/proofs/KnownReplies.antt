@@ -14,7 +14,7 @@ use Rattle.puzzle_cli.proofs.RepliesOnce.{IdsAreReadOnce, outcome_once}
 use Rattle.puzzle_cli.proofs.CallReplies.{ample_or_none}
 
 module _ {P : Type 0} (f : GameFacts P) (laws : ItemLaws f.rules) (ids : IdsAreReadOnce f) where
-  -- the one answer with ample memory
+  -- an answer that comes with ample memory is the only one, but for the refusal Memory
   pub given_once : (old new : Option (History P)) (line : Line) (text : List ℕ) → AmpleGives f old line (Ok (text, new))
       → (outcome : Outcome P) → LineGives f old line outcome → (outcome ≡ Ok (text, new)) ⊎ (outcome ≡ Err Memory)
   given_once old new line text ample outcome (read, is, gives) =
@@ -23,7 +23,7 @@ module _ {P : Type 0} (f : GameFacts P) (laws : ItemLaws f.rules) (ids : IdsAreR
         | inr memory ↦ inr memory.1
       ]
 
-  -- so it is to a line that asks something of a session
+  -- an answer to what a line asks of a session is the only one to the line, but for the refusal Memory
   pub the_answer : (h new : History P) (line : Line) (request : Request (List ℕ)) (text : List ℕ) → Asks line request
       → RequestGives f h request (text_outcome new text) → IsTheAnswer f (Some h) line text (Some new)
   the_answer h new line request text asks gives =

@@ -17,6 +17,7 @@ ended_from-append part (b ∷ xs) ys =
     ++ ended_from (if t then last_from (Some []) xs else last_from (pushed part b) xs) ys)
     [ true ↦ ap (λ l. as_line part ∷ l) (ended_from-append (Some []) xs ys) | false ↦ ended_from-append (pushed part b) xs ys ]
 
+-- the part of a line after two texts is the part after the second, which goes on from that after the first
 pub last_from-append : (part : Line) (xs ys : List ℕ) → last_from part (xs ++ ys) ≡ last_from (last_from part xs) ys
 last_from-append part [] ys = refl
 last_from-append part (b ∷ xs) ys =
@@ -35,6 +36,7 @@ join front (segment ∷ rest) = (front ++ segment) ∷ rest
 abbrev lines_of : List (List ℕ) → List Line
 lines_of ps = map (λ segment. as_line (unless_long segment)) ps
 
+-- no front before the first segment leaves the segments as they are
 join-segments : (bytes : List ℕ) → join [] (segments bytes) ≡ segments bytes
 join-segments [] = refl
 join-segments (b ∷ bs) =
@@ -42,6 +44,7 @@ join-segments (b ∷ bs) =
     ≡ (if t then [] ∷ segments bs else onto b (segments bs)))
     [ true ↦ refl | false ↦ elim (segments bs) as (λ ps. join [] (onto b ps) ≡ onto b ps) [ [] ↦ refl | p ∷ ps ↦ refl ] ]
 
+-- a byte before the first segment is the last byte of the front before it
 join-onto : (front : List ℕ) (b : ℕ) (ps : List (List ℕ)) → join front (onto b ps) ≡ join (front ++ b ∷ []) ps
 join-onto front b [] = refl
 join-onto front b (p ∷ ps) = ap (λ l. l ∷ ps) (sym (append_assoc front (b ∷ []) p))
@@ -66,11 +69,13 @@ lines_of-join front (b ∷ bs) =
 pub all_lines-by-parts : (bytes : List ℕ) → all_lines bytes ≡ ended_from (Some []) bytes ++ as_line (last_from (Some []) bytes) ∷ []
 all_lines-by-parts bytes = ap lines_of (sym (join-segments bytes)) ∙ lines_of-join [] bytes
 
+-- all but the last of a list of lines and one line are the list
 front-push : (lines : List Line) (line : Line) → take (length (lines ++ line ∷ []) - 1) (lines ++ line ∷ []) ≡ lines
 front-push lines line =
     let n : length (lines ++ line ∷ []) - 1 ≡ length lines = omega (arith, length_push lines line) in
     ap (λ k. take k (lines ++ line ∷ [])) n ∙ take-append_seam lines (line ∷ [])
 
+-- the lines that LF ended are those that are cut byte by byte
 pub ended_lines-by-parts : (bytes : List ℕ) → ended_lines bytes ≡ ended_from (Some []) bytes
 ended_lines-by-parts bytes =
     ap (λ l. take (length l - 1) l) (all_lines-by-parts bytes)

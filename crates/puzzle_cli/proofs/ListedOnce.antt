@@ -7,6 +7,7 @@ use Rattle.trail_solver.specs.Listings.{IsBelow, AreFirst}
 
 -- ---- one grid below another
 
+-- no grid is both below and above another
 below_not_above : (f g : GridValue) → IsBelow f g → IsBelow g f → ⊥
 below_not_above f g a b =
     elim (cases_order a.place b.place) [
@@ -20,15 +21,18 @@ below_not_above f g a b =
       ]
     ]
 
+-- no grid is below itself
 below_itself : (f : GridValue) → IsBelow f f → ⊥
 below_itself f a = below_not_above f f a a
 
 -- ---- the first of a list, and the others
 
+-- a grid of a list is its first one or among the others
 first_or_rest : (x g : GridValue) (xs : List GridValue) → Contains (x ∷ xs) g → (x ≡ g) ⊎ Contains xs g
 first_or_rest x g xs (zero, inside, is) = inl is
 first_or_rest x g xs (suc k, inside, is) = inr (k, omega arith, is)
 
+-- the first of rising grids is below each other one
 below_rest : (x : GridValue) (xs : List GridValue) → AllPairs IsBelow (x ∷ xs) → All (IsBelow x) xs
 below_rest x xs h = λ k d inside. h 0 (suc k) d (omega arith) (omega arith)
 
@@ -38,7 +42,7 @@ rising_rest x xs h = λ i j d less inside. h (suc i) (suc j) d (omega arith) (om
 contained : (P : GridValue → Type 0) (xs : List GridValue) (g : GridValue) → All P xs → Contains xs g → P g
 contained P xs g all (k, inside, is) = subst P is (all k g inside)
 
--- what is first after the first
+-- without its first grid, a list of first solutions has the first ones of those that are greater
 first_rest : (A : GridValue → Type 0) (limit : ℕ) (x : GridValue) (xs : List GridValue) → AreFirst A limit (x ∷ xs)
     → AreFirst (λ g. A g × IsBelow x g) (limit - 1) xs
 first_rest A limit x xs f = record {
@@ -54,7 +58,7 @@ first_rest A limit x xs f = record {
   ];
 }
 
--- nothing of A stands before the first
+-- each solution is the first of the list, or is greater
 least : (A : GridValue → Type 0) (limit : ℕ) (x : GridValue) (xs : List GridValue) (g : GridValue) → AreFirst A limit (x ∷ xs) → A g
     → (x ≡ g) ⊎ IsBelow x g
 least A limit x xs g f a =
@@ -66,6 +70,7 @@ least A limit x xs g f a =
       | inr full ↦ inr (All-head (λ y. IsBelow y g) x xs full.1)
     ]
 
+-- lists of the first solutions begin with the same grid
 same_first : (A : GridValue → Type 0) (limit : ℕ) (x y : GridValue) (xs ys : List GridValue) → AreFirst A limit (x ∷ xs)
     → AreFirst A limit (y ∷ ys) → x ≡ y
 same_first A limit x y xs ys f g =
@@ -85,6 +90,7 @@ none_or_full A limit y ys f g =
       | inr full ↦ let few = g.few in let long = full.0 in omega arith
     ]
 
+-- lists of the first solutions, of as many at most, are the same
 pub first_once : (A : GridValue → Type 0) (limit : ℕ) (xs ys : List GridValue) → AreFirst A limit xs → AreFirst A limit ys → xs ≡ ys
 first_once A limit [] [] f g = refl
 first_once A limit [] (y ∷ ys) f g = absurd (none_or_full A limit y ys f g)

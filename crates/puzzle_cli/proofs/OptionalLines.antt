@@ -28,12 +28,12 @@ abbrev pub LacksIn : ℕ → Option (List ℕ) → Type 0
 LacksIn c None = Unit {0}
 LacksIn c (Some content) = Lacks c content
 
--- one text after another lacks it, too
+-- if two texts lack a byte, so does one after the other
 pub lacks_on : (c : ℕ) (xs ys : List ℕ) → Lacks c xs → Lacks c ys → Lacks c (xs ++ ys)
 lacks_on c [] ys one other = other
 lacks_on c (x ∷ xs) ys one other = (one.0, lacks_on c xs ys one.1 other)
 
--- and so does the text of such lines
+-- if the content of a line lacks a byte other than LF, so does the text of the line
 line_lacks : (c : ℕ) → line_feed ≢ c → (line : Option (List ℕ)) → LacksIn c line → Lacks c (line_or_none line)
 line_lacks c feed None lacks = tt
 line_lacks c feed (Some content) lacks = lacks_on c content (line_feed ∷ []) lacks (feed, tt)
@@ -45,12 +45,12 @@ lines_lack c feed f a (suc n) lacks =
     lacks_on c (line_or_none (f a)) (flat_map (λ k. line_or_none (f k)) (range_with_len (a + 1) n))
     (line_lacks c feed (f a) (lacks a (omega arith))) (lines_lack c feed f (a + 1) n (λ k below. lacks k (omega (arith, below))))
 
--- a list of no elements
+-- a list of length 0 is empty
 pub empty_list : (xs : List ℕ) → (length xs == 0) ≡ true → xs ≡ []
 empty_list [] is = refl
 empty_list (x ∷ xs) is = let none = eqb-true (length (x ∷ xs)) 0 is in absurd (omega (arith, none))
 
--- lines, or a sentence that has a byte which they lack
+-- if two texts of lines, or of a sentence where there is no line, are the same, so are the lines
 pub lines_or_same : (c : ℕ) (sentence L M : List ℕ) → (Lacks c (sentence ++ line_feed ∷ []) → ⊥) → Lacks c L → Lacks c M
     → lines_or sentence L ≡ lines_or sentence M → L ≡ M
 lines_or_same c sentence L M has one other same =
@@ -81,7 +81,7 @@ module _ (f g : ℕ → Option (List ℕ)) (top : ℕ) (f_plain : (k : ℕ) → 
   nothing_cut [] rest same = cc
   nothing_cut (x ∷ content) rest same = cc
 
-  -- the first line of a text stands at some place
+  -- the first line of a text stands at this place, or after it
   stands_by : (h : ℕ → Option (List ℕ)) (a : ℕ) (content rest others : List ℕ) (line : Option (List ℕ)) → a < top → h a ≡ line
       → LacksIn line_feed line → Lacks line_feed content → line_or_none line ++ others ≡ content ++ line_feed ∷ rest
       → (others ≡ content ++ line_feed ∷ rest → Stands h (a + 1) content) → Stands h a content
@@ -90,6 +90,7 @@ module _ (f g : ℕ → Option (List ℕ)) (top : ℕ) (f_plain : (k : ℕ) → 
       let cut = cut_same line_feed first content others rest plain lacks (sym (append_assoc first (line_feed ∷ []) others) ∙ same) in
       (a, omega arith, inside, is ∙ ap Some cut.0)
 
+  -- the first line of a text of such lines stands at one of the places
   first_stands : (h : ℕ → Option (List ℕ)) (a n : ℕ) (content rest : List ℕ) → a + n ≤ top → ((k : ℕ) → k < top → LacksIn line_feed (h k))
       → Lacks line_feed content → flat_map (λ k. line_or_none (h k)) (range_with_len a n) ≡ content ++ line_feed ∷ rest → Stands h a content
   first_stands h a zero content rest within plain lacks same = absurd (nothing_cut content rest same)
@@ -98,7 +99,7 @@ module _ (f g : ℕ → Option (List ℕ)) (top : ℕ) (f_plain : (k : ℕ) → 
       (plain a (omega (arith, within))) lacks same
       (λ later. first_stands h (a + 1) n content rest (omega (arith, within)) plain lacks later)
 
-  -- the first lines of two texts that are the same
+  -- if two texts are the same, so are their first lines and the texts behind these
   heads_same : (a n : ℕ) (one other : Option (List ℕ)) → a + suc n ≤ top → f a ≡ one → g a ≡ other → LacksIn line_feed one
       → LacksIn line_feed other
       → line_or_none one ++ flat_map (λ k. line_or_none (f k)) (range_with_len (a + 1) n)
@@ -124,7 +125,7 @@ module _ (f g : ℕ → Option (List ℕ)) (top : ℕ) (f_plain : (k : ℕ) → 
       let at = apart a j x (omega (arith, within)) inside one_is there in
       absurd (omega (arith, at, above))
 
-  -- where the texts are the same each line is
+  -- if two texts are the same, so is the line of each place
   pub each_line : (a n : ℕ) → a + n ≤ top
       → flat_map (λ k. line_or_none (f k)) (range_with_len a n) ≡ flat_map (λ k. line_or_none (g k)) (range_with_len a n)
       → (k : ℕ) → a ≤ k → k < a + n → f k ≡ g k

@@ -10,6 +10,7 @@ use Rattle.puzzle_cli.specs.Machines.{IsResponse}
 use Rattle.puzzle_cli.specs.Replies.{LineGives, Reply}
 use Rattle.puzzle_cli.specs.Texts.{text_bytes}
 
+-- a response that says what the answer to a line says is a plain reply to the line
 pub said_plainly : {P : Type 0} (f : GameFacts P) (old new : Option (History P)) (line : Line) (answer : Response)
     → IsResponse (λ before read said after. LineGives f before read (Ok (said, after))) is_quit old line answer new
     → IsResponse (Reply f) is_quit old line answer new

@@ -5,6 +5,7 @@ use Rattle.std.proofs.lemmas.List.{map-append}
 use Rattle.std.proofs.lemmas.List.Elements.{filter-append}
 use Rattle.std.proofs.lemmas.Grind.{flat_map-append}
 
+-- a range with one number more has this number at its end
 range_snoc : (a m : ℕ) → range_with_len a (suc m) ≡ range_with_len a m ++ (a + m) ∷ []
 range_snoc a zero = let e : a ≡ a + 0 = omega arith in ap (λ k. k ∷ []) e
 range_snoc a (suc m) =
@@ -15,7 +16,7 @@ pub range_more : (a m n j : ℕ) → n ≡ m + 1 → a + m ≡ j → range_with_
 range_more a m n j e h =
     ap (λ k. range_with_len a k) (e ∙ add-one m) ∙ range_snoc a m ∙ ap (λ k. range_with_len a m ++ k ∷ []) h
 
--- after a front, the lists of a function along a range, then one more
+-- the lists that a function gives along a range, after a front, with the list of one number more at the end
 pub flat_map_onto : {X : Type 0} (f : ℕ → List X) (front xs ys : List X) (a m n j : ℕ) → n ≡ m + 1 → a + m ≡ j
     → xs ≡ front ++ flat_map f (range_with_len a m) → ys ≡ xs ++ f j → ys ≡ front ++ flat_map f (range_with_len a n)
 flat_map_onto f front xs ys a m n j e h old more =
@@ -23,7 +24,7 @@ flat_map_onto f front xs ys a m n j e h old more =
     = rw (range_more a m n j e h) (flat_map-append f (range_with_len a m) (j ∷ []) ∙ rw append-nil) in
     more ∙ (rw (old, last, append_assoc))
 
--- the same for one value of a function
+-- the values of a function along a range, after a front, with the value of one number more at the end
 pub map_onto : {X : Type 0} (f : ℕ → X) (front xs ys : List X) (a m n j : ℕ) → n ≡ m + 1 → a + m ≡ j
     → xs ≡ front ++ map f (range_with_len a m) → ys ≡ xs ++ f j ∷ [] → ys ≡ front ++ map f (range_with_len a n)
 map_onto f front xs ys a m n j e h old more =
@@ -31,21 +32,21 @@ map_onto f front xs ys a m n j e h old more =
     = rw (range_more a m n j e h) (map-append f (range_with_len a m) (j ∷ [])) in
     more ∙ (rw (old, last, append_assoc))
 
--- the values at the numbers of a range that pass a test, then at one number more that does
+-- the values at the numbers of a range that pass a test, with that of one number more, which passes
 pub filter_kept : {X : Type 0} (f : ℕ → X) (p : ℕ → Bool) (xs ys : List X) (a m n j : ℕ) → n ≡ m + 1 → a + m ≡ j
     → p j ≡ true → xs ≡ map f (filter p (range_with_len a m)) → ys ≡ xs ++ f j ∷ [] → ys ≡ map f (filter p (range_with_len a n))
 filter_kept f p xs ys a m n j e h passes old more =
     let one : filter p (j ∷ []) ≡ j ∷ [] = rw passes in
     more ∙ (rw (old, range_more a m n j e h, filter-append p (range_with_len a m) (j ∷ []), one, map-append))
 
--- the same where the number more does not pass
+-- the values at the numbers of a range that pass a test are the same with one number more that doesn't pass
 pub filter_dropped : {X : Type 0} (f : ℕ → X) (p : ℕ → Bool) (xs ys : List X) (a m n j : ℕ) → n ≡ m + 1 → a + m ≡ j
     → p j ≡ false → xs ≡ map f (filter p (range_with_len a m)) → ys ≡ xs → ys ≡ map f (filter p (range_with_len a n))
 filter_dropped f p xs ys a m n j e h fails old more =
     let none : filter p (j ∷ []) ≡ [] = rw fails in
     more ∙ (rw (old, range_more a m n j e h, filter-append p (range_with_len a m) (j ∷ []), none, append-nil))
 
--- the same after a front of two parts
+-- the lists that a function gives along a range, after two fronts, with that of one number more at the end
 pub flat_map_behind : {X : Type 0} (f : ℕ → List X) (before front xs ys : List X) (a m n j : ℕ) → n ≡ m + 1 → a + m ≡ j
     → xs ≡ before ++ (front ++ flat_map f (range_with_len a m)) → ys ≡ xs ++ f j
     → ys ≡ before ++ (front ++ flat_map f (range_with_len a n))

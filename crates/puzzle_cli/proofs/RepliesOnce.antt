@@ -45,6 +45,7 @@ call_read_once (Play text) (Err e) (Err d) h l = ap Err (h.1 ∙ sym l.1)
 call_read_once action one other is so = is ∙ sym so
 
 module _ {P : Type 0} (p : Puzzle) (h : History P) where
+  -- the call that solves gives one result
   solves_once : (one other : Result (History P) PlayFault) → SolveGives p h one → SolveGives p h other → one ≡ other
   solves_once one other (inl a) (inl b) = a.1 ∙ sym b.1
   solves_once one other (inl a) (inr (inl b)) = absurd (a.0 b.0.one b.0.one_solves)
@@ -59,20 +60,24 @@ module _ {P : Type 0} (p : Puzzle) (h : History P) where
   solves_once one other (inr (inr (a, only, is))) (inr (inr (b, sole, so))) =
       is ∙ ap (λ (g : GridValue). unless_refused (full_refusal h.position) (with_move h (Filling g))) (sole.only a only.solves) ∙ sym so
 
+  -- a call gives one result
   call_once : (call : Call) (one other : Result (History P) PlayFault) → CallGives p h call one → CallGives p h call other → one ≡ other
   call_once ToSolution one other is so = solves_once one other is so
   call_once call one other is so = is ∙ sym so
 
+  -- one text is said of a call that was made
   said_once : (call : Call) (new : History P) (a b : List ℕ) → IsSaidOf call new a → IsSaidOf call new b → a ≡ b
   said_once ToSolution new a b (g, last, is) (k, end, so) =
       let same : g ≡ k = cc in is ∙ ap (λ (g : GridValue). move_line (Filling g)) same ∙ sym so
   said_once call new a b is so = is ∙ sym so
 
+  -- one outcome comes of the result of a call
   says_once : (call : Call) (exact : Result (History P) PlayFault) (one other : Outcome P)
       → CallSays h call exact one → CallSays h call exact other → one ≡ other
   says_once call (Ok new) one other (a, said, is) (b, told, so) = is ∙ ap (λ t. text_outcome new t) (said_once call new a b said told) ∙ sym so
   says_once call (Err fault) one other is so = is ∙ sym so
 
+  -- a call that was read has one outcome, and so has a text that is no move
   read_replies_once : (read : Result Call PlayFault) (one other : Outcome P) → ReadReplies p h read one → ReadReplies p h read other → one ≡ other
   read_replies_once (Ok call) one other (exact, gives, says) (e, g, s) =
       says_once call exact one other says (subst (λ (x : Result (History P) PlayFault). CallSays h call x other) (call_once call e exact g gives) s)
@@ -103,6 +108,7 @@ id_begins_once {P} f laws (Ok (Seeded params seed)) one other (made, gives, is) 
 id_begins_once f laws (Err fault) one other is so = sym is ∙ so
 
 module _ {P : Type 0} (f : GameFacts P) (laws : ItemLaws f.rules) (ids : IdsAreReadOnce f) where
+  -- a request has one outcome, with ample memory
   request_once : (h : History P) (request : Request (List ℕ)) (one other : Outcome P) → RequestGives f h request one
       → RequestGives f h request other → one ≡ other
   request_once h (Act action) one other (r, a, is) (s, b, so) =
@@ -112,24 +118,27 @@ module _ {P : Type 0} (f : GameFacts P) (laws : ItemLaws f.rules) (ids : IdsAreR
   request_once h (Listing n) one other (xs, first, is) (ys, least, so) =
       is ∙ ap (λ l. text_outcome h (listed_lines l)) (first_once (Solves (f.rules.puzzle h.puzzle)) n xs ys first least) ∙ sym so
 
+  -- the text of an ID gives one session, or one refusal
   begins_once : (text : List ℕ) (one other : Result (History P) StartFault) → TextBegins f text one → TextBegins f text other → one ≡ other
   begins_once text one other (r, a, is) (s, b, so) =
       id_begins_once f laws r one other is
       (subst (λ (read : Result (GameId P) IdFault). IdBegins f read other) (ids text s r b a) so)
 
+  -- a line that was read has one outcome, with ample memory
   gives_once : (old : Option (History P)) (read : Reading (List ℕ)) (one other : Outcome P)
       → ReadGives f old read one → ReadGives f old read other → one ≡ other
   gives_once old (Ok (Some (New id))) one other (e, begins, is) (d, starts, so) = is ∙ ap begun (begins_once id e d begins starts) ∙ sym so
   gives_once (Some h) (Ok (Some (Ask request))) one other is so = request_once h request one other is so
   gives_once old read one other is so = is ∙ sym so
 
-  -- a line has one outcome
+  -- with ample memory a line has one outcome
   pub outcome_once : (old : Option (History P)) (line : Line) (one other : Outcome P)
       → AmpleGives f old line one → AmpleGives f old line other → one ≡ other
   outcome_once old line one other (r, read, is) (s, scan, so) =
       let same : s ≡ r = read_once line s scan ∙ sym (read_once line r read) in
       gives_once old r one other is (subst (λ (q : Reading (List ℕ)). ReadGives f old q other) same so)
 
+  -- lines that are answered in turn have one output and leave one session, with ample memory
   pub output_once : (lines : List Line) (old m n : Option (History P)) (a b : List ℕ)
       → RepliesInTurn (AmpleReply f) lines old a m → RepliesInTurn (AmpleReply f) lines old b n → (a ≡ b) × (m ≡ n)
   output_once [] old m n a b (none, stays) (nothing, rests) = (none ∙ sym nothing, stays ∙ sym rests)

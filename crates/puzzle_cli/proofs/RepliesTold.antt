@@ -25,7 +25,7 @@ module _ {P : Type 0} (f : GameFacts P) (name : List ℕ) (outcome : Outcome P) 
   call_refused h call (Err fault, new, (stays, why), is) =
       ap (left (Some h)) is ∙ sentence_left h new (call_sentence call fault) fault stays ∙ ap Some stays
 
-  -- and so does a line
+  -- a line that is told as refused left the session
   step_refused : (old : Option (History P)) → Step f old outcome → left old outcome ≡ old
   step_refused old (inl (id, k, begins, is)) = absurd (made_or_refused Laws.Undo ok_line name refl (sym (ap plain_text is) ∙ told))
   step_refused old (inr (inl (h, call, there, answers))) =

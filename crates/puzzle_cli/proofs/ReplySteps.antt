@@ -14,13 +14,13 @@ use Rattle.puzzle_cli.specs.RunLaws.{AnswersCall}
 use Rattle.puzzle_cli.proofs.CallReplies.{ample_or_none, told}
 
 module _ {P : Type 0} (f : GameFacts P) (old : Option (History P)) (outcome : Outcome P) where
-  -- one step of a session, by what began it or left it
+  -- one step: an ID begins a session, a call of the session is answered, or what there is is left
   abbrev pub Step : Type 0
   Step =
       ((id : List ℕ) × (k : History P) × TextBegins f id (Ok k) × (outcome ≡ Ok (ok_line, Some k)))
       ⊎ ((h : History P) × (call : Call) × (old ≡ Some h) × AnswersCall f h call outcome) ⊎ (left old outcome ≡ old)
 
--- what a line that was read gives is such a step
+-- what a line that was read gives is one step
 step : {P : Type 0} (f : GameFacts P) (old : Option (History P)) (outcome : Outcome P) (read : Reading (List ℕ))
     → ReadGives f old read outcome ⊎ (ReadTakesMemory f old read × (outcome ≡ Err Memory)) → Step f old outcome
 step f old outcome (Ok (Some (New id))) (inl (Ok k, begins, is)) = inl (id, k, begins, is)
@@ -33,7 +33,7 @@ step f (Some h) outcome (Ok (Some (Ask request))) given =
 step f old outcome read (inl is) = inr (inr (ap (left old) is))
 step f old outcome read (inr (takes, memory)) = inr (inr (ap (left old) memory))
 
--- so is what may come of it
+-- what may come of a line that was read is one step
 pub reply_step : {P : Type 0} (f : GameFacts P) (old : Option (History P)) (outcome : Outcome P) (read : Reading (List ℕ))
     → ReadMayGive f old read outcome → Step f old outcome
 reply_step f old outcome read gives = step f old outcome read (ample_or_none f old read outcome gives)

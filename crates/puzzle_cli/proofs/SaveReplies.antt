@@ -29,7 +29,7 @@ save_asks = (codes "save", refl, word_read (codes "save") (Ask (Tell Save)) refl
 
 module _ {P : Type 0} (f : GameFacts P) (owes : Owes (saved_facts f) f.rules.valid) (h : History P)
     (storable : IsStorable f.rules.puzzle f.rules.valid f.letters h) where
-  -- a first fault of what is saved is its length
+  -- the only first fault of a saved text is that it is too large
   saved_fault : (fault : LoadFault) → load_at (saved_facts f) (save_of f.title f.desc_of h) ≡ Err fault
       → (MOST_BYTES < length (save_of f.title f.desc_of h)) × (fault ≡ TooLarge)
   saved_fault fault is =
@@ -40,6 +40,7 @@ module _ {P : Type 0} (f : GameFacts P) (owes : Owes (saved_facts f) f.rules.val
             let read = load_again (saved_facts f) (save_of f.title f.desc_of h) h owes.texts saved in cc
       ]
 
+  -- a saved text begins the session again, or is refused for want of memory, or as too large
   loaded_back : (first : Result (History P) StartFault) → FileBegins f (save_of f.title f.desc_of h) first
       → IsLoadedBack h (save_of f.title f.desc_of h) first
   loaded_back (Ok first) is =

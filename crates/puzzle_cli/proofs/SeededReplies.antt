@@ -57,6 +57,7 @@ one_line g =
 -- ---- the new game of a puzzle with one solution
 
 module _ {P : Type 0} (f : GameFacts P) (laws : ItemLaws f.rules) (ids : IdsAreReadOnce f) where
+  -- in a new session of a puzzle with one solution, `solve` answers this solution
   solve_answers : (params : Params) (puzzle : P) (g : GridValue) → IsOnlySolution (f.rules.puzzle puzzle) g
       → IsTheAnswer f (Some (new_game params puzzle)) (Some (codes "solve")) (move_line (Filling g)) (Some (with_move (new_game params puzzle) (Filling g)))
   solve_answers params puzzle g only =
@@ -65,12 +66,14 @@ module _ {P : Type 0} (f : GameFacts P) (laws : ItemLaws f.rules) (ids : IdsAreR
       the_answer f laws ids h new (Some (codes "solve")) (Act Solve) (move_line (Filling g)) solve_asks
       (Ok ToSolution, refl, (Ok new, inr (inr (g, only, refl)), (move_line (Filling g), (g, refl, refl), refl)))
 
+  -- of a puzzle with one solution, `list 2` has this solution alone
   list_has : (h : History P) (g : GridValue) → IsOnlySolution (f.rules.puzzle h.puzzle) g
       → IsTheAnswer f (Some h) (Some (codes "list 2")) (grid_line g) (Some h)
   list_has h g only =
       the_answer f laws ids h h (Some (codes "list 2")) (Listing 2) (grid_line g) list_two_asks
       (g ∷ [], AreFirst-only (Solves (f.rules.puzzle h.puzzle)) 2 g only.solves only.only (omega arith), ap (λ text. text_outcome h text) (sym (one_line g)))
 
+  -- a new session in which the only solution was filled in shows its numbers
   shows_solution : (params : Params) (puzzle : P) (g : GridValue) → IsOnlySolution (f.rules.puzzle puzzle) g
       → (shown_board f (with_move (new_game params puzzle) (Filling g))).numbers ≡ g.numbers
   shows_solution params puzzle g only =
@@ -81,6 +84,7 @@ module _ {P : Type 0} (f : GameFacts P) (laws : ItemLaws f.rules) (ids : IdsAreR
       let allowed = allowed_in p h (Filling g) (accepted (refusal_in p h (Filling g)) new new made).0 in
       rw allowed.on_board refl
 
+  -- the new session of a generated puzzle has the seed's square as its only solution
   generated_has_one : (params : Params) (seed : ℕ) (puzzle : P) → Generates f.rules params seed (Ok puzzle)
       → HasJustOne f (square_of params.size seed) (new_game params puzzle)
   generated_has_one params seed puzzle gives =
@@ -97,6 +101,7 @@ module _ {P : Type 0} (f : GameFacts P) (laws : ItemLaws f.rules) (ids : IdsAreR
 
   -- ---- the line that begins it
 
+  -- the session of what a seed generates has the seed's square as its only solution
   made_has_one : (params : Params) (seed : ℕ) (k : History P) (made : Result P GenFault) → Generates f.rules params seed made
       → generated_game params made ≡ Ok k → HasJustOne f (square_of params.size seed) k
   made_has_one params seed k (Ok puzzle) gives is =
@@ -104,6 +109,7 @@ module _ {P : Type 0} (f : GameFacts P) (laws : ItemLaws f.rules) (ids : IdsAreR
       subst (λ (h : History P). HasJustOne f (square_of params.size seed) h) same (generated_has_one params seed puzzle gives)
   made_has_one params seed k (Err fault) gives is = cc
 
+  -- the session that the ID of a seed begins has the seed's square as its only solution
   begun_has_one : (params : Params) (seed : ℕ) (k : History P) (read : Result (GameId P) IdFault) → Ok (Seeded params seed) ≡ read
       → IdBegins f read (Ok k) → HasJustOne f (square_of params.size seed) k
   begun_has_one params seed k read same begins =
@@ -111,6 +117,7 @@ module _ {P : Type 0} (f : GameFacts P) (laws : ItemLaws f.rules) (ids : IdsAreR
       subst (λ (r : Result (GameId P) IdFault). IdBegins f r (Ok k)) (sym same) begins in
       let (made, generates, is) = gives in made_has_one params seed k made generates is
 
+  -- the session that `new` with a seed leaves has the seed's square as its only solution
   said_has_one : (old new : Option (History P)) (params : Params) (seed : ℕ) (id text : List ℕ) → IsIdRead f id (Ok (Seeded params seed))
       → ReadGives f old (Ok (Some (New id))) (Ok (text, new)) → IsSomeAnd new (HasJustOne f (square_of params.size seed))
   said_has_one old new params seed id text is (Ok k, (read, scan, begins), out) =

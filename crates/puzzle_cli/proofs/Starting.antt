@@ -5,6 +5,7 @@ use Rattle.puzzle_cli.specs.declared.start.start_fault.StartFault.{StartFault}
 use Rattle.puzzle_cli.specs.declared.start.start_fault.StartFault.TheVariants.{OutOfMemory}
 use Rattle.puzzle_cli.specs.NewSessions.{IsStartRefusal}
 
+-- where a first session would come, OutOfMemory may come in its place
 pub refused_for_memory : {P : Type 0} (Comes : Result (History P) StartFault → Type 0) (first : History P)
     (result : Result (History P) StartFault) → Comes (Ok first) → IfErr result (λ fault. fault ≡ OutOfMemory)
     → IfErr result (IsStartRefusal Comes)

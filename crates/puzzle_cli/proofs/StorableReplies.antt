@@ -21,9 +21,11 @@ use Rattle.puzzle_cli.proofs.ReplySteps.{Step, reply_step, sentence_left}
 
 -- ---- a session that can be stored
 
+-- a session that stays as it was can be stored as before
 kept_storable : {P : Type 0} (f : GameFacts P) (old new : Option (History P)) → new ≡ old → IsNoneOrStorable f old → IsNoneOrStorable f new
 kept_storable {P} f old new stays s = subst (λ (o : Option (History P)). IsNoneOrStorable f o) (sym stays) s
 
+-- what a call leaves of a session that can be stored can be stored
 call_storable : {P : Type 0} (f : GameFacts P) (h : History P) (call : Call) (outcome : Outcome P)
     → IsNoneOrStorable f (Some h) → AnswersCall f h call outcome → IsNoneOrStorable f (left (Some h) outcome)
 call_storable f h call outcome s (Ok u, new, gives, (text, made, is)) =
@@ -35,6 +37,7 @@ call_storable f h call outcome s (Err fault, new, (stays, why), is) =
     (storable_answered f.rules.puzzle f.rules.valid f.letters h new call (Err fault) s (stays, why))
 
 module _ {P : Type 0} (f : GameFacts P) (laws : ItemLaws f.rules) where
+  -- a new session of a puzzle of the size of its parameters can be stored
   new_storable : (params : Params) (puzzle : P) (k : History P) → IsParams f.letters params → f.rules.valid puzzle
       → params.size ≡ (f.rules.puzzle puzzle).size
       → new_game params puzzle ≡ k → IsStorable f.rules.puzzle f.rules.valid f.letters k
@@ -42,6 +45,7 @@ module _ {P : Type 0} (f : GameFacts P) (laws : ItemLaws f.rules) where
       subst (λ (h : History P). IsStorable f.rules.puzzle f.rules.valid f.letters h) same
       (starts_storable f.rules.puzzle f.rules.valid f.letters puzzle params params no_extras valid letters letters size)
 
+  -- the new session of a generated puzzle can be stored
   generated_storable : (params : Params) (seed : ℕ) (k : History P) (made : Result P GenFault) → IsParams f.letters params
       → Generates f.rules params seed made
       → generated_game params made ≡ Ok k → IsStorable f.rules.puzzle f.rules.valid f.letters k
@@ -50,6 +54,7 @@ module _ {P : Type 0} (f : GameFacts P) (laws : ItemLaws f.rules) where
       new_storable params puzzle k letters is.0 (sym is.1) cc
   generated_storable params seed k (Err fault) letters gives e = cc
 
+  -- the session that an ID begins can be stored
   id_storable : (text : List ℕ) (k : History P) (read : Result (GameId P) IdFault) → IsIdRead f text read
       → IdBegins f read (Ok k) → IsStorable f.rules.puzzle f.rules.valid f.letters k
   id_storable text k (Ok (Described params puzzle)) (letters, (desc, spelled, (describes, valid, size))) e =
@@ -72,7 +77,7 @@ step_storable {P} f laws old outcome s (inr (inl (h, call, there, answers))) =
     (call_storable f h call outcome (kept_storable f old (Some h) (sym there) s) answers)
 step_storable f laws old outcome s (inr (inr stays)) = kept_storable f old (left old outcome) stays s
 
--- so is what a line leaves of one
+-- what a line leaves of a storable session is storable
 pub answers_stay_storable : {P : Type 0} (f : GameFacts P) → ItemLaws f.rules → AnswersStayStorable f
 answers_stay_storable f laws old line outcome s (read, is, gives) =
     step_storable f laws old outcome s (reply_step f old outcome read gives)

@@ -12,6 +12,7 @@ use Rattle.puzzle_cli.specs.RunLaws.{IsNoneOrStorable}
 use Rattle.puzzle_cli.proofs.StorableReplies.{answers_stay_storable}
 
 module _ {P : Type 0} (f : GameFacts P) (laws : ItemLaws f.rules) (reply : ReplyRule (Option (History P))) (leaves : LeavesAsAnswers f reply) where
+  -- what a reply leaves is none, or can be stored, if what was before it is none or can be
   reply_storable : (old new : Option (History P)) (line : Line) (bytes : List ℕ) → IsNoneOrStorable f old → reply old line bytes new
       → IsNoneOrStorable f new
   reply_storable old new line bytes s said =
@@ -19,13 +20,14 @@ module _ {P : Type 0} (f : GameFacts P) (laws : ItemLaws f.rules) (reply : Reply
       let (outcome, gives, left) = answers in
       subst (λ (o : Option (History P)). IsNoneOrStorable f o) (sym left) (answers_stay_storable f laws old asked outcome s gives)
 
-  -- and so can what replies in turn leave
+  -- what replies in turn leave is none, or can be stored, if what was before them is none or can be
   in_turn : (lines : List Line) (old new : Option (History P)) (written : List ℕ) → IsNoneOrStorable f old
       → RepliesInTurn reply lines old written new → IsNoneOrStorable f new
   in_turn [] old new written s (w, e) = subst (λ (o : Option (History P)). IsNoneOrStorable f o) (sym e) s
   in_turn (line ∷ lines) old new written s (bytes, mid, rest, said, w, more) =
       in_turn lines mid new rest (reply_storable old mid line bytes s said) more
 
+  -- what a run leaves is none, or can be stored, if what it began with is none or can be
   pub ends_storable : (quit : Line → Bool) (end : End) (old new : Point (Option (History P))) → IsNoneOrStorable f old.answers.session
       → Ends reply quit end old new → IsNoneOrStorable f new.answers.session
   ends_storable quit Finished old new s (r, w, (read, were, inl (all, served))) = in_turn _ old.answers.session new.answers.session served.0 s served.1

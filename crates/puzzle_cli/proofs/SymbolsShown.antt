@@ -18,7 +18,7 @@ use Rattle.puzzle_cli.specs.Faithful.{PicturesShowNumbers}
 
 -- ---- lists
 
--- two texts that begin with as many bytes
+-- if two texts are the same, so are beginnings of as many bytes, and what is behind these
 pub fronts_same : (a b x y : List ℕ) → length a ≡ length b → a ++ x ≡ b ++ y → (a ≡ b) × (x ≡ y)
 fronts_same [] [] x y long same = (refl, same)
 fronts_same [] (k ∷ b) x y long same = absurd (omega (arith, long))
@@ -29,17 +29,17 @@ fronts_same (k ∷ a) (n ∷ b) x y long same =
     let rest = fronts_same a b x y (omega (arith, long)) tails in
     (λ i. heads i ∷ rest.0 i, rest.1)
 
--- after the same front
+-- if two texts with the same front are the same, so is what is behind the front
 pub rests_same : (a x y : List ℕ) → a ++ x ≡ a ++ y → x ≡ y
 rests_same a x y same = (fronts_same a a x y refl same).1
 
--- the same at each place of a range
+-- functions that have the same values along a range have the same value at each of its numbers
 pub each_same : (f g : ℕ → ℕ) (n : ℕ) → map f (range_with_len 0 n) ≡ map g (range_with_len 0 n) → (k : ℕ) → k < n → f k ≡ g k
 each_same f g n same k inside =
     sym (get_or-map-range_with_len f 0 n k k 0 inside (omega arith)) ∙ ap (λ xs. get_or xs k 0) same
     ∙ get_or-map-range_with_len g 0 n k k 0 inside (omega arith)
 
--- as many symbols, as a line
+-- if two texts begin with lines of as many symbols and are the same, so are the symbols and what is behind
 pub spaced_same : (xs ys rest more : List ℕ) → length xs ≡ length ys → spaced_line xs ++ rest ≡ spaced_line ys ++ more
     → (xs ≡ ys) × (rest ≡ more)
 spaced_same [] [] rest more long same = (refl, cc)
@@ -58,6 +58,7 @@ spaced_same (x ∷ w ∷ xs) (y ∷ z ∷ ys) rest more long same =
 
 -- ---- squares
 
+-- squares that show the same symbol have the same number
 pub symbol_same : (n m : ℕ) → n ≤ 9 → m ≤ 9 → square_symbol n ≡ square_symbol m → n ≡ m
 symbol_same n m low small same = elim (cases_eq n 0) [
   | inl none ↦ elim (cases_eq m 0) [
@@ -70,7 +71,7 @@ symbol_same n m low small same = elim (cases_eq n 0) [
   ]
 ]
 
--- where each symbol of the rows is the same the numbers are
+-- boards of which each square shows the same symbol have the same numbers
 numbers_same : (w : ℕ) (b c : BoardValue) → IsBoard b → IsBoard c → b.size ≡ w → c.size ≡ w
     → ((y x : ℕ) → y < w → x < w → square_at b (y * w + x) ≡ square_at c (y * w + x)) → b.numbers ≡ c.numbers
 numbers_same w b c first second b_size c_size each =
@@ -92,7 +93,7 @@ numbers_same w b c first second b_size c_size each =
 
 -- ---- Towers
 
--- rows of as many symbols
+-- if texts of rows of as many symbols are the same, so is each row
 rows_same : (f g : ℕ → List ℕ) (a n : ℕ) (rest more : List ℕ) → ((y : ℕ) → length (f y) ≡ length (g y))
     → flat_map (λ y. spaced_line (f y)) (range_with_len a n) ++ rest ≡ flat_map (λ y. spaced_line (g y)) (range_with_len a n) ++ more
     → (y : ℕ) → a ≤ y → y < a + n → f y ≡ g y
@@ -107,7 +108,7 @@ rows_same f g a (suc n) rest more long same y low high =
       | inr later ↦ rows_same f g (a + 1) n rest more long parts.1 y (omega (arith, later)) (omega arith)
     ]
 
--- with as many symbols
+-- a row of squares has as many symbols for one board as for another
 towers_row_long : (v : TowersValue) (b c : BoardValue) (y : ℕ) → length (towers_row v b y) ≡ length (towers_row v c y)
 towers_row_long v b c y =
     ap suc (length-append (squares b) (clue_at v (3 * v.size + y) ∷ [])
@@ -140,7 +141,7 @@ towers_show v b c first second b_size c_size same = numbers_same v.size b c firs
 
 -- ---- Unequal
 
--- signs and squares in turn
+-- if signs and squares in turn are the same, so are the squares
 pairs_same : (s f g : ℕ → ℕ) (a n : ℕ) (rest more : List ℕ)
     → flat_map (λ x. s x ∷ f x ∷ []) (range_with_len a n) ++ rest ≡ flat_map (λ x. s x ∷ g x ∷ []) (range_with_len a n) ++ more
     → ((x : ℕ) → a ≤ x → x < a + n → f x ≡ g x) × (rest ≡ more)
@@ -156,7 +157,7 @@ pairs_same s f g a (suc n) rest more same =
       tail.1,
     )
 
--- a row of squares, of which the first is at a square
+-- if the lines of a row of squares are the same, so is the symbol of each of the squares
 squares_same : (v : UnequalValue) (b c : BoardValue) (first : ℕ) (rest more : List ℕ) → 0 < v.size
     → squares_line v b first ++ rest ≡ squares_line v c first ++ more
     → ((x : ℕ) → x < v.size → square_at b (first + x) ≡ square_at c (first + x)) × (rest ≡ more)

@@ -26,7 +26,7 @@ undo_asks = (codes "undo", refl, word_read (codes "undo") (Ask (Act Undo)) refl)
 redo_asks : Asks (Some (codes "redo")) (Act Redo)
 redo_asks = (codes "redo", refl, word_read (codes "redo") (Ask (Act Redo)) refl)
 
--- what comes of an undo that succeeds
+-- an undo that goes back to a session is told by `ok`, and leaves that session, later moves apart
 undo_said : {P : Type 0} (f : GameFacts P) (p : Puzzle) (h k : History P) (outcome : Outcome P)
     → IsOkAnd (undone k) (IsSameBack p h) → AnswersCall f k Laws.Undo outcome
     → (last : History P) × (outcome ≡ text_outcome last ok_line) × IsSameBack p h last
@@ -44,6 +44,7 @@ not_refused ToSolution SeveralSolutions text k new (g, made) told =
     let e : 83 ≡ 77 = ap (λ l. get_or l 0 0) (sym made ∙ ap plain_text told) in omega (arith, e)
 not_refused call fault text k new made told = cc
 
+-- `undo` after a call that was made goes back to the session before the call, later moves apart
 after_made : {P : Type 0} (f : GameFacts P) (h : History P) (call : Call) (text : List ℕ) (new : Option (History P)) (outcome : Outcome P)
     → IsValid (f.rules.puzzle h.puzzle) h → may_take_memory call ≡ true → IsMade call text → AnswersCall f h call (Ok (text, new))
     → LineGives f new (Some (codes "undo")) outcome → (last : History P) × (outcome ≡ text_outcome last ok_line) × IsSameBack (f.rules.puzzle h.puzzle) h last
@@ -58,13 +59,14 @@ pub undo_line_takes_back : {P : Type 0} (f : GameFacts P) → UndoLineTakesBack 
 undo_line_takes_back f h line request call text new outcome valid asks is takes made first then =
     after_made f h call text new outcome valid takes made (lines_are_calls f h line request call (Ok (text, new)) asks is first) then
 
--- what comes of a redo that succeeds
+-- a redo that gives a session is told by `ok`, and leaves that session
 redo_said : {P : Type 0} (f : GameFacts P) (h k : History P) (outcome : Outcome P) → redone k ≡ Ok h
     → AnswersCall f k Laws.Redo outcome → outcome ≡ text_outcome h ok_line
 redo_said f h k outcome back (Ok u, last, gives, (text, made, is)) =
     let same : last ≡ h = cc in is ∙ ap (text_outcome last) made ∙ ap (λ s. text_outcome s ok_line) same
 redo_said f h k outcome back (Err fault, last, (stays, (exact, gives, is)), told) = cc
 
+-- `redo` after an `undo` that was made goes back to the session before the `undo`
 after_undo : {P : Type 0} (f : GameFacts P) (h : History P) (text : List ℕ) (new : Option (History P)) (outcome : Outcome P)
     → IsValid (f.rules.puzzle h.puzzle) h → AnswersCall f h Laws.Undo (Ok (text, new)) → LineGives f new (Some (codes "redo")) outcome
     → outcome ≡ text_outcome h ok_line

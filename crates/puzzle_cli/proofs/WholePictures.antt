@@ -14,24 +14,24 @@ use Rattle.puzzle_cli.specs.WholeLines.{EndsInLineFeed, AreWholeLines}
 
 -- ---- whole lines in general
 
--- what comes before a text of whole lines may be anything, if there is a line
+-- a text that ends with LF does so behind any front
 pub ends_after : (front text : List ℕ) → EndsInLineFeed text → EndsInLineFeed (front ++ text)
 ends_after front text (line, is) = (front ++ line, ap (λ t. front ++ t) is ∙ sym (append_assoc front line (line_feed ∷ [])))
 
--- two texts of whole lines are one
+-- two texts of whole lines, one after the other, are whole lines
 pub both_whole : (one other : List ℕ) → AreWholeLines one → AreWholeLines other → AreWholeLines (one ++ other)
 both_whole one other first (inr ends) = inr (ends_after one other ends)
 both_whole one other (inl none) (inl nothing) = inl (ap (λ t. t ++ other) none ∙ nothing)
 both_whole one other (inr (line, is)) (inl nothing) =
     inr (line, ap (λ t. t ++ other) is ∙ append_assoc line (line_feed ∷ []) other ∙ ap (λ t. line ++ line_feed ∷ t) nothing)
 
--- and so are any number of them
+-- any number of texts of whole lines, one after another, are whole lines
 pub each_whole : {A : Type 0} (text_of : A → List ℕ) → ((x : A) → AreWholeLines (text_of x)) → (xs : List A) → AreWholeLines (flat_map text_of xs)
 each_whole text_of whole [] = inl refl
 each_whole text_of whole (x ∷ xs) =
     subst AreWholeLines (sym (flat_map-cons text_of x xs)) (both_whole (text_of x) (flat_map text_of xs) (whole x) (each_whole text_of whole xs))
 
--- anything and LF
+-- a text and LF are whole lines
 pub line_whole : (line : List ℕ) → AreWholeLines (line ++ line_feed ∷ [])
 line_whole line = inr (line, refl)
 
@@ -40,7 +40,7 @@ line_whole line = inr (line, refl)
 spaced_whole : (symbols : List ℕ) → AreWholeLines (spaced_line symbols)
 spaced_whole symbols = line_whole (join_with_byte space (map (λ symbol. symbol ∷ []) symbols))
 
--- the picture of a Towers board
+-- the picture of a Towers board is whole lines
 pub towers_whole : (p : TowersValue) (b : BoardValue) → AreWholeLines (towers_picture p b)
 towers_whole p b =
     let rows = flat_map (λ y. spaced_line (towers_row p b y)) (range_with_len 0 p.size) in
@@ -57,7 +57,7 @@ squares_whole v b first =
 signs_whole : (v : UnequalValue) (first : ℕ) → AreWholeLines (signs_line v first)
 signs_whole v first = spaced_whole (map (λ x. sign_above v (first + x)) (range_with_len 0 v.size))
 
--- the picture of an Unequal board
+-- the picture of an Unequal board is whole lines
 pub unequal_whole : (v : UnequalValue) (b : BoardValue) → AreWholeLines (unequal_picture v b)
 unequal_whole v b =
     let row = λ (y : ℕ). signs_line v (y * v.size) ++ squares_line v b (y * v.size) in

@@ -36,7 +36,7 @@ use Rattle.puzzle_cli.proofs.WholePictures.{ends_after, each_whole, line_whole}
 
 -- ---- texts
 
--- lines, or a sentence where there is none
+-- whole lines, or a sentence where there is none, are whole lines
 lines_or_whole : (sentence lines : List ℕ) → AreWholeLines lines → AreWholeLines (lines_or sentence lines)
 lines_or_whole sentence lines whole =
     elim (length lines == 0) as (λ t. AreWholeLines (if t then sentence ++ 10 ∷ [] else lines)) [
@@ -75,7 +75,7 @@ refusal_whole : (refusal : Refusal) → AreWholeLines (refusal_line (refusal_nam
 refusal_whole refusal = line_whole (codes "refused: " ++ refusal_name refusal)
 
 module _ {P : Type 0} (f : GameFacts P) (drawn : PicturesAreWholeLines f.drawing) where
-  -- what is told of a session
+  -- what is told of a session is whole lines
   view_whole : (h : History P) (view : View) → AreWholeLines (view_text f h view)
   view_whole h Show = drawn h.puzzle (shown_board f h)
   view_whole h Marks =
@@ -90,12 +90,12 @@ module _ {P : Type 0} (f : GameFacts P) (drawn : PicturesAreWholeLines f.drawing
       lines_or_whole (codes "no done clues") (flat_map (done_line b) places) (each_whole (done_line b) (done_line_whole b) places)
   view_whole h Save = save_whole f.title f.desc_of h
 
-  -- what is said of a call
+  -- what is said of a call that was made is whole lines
   said_whole : (new : History P) (call : Call) (text : List ℕ) → IsSaidOf call new text → AreWholeLines text
   said_whole new ToSolution text (g, last, said) = inr (move_text (Filling g), said)
   said_whole new call text said = inr (codes "ok", said)
 
-  -- the sentence that stands for a refusal, or the refusal
+  -- the sentence that stands for a refusal, or the line of the refusal, is whole lines
   sentence_whole : (h : History P) (call : Call) (fault : PlayFault) → AreWholeLines (plain_text (sentence_outcome h (call_sentence call fault) fault))
   sentence_whole h ToSolution NoSolution = line_whole (codes "No solution exists for this puzzle")
   sentence_whole h ToSolution SeveralSolutions = line_whole (codes "Multiple solutions exist for this puzzle")
@@ -111,7 +111,7 @@ module _ {P : Type 0} (f : GameFacts P) (drawn : PicturesAreWholeLines f.drawing
   call_whole h call (Err fault) outcome is =
       same_whole outcome (sentence_outcome h (call_sentence call fault) fault) is (sentence_whole h call fault)
 
-  -- what is said to a request
+  -- what is said to a request is whole lines
   request_whole : (h : History P) (request : Request (List ℕ)) (outcome : Outcome P) → RequestGives f h request outcome
       → AreWholeLines (plain_text outcome)
   request_whole h (Act action) outcome (Ok call, read, (exact, gives, says)) = call_whole h call exact outcome says
@@ -122,7 +122,7 @@ module _ {P : Type 0} (f : GameFacts P) (drawn : PicturesAreWholeLines f.drawing
       same_whole outcome (text_outcome h (listed_lines listed)) is
       (lines_or_whole (codes "none") (flat_map grid_line listed) (each_whole grid_line (λ g. line_whole (grid_digits g)) listed))
 
-  -- what is said to a line that was read
+  -- what is said to a line that was read is whole lines
   begun_whole : (begins : Result (History P) StartFault) → AreWholeLines (plain_text (begun begins))
   begun_whole (Ok h) = line_whole (codes "ok")
   begun_whole (Err fault) = refusal_whole (start_refusal fault)
@@ -136,13 +136,13 @@ module _ {P : Type 0} (f : GameFacts P) (drawn : PicturesAreWholeLines f.drawing
   read_whole (Some h) (Ok (Some (Ask request))) outcome gives = request_whole h request outcome gives
   read_whole old (Err fault) outcome is = same_whole outcome (Err (OfLine fault)) is (refusal_whole (OfLine fault))
 
-  -- an answer to a line, as a text
+  -- an answer to a line, as a text, is whole lines
   pub answers_are_whole : (old : Option (History P)) (line : Line) (outcome : Outcome P) → LineGives f old line outcome
       → AreWholeLines (plain_text outcome)
   answers_are_whole old line (Ok said) (read, is, gives) = read_whole old read (Ok said) gives
   answers_are_whole old line (Err refusal) given = refusal_whole refusal
 
--- and so a reply
+-- each reply is whole lines, where the pictures of the game are
 pub replies_are_whole : {P : Type 0} (f : GameFacts P) → RepliesAreWholeLines f
 replies_are_whole f drawn old new line bytes (outcome, gives, tells, leaves) =
     subst AreWholeLines (sym tells) (answers_are_whole f drawn old line outcome gives)

@@ -27,15 +27,15 @@ marks_line b cell =
 abbrev pub marks_lines : BoardValue → List ℕ
 marks_lines b = lines_or (codes "no marks") (flat_map (marks_line b) (range_with_len 0 (b.size * b.size)))
 
--- help is told before completion
+-- the word for a board: helped if there was help, and otherwise solved or playing
 abbrev pub status_word : BoardValue → List ℕ
 status_word b = if b.cheated then codes "helped" else (if b.completed then codes "solved" else codes "playing")
 
--- the word, the position and the number of states
+-- the word for a board, the position and the number of states
 abbrev pub status_words : BoardValue → ℕ → ℕ → List ℕ
 status_words b position states = status_word b ++ (space ∷ (decimal position ++ (slash ∷ decimal states)))
 
--- where the edge clue of a number is
+-- the text of the coordinates of the edge clue at a place
 abbrev pub place_text : ℕ → ℕ → List ℕ
 place_text w place = coordinate_text (edge_xy w place).0 ++ (comma ∷ coordinate_text (edge_xy w place).1)
 

@@ -15,7 +15,7 @@ command_fault_name (BadWords text) = codes "BadWords"
 command_fault_name (HelpAsked text) = codes "HelpAsked"
 command_fault_name OutOfMemory = codes "OutOfMemory"
 
--- the status of the program
+-- the status that the program ends with
 abbrev pub command_fault_status : CommandFault → ℕ
 command_fault_status (BadWords text) = 2
 command_fault_status (HelpAsked text) = 0

@@ -23,7 +23,7 @@ game_word Unequal = codes "unequal"
 abbrev pub word_texts : List (Bor Text) → List Text
 word_texts = map (λ word. word.now)
 
--- not both are there
+-- at most one of two values is there
 abbrev pub NotBoth : {A B : Type 0} → Option A → Option B → Type 0
 NotBoth a b = is_some a && is_some b ≡ false
 
@@ -41,7 +41,7 @@ game_rule games = record (new_rule (codes "game")) { value_names = 1; parser = S
 abbrev pub program_line : Text → App
 program_line name = on_top (λ s. record s { has_version = true }) (new_app name)
 
--- the same with the game and three options
+-- a program of this name with the game and three options
 abbrev pub command_line : Text → Bor (List (Bor Text)) → App
 command_line name games = with_rule (with_rule (with_rule (with_rule (program_line name) (game_rule games))
     (option_rule (codes "id"))) (option_rule (codes "load"))) (option_rule (codes "save"))
@@ -84,7 +84,7 @@ pub record AreTaken (words : List Text) (args : Args) : Type 0 where
   pub given : AreArgs app words args
   pub one_start : NotBoth args.id args.load
 
--- there is a fault in the words, or none, and their values are unfit
+-- the words are refused: there is a fault in them, or there is none and their values are unfit
 pub record AreRefused (words : List Text) : Type 0 where
   pub app : App
   pub line : IsCommandLine app

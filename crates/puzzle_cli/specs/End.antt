@@ -15,7 +15,7 @@ end_name Finished = codes "Finished"
 end_name ReadFault = codes "ReadFault"
 end_name WriteFault = codes "WriteFault"
 
--- the status of the program
+-- the status that the program ends with
 abbrev pub end_status : End → ℕ
 end_status Finished = 0
 end_status ReadFault = 1

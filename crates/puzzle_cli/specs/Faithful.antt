@@ -17,13 +17,13 @@ PicturesShowNumbers {P} size drawing =
     (p : P) (b c : BoardValue) → IsBoard b → IsBoard c → b.size ≡ size p → c.size ≡ size p → drawing p b ≡ drawing p c
     → b.numbers ≡ c.numbers
 
--- so it is in both games
+-- the pictures of both games show the numbers
 abbrev pub BothPicturesShowNumbers : Type 0
 BothPicturesShowNumbers =
     PicturesShowNumbers (λ (v : TowersValue). v.size) towers_picture
     × PicturesShowNumbers (λ (v : UnequalValue). v.size) unequal_picture
 
--- the views of a session that tell its board
+-- whether a view of a session is one of those that tell its board
 abbrev pub tells_board : View → Bool
 tells_board Show = true
 tells_board Marks = true

@@ -1,14 +1,12 @@
 -- The statuses of the program, and its lines on standard error.
 use Rattle.std.specs.Prelude.{ℕ, List, [], codes, Option, None, option_map, string_bytes}
-use Rattle.puzzle_cli.specs.declared.start.command_fault.CommandFault.TheVariants.{BadWords, HelpAsked}
-use Rattle.puzzle_cli.specs.declared.start.command_fault.CommandFault.TheVariants.{OutOfMemory as WordsOutOfMemory}
+use Rattle.puzzle_cli.specs.declared.start.command_fault.CommandFault.TheVariants.{BadWords, HelpAsked, OutOfMemory as WordsOutOfMemory}
 use Rattle.puzzle_cli.specs.CommandFault.{command_fault_status}
 use Rattle.puzzle_cli.specs.StartFault.{start_fault_status, start_fault_line}
 use Rattle.puzzle_cli.specs.declared.fault.Fault.{Fault}
-use Rattle.puzzle_cli.specs.declared.fault.Fault.TheVariants.{Words, Start, LoadFile, SaveFile, Input, Output}
-use Rattle.puzzle_cli.specs.declared.fault.Fault.TheVariants.{OutOfMemory}
+use Rattle.puzzle_cli.specs.declared.fault.Fault.TheVariants.{Words, Start, LoadFile, SaveFile, Input, Output, OutOfMemory}
 
--- the status of the program
+-- the status that the program ends with
 abbrev pub fault_status : Fault → ℕ
 fault_status (Words fault) = command_fault_status fault
 fault_status (Start fault) = start_fault_status fault
@@ -18,7 +16,7 @@ fault_status Input = 1
 fault_status Output = 1
 fault_status OutOfMemory = 1
 
--- the line, without its LF: what is said of refused words, and help, are whole texts
+-- the line on standard error, without its LF: what is said of refused words, and help, are texts of their own
 abbrev pub fault_line : Fault → List ℕ
 fault_line (Words (BadWords text)) = []
 fault_line (Words (HelpAsked text)) = []

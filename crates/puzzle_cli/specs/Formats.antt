@@ -10,7 +10,7 @@ use Rattle.puzzle_cli.specs.Replies.{LineGives, left}
 abbrev pub Leaves : {P : Type 0} → GameFacts P → Option (History P) → Line → Option (History P) → Type 0
 Leaves {P} f old line new = (outcome : Outcome P) × LineGives f old line outcome × (new ≡ left old outcome)
 
--- each reply of the rule leaves what an answer to some line does: to the line itself, or to one that it stands for
+-- each reply of the rule leaves what an answer to some line leaves: to the line itself or to one in its place
 abbrev pub LeavesAsAnswers : {P : Type 0} → GameFacts P → ReplyRule (Option (History P)) → Type 0
 LeavesAsAnswers {P} f reply =
     (old new : Option (History P)) (line : Line) (bytes : List ℕ) → reply old line bytes new

@@ -1,6 +1,5 @@
 -- The lines of an input, and what a rule of replies to them is.
-use Rattle.std.specs.Prelude.{ℕ, ◌-◌, ◌==◌, if◌then◌else◌, nat_le, Option, Some, None, List, [], ◌∷◌, length, map, take}
-use Rattle.std.specs.Prelude.{slice_index}
+use Rattle.std.specs.Prelude.{ℕ, ◌-◌, ◌==◌, if◌then◌else◌, nat_le, Option, Some, None, List, [], ◌∷◌, length, map, take, slice_index}
 use Rattle.std.specs.Option.{option_map}
 use Rattle.puzzle_cli.specs.declared.line.line_buffer.TheConstants.{LINE_BYTES}
 use Rattle.byte_text.specs.Bytes.{line_feed, carriage_return}

@@ -37,14 +37,14 @@ abbrev pub id_refusal : IdFault → StartFault
 id_refusal IdOutOfMemory = OutOfMemory
 id_refusal fault = Id fault
 
--- what an ID gives that was read so
+-- an ID that was read so gives this session, or is refused so
 abbrev pub IdBegins : {P : Type 0} → GameFacts P → Result (GameId P) IdFault → Result (History P) StartFault → Type 0
 IdBegins f (Ok (Described params puzzle)) exact = Ok (new_game params puzzle) ≡ exact
 IdBegins {P} f (Ok (Seeded params seed)) exact =
     (made : Result P GenFault) × Generates f.rules params seed made × (generated_game params made ≡ exact)
 IdBegins f (Err fault) exact = Err (id_refusal fault) ≡ exact
 
--- the text gives this session, or is refused so
+-- the text of an ID gives this session, or is refused so
 abbrev pub TextBegins : {P : Type 0} → GameFacts P → List ℕ → Result (History P) StartFault → Type 0
 TextBegins {P} f text exact = (read : Result (GameId P) IdFault) × IsIdRead f text read × IdBegins f read exact
 

@@ -60,7 +60,7 @@ text_to_save f (Some path) (Some h) = Some (save_of f.title f.desc_of h)
 text_to_save f (Some path) None = None
 text_to_save f None last = None
 
--- that text; or there is one and no memory for it
+-- the text is the one to be saved; or there is one to be saved, and no memory for it
 abbrev pub Spells : {P : Type 0} → GameFacts P → Option Word → Option (History P) → Result (Option (List ℕ)) Fault
     → Type 0
 Spells f path last (Ok text) = text ≡ text_to_save f path last

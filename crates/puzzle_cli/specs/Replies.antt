@@ -28,7 +28,7 @@ CommandGives f old Quit outcome = outcome ≡ Ok ([], old)
 CommandGives f None (Ask request) outcome = outcome ≡ Err (OfLine NoGame)
 CommandGives f (Some h) (Ask request) outcome = RequestGives f h request outcome
 
--- the same of a line that was read: an empty one has no reply
+-- what a line that was read makes of a session or none, with ample memory: an empty one has no reply
 abbrev pub ReadGives : {P : Type 0} → GameFacts P → Option (History P) → Reading (List ℕ) → Outcome P → Type 0
 ReadGives f old (Ok None) outcome = outcome ≡ Ok ([], old)
 ReadGives f old (Ok (Some command)) outcome = CommandGives f old command outcome
@@ -51,7 +51,7 @@ ReadTakesMemory f old (Err fault) = ⊥
 abbrev pub Explains : {A : Type 0} → (Result A Refusal → Type 0) → Type 0 → Refusal → Type 0
 Explains gives takes_memory refusal = gives (Err refusal) ⊎ (takes_memory × (refusal ≡ Memory))
 
--- the same of an outcome: an answer is that with ample memory
+-- what a line that was read may make of it: what comes with ample memory, or the refusal Memory
 abbrev pub ReadMayGive : {P : Type 0} → GameFacts P → Option (History P) → Reading (List ℕ) → Outcome P → Type 0
 ReadMayGive f old read (Ok said) = ReadGives f old read (Ok said)
 ReadMayGive f old read (Err refusal) = Explains (ReadGives f old read) (ReadTakesMemory f old read) refusal
@@ -61,7 +61,7 @@ ReadMayGive f old read (Err refusal) = Explains (ReadGives f old read) (ReadTake
 abbrev pub LineGives : {P : Type 0} → GameFacts P → Option (History P) → Line → Outcome P → Type 0
 LineGives f old line outcome = (read : Reading (List ℕ)) × IsRead line read × ReadMayGive f old read outcome
 
--- the same with ample memory
+-- what a line makes of a session or none, with ample memory
 abbrev pub AmpleGives : {P : Type 0} → GameFacts P → Option (History P) → Line → Outcome P → Type 0
 AmpleGives f old line outcome = (read : Reading (List ℕ)) × IsRead line read × ReadGives f old read outcome
 

@@ -1,6 +1,5 @@
 -- Laws of what lines make of a session, over answers as values; and what the bytes of a reply tell of its answer.
-use Rattle.std.specs.Prelude.{◌≡◌, ◌⊎◌, ℕ, ◌<◌, ◌≤◌, ◌^◌, true, IsTrue, codes, List, ◌∷◌, ◌++◌, length, Option, Some}
-use Rattle.std.specs.Prelude.{None, Result, Ok, Err}
+use Rattle.std.specs.Prelude.{◌≡◌, ◌⊎◌, ℕ, ◌<◌, ◌≤◌, ◌^◌, true, IsTrue, codes, List, ◌∷◌, ◌++◌, length, Option, Some, None, Result, Ok, Err}
 use Rattle.std.specs.Fmt.{decimal}
 use Rattle.std.specs.Option.{IsSomeAnd}
 use Rattle.byte_text.specs.Bytes.{colon, exclamation}
@@ -33,8 +32,7 @@ use Rattle.puzzle_cli.specs.GameFacts.{GameFacts}
 use Rattle.puzzle_cli.specs.NewSessions.{new_game}
 use Rattle.puzzle_cli.specs.Starts.{FileBegins}
 use Rattle.puzzle_cli.specs.SolutionTexts.{move_line, grid_line}
-use Rattle.puzzle_cli.specs.SessionReplies.{Outcome, text_outcome, sentence_outcome, ok_line, shown_board, IsCallRead}
-use Rattle.puzzle_cli.specs.SessionReplies.{call_sentence}
+use Rattle.puzzle_cli.specs.SessionReplies.{Outcome, text_outcome, sentence_outcome, ok_line, shown_board, IsCallRead, call_sentence}
 use Rattle.puzzle_cli.specs.Replies.{LineGives, AmpleGives, AmpleReply, Reply, left, refusal_line}
 use Rattle.puzzle_cli.specs.Runs.{RepliesInTurn}
 use Rattle.puzzle_cli.specs.WholeLines.{AreWholeLines}
@@ -60,13 +58,13 @@ OutputIsOne {P} f =
     → RepliesInTurn (AmpleReply f) lines old written one → RepliesInTurn (AmpleReply f) lines old spelled other
     → (written ≡ spelled) × (one ≡ other)
 
--- each seed has a puzzle or a refusal, as what `generate` answers is
+-- each seed has a puzzle or a refusal that `generate` may answer
 abbrev pub SeedsGenerate : {P : Type 0} → GameFacts P → Type 0
 SeedsGenerate {P} f =
     (params : Params) (seed : ℕ) → IsParams f.letters params → seed < 2 ^ 64
     → (made : Result P GenFault) × Generates f.rules params seed made
 
--- and there is one, where each seed has a puzzle or a refusal
+-- where each seed has a puzzle or a refusal, each list of lines has an output, with ample memory
 abbrev pub OutputIsThere : {P : Type 0} → GameFacts P → Type 0
 OutputIsThere {P} f =
     SeedsGenerate f → (lines : List Line) (old : Option (History P))
@@ -77,7 +75,7 @@ abbrev pub IsNoneOrStorable : {P : Type 0} → GameFacts P → Option (History P
 IsNoneOrStorable f None = Unit {0}
 IsNoneOrStorable f (Some h) = IsStorable f.rules.puzzle f.rules.valid f.letters h
 
--- each answer leaves one where it began with one
+-- each answer leaves a session that can be stored, or none, if it began with such a session or with none
 abbrev pub AnswersStayStorable : {P : Type 0} → GameFacts P → Type 0
 AnswersStayStorable {P} f =
     (old : Option (History P)) (line : Line) (outcome : Outcome P)
@@ -89,7 +87,7 @@ AnswersStayStorable {P} f =
 abbrev pub IsRefusalLine : List ℕ → Type 0
 IsRefusalLine bytes = (name : List ℕ) × (bytes ≡ refusal_line name)
 
--- a line that is told as refused left the session
+-- a line that is told as refused leaves the session
 abbrev pub RefusedLinesLeave : {P : Type 0} → GameFacts P → Type 0
 RefusedLinesLeave {P} f =
     (old new : Option (History P)) (line : Line) (bytes : List ℕ) → Reply f old line bytes new → IsRefusalLine bytes
@@ -105,11 +103,11 @@ OtherRepliesAnswer {P} f =
 abbrev pub PicturesAreWholeLines : {P : Type 0} → (P → BoardValue → List ℕ) → Type 0
 PicturesAreWholeLines {P} drawing = (p : P) (board : BoardValue) → AreWholeLines (drawing p board)
 
--- so it is in both games
+-- the pictures of both games are whole lines
 abbrev pub BothPicturesAreWholeLines : Type 0
 BothPicturesAreWholeLines = PicturesAreWholeLines towers_picture × PicturesAreWholeLines unequal_picture
 
--- and where it is, so is each reply
+-- where the pictures of a game are whole lines, so is each reply
 abbrev pub RepliesAreWholeLines : {P : Type 0} → GameFacts P → Type 0
 RepliesAreWholeLines {P} f =
     PicturesAreWholeLines f.drawing
@@ -205,7 +203,7 @@ SaveLineLoadsBack {P} f =
 abbrev pub described_line : {P : Type 0} → GameFacts P → Params → P → Line
 described_line f params puzzle = Some (codes "new " ++ params_text params ++ colon ∷ f.desc_of puzzle)
 
--- it begins a new session of that puzzle, whatever session there is
+-- that line begins a new session of the puzzle, whatever session there is
 abbrev pub DescribedLinesBegin : {P : Type 0} → GameFacts P → Type 0
 DescribedLinesBegin {P} f =
     (old : Option (History P)) (params : Params) (puzzle : P) → IsParams f.letters params → f.rules.valid puzzle

@@ -1,6 +1,5 @@
 -- What a run writes and how it ends, over what may be said to a line (`reply`) and which lines end a run (`quit`).
-use Rattle.std.specs.Prelude.{◌≡◌, ℕ, ◌<◌, ◌≤◌, Bool, true, false, if◌then◌else◌, Option, List, [], ◌∷◌, ◌++◌, length}
-use Rattle.std.specs.Prelude.{take, ◌⊎◌}
+use Rattle.std.specs.Prelude.{◌≡◌, ℕ, ◌<◌, ◌≤◌, Bool, true, false, if◌then◌else◌, Option, List, [], ◌∷◌, ◌++◌, length, take, ◌⊎◌}
 use Rattle.std.specs.Io.KnownBytes.{Appends, Consumes, IsAtEnd}
 use Rattle.puzzle_io.specs.declared.device.Source.{Ghosts as OfSource}
 use Rattle.puzzle_io.specs.declared.device.Sink.{Ghosts as OfSink}
@@ -49,7 +48,7 @@ abbrev pub has_quit : (Line → Bool) → List Line → Bool
 has_quit quit [] = false
 has_quit quit (line ∷ lines) = if quit line then true else has_quit quit lines
 
--- the lines before the first that does
+-- the lines before the first that ends the run
 abbrev pub before_quit : (Line → Bool) → List Line → List Line
 before_quit quit [] = []
 before_quit quit (line ∷ lines) = if quit line then [] else line ∷ before_quit quit lines

@@ -1,6 +1,5 @@
 -- What a session says to a request, and the session that is left.
-use Rattle.std.specs.Prelude.{◌≡◌, ℕ, ◌+◌, List, [], ◌∷◌, ◌++◌, length, codes, true, Option, Some, None, Result, Ok}
-use Rattle.std.specs.Prelude.{Err}
+use Rattle.std.specs.Prelude.{◌≡◌, ℕ, ◌+◌, List, [], ◌∷◌, ◌++◌, length, codes, true, Option, Some, None, Result, Ok, Err}
 use Rattle.latin_board.specs.Squares.{GridValue}
 use Rattle.latin_board.specs.Boards.{BoardValue}
 use Rattle.game_texts.specs.Parameters.{params_text}
@@ -85,7 +84,7 @@ ReadReplies p h (Err fault) outcome = outcome ≡ Err (play_refusal fault)
 
 -- ---- views
 
--- what is told of a session
+-- what a view tells of a session
 abbrev pub view_text : {P : Type 0} → GameFacts P → History P → View → List ℕ
 view_text f h Show = f.drawing h.puzzle (shown_board f h)
 view_text f h Marks = marks_lines (shown_board f h)
@@ -94,7 +93,7 @@ view_text f h Id = id_words f h ++ line_feed ∷ []
 view_text f h Done = done_lines (shown_board f h)
 view_text f h Save = save_of f.title f.desc_of h
 
--- the text takes memory
+-- the text of the view takes memory
 abbrev pub ViewTakesMemory : View → Type 0
 ViewTakesMemory Status = ⊥
 ViewTakesMemory Done = ⊥

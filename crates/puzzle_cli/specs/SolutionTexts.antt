@@ -15,7 +15,7 @@ use Rattle.byte_text.specs.Bytes.{line_feed, digit}
 abbrev pub grid_digits : GridValue → List ℕ
 grid_digits g = map digit g.numbers
 
--- these digits as a line
+-- the digits of a grid in reading order, as a line
 abbrev pub grid_line : GridValue → List ℕ
 grid_line g = grid_digits g ++ line_feed ∷ []
 

@@ -22,7 +22,7 @@ start_fault_name (Gen fault) = gen_fault_name fault
 start_fault_name (Load fault) = load_fault_name fault
 start_fault_name OutOfMemory = codes "OutOfMemory"
 
--- the status of the program
+-- the status that the program ends with
 abbrev pub start_fault_status : StartFault → ℕ
 start_fault_status (Id fault) = 3
 start_fault_status (Gen fault) = 3

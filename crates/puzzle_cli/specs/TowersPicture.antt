@@ -2,8 +2,7 @@
 use Rattle.std.specs.Prelude.{ℕ, ◌+◌, ◌*◌, ◌==◌, if◌then◌else◌, List, [], ◌∷◌, ◌++◌, map}
 use Rattle.std.specs.List.{range_with_len, flat_map}
 use Rattle.latin_board.specs.Boards.{BoardValue}
-use Rattle.towers_game.specs.Towers.{TowersValue}
-use Rattle.towers_game.specs.Towers.{clue_of}
+use Rattle.towers_game.specs.Towers.{TowersValue, clue_of}
 use Rattle.puzzle_cli.specs.Symbols.{square_at, spaced_line}
 use Rattle.byte_text.specs.Bytes.{dash, digit}
 

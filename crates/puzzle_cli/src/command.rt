@@ -107,7 +107,7 @@ pub(crate) fn read_command(line: Option<&[u8]>) -> Result<Option<Command<&[u8]>>
     parse_line(line)
 }
 
-// The same as a function on lists, apart from the grammar, which follows from it.
+// What a line is read as by `read_at`, a function on lists; that the grammar says the same follows from it.
 fn parse_line(line: Option<&[u8]>) -> Result<Option<Command<&[u8]>>, LineFault>
     ensures read { read_copied result ≡ read_at (option_copied line.entry) }
     ensures range { IfOk result (λ read. IfSome read IsCommandInRange) }

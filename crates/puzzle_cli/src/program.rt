@@ -52,7 +52,7 @@ pub fn play<T: Format<Towers> + Format<Unequal>, F: GameFiles, R: Source, W: Sin
     }
 }
 
-// Plays this game so, whichever the words name.
+// Plays this game as `play` does, whichever game the words name.
 fn play_as<T: Format<P>, P: Draw, F: GameFiles, R: Source, W: Sink>(
     alloc: Global,
     args: &Args,

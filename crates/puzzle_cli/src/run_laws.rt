@@ -3,8 +3,7 @@
 ghost use Rattle.puzzle_cli.specs.RunLaws.{LinesAreReadOnce, RefusedLinesLeave, OtherRepliesAnswer};
 ghost use Rattle.puzzle_cli.specs.RunLaws.{BothPicturesAreWholeLines, RepliesAreWholeLines, OutputIsOne, OutputIsThere};
 ghost use Rattle.puzzle_cli.specs.RunLaws.{AnswersStayStorable, LinesAreCalls, OtherRequestsLeave, UndoLineTakesBack};
-ghost use Rattle.puzzle_cli.specs.RunLaws.{RedoLineTakesUndoBack, SaveLineLoadsBack, DescribedLinesBegin};
-ghost use Rattle.puzzle_cli.specs.RunLaws.{SeededLinesHaveOne};
+ghost use Rattle.puzzle_cli.specs.RunLaws.{RedoLineTakesUndoBack, SaveLineLoadsBack, DescribedLinesBegin, SeededLinesHaveOne};
 ghost use Rattle.puzzle_cli.specs.Faithful.{BothPicturesShowNumbers, ViewsTellBoards};
 
 use crate::draw::Draw;

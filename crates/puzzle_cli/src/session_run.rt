@@ -48,7 +48,7 @@ pub fn run<P: Draw, R: Source, W: Sink>(
     run_with::<Plain, P, R, W>(alloc, session, source, sink)
 }
 
-/// Does so in any format: as [`run`], whose format is [`Plain`].
+/// Answers the lines of the source in any format, as [`run`] does in the format [`Plain`].
 ///
 /// Neither device has failed before.
 pub fn run_with<T: Format<P>, P: Draw, R: Source, W: Sink>(

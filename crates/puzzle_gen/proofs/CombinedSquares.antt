@@ -76,7 +76,7 @@ latin_combined w rows columns symbols some in_rows in_columns in_symbols = recor
       ∙ ap (λ (n : ℕ). get_or symbols (n % w) 0 + 1) (add_comm (get_or rows row 0) (get_or columns column 0)));
 }
 
--- a grid with these numbers is the square
+-- a grid whose numbers are those that three orders give is the square that is combined of them
 pub combined_all : (w : ℕ) (rows columns symbols : List ℕ) (g : GridValue) → g.size ≡ w → IsGrid g
     → ((j : ℕ) → j < w * w → number_at g j ≡ seeded_number w rows columns symbols j) → g ≡ combined w rows columns symbols
 combined_all w rows columns symbols g size grid numbers =

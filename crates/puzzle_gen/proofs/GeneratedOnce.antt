@@ -43,12 +43,12 @@ pub generated_valid : {P : Type 0} (f : Ghosts P) (params : Params) (seed : ℕ)
 generated_valid f params seed p laws gives =
     let one = generated_one f params seed p laws gives in (one.valid, one.size)
 
--- the seed's square is its only solution
+-- the seed's square is the only solution of what is generated
 pub generated_only : {P : Type 0} (f : Ghosts P) (params : Params) (seed : ℕ) (p : P) → ItemLaws f
     → Generates f params seed (Ok p) → IsOnlySolution (f.puzzle p) (square_of params.size seed)
 generated_only f params seed p laws gives = (generated_one f params seed p laws gives).only_solution
 
--- and it needs each of its items
+-- what is generated needs each of its items
 pub generated_needed : {P : Type 0} (f : Ghosts P) (params : Params) (seed : ℕ) (p : P) → ItemLaws f
     → Generates f params seed (Ok p) → (i : ℕ) → i < f.items_of (f.puzzle p).size → IsTrue (f.has p i)
     → HasSeveralSolutions (f.puzzle (f.cut p (all_but i)))

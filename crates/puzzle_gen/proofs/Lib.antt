@@ -1,3 +1,4 @@
+-- Lemmas on orders, squares of three orders, and what is pruned and generated.
 pub mod OrderPlaces
 pub mod CombinedSquares
 pub mod OnePruned

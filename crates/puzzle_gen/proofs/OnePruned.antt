@@ -29,7 +29,7 @@ full_only f g laws grid latin = record {
       s.givens cell there some ∙ given);
 }
 
--- what follows of a puzzle being pruned
+-- a pruned puzzle is the only one, its square its only solution, and each of its items needed
 pub one_pruned : {P : Type 0} (f : Ghosts P) (g : GridValue) (order : List ℕ) (p : P) → ItemLaws f
     → IsPruned f g order p → IsOnePruned f g order p
 one_pruned f g order p laws pruned =

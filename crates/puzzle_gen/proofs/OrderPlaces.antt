@@ -53,7 +53,7 @@ range_made n =
     fill_by_all (λ k. k) (range_with_len 0 n) n 0 (length-range_with_len 0 n)
     (λ k inside. let at = get_or-range_with_len 0 n k 0 inside in omega (arith, at))
 
--- and one more
+-- the numbers below n + 1 are those below n, and then n
 pub range_more : (n : ℕ) → range_with_len 0 (n + 1) ≡ range_with_len 0 n ++ n ∷ []
 range_more n =
     range_made (n + 1) ∙ map-range_with_len_more (λ k. k) 0 n n (omega arith) ∙ ap (λ (xs : List ℕ). xs ++ n ∷ []) (sym (range_made n))
@@ -105,20 +105,20 @@ order_of_permutation n xs same =
 pub length_range_made : (n : ℕ) (xs : List ℕ) → xs ≡ range_with_len 0 n → length xs ≡ n
 length_range_made n xs made = ap length made ∙ length-range_with_len 0 n
 
--- a list that is written over as a whole by a list that was one of its orders
+-- a list that is refilled as a whole with one of its orders is that order
 refill_whole : (first lent order : List ℕ) → lent ≡ first → IsPermutation lent order → refill (length first) first order ≡ order
 refill_whole first lent order same moved =
     let count : length order ≡ length first = length_permutation lent order moved ∙ ap length same in
     rw (← count) (take-append_seam order (drop (length order) first))
 
--- the first n numbers, shuffled through a reference to them
+-- the first n numbers, refilled with an order of them, are a permutation of them
 pub shuffled_whole : (n : ℕ) (first lent order : List ℕ) → first ≡ range_with_len 0 n → lent ≡ first → IsPermutation lent order
     → IsPermutation (range_with_len 0 n) (refill (length first) first order)
 shuffled_whole n first lent order made same moved =
     subst (IsPermutation (range_with_len 0 n)) (sym (refill_whole first lent order same moved))
     (subst (λ (xs : List ℕ). IsPermutation xs order) (same ∙ made) moved)
 
--- the same, with what is left of a stream
+-- the refilled numbers, and what is left of the stream, are what is drawn for n numbers
 pub shuffled_drawn : {S : Type 0} (drawn : ℕ → List ℕ × S) (n : ℕ) (first lent order : List ℕ) (left : S) → first ≡ range_with_len 0 n
     → lent ≡ first → IsPermutation lent order → (order, left) ≡ drawn (length lent) → (refill (length first) first order, left) ≡ drawn n
 shuffled_drawn drawn n first lent order left made same moved drew =

@@ -1,4 +1,4 @@
-//! Seeded puzzles: for each game, size and seed one puzzle, with exactly one solution and no item that it could do without.
+//! Seeded puzzles: for each game, size up to 6 and seed one puzzle, with exactly one solution and no item that it could do without.
 //!
 //! A seed gives a stream of random words, the stream gives a Latin square and an order of the items, and `generate` tries
 //! each item of the square's full puzzle once, in that order: it goes where the rest still has just one solution. `square`

@@ -9,8 +9,8 @@ pub record SourceState : Type 0 where
   pub fails_in : ℕ
   pub failed : Bool
 
--- a sink: the bytes taken, those of them that it had when it was last flushed, how many more there is room for, how
--- many a write takes at most, and as for a source
+-- a sink: the bytes taken, those of them that it had when it was last flushed, how many more there is room
+-- for, how many a write takes at most, and its failures, counted as those of a source
 pub record SinkState : Type 0 where
   pub taken : List ℕ
   pub flushed : List ℕ

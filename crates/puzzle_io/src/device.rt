@@ -1,7 +1,6 @@
 //! What a source and a sink of bytes have to keep, and the fault that both answer.
 
-ghost use Rattle.std.specs.Prelude.{◌≡◌, ℕ, ◌≤◌, Bool, true, Option, None, List, length, IfOk, OnOk, IsErr, is_err};
-ghost use Rattle.std.specs.Prelude.{is_some, codes};
+ghost use Rattle.std.specs.Prelude.{◌≡◌, ℕ, ◌≤◌, Bool, true, Option, None, List, length, IfOk, OnOk, IsErr, is_err, is_some, codes};
 ghost use Rattle.std.specs.Io.KnownBytes.{Keeps, ReadConsumes, WriteAppends};
 ghost use Rattle.puzzle_io.specs.Device.{IsPassedOn, write_failed};
 

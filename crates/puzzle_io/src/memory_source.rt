@@ -1,7 +1,6 @@
 //! A source over the bytes of a vector.
 
-ghost use Rattle.std.specs.Prelude.{◌≡◌, ◌-◌, ◌≤◌, ◌==◌, ◌||◌, min, true, false, Some, length, drop, IfOk, IsErr};
-ghost use Rattle.std.specs.Prelude.{is_err, vec_len};
+ghost use Rattle.std.specs.Prelude.{◌≡◌, ◌-◌, ◌≤◌, ◌==◌, ◌||◌, min, true, false, Some, length, drop, IfOk, IsErr, is_err, vec_len};
 ghost use Rattle.std.specs.Io.KnownBytes.{ReadConsumes};
 ghost use Rattle.puzzle_io.specs.Memory.{SourceState};
 

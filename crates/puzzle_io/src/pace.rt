@@ -1,4 +1,4 @@
-//! How a device over memory goes about its calls.
+//! How many bytes a device over memory moves in a call, and which of its calls fails.
 
 ghost use Rattle.std.specs.Prelude.{◌≡◌, ◌+◌, ◌-◌, ◌≤◌, ◌==◌, ◌||◌, ◌++◌, min, false, length, take, is_err};
 

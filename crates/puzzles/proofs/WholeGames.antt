@@ -6,7 +6,7 @@ use Rattle.puzzles.specs.WholePrograms.{IsUnderName}
 use Rattle.puzzles.specs.declared.program_name.ProgramName.{ProgramName}
 use Rattle.puzzles.specs.declared.program_name.ProgramName.TheVariants.{Puzzles, PuzzlesJson}
 
--- under any name but `puzzles-json`
+-- called by any name but `puzzles-json`, the program answers in lines of text
 pub in_lines : (named played words : List Word) (plain json : List Word → Type 0) (called : ProgramName) → named ≡ words → played ≡ words
     → (called ≡ PuzzlesJson) ↔ IsCalledPuzzlesJson named → called ≡ Puzzles → plain played → IsUnderName words plain json
 in_lines named played words plain json called first second name is ends = record {
@@ -14,7 +14,7 @@ in_lines named played words plain json called first second name is ends = record
   in_lines = λ lines. subst plain second ends;
 }
 
--- under the name `puzzles-json`
+-- called by the name `puzzles-json`, the program answers in objects
 pub in_objects : (named played words : List Word) (plain json : List Word → Type 0) (called : ProgramName) → named ≡ words → played ≡ words
     → (called ≡ PuzzlesJson) ↔ IsCalledPuzzlesJson named → called ≡ PuzzlesJson → json played → IsUnderName words plain json
 in_objects named played words plain json called first second name is ends = record {

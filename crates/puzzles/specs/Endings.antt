@@ -5,7 +5,7 @@ use Rattle.puzzle_cli.specs.declared.fault.Fault.TheVariants.{Words}
 use Rattle.puzzle_cli.specs.declared.start.command_fault.CommandFault.TheVariants.{HelpAsked}
 use Rattle.puzzle_cli.specs.Faults.{fault_status}
 
--- help was asked for
+-- the fault is that help was asked for
 abbrev pub IsHelp : Fault → Type 0
 IsHelp (Words (HelpAsked text)) = Unit {0}
 IsHelp fault = ⊥

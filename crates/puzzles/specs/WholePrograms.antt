@@ -12,12 +12,12 @@ use Rattle.puzzles.specs.Names.{IsCalledPuzzlesJson}
 abbrev pub IsOfWords : {S A : Type 0} → (Args → Stage S A) → List Word → Stage S A
 IsOfWords game words = AnswerThen Words (AreRead (map string_bytes words)) game
 
--- it answers in objects where it is called by that name, and in lines of text otherwise
+-- the program answers in objects where it is called `puzzles-json`, and in lines of text otherwise
 pub record IsUnderName (words : List Word) (plain json : List Word → Type 0) : Type 0 where
   pub in_objects : IsCalledPuzzlesJson words → json words
   pub in_lines : (IsCalledPuzzlesJson words → ⊥) → plain words
 
--- The words are had, and the program under the name among them ends so; or they can't be had.
+-- The words are had, and the program, as the name among them says, ends so; or they can't be had.
 abbrev pub IsProgram : {S A : Type 0} → (Result (List Word) CommandFault → Type 0) → (Args → Stage S A)
     → (Args → Stage S A) → Stage S A
 IsProgram gives plain json = AnswerThen Words gives (λ words old result new.

@@ -19,7 +19,7 @@ pub(crate) fn read_file(
     read_cut(rt.alloc(), File::open(rt, path)?, most)
 }
 
-/// What the reader gives, cut so.
+/// What the reader gives, cut at this many bytes.
 fn read_cut<R: Read + Drop>(alloc: Global, reader: R, most: usize) -> io::Result<Vec<u8>>
     ensures bound { IfOk result (λ bytes. vec_len bytes ≤ most) }
     ensures front { IfOk result (λ bytes. IfSome (R.remaining reader)

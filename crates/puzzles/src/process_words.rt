@@ -57,7 +57,7 @@ pub(crate) fn args(
     read_words_of(alloc, texts, &words)
 }
 
-// The same words as texts.
+// These words as texts.
 fn texts_of<'a>(alloc: Global, words: &'a [String]) -> Result<Vec<&'a str>, AllocError>
     ensures { IfOk result (λ list. word_texts list.items ≡ map string_bytes words.now) }
 {

@@ -6,7 +6,7 @@ ghost use Rattle.puzzles.specs.Names.{IsCalledPuzzlesJson, IsInFolder, IsPuzzles
 /// The name under which lines are answered in objects.
 const NAME: &[u8] = b"puzzles-json";
 
-/// The same at the end of a path.
+/// That name at the end of a path.
 const IN_A_FOLDER: &[u8] = b"/puzzles-json";
 
 /// The two names: each answers in its format.

@@ -13,7 +13,7 @@ use puzzle_cli::{Facts, Fault, Format, GameFiles, PUZZLES, Plain, ProgramTexts, 
 use puzzle_io::{Sink, Source};
 use std::alloc::Global;
 
-/// What is told of the lines and of the board to who types lines.
+/// What a user who types lines at a terminal is told of the lines and of the board.
 const GREETING: &str = "puzzles --help has the lines that can be typed; puzzles-play is the board";
 
 /// Reads the words, and plays the game that they name, in the format of the name that the program is called by, as
@@ -21,6 +21,9 @@ const GREETING: &str = "puzzles --help has the lines that can be typed; puzzles-
 ///
 /// It can say nothing on standard output but by the sink. Neither stream has failed before. Where lines of text are typed at a terminal,
 /// it tells on standard error beforehand which those are.
+///
+/// The contract says first how the program answers under the name `puzzles`, and then under `puzzles-json`, each for Towers
+/// and for Unequal.
 pub(crate) fn program<T: Eprint, A: Words, F: GameFiles, R: Source, W: Sink>(
     rt: &T,
     alloc: Global,
@@ -94,7 +97,7 @@ fn play_words<N: Format<Towers> + Format<Unequal>, T: Eprint, F: GameFiles, R: S
     }
 }
 
-// Tells who types lines what there is. Where standard error fails, nothing is left to say.
+// Tells a user who types lines what there is. Where standard error fails, nothing is left to say.
 fn greet(rt: &impl Eprint, is_typed: bool) {
     if is_typed {
         let _ = eprintln!(rt; "{GREETING}");

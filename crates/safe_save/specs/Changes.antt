@@ -6,8 +6,8 @@ use Rattle.safe_save.specs.declared.changes.FolderChange.{FolderChange}
 use Rattle.safe_save.specs.declared.folder.FolderCall.{FolderCall}
 use Rattle.safe_save.specs.declared.folder.FolderFault.{FolderFault}
 
--- what stands at a name after a change, where this stood there: the content at its name, nothing at the other, and
--- otherwise the same
+-- what stands at a name after a change, if `before` stood there: at the name of the change its content, at
+-- its `gone` nothing, and at any other name `before`
 abbrev pub changed : List ℕ → Option (List ℕ) → FolderChange → Option (List ℕ)
 changed name before change =
     if bytes_eq change.name.bytes.items name
@@ -28,7 +28,7 @@ IsChanged name content gone old new =
     (n : List ℕ)
     → image_of new n ≡ (if bytes_eq name n then content else (if bytes_eq gone n then None else image_of old n))
 
--- the same stands at each name
+-- the same stands at each name after the old changes and after the new ones
 abbrev pub StandsSame : List FolderChange → List FolderChange → Type 0
 StandsSame old new = Same (image_of old) (image_of new)
 
@@ -50,6 +50,6 @@ told changes failed = record {
   may_read = λ _ _. ⊥;
 }
 
--- the same of its content alone
+-- what a folder tells that was empty before these changes, if none of its calls has failed
 abbrev pub content_told : List FolderChange → FolderState
 content_told changes = told changes (λ _ _. 0)

@@ -13,7 +13,7 @@ pub record FolderState : Type 1 where
   pub stands : Image
   -- what a crash at this moment may leave
   pub may_leave : Image → Type 0
-  -- the moment, as a number that doesn't fall
+  -- the moment, as a number that never falls
   pub moment : ℕ
   -- what a crash at some moment from that one on might have left, during a call or between two
   pub left_since : ℕ → Image → Type 0
@@ -22,7 +22,7 @@ pub record FolderState : Type 1 where
   -- who may read the file at each name, by the numbers of all users but the one whose folder this is
   pub may_read : List ℕ → ℕ → Type 0
 
--- what stands for the state of a folder that tells nothing
+-- the state that is taken for a folder that tells nothing
 abbrev pub untold : FolderState
 untold = record {
   stands = λ _. None;
@@ -45,7 +45,7 @@ Touched name old new = (n : List ℕ) → n ≢ name → new n ≡ old n
 abbrev pub TouchedBoth : List ℕ → List ℕ → Image → Image → Type 0
 TouchedBoth one other old new = (n : List ℕ) → n ≢ one → n ≢ other → new n ≡ old n
 
--- after what stood at the name stand these bytes
+-- at the name stands what stood there, with these bytes after it
 abbrev pub Appended : List ℕ → List ℕ → Image → Image → Type 0
 Appended name bytes old new = (before : List ℕ) → old name ≡ Some before → new name ≡ Some (before ++ bytes)
 
@@ -59,19 +59,19 @@ pub record MayMove (from to : List ℕ) (old new : Image) : Type 0 where
   pub whole : ((new from ≡ old from) × (new to ≡ old to)) ⊎ (new to ≡ old from)
   pub others : TouchedBoth from to old new
 
--- where a file stood at the path, nobody may read the one at the name now who might not read that one
+-- if a file stood at the path, only users who could read it may read the file at the name now
 abbrev pub NoWider : List ℕ → List ℕ → FolderState → FolderState → Type 0
 NoWider name path old new = IsSome (old.stands path) → (user : ℕ) → new.may_read name user → old.may_read path user
 
--- at each name where a file stood nobody may read now who might not
+-- at each name where a file stood, only users who could read it may read what is there now
 abbrev pub WidensNone : FolderState → FolderState → Type 0
 WidensNone old new = (n : List ℕ) → NoWider n n old new
 
--- the same at each other name
+-- at each name but this one where a file stood, only users who could read it may read what is there now
 abbrev pub WidensNoOther : List ℕ → FolderState → FolderState → Type 0
 WidensNoOther name old new = (n : List ℕ) → n ≢ name → NoWider n n old new
 
--- each image that a crash may leave now is one that it could leave before, changed so
+-- each image that a crash may leave now is a `change` of one that it could leave before
 abbrev pub LeavesChanged : (Image → Image → Type 0) → FolderState → FolderState → Type 0
 LeavesChanged change old new = (f : Image) → new.may_leave f → (g : Image) × old.may_leave g × change g f
 
@@ -79,7 +79,7 @@ LeavesChanged change old new = (f : Image) → new.may_leave f → (g : Image) �
 abbrev pub IsDurable : List ℕ → FolderState → Type 0
 IsDurable name state = (f : Image) → state.may_leave f → f name ≡ state.stands name
 
--- Time goes on: a crash since t might have left what it might have left before, or such an image changed so.
+-- Time goes on: a crash since t leaves what it might have left before, or a change of what it `could_leave`.
 pub record GoesOn (change : Image → Image → Type 0) (before now : ℕ) (past since : ℕ → Image → Type 0)
     (could_leave : Image → Type 0) : Type 0 where
   pub later : before ≤ now
@@ -87,7 +87,7 @@ pub record GoesOn (change : Image → Image → Type 0) (before now : ℕ) (past
       → past t f ⊎ ((g : Image) × could_leave g × change g f)
   pub keeps : (t : ℕ) (f : Image) → t ≤ before → past t f → since t f
 
--- time goes on over a call, and a crash during it leaves what it could leave before, changed so
+-- over a call time goes on, and a crash during it leaves a `change` of what it could leave before
 abbrev pub Elapses : (Image → Image → Type 0) → FolderState → FolderState → Type 0
 Elapses change old new = GoesOn change old.moment new.moment old.left_since new.left_since old.may_leave
 

@@ -9,7 +9,7 @@ use Rattle.safe_save.specs.declared.changes.FolderChange.{FolderChange}
 use Rattle.safe_save.specs.declared.failures.Failing.{Failing}
 use Rattle.safe_save.specs.declared.memory.MemoryFolder.{MemoryFolder}
 
--- what stands at each name
+-- what stands at each name in a folder over memory
 abbrev pub contents : MemoryFolder → Image
 contents folder = image_of folder.changes.items
 
@@ -21,7 +21,7 @@ failing_of folder = to_come folder.failures
 abbrev pub memory_state : MemoryFolder → FolderState
 memory_state folder = told folder.changes.items (last_failed_of folder.failures)
 
--- what stands there now has stood there since each moment up to now
+-- what stands there now counts as having stood there since t, for each moment t up to now
 pub stands_now : (changes : List FolderChange) (t : ℕ) (f : Image) → t ≤ length changes → Same (image_of changes) f
     → HasStood changes t f
 stands_now changes t f le same = (
@@ -31,7 +31,7 @@ stands_now changes t f le same = (
   λ name. same name ∙ ap (λ all. image_of all name) (sym (take_all (length changes) changes (omega arith))),
 )
 
--- since the last change nothing else has stood there
+-- since the last change nothing has stood there but what stands there now
 pub only_last : (changes : List FolderChange) (f : Image) → HasStood changes (length changes) f
     → Same (image_of changes) f
 only_last changes f (k, since, within, same) =

@@ -1,8 +1,7 @@
 -- Where the last failure of each kind of call with each fault is kept.
 use Rattle.std.specs.Prelude.{ℕ, ◌+◌, ◌*◌}
 use Rattle.safe_save.specs.declared.folder.FolderCall.{FolderCall}
-use Rattle.safe_save.specs.declared.folder.FolderCall.TheVariants.{OpenNew, Write, TakeAfter, Flush, Rename, Overwrite}
-use Rattle.safe_save.specs.declared.folder.FolderCall.TheVariants.{Remove, FlushFolder}
+use Rattle.safe_save.specs.declared.folder.FolderCall.TheVariants.{OpenNew, Write, TakeAfter, Flush, Rename, Overwrite, Remove, FlushFolder}
 use Rattle.safe_save.specs.declared.folder.FolderFault.{FolderFault}
 use Rattle.safe_save.specs.declared.folder.FolderFault.TheVariants.{Taken, Refused, Failed}
 

@@ -1,10 +1,8 @@
 -- What a save promises.
 use Rattle.std.specs.Prelude.{◌≡◌, ◌⊎◌, ℕ, List, Some, IsSome, Result, Err}
-use Rattle.safe_save.specs.Folder.{Image, FolderState, Touched, LeavesChanged, LeavesOnly, KeepsFaults, FailedWith}
-use Rattle.safe_save.specs.Folder.{HasFailed}
+use Rattle.safe_save.specs.Folder.{Image, FolderState, Touched, LeavesChanged, LeavesOnly, KeepsFaults, FailedWith, HasFailed}
 use Rattle.safe_save.specs.declared.folder.FolderCall.{FolderCall}
-use Rattle.safe_save.specs.declared.folder.FolderCall.TheVariants.{OpenNew, Write, TakeAfter, Flush, Rename, Overwrite}
-use Rattle.safe_save.specs.declared.folder.FolderCall.TheVariants.{Remove}
+use Rattle.safe_save.specs.declared.folder.FolderCall.TheVariants.{OpenNew, Write, TakeAfter, Flush, Rename, Overwrite, Remove}
 use Rattle.safe_save.specs.declared.folder.FolderFault.TheVariants.{Refused}
 use Rattle.safe_save.specs.declared.saving.SaveFault.{SaveFault}
 use Rattle.safe_save.specs.declared.saving.SaveFault.TheVariants.{Taken, NotSaved, LeftBeside}
@@ -58,7 +56,7 @@ MakesNewFile call = ⊥
 abbrev pub FillFailed : FolderState → FolderState → Type 0
 FillFailed old new = (call : FolderCall) × MakesNewFile call × HasFailed call old new
 
--- a crash could have left at the path, before, what this image has there
+-- at the path the image has what a crash could have left there before
 abbrev pub CouldStand : List ℕ → FolderState → Image → Type 0
 CouldStand path old f = (g : Image) × old.may_leave g × (f path ≡ g path)
 
@@ -72,7 +70,7 @@ IsOldOrNew path beside bytes old new f =
 abbrev pub IsAtEither : List ℕ → List ℕ → List ℕ → Image → Type 0
 IsAtEither path beside bytes f = (f path ≡ Some bytes) ⊎ (f beside ≡ Some bytes)
 
--- where a file stood at the path, nobody may read the one there now who might read neither that one nor the new one
+-- if a file stood at the path, only users who could read it or the new file may read what is there now
 abbrev pub ReadAsEither : List ℕ → List ℕ → FolderState → FolderState → Type 0
 ReadAsEither path beside old new =
     IsSome (old.stands path) → (user : ℕ) → new.may_read path user → old.may_read path user ⊎ old.may_read beside user

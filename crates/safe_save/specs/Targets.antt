@@ -8,8 +8,8 @@ use Rattle.safe_save.specs.declared.folder.FolderCall.TheVariants.{FlushFolder, 
 use Rattle.safe_save.specs.declared.target.Unsaved.{Unsaved}
 use Rattle.safe_save.specs.declared.target.Unsaved.TheVariants.{Failed, LeftBeside}
 
--- where it is told as left beside, the bytes stand at the path that is told, also in a crash; otherwise at the path is
--- what stood there, or it has the bytes
+-- what is told is true: of `LeftBeside`, that the bytes stand at the path it names, and a crash leaves them
+-- there or at the path of the save; of `Failed`, that this path has what it had, or the bytes
 abbrev pub IsToldOfUnsaved : List ℕ → List ℕ → FolderState → FolderState → Unsaved → Type 0
 IsToldOfUnsaved path bytes old new (LeftBeside beside) = IsLeftBeside path (string_bytes beside) bytes new
 IsToldOfUnsaved path bytes old new (Failed error) = KeepsName path old new ⊎ (new.stands path ≡ Some bytes)
@@ -22,8 +22,8 @@ IsInUse path state name = (name ≡ path) ⊎ IsSome (state.stands name)
 abbrev pub CallFailed : FolderState → FolderState → Type 0
 CallFailed old new = FillFailed old new ⊎ HasFailed FlushFolder old new
 
--- it is left beside only where a rename failed; an error of the kind Other is told only where a call failed, and one of
--- the kind AlreadyExists only where each of the names was taken; no other is told
+-- `LeftBeside` is told only if a rename failed, an error of the kind Other only if a call failed, and one of
+-- the kind AlreadyExists only if each of the names was taken; no other is told
 abbrev pub HasItsCause : List ℕ → List (List ℕ) → FolderState → FolderState → Unsaved → Type 0
 HasItsCause path names old new (LeftBeside beside) = HasFailed Rename old new
 HasItsCause path names old new (Failed error) =

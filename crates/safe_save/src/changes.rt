@@ -108,7 +108,7 @@ pub(crate) fn put(
     set_content(alloc, changes, name, Some(content))
 }
 
-// A copy of what stands under the name, as bytes that can grow; nothing stands as none.
+// A copy of what stands under the name, as bytes that can grow, or `None` if nothing stands there.
 fn copy_of(
     alloc: Global,
     changes: &[FolderChange],

@@ -24,7 +24,7 @@ pub(crate) struct FailedCalls {
     pub(crate) stops: bool,
     pub(crate) stopped: bool,
     pub(crate) refuses_rename: bool,
-    // by the place of a kind of call and a fault
+    // when each kind of call last failed with each fault, at the place of both; counted from 1, 0: never
     pub(crate) last: [usize; 24],
 }
 
@@ -59,7 +59,7 @@ impl FailedCalls {
         ensures stopped { self.new.stopped ≡ self.old.stopped }
         ensures stops { self.new.stops ≡ self.old.stops }
     {
-        let place = place(call, fault);
+        let place = place_of(call, fault);
         self.last[place] = self.last[place].max(moment + 1);
         fault
     }
@@ -87,7 +87,7 @@ impl FailedCalls {
 }
 
 // Where the last failure of a kind of call with a fault is kept: both are counted in the order in which they are declared.
-fn place(call: FolderCall, fault: FolderFault) -> usize
+fn place_of(call: FolderCall, fault: FolderFault) -> usize
     ensures place { result ≡ place_of call fault }
     ensures bound { result < 24 }
 {

@@ -139,6 +139,7 @@ impl<R: Files<File = File>> Folder for FilesFolder<'_, R> {
     ghost only_now = { λ folder f told. absurd told };
 }
 
+// `Refused` for what the system forbids here and may allow in another way, and otherwise `Failed`.
 fn fault_of(error: &io::Error) -> FolderFault {
     match error.kind() {
         ErrorKind::PermissionDenied | ErrorKind::ResourceBusy | ErrorKind::CrossesDevices => {
@@ -199,6 +200,7 @@ fn overwrite(files: &impl Files<File = File>, name: &str, bytes: &[u8]) -> io::R
     }
 }
 
+// Writes the bytes to the file, and waits until the disk has them.
 fn fill(file: File, bytes: &[u8]) -> io::Result<()> {
     let mut file = file;
     file.write_all(bytes)?;
@@ -219,6 +221,7 @@ fn flush_folder(files: &impl Files<File = File>, folder: &str) -> io::Result<()>
     }
 }
 
+// Whether the system says that a folder of this kind can't be flushed.
 fn cannot_be_asked(kind: ErrorKind) -> bool {
     matches!(
         kind,

@@ -2,8 +2,7 @@
 
 ghost use Rattle.std.specs.Prelude.{◌≡◌, ◌≢◌, ◌≤◌, ℕ, Some, None, [], IsSome, OnOk, OnErr, IsErrOf};
 ghost use Rattle.safe_save.specs.Folder.{Image, FolderState, Same, Touched, TouchedBoth, Appended, Moved, MayMove};
-ghost use Rattle.safe_save.specs.Folder.{LeavesChanged, IsDurable, Elapses, HasCause, NoWider, WidensNone};
-ghost use Rattle.safe_save.specs.Folder.{WidensNoOther};
+ghost use Rattle.safe_save.specs.Folder.{LeavesChanged, IsDurable, Elapses, HasCause, NoWider, WidensNone, WidensNoOther};
 
 /// Why a call of a folder failed.
 #[derive(Clone, Copy, Debug, PartialEq, Eq)]
@@ -159,7 +158,7 @@ pub trait Folder {
     ghost counts_now: { (folder : Self) (t : ℕ) (f : Image) → tells → t ≤ (state folder).moment
         → (state folder).may_leave f → (state folder).left_since t f };
 
-    // Since this moment there is no other.
+    // Since this moment a crash can have left only what it may leave now.
     ghost only_now: { (folder : Self) (f : Image) → tells
         → (state folder).left_since (state folder).moment f → (state folder).may_leave f };
 }

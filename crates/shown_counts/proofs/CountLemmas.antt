@@ -1,4 +1,4 @@
--- A filling of a row with a value alone at a place is one of the row with the value there.
+-- The counts that a row's fillings show with a value at a place: those of the row with it alone there.
 use Rattle.std.proofs.Common.{◌≡◌, ◌↔◌, ℕ, ◌+◌, ◌<◌, ◌≤◌, true, false, List, length, take, set, slice_index, sym, ap, ◌∙◌, subst, arith, inl, inr}
 use Rattle.std.proofs.lemmas.Bool.{both_ways, cases_eq, cases_lt, eqb-true, eq-eqb}
 use Rattle.std.proofs.lemmas.List.{get_or-take, length-take-le, get_or-set_same, get_or-set_other, get_or_past}
@@ -16,7 +16,7 @@ supported_range sets clue place value s =
     let most : seen s.line ≤ length s.line = seen_most _ s.line in
     (omega (arith, some, s.filling.shown), omega (arith, most, s.filling.shown, s.filling.whole))
 
--- a filling's value is a candidate
+-- each value of a filling is in the row's set at its place
 pub filled_has : (w : ℕ) (row : List ℕ) (clue : ℕ) (line : List ℕ) (k : ℕ) → w ≤ length row → k < w → IsFilling (take w row) clue line
     → has_number (slice_index row k) (slice_index line k) ≡ true
 filled_has w row clue line k inside low f =
@@ -73,7 +73,7 @@ alone_supported row alone w place value clue small low has a =
       ),
     )
 
--- all of them, below a number past the length
+-- the counts below a number past the row's length are all counts that support the value
 pub all_counts : (IsSo : ℕ → Type 0) (sets : List ℕ) (place value n counts : ℕ) → length sets < n → AreCounts IsSo n counts
     → ((count : ℕ) → 1 ≤ count → count < n → IsSo count ↔ IsSupported sets count place value)
     → (count : ℕ) → (has_number counts count ≡ true) ↔ IsSupported sets count place value
@@ -92,7 +92,7 @@ pub supported_value : (sets : List ℕ) (clue place value : ℕ) → IsSupported
 supported_value sets clue place value s =
     let values = s.filling.start.values place (omega (arith, s.inside, s.filling.whole)) in omega (arith, values.1, s.here)
 
--- those of the next value
+-- once the counts of the value n are put in, those of each value below n + 1 are there
 pub counted_more : (sets : List ℕ) (place values n counts : ℕ) (shows : List ℕ) → n < length shows → AreCountsBelow sets place values n shows
     → ((count : ℕ) → (has_number counts count ≡ true) ↔ IsSupported sets count place n) → AreCountsBelow sets place values (n + 1) (set shows n counts)
 counted_more sets place values n counts shows inside are new = λ v count below one. elim (cases_eq v n) [
@@ -104,7 +104,7 @@ counted_more sets place values n counts shows inside are new = λ v count below 
       rw stays (are v count (omega (arith, below, other)) one)
 ]
 
--- a value that isn't among them
+-- if n isn't one of the values, the counts of each value below n + 1 are there already
 pub counted_on : (sets : List ℕ) (place values n : ℕ) (shows : List ℕ) → has_number values n ≡ false → AreCountsBelow sets place values n shows
     → AreCountsBelow sets place values (n + 1) shows
 counted_on sets place values n shows lacks are = λ v count below one. elim (cases_eq v n) [
@@ -112,7 +112,7 @@ counted_on sets place values n shows lacks are = λ v count below one. elim (cas
   | inr other ↦ are v count (omega (arith, below, other)) one
 ]
 
--- all of them
+-- once n is past the row's length and the table's end, the counts of all values are there
 pub all_counted : (sets : List ℕ) (place values n : ℕ) (shows : List ℕ) → length sets < n → length shows ≤ n → AreCountsBelow sets place values n shows
     → AreCountsOf sets place values shows
 all_counted sets place values n shows past long are = λ v count one. elim (cases_lt v n) [

@@ -1,4 +1,4 @@
--- What stands alone in one square of a row is no filling's number in another one, so a row without it there has the same fillings.
+-- A row has the same fillings without the numbers that stand alone in another of its squares.
 use Rattle.std.proofs.Common.{◌≡◌, ◌↔◌, ℕ, ◌<◌, ◌≤◌, inl, inr, List, length, take, slice_index, sym, ◌∙◌, subst, arith}
 use Rattle.std.proofs.lemmas.Bool.{cases_eq, cases_lt, true_from_ne_false}
 use Rattle.std.proofs.lemmas.List.{length-take-le}

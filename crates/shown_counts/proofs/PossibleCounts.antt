@@ -11,14 +11,14 @@ use Rattle.tower_lines.proofs.SeenLemmas.{IsLeastSeen, seen_most, least_seen_mor
 use Rattle.tower_lines.proofs.MaskLemmas.{mask_of, tower_is}
 use Rattle.shown_counts.specs.Inner.Possible.{IsOneLonger, IsLongerBelow}
 
--- the count that the line shows is among those of its height
+-- the count that the line shows is among those for the height from which on a next tower is seen
 pub record HasStart (starts line : List ℕ) : Type 0 where
   pub least : ℕ
   pub high : least ≤ 10
   pub seen_from : IsLeastSeen line least
   pub has : has_number (slice_index starts least) (seen line) ≡ true
 
--- no number at all
+-- the line without any number is among the starts, if they have the count 0 for the height 0
 pub none_started : (starts : List ℕ) → has_number (slice_index starts 0) 0 ≡ true → HasStart starts []
 none_started starts has = record {
   least = 0;
@@ -27,7 +27,7 @@ none_started starts has = record {
   has = has;
 }
 
--- the first towers of a line, by themselves
+-- the first towers of a start of a line are a start by themselves
 first_towers : (sets line : List ℕ) (k : ℕ) → k ≤ length line → IsStart sets line → IsStart sets (take k line)
 first_towers sets line k inside start =
     let long : length (take k line) ≡ k = length-take-le k line inside in
@@ -47,7 +47,7 @@ tall {sets} p least start seen_from =
     let all : list_all (λ y. ltb y (k + 1)) p ≡ true = seen_from.taller (k + 1) ∙ le-leb least (k + 1) (omega arith) in
     omega (arith, b.ones, ones-le k b.mask (ltb-true b.mask (2 ^ k) (sym (tower_is p k b.used) ∙ all)))
 
--- one number more of a filling
+-- if the first k towers of a filling are among the starts, its first k + 1 are among those one longer
 pub started_more : (sets starts longer line : List ℕ) (clue k : ℕ) → length sets ≤ 9 → k < length sets → IsFilling sets clue line
     → IsOneLonger (k + 1) (slice_index sets k) starts longer → HasStart starts (take k line) → HasStart longer (take (k + 1) line)
 started_more sets starts longer line clue k small inside f one h =
@@ -81,7 +81,7 @@ started_more sets starts longer line clue k small inside f one h =
           }
     ])
 
--- the whole line
+-- once the starts are as long as the row, each filling's count is among theirs
 pub started_whole : (sets starts line : List ℕ) (clue k : ℕ) → length sets ≤ k → IsFilling sets clue line → HasStart starts (take k line)
     → (h : ℕ) × (h < 11) × (has_number (slice_index starts h) clue ≡ true)
 started_whole sets starts line clue k all f h =
@@ -90,6 +90,7 @@ started_whole sets starts line clue k all f h =
 
 -- ---- one height after another
 
+-- before the first height nothing is done yet, but the counts of the starts below it are known
 pub longer_init : (low set_of : ℕ) (starts : List ℕ) (lower : ℕ) (longer : List ℕ) → length longer ≡ 11
     → ((least count : ℕ) → least < low → has_number (slice_index starts least) count ≡ true → has_number lower count ≡ true)
     → IsLongerBelow low low set_of starts lower longer
@@ -100,7 +101,7 @@ longer_init low set_of starts lower longer room below = record {
   seen = λ least count height above from below small has is. absurd (omega (arith, from, below));
 }
 
--- all of them
+-- starts that are one longer up to the greatest height are one longer altogether
 pub longer_all : (n low set_of lower : ℕ) (starts longer : List ℕ) → 10 ≤ n → IsLongerBelow n low set_of starts lower longer
     → IsOneLonger low set_of starts longer
 longer_all n low set_of lower starts longer all h = record {
@@ -109,7 +110,7 @@ longer_all n low set_of lower starts longer all h = record {
   seen = λ least count height above from high small has is. h.seen least count height above from (omega (arith, high, all)) small has is;
 }
 
--- the next one
+-- starts that are one longer up to height n are so up to n + 1, once its counts are put in
 pub longer_more : (n low set_of lower more counts : ℕ) (starts longer : List ℕ) → n < 10 → IsLongerBelow n low set_of starts lower longer
     → ((count : ℕ) → has_number lower count ≡ true → has_number more count ≡ true)
     → ((count : ℕ) → has_number (slice_index starts n) count ≡ true → has_number more count ≡ true)

@@ -12,6 +12,7 @@ use Rattle.line_steps.specs.declared.reason.Reason.TheVariants.{Given, Peer, Pla
 use Rattle.shown_counts.specs.Shown.{CanShow, AreShown, ClueRow, IsRowFrom, IsRowOf}
 use Rattle.shown_counts.specs.Inner.Counted.{AreCountsOf}
 
+-- the counts that a row's fillings show at index k are those that lines from the place show in that square
 row_shown : (w : ℕ) (May : ℕ → ℕ → Type 0) (place : ℕ) (row : ClueRow) (cell k values : ℕ) (shows : List ℕ) → row.size ≤ 9 → IsRowFrom w May place row
     → k < row.size → view_cell row.size row.place k ≡ cell → AreCountsOf (take row.size row.row) k values shows
     → (v count : ℕ) → has_number values v ≡ true → (has_number (slice_index shows v) count ≡ true) ↔ CanShow w May place cell v count
@@ -29,7 +30,7 @@ row_shown w May place row cell k values shows small r inside at counts v count o
           (are v count one).1 (fill.1 (s.line, s.filling, ap (slice_index s.line) same ∙ s.there)),
     )
 
--- the counts in a square that is the k-th from the place
+-- the counts that a row's fillings show at index k are those that the reason's line shows in that square
 pub told_shown : (c : CandidatesValue) (reason : Reason) (row : ClueRow) (cell k values : ℕ) (shows : List ℕ) → row.size ≤ 9 → IsRowOf c reason row
     → k < row.size → view_cell row.size row.place k ≡ cell → AreCountsOf (take row.size row.row) k values shows → AreShown c reason cell values shows
 told_shown c (Given at) row cell k values shows small r inside here counts = absurd r

@@ -19,7 +19,7 @@ pub record CanShow (w : ℕ) (May : ℕ → ℕ → Type 0) (place cell value co
   pub filling : IsFillingFrom w May place count line
   pub there : slice_index line index ≡ value
 
--- so by what a reason knows of the line that it looks along from a clue
+-- some line from the reason's clue, by what the reason knows of it, has the value there and shows that count
 abbrev pub IsShownBy : CandidatesValue → Reason → ℕ → ℕ → ℕ → Type 0
 IsShownBy c (Given at) cell value count = ⊥
 IsShownBy c (Peer by) cell value count = ⊥
@@ -78,7 +78,7 @@ pub record IsRowFrom (w : ℕ) (May : ℕ → ℕ → Type 0) (place : ℕ) (row
   pub from : row.place ≡ place
   pub sets : AreMaySets w May place w row.row
 
--- so by what a reason knows of the line that it looks along from a clue
+-- the row is of the squares from the reason's clue, by what the reason knows of them
 abbrev pub IsRowOf : CandidatesValue → Reason → ClueRow → Type 0
 IsRowOf c (Given at) row = ⊥
 IsRowOf c (Peer by) row = ⊥

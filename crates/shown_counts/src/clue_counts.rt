@@ -1,6 +1,5 @@
 //! The counts of a clue's line, by what a reason knows of its squares.
-ghost use Rattle.std.specs.Prelude.{◌≡◌, ◌≢◌, ◌↔◌, ℕ, ◌+◌, ◌*◌, ◌<◌, ◌≤◌, true, List, take, slice_index, ◌==◌};
-ghost use Rattle.std.specs.Prelude.{◌||◌, ◌&&◌, IsTrue, MatchOption};
+ghost use Rattle.std.specs.Prelude.{◌≡◌, ◌≢◌, ◌↔◌, ℕ, ◌+◌, ◌*◌, ◌<◌, ◌≤◌, true, List, take, slice_index, ◌==◌, ◌||◌, ◌&&◌, IsTrue, MatchOption};
 ghost use Rattle.number_sets.specs.Sets.{has_number};
 ghost use Rattle.tower_lines.specs.LineFillings.{IsFilling, IsSupported};
 ghost use Rattle.line_steps.specs.Views.{view_cell};

@@ -31,14 +31,14 @@ module _ (Struck : Striking) (less : IsAntitone Struck) (g : GridValue) (view : 
       needed front back step less_step cell value same strikes
       (shows_in Struck less grade g view other (front ++ less_step ∷ back) goal is other_is shows)
 
-  -- where nothing but 0 is left of a square, nothing is
+  -- if each number is needed to leave nothing but 0 of a square, each is needed to leave it nothing
   nothing_in : (grade : Grade) (steps : List StepValue) (emptied : ℕ) → AreNeededFrom Struck grade g steps (OnlyValue emptied 0)
       → AreNeededForNothing Struck grade view steps emptied
   nothing_in grade steps emptied needed = λ front back step less_step cell value same strikes leaves.
       needed_in grade steps (OnlyValue emptied 0) needed front back step less_step cell value same strikes
       ((leaves_where Struck grade view (front ++ less_step ∷ back) emptied leaves.inside).1 leaves)
 
--- one view for all
+-- a hint whose parts hold, each from a view of its own, is the hint of the grid
 pub hint_bound : (p : Puzzle) (Struck : Striking) → IsAntitone Struck → (g : GridValue) (hint : NextHint) → IsNextHint Struck g hint
     → IsTimelyHint g hint → IsNeededHint Struck g hint → IsRightHint p g hint → SaysAllForced Struck g hint → IsHint p Struck g hint
 hint_bound p Struck less g (Follows grade chain) least timely needed right forced =
@@ -81,7 +81,7 @@ hint_bound p Struck less g Nothing least (view, is, timely) needed right forced 
   };
 }
 
--- the same of a hint, where there was memory for it
+-- the hint of a result, if there was memory for one, is the hint of the grid if its parts hold
 pub result_bound : (p : Puzzle) (Struck : Striking) → IsAntitone Struck → (g : GridValue) (result : Result NextHint OutOfMemory)
     → IfOk result (IsNextHint Struck g) → IfOk result (IsTimelyHint g) → IfOk result (IsNeededHint Struck g) → IfOk result (IsRightHint p g)
     → IfOk result (SaysAllForced Struck g) → IfOk result (IsHint p Struck g)

@@ -1,4 +1,4 @@
--- What is come to from one view of a grid is so from another, and what a closure of it says.
+-- Chains come to the same from each view of a grid; and what the candidates that a grade leaves of it say.
 use Rattle.std.proofs.Common.{◌≡◌, ◌↔◌, ℕ, ◌*◌, ◌<◌, List, sym, ◌∙◌, subst, arith, inl, inr}
 use Rattle.std.proofs.lemmas.Bool.{cases_eq}
 use Rattle.latin_board.specs.Squares.{GridValue, number_at}
@@ -27,7 +27,7 @@ use Rattle.line_steps.specs.Reasons.{Striking}
 
 -- ---- views
 
--- what is in view of a grid is left of each view
+-- a value that is left of a square in one view of a grid is left in each
 pub views_fewer : (g : GridValue) (a b : CandidatesValue) → IsView g a → IsView g b → IsFewer a b
 views_fewer g a b first second = λ cell v left.
     let pair : IsPair g.size cell v = subst (λ (w : ℕ). IsPair w cell v) second.size left.pair in
@@ -47,7 +47,7 @@ shows_in Struck less grade g a b steps goal first second =
 
 -- ---- squares that are left nothing
 
--- nothing but 0 is left of a square where nothing is
+-- nothing is left of a square exactly if its candidates show that nothing but 0 is
 pub empty_shown : (c : CandidatesValue) (cell : ℕ) → ((value : ℕ) → IsLeft c cell value → ⊥) ↔ IsShown c (OnlyValue cell 0)
 empty_shown c cell = (
   λ none other left. absurd (none other left),
@@ -64,7 +64,7 @@ leaves_where Struck grade c steps cell inside = (
 
 -- ---- what a grade leaves of a view
 
--- what it doesn't show no chain shows
+-- if the candidates that a grade leaves show no number of an empty square, no chain of the grade does
 pub nothing_shown : (Struck : Striking) → IsAntitone Struck → (grade : Grade) (g : GridValue) (view d : CandidatesValue)
     → IsView g view → IsClosure Struck grade view d → ((goal : Goal) → IsOpenShown g d goal → ⊥) → NothingIsShown Struck grade g
 nothing_shown Struck less grade g view d is closed none = λ other other_is steps goal goal_of empty shows.
@@ -74,7 +74,7 @@ nothing_shown Struck less grade g view d is closed none = λ other other_is step
       shown = closure_shows Struck less grade view d steps goal closed (shows_in Struck less grade g other view steps goal other_is is shows);
     })
 
--- where it leaves something of each square no chain leaves a square nothing
+-- if a grade leaves something of each square, no chain of the grade leaves a square nothing
 pub none_refuted : (Struck : Striking) → IsAntitone Struck → (grade : Grade) (g : GridValue) (view d : CandidatesValue)
     → IsView g view → IsClosure Struck grade view d → HasSome d → IsRefutedGrid Struck grade g → ⊥
 none_refuted Struck less grade g view d is closed some r =
@@ -86,7 +86,7 @@ none_refuted Struck less grade g view d is closed some r =
     let left = some refuted.cell inside in
     refuted.nothing left.0 (here.1 refuted.cell left.0 (fewer refuted.cell left.0 left.1))
 
--- what its steps show all that it leaves shows
+-- a goal that some steps of the grade show is shown by all of them, from each view
 pub shown_by_all : (Struck : Striking) → IsAntitone Struck → (grade : Grade) (g : GridValue) (view d : CandidatesValue)
     (goal : Goal) → IsView g view → LeadsTo Struck grade view d → IsShown d goal → IsShownByAll Struck grade g goal
 shown_by_all Struck less grade g view d goal is leads shown = λ other e other_is other_closed.
@@ -97,7 +97,7 @@ shown_by_all Struck less grade g view d goal is leads shown = λ other e other_i
     subst (λ (x : CandidatesValue). IsLeft x cell v) (sym leads.is) (there.1 cell v (fewer cell v left)) in
     shown_less d e goal (leads_size Struck grade view d leads ∙ size ∙ sym other_closed.size) all shown
 
--- all steps show what all that the grade leaves shows
+-- steps that leave the grade settled show each goal that all steps of the grade show
 pub all_show : (Struck : Striking) (grade : Grade) (g : GridValue) (view d : CandidatesValue) (steps : List StepValue)
     (goal : Goal) → IsView g view → Leads Struck grade view steps d → IsSettled Struck grade d → IsShownByAll Struck grade g goal
     → Shows Struck grade view steps goal
@@ -111,7 +111,7 @@ all_show Struck grade g view d steps goal is leads settled shown =
       settled = settled;
     }))
 
--- up to where a square is left nothing they come to that, and otherwise to what all that the grade leaves shows
+-- steps come to a square that they leave nothing, and otherwise, with the grade settled, to the given aim
 pub all_come_to : (Struck : Striking) (grade : Grade) (g : GridValue) (view d : CandidatesValue)
     (steps : List StepValue) (aim end : Aim) → IsView g view → Leads Struck grade view steps d → (HasSome d → IsSettled Struck grade d)
     → IsShownByAll Struck grade g (aim_goal aim) → IsAimOrNothing d aim end
@@ -123,7 +123,7 @@ all_come_to Struck grade g view d steps aim end is leads settled shown (inr (som
     subst (λ (a : Aim). Shows Struck grade view steps (aim_goal a)) (sym same)
     (all_show Struck grade g view d steps (aim_goal aim) is leads (settled some) shown)
 
--- and by the square they refute the grid's numbers
+-- steps that come to a square left nothing refute the grid's numbers, and others come to the aim
 pub all_refute : (Struck : Striking) (grade : Grade) (g : GridValue) (view d : CandidatesValue) (steps : List StepValue)
     (aim end : Aim) → IsView g view → Leads Struck grade view steps d → IsAimOf g.size aim → IsAimOrNothing d aim end
     → IsAimOf g.size end × IsAimOrRefuted Struck grade g aim end

@@ -24,7 +24,7 @@ use Rattle.line_steps.specs.Reasons.{Striking}
 
 -- ---- one step
 
--- the values are struck by the reason where they are among those that it strikes
+-- a step is one by the candidates exactly if its values are in the set that its reason strikes
 pub step_by_set : (Struck : Striking) (c : CandidatesValue) (w : ℕ) (s : Step) (set : ℕ) → s.values < 2 ^ 16 → c.size ≡ w
     → ((v : ℕ) → (has_number set v ≡ true) ↔ ((c.size ≡ w) × (IsPair c.size s.cell v × Struck c s.reason s.cell v)))
     → IsSubset s.values set ↔ IsStep Struck c (step_value s)
@@ -51,7 +51,7 @@ takes_inside a b cell values low struck =
     (eqb-true at cell both.0, both.1))
     (takes_struck a b cell values struck)
 
--- and nothing goes where the grid has no such square
+-- nothing goes by a step in a square that the grid doesn't have
 pub takes_outside : (a : CandidatesValue) (cell values : ℕ) → values < 2 ^ 16 → (cell < a.size * a.size → ⊥)
     → Takes (λ at v. has_pair (pairs_of cell values) at v ≡ true) a a
 takes_outside a cell values low outside = record {
@@ -66,7 +66,7 @@ takes_outside a cell values low outside = record {
 
 -- ---- what is left then
 
--- what was taken is what a step lists
+-- if the same is left of two sets of candidates, it still is once the same pairs are taken from both
 pub taken_alike : (c d e : CandidatesValue) (pairs : List (ℕ × ℕ)) → d.size ≡ c.size → AreAlike c d → Takes (λ cell v. has_pair pairs cell v ≡ true) d e
     → AreAlike (without c pairs) e
 taken_alike c d e pairs size alike t = (
@@ -89,16 +89,17 @@ taken_alike c d e pairs size alike t = (
 
 -- ---- steps one after another
 
+-- steps of the grade and then more of them are of the grade
 allowed_joined : (grade : Grade) (front back : List StepValue) → AreOfGrade grade front → AreOfGrade grade back → AreOfGrade grade (front ++ back)
 allowed_joined grade [] back first second = second
 allowed_joined grade (step ∷ front) back first second = (first.0, allowed_joined grade front back first.1 second)
 
--- the steps of two pieces are of the grade where those of each are
+-- if the steps of two pieces together are of the grade, so are those of each piece
 pub allowed_split : (grade : Grade) (front back : List StepValue) → AreOfGrade grade (front ++ back) → AreOfGrade grade front × AreOfGrade grade back
 allowed_split grade [] back h = (tt, h)
 allowed_split grade (step ∷ front) back h = let rest = allowed_split grade front back h.1 in ((h.0, rest.0), rest.1)
 
--- two chains, one after the other
+-- a chain, and then one from the candidates to which it leads, are one chain
 pub leads_joined : (Struck : Striking) → IsAntitone Struck → (grade : Grade) (c d e : CandidatesValue)
     (front back : List StepValue) → Leads Struck grade c front d → Leads Struck grade d back e → Leads Struck grade c (front ++ back) e
 leads_joined Struck less grade c d e front back first second =
@@ -116,7 +117,7 @@ leads_joined Struck less grade c d e front back first second =
       );
     }
 
--- one step
+-- a step of the grade is a chain to the candidates from which its pairs are taken
 pub leads_one : (Struck : Striking) (grade : Grade) (d e : CandidatesValue) (s : Step) → IsGradeStep Struck grade d (step_value s)
     → Takes (λ cell v. has_pair (step_value s).strikes cell v ≡ true) d e → Leads Struck grade d (step_value s ∷ []) e
 leads_one Struck grade d e s step t = record {
@@ -126,6 +127,7 @@ leads_one Struck grade d e s step t = record {
   alike = taken_alike d d e (step_value s).strikes refl (λ cell v h. h, λ cell v h. h) t;
 }
 
+-- if later steps are no chain of the grade from what the first ones leave, all steps together are none
 pub back_breaks : (Struck : Striking) → IsAntitone Struck → (grade : Grade) (c d : CandidatesValue) (front back : List StepValue)
     → Leads Struck grade c front d → (IsGradeChain Struck grade d back → ⊥) → IsGradeChain Struck grade c (front ++ back) → ⊥
 back_breaks Struck less grade c d front back first none h =
@@ -133,7 +135,7 @@ back_breaks Struck less grade c d front back first none h =
     let size : (left_by c front).size ≡ d.size = left_size c front ∙ sym first.size in
     none ((chain_less Struck less (left_by c front) d back size first.alike.0 rest).0, (allowed_split grade front back h.1).1)
 
--- what they show is what they leave shows
+-- the candidates to which steps lead show a goal exactly if the steps show it
 pub shows_where : (Struck : Striking) (grade : Grade) (c d : CandidatesValue) (steps : List StepValue) (goal : Goal)
     → Leads Struck grade c steps d → IsShown d goal ↔ Shows Struck grade c steps goal
 shows_where Struck grade c d steps goal h =
@@ -142,7 +144,7 @@ shows_where Struck grade c d steps goal h =
       λ shows. shown_less (left_by c steps) d goal size h.alike.0 shows.shown,
     )
 
--- the test of a step of the grade's
+-- a test of a step's values against the set that its reason strikes tells whether it is a step of the grade
 pub step_tested : (Struck : Striking) (grade : Grade) (c : CandidatesValue) (w : ℕ) (s : Step) (set : ℕ) (b : Bool)
     → s.values < 2 ^ 16 → c.size ≡ w
     → ((v : ℕ) → (has_number set v ≡ true) ↔ ((c.size ≡ w) × (IsPair c.size s.cell v × Struck c s.reason s.cell v)))
@@ -156,18 +158,18 @@ step_tested Struck grade c w s set false low size is sub has = (
 
 -- ---- chains in two pieces
 
--- the steps before a place and those from it on
+-- the steps before a place and then those from it on are all steps
 pub from_place : (steps : List Step) (place : ℕ) → steps_of (take place steps) ++ steps_of (take (length steps - place) (drop place steps)) ≡ steps_of steps
 from_place steps place =
     ap (λ xs. steps_of (take place steps) ++ steps_of xs) (take_rest steps place)
     ∙ sym (map-append step_value (take place steps) (drop place steps)) ∙ ap steps_of (take-append-drop place steps)
 
--- what is taken of a chain is what it leads to
+-- a chain of the grade leads to candidates of which the same is left as it leaves
 pub leads_known : (Struck : Striking) (grade : Grade) (c d : CandidatesValue) (steps : List StepValue)
     → IsGradeChain Struck grade c steps → d.size ≡ c.size → AreAlike (left_by c steps) d → Leads Struck grade c steps d
 leads_known Struck grade c d steps chain size alike = record { chain = chain.0; allowed = chain.1; size = size; alike = alike }
 
--- the test of the goal after them
+-- a test of the goal on the candidates to which steps lead tells whether the steps show it
 pub shows_tested : (Struck : Striking) (grade : Grade) (c d : CandidatesValue) (steps : List StepValue) (goal : Goal) (b : Bool)
     → Leads Struck grade c steps d → IsTrue b ↔ IsShown d goal → IsTrue b ↔ Shows Struck grade c steps goal
 shows_tested Struck grade c d steps goal b h is =
@@ -176,7 +178,7 @@ shows_tested Struck grade c d steps goal b h is =
 
 -- ---- the loop over the steps
 
--- one step more
+-- the steps up to a place and then a step of the grade lead to the candidates that this one leaves
 pub follows_on : (Struck : Striking) → IsAntitone Struck → (grade : Grade) (c d e : CandidatesValue) (steps : List Step)
     (i : ℕ) (s : Step) → take (i + 1) steps ≡ take i steps ++ s ∷ [] → Leads Struck grade c (steps_of (take i steps)) d
     → IsGradeStep Struck grade d (step_value s) → Takes (λ cell v. has_pair (step_value s).strikes cell v ≡ true) d e
@@ -187,7 +189,7 @@ follows_on Struck less grade c d e steps i s more before step t =
     subst (λ xs. Leads Struck grade c xs e) (sym listed)
     (leads_joined Struck less grade c d e (steps_of (take i steps)) (step_value s ∷ []) before (leads_one Struck grade d e s step t))
 
--- a step that is none
+-- steps of which one isn't a step of the grade where it stands are no chain of the grade
 pub breaks_here : (Struck : Striking) → IsAntitone Struck → (grade : Grade) (c d : CandidatesValue) (steps : List Step)
     (i : ℕ) (s : Step) → take (i + 1) steps ≡ take i steps ++ s ∷ [] → Leads Struck grade c (steps_of (take i steps)) d
     → (IsGradeStep Struck grade d (step_value s) → ⊥) → IsGradeChain Struck grade c (steps_of steps) → ⊥

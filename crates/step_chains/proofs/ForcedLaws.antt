@@ -1,4 +1,4 @@
--- What narrowing forces is forced by reasons, which strike from what is in view, too.
+-- A square that narrowing forces is forced by reasons, too, from what is in view.
 use Rattle.std.proofs.Common.{ℕ, inl, inr, subst, sym}
 use Rattle.std.proofs.lemmas.Bool.{cases_eq}
 use Rattle.latin_board.specs.Squares.{GridValue, number_at}
@@ -24,7 +24,7 @@ view_fewer g c view of in_view = λ cell value left.
       ]);
     }
 
--- what narrowing forces is forced, where reasons strike the same from fewer candidates
+-- a square that narrowing forces is forced by reasons, if these strike from fewer candidates all they did
 pub forced_by : (w : ℕ) (Struck : Striking) → IsAntitone Struck → ForcesMore w (IsNarrowed Struck) Struck
 forced_by w Struck less g c view cell size of in_view f = record {
   inside = f.inside;

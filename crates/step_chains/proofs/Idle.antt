@@ -17,14 +17,14 @@ use Rattle.step_chains.specs.declared.chain.Step.{Step}
 use Rattle.step_chains.specs.Inner.Quiet.{IsNew}
 use Rattle.line_steps.specs.Reasons.{Striking}
 
--- all up to a number, and the next
+-- a property of all numbers below k, and of k, is one of all below k + 1
 pub all_next : (P : ℕ → Type 0) (k : ℕ) → ((j : ℕ) → j < k → P j) → P k → (j : ℕ) → j < k + 1 → P j
 all_next P k before here j low = elim (cases_eq j k) [
   | inl same ↦ subst P (sym same) here
   | inr other ↦ before j (omega (arith, low, other))
 ]
 
--- what a reason strikes of what is left
+-- the values are those that are left of a square and that a reason strikes there
 pub record IsStruckSet (Struck : Striking) (c : CandidatesValue) (reason : Reason) (cell values : ℕ) : Type 0 where
   pub struck : ℕ
   pub left : ℕ
@@ -32,6 +32,7 @@ pub record IsStruckSet (Struck : Striking) (c : CandidatesValue) (reason : Reaso
   pub is_left : IsSetOf c cell left
   pub both : (v : ℕ) → has_number values v ≡ (has_number struck v && has_number left v)
 
+-- if any values of a square are left and struck by a reason of the grade, they are a new step
 pub new_step : (Struck : Striking) (grade : Grade) (c : CandidatesValue) (reason : Reason) (cell values : ℕ) (s : Step)
     → c.size ≤ 9 → has_reason grade reason ≡ true → IsStruckSet Struck c reason cell values → ((v : ℕ) × (has_number values v ≡ true))
     → s ≡ record { reason = reason; cell = cell; values = values } → IsNew Struck grade c s
@@ -51,12 +52,12 @@ new_step Struck grade c reason cell values s small has h some is =
       some = some;
     })
 
--- the values that are left of a group, as a set
+-- the set has just the values that are left of some squares of a line
 abbrev pub IsLeftOf : CandidatesValue → ℕ → ℕ → ℕ → Type 0
 IsLeftOf c line squares values = (v : ℕ) → (has_number values v ≡ true)
     ↔ ((k : ℕ) × (k < c.size) × ((has_number squares k ≡ true) × IsLeft c (line_cell c.size line k) v))
 
--- it is the group's union, where its squares are all of the line
+-- a group's union is the set of the values that are left of its squares, if these are places of the line
 pub union_same : (c : CandidatesValue) (line squares values union : ℕ) → ((k : ℕ) → has_number squares k ≡ true → k < c.size) → IsLeftOf c line squares values
     → IsUnion c.size c line squares union → union ≡ values
 union_same c line squares values union inside is u = same_set union values (λ v. elim (cases_Bool (has_number union v)) [
@@ -73,7 +74,7 @@ group_inside w squares below k has = elim (cases_lt k w) [
   | inr high ↦ absurd (both_ways (has_number squares k) (has_number-above squares w k below high) has)
 ]
 
--- the values that are left of one square more
+-- with one square more of a group, the values that are left of it are added to those found
 pub left_added : (c : CandidatesValue) (line squares k found set result : ℕ)
     → ((v : ℕ) → (has_number found v ≡ true) ↔ ((j : ℕ) × (j < k) × ((has_number squares j ≡ true) × IsLeft c (line_cell c.size line j) v)))
     → has_number squares k ≡ true → IsSetOf c (line_cell c.size line k) set → ((v : ℕ) → has_number result v ≡ (has_number found v || has_number set v))

@@ -1,6 +1,6 @@
 pub mod Unseen
 pub mod Followed
-pub mod Blocks
+pub mod Pieces
 pub mod Tight
 pub mod Idle
 pub mod Settled

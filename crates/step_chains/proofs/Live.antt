@@ -25,7 +25,7 @@ use Rattle.step_chains.proofs.Followed.{taken_alike}
 use Rattle.step_chains.proofs.Tight.{parted, remove_at, steps_removed}
 use Rattle.line_steps.specs.Reasons.{Striking}
 
--- what is left of fewer candidates is left of more
+-- a step that is timely by fewer candidates is timely by more
 pub step_more : (c d : CandidatesValue) (step : StepValue) → c.size ≡ d.size → IsFewer c d → IsTimelyStep d step
     → IsTimelyStep c step
 step_more c d step size fewer (some, live) = (
@@ -35,7 +35,7 @@ step_more c d step size fewer (some, live) = (
   λ cell value has. fewer cell value (live cell value has),
 )
 
--- so steps that are timely by fewer are so by more
+-- steps that are timely by fewer candidates are timely by more
 pub timely_more : (c d : CandidatesValue) (steps : List StepValue) → c.size ≡ d.size → IsFewer c d
     → AreTimely d steps → AreTimely c steps
 timely_more c d [] size fewer h = tt
@@ -44,7 +44,7 @@ timely_more c d (step ∷ steps) size fewer h = (
   timely_more (without c step.strikes) (without d step.strikes) steps size (fewer_without c d step.strikes fewer) h.1,
 )
 
--- steps strike only what is left, and end as soon as a square is left nothing
+-- timely steps strike only what is left, and end as soon as a square is left nothing
 pub timely_parts : (c : CandidatesValue) (steps : List StepValue) → AreTimely c steps
     → AreLive c steps × EndAtOnce c steps
 timely_parts c [] h = (tt, tt)
@@ -52,12 +52,13 @@ timely_parts c (step ∷ steps) h =
     let rest = timely_parts (without c step.strikes) steps h.1 in
     ((h.0.1, rest.0), (h.0.0, rest.1))
 
--- a step that is left out leaves more
+-- timely steps stay timely if one of them is left out
 pub timely_without : (c : CandidatesValue) (front back : List StepValue) (step : StepValue)
     → AreTimely c (front ++ step ∷ back) → AreTimely c (front ++ back)
 timely_without c [] back step h = timely_more c (without c step.strikes) back refl (without_fewer c step.strikes) h.1
 timely_without c (first ∷ front) back step h = (h.0, timely_without (without c first.strikes) front back step h.1)
 
+-- timely steps stay timely if the one at a place is removed
 pub timely_removed : (c : CandidatesValue) (steps : List StepValue) (place : ℕ) → place < length steps
     → AreTimely c steps → AreTimely c (remove steps place)
 timely_removed c steps place low h =
@@ -68,12 +69,13 @@ timely_removed c steps place low h =
     subst (AreTimely c) (sym (ap (λ xs. remove xs place) at.3 ∙ ap (λ (k : ℕ). remove (front ++ step ∷ back) k) (sym at.4) ∙ remove_at front back step))
     (timely_without c front back step (subst (AreTimely c) at.3 h))
 
--- one step more that is timely by what they leave
+-- timely steps and then one that is timely by what they leave are timely
 pub timely_joined : (c : CandidatesValue) (front : List StepValue) (step : StepValue) → AreTimely c front
     → IsTimelyStep (left_by c front) step → AreTimely c (front ++ step ∷ [])
 timely_joined c [] step h now = (now, tt)
 timely_joined c (first ∷ front) step h now = (h.0, timely_joined (without c first.strikes) front step h.1 now)
 
+-- a list of steps stays timely if the one at a place is removed from it
 pub removed_timely : (c : CandidatesValue) (steps more : List Step) (place : ℕ) → place < length steps
     → more ≡ remove steps place → AreTimely c (steps_of steps) → AreTimely c (steps_of more)
 removed_timely c steps more place low is h =
@@ -87,13 +89,13 @@ live_where c s low left = λ cell v has.
     let there = left v both.1 in
     subst (λ (k : ℕ). IsLeft c k v) (sym (eqb-true cell s.cell both.0)) (record { pair = there.0; may = there.1 })
 
--- so where a set of what is left has them
+-- if the set that is left of its square has all values of a step, the step strikes only what is left
 pub live_by_set : (c : CandidatesValue) (s : Step) (set : ℕ) (b : Bool) → s.values < 2 ^ 16 → IsSetOf c s.cell set
     → MatchBool b (IsSubset s.values set) (IsSubset s.values set → ⊥) → OnTrue b (IsLiveStep c (step_value s))
 live_by_set c s set false low is sub = tt
 live_by_set c s set true low is sub = live_where c s low (λ v has. (is v).0 (sub v has))
 
--- what is new is left, and so the steps and it are timely while something is left of each square
+-- timely steps and then a new one are timely, if something is left of each square before it
 pub new_timely : (Struck : Striking) (grade : Grade) (c d : CandidatesValue) (steps more : List Step) (s : Step)
     → d.size ≤ 9 → Leads Struck grade c (steps_of steps) d → HasSome d × IsNew Struck grade d s
     → more ≡ steps ++ s ∷ [] → AreTimely c (steps_of steps) → AreTimely c (steps_of more)
@@ -104,14 +106,14 @@ new_timely Struck grade c d steps more s small before (some, new) is timely =
     before.alike.0 (some, live_where d s low new.left) in
     subst (AreTimely c) (sym listed) (timely_joined c (steps_of steps) (step_value s) timely here)
 
--- what one step more leaves
+-- the steps up to and with the next leave what those before it leave, without its pairs
 pub left_more : (c : CandidatesValue) (steps : List Step) (i : ℕ) (s : Step) → take (i + 1) steps ≡ take i steps ++ s ∷ []
     → left_by c (steps_of (take (i + 1) steps)) ≡ without (left_by c (steps_of (take i steps))) (step_value s).strikes
 left_more c steps i s more =
     ap (λ xs. left_by c xs) (ap steps_of more ∙ map-append step_value (take i steps) (s ∷ []))
     ∙ left_append c (steps_of (take i steps)) (step_value s ∷ [])
 
--- one step more of it
+-- if the next step is timely, too, the steps with it are, and leave what is left once its pairs are taken
 pub timely_on : (c d e : CandidatesValue) (steps : List Step) (i : ℕ) (s : Step)
     → take (i + 1) steps ≡ take i steps ++ s ∷ [] → d.size ≡ c.size
     → AreAlike (left_by c (steps_of (take i steps))) d → AreTimely c (steps_of (take i steps))
@@ -127,11 +129,11 @@ timely_on c d e steps i s more size alike timely here t =
           (step_more (left_by c front) d (step_value s) (left_size c front ∙ sym size) alike.0 here)),
     )
 
--- what is taken comes after what was taken before
+-- pairs that are taken come on the trail after those that were taken before
 pub taken_earlier : (d e : CandidatesValue) (Which : ℕ → ℕ → Type 0) → Takes Which d e → IsEarlier d e
 taken_earlier d e Which t = record { size = t.size; adds = subst (IsPrefix d.trail) (sym t.trail) (prefix-append d.trail t.pairs) }
 
--- what is left once one step more was taken
+-- once the next step's pairs are taken, the same is left as the steps with it leave
 pub alike_on : (c d e : CandidatesValue) (steps : List Step) (i : ℕ) (s : Step) → take (i + 1) steps ≡ take i steps ++ s ∷ [] → d.size ≡ c.size
     → AreAlike (left_by c (steps_of (take i steps))) d → Takes (λ cell v. has_pair (step_value s).strikes cell v ≡ true) d e
     → AreAlike (left_by c (steps_of (take (i + 1) steps))) e

@@ -35,54 +35,59 @@ use Rattle.line_steps.specs.Reasons.{Striking}
 
 -- ---- one grade after another
 
--- what steps of a grade leave is left by steps of a higher one
+-- candidates that steps of a grade leave are left by steps of a higher grade, too
 pub left_up : (Struck : Striking) (lower grade : Grade) (g : GridValue) (c : CandidatesValue) → rank lower ≤ rank grade → AreLeftBy Struck lower g c
     → AreLeftBy Struck grade g c
 left_up Struck lower grade g c h (view, is, leads) =
     (view, is, leads_wider Struck Struck lower grade (λ _ reason cell v h. h) (higher_has lower grade h) view c leads)
 
--- steps, and then more steps
+-- candidates that steps of a grade and then more of its steps leave are left by steps of the grade
 pub left_on : (Struck : Striking) (grade : Grade) (g : GridValue) (c d : CandidatesValue) → AreLeftBy Struck grade g c → LeadsTo Struck grade c d
     → AreLeftBy Struck grade g d
 left_on Struck grade g c d (view, is, leads) more = (view, is, leads_on Struck grade view c d leads more)
 
+-- candidates that steps of a grade leave have the grid's size
 pub left_size : (Struck : Striking) (grade : Grade) (g : GridValue) (c : CandidatesValue) → AreLeftBy Struck grade g c → c.size ≡ g.size
 left_size Struck grade g c (view, is, leads) = leads_size Struck grade view c leads ∙ is.size
 
--- where a grade is settled, or a square is left nothing, and none is, the grade is over
+-- if a grade is settled or a square is left nothing, and no square is, the grade is over
 over_by : (Struck : Striking) (grade : Grade) (g : GridValue) (d : CandidatesValue) (b : Bool) → AreLeftBy Struck grade g d
     → OnTrue b (IsSettled Struck grade d) → OnFalse b (IsEmptied d) → HasSome d → IsOver Struck grade g d
 over_by Struck grade g d true (view, is, leads) settled emptied some = (view, is, closure_reached Struck grade view d leads settled, some)
 over_by Struck grade g d false left settled (at, inside, nothing) some = let (value, has) = some at inside in absurd (nothing value has)
 
+-- if a search for a square that is left nothing finds none, the grade is over
 pub over_found : (Struck : Striking) (grade : Grade) (g : GridValue) (d : CandidatesValue) (b : Bool) (found : Option ℕ)
     → AreLeftBy Struck grade g d → OnTrue b (IsSettled Struck grade d) → OnFalse b (IsEmptied d)
     → MatchOption found (HasSome d) (IsLeftNothing d) → MatchOption found (IsOver Struck grade g d) (IsLeftNothing d)
 over_found Struck grade g d b (Some cell) left settled emptied nothing = nothing
 over_found Struck grade g d b None left settled emptied some = over_by Struck grade g d b left settled emptied some
 
--- then its steps don't refute the grid's numbers
+-- the steps of a grade that is over don't refute the grid's numbers
 pub over_holds : (Struck : Striking) → IsAntitone Struck → (grade : Grade) (g : GridValue) (d : CandidatesValue) → IsOver Struck grade g d
     → IsRefutedGrid Struck grade g → ⊥
 over_holds Struck less grade g d (view, is, closed, some) = none_refuted Struck less grade g view d is closed some
 
--- and show no number where what it leaves shows none
+-- the steps of a grade that is over show no number, if the candidates that it leaves show none
 pub over_silent : (Struck : Striking) → IsAntitone Struck → (grade : Grade) (g : GridValue) (d : CandidatesValue) → IsOver Struck grade g d
     → ((goal : Goal) → IsOpenShown g d goal → ⊥) → NothingIsShown Struck grade g
 over_silent Struck less grade g d (view, is, closed, some) none = nothing_shown Struck less grade g view d is closed none
 
 -- ---- the grades below one
 
+-- no grade is below the least one
 pub below_latin : (P : Grade → Type 0) (lower : Grade) → IsLower lower Latin → P lower
 below_latin P Latin h = absurd (omega (arith, h))
 below_latin P Easy h = absurd (omega (arith, h))
 below_latin P Hard h = absurd (omega (arith, h))
 
+-- a property of the least grade is one of each grade below the second
 pub below_easy : (P : Grade → Type 0) → P Latin → (lower : Grade) → IsLower lower Easy → P lower
 below_easy P first Latin h = first
 below_easy P first Easy h = absurd (omega (arith, h))
 below_easy P first Hard h = absurd (omega (arith, h))
 
+-- a property of the two lower grades is one of each grade below the hardest
 pub below_hard : (P : Grade → Type 0) → P Latin → P Easy → (lower : Grade) → IsLower lower Hard → P lower
 below_hard P first second Latin h = first
 below_hard P first second Easy h = second
@@ -90,7 +95,7 @@ below_hard P first second Hard h = absurd (omega (arith, h))
 
 -- ---- the least grade that leads to an aim
 
--- a square that a grade leaves nothing, where no grade below refutes the grid
+-- a square that a grade leaves nothing is a least aim, if no grade below refutes the grid
 pub emptied_least : (Struck : Striking) → IsAntitone Struck → (grade : Grade) (g : GridValue) (d : CandidatesValue)
     (cell : ℕ) → AreLeftBy Struck grade g d → IsLeftNothing d cell → NoneBelowRefutes Struck grade g
     → IsLeastBy Struck g grade (Nothing cell)
@@ -100,7 +105,7 @@ emptied_least Struck less grade g d cell (view, is, leads) found below = (
   below,
 )
 
--- a number that a grade shows, where no grade below shows any and none refutes the grid
+-- a number that a grade shows is a least aim, if no grade below shows any and none refutes the grid
 pub shown_least : (Struck : Striking) → IsAntitone Struck → (grade : Grade) (g : GridValue) (d : CandidatesValue)
     (goal : Goal) → AreLeftBy Struck grade g d → IsOpenShown g d goal → NoneBelowShows Struck grade g
     → (IsRefutedGrid Struck Hard g → ⊥) → IsLeastBy Struck g grade (Number goal)
@@ -113,10 +118,12 @@ shown_least Struck less grade g d goal (view, is, leads) found below holds = (
 
 -- ---- what is forced
 
+-- the hardest grade has each reason
 hard_all : (reason : Reason) → has_reason Hard reason ≡ true
 hard_all (Given cell) = refl
 hard_all reason = refl
 
+-- all steps are of the hardest grade
 all_hard : (steps : List StepValue) → AreOfGrade Hard steps
 all_hard [] = tt
 all_hard (step ∷ steps) = (hard_all step.reason, all_hard steps)
@@ -173,7 +180,7 @@ nowhere_left Struck less g d (view, is, closed, some) none = record {
 
 -- ---- what a hint says of solutions
 
--- what a chain refutes is refuted
+-- a refutation is a chain of the grade's that leaves a square of its view nothing
 pub refuted_grid : (Struck : Striking) (grade : Grade) (g : GridValue) (steps : List StepValue) (cell : ℕ)
     (r : IsRefutation Struck grade g steps cell) → IsRefuted Struck grade r.view
 refuted_grid Struck grade g steps cell r = record {

@@ -43,7 +43,7 @@ use Rattle.step_chains.proofs.Followed.{leads_joined}
 abbrev pub AreAllIdle : Striking → Grade → CandidatesValue → Type 0
 AreAllIdle Struck grade c = (part : Part) → AreIdleIn Struck grade c part
 
--- where none of any part does
+-- a property of each of the five parts of the list is one of every part
 pub all_parts : (P : Part → Type 0) → P Squares → P Places → P Clues → P Signs → P Groups → (part : Part) → P part
 all_parts P squares places clues signs groups Squares = squares
 all_parts P squares places clues signs groups Places = places
@@ -51,13 +51,14 @@ all_parts P squares places clues signs groups Clues = clues
 all_parts P squares places clues signs groups Signs = signs
 all_parts P squares places clues signs groups Groups = groups
 
--- what is found at one of its places strikes nothing more
+-- if no reason of the list strikes anything more, the reason at a place of it doesn't
 found_idle : (Struck : Striking) (grade : Grade) (c : CandidatesValue) (part : Part) (place : ℕ) (reason : Reason)
     → AreAllIdle Struck grade c → place < place_count c.size part → ((found : Option Reason) → IsFoundAt c part place found → found ≡ Some reason)
     → IsIdle Struck grade c reason
 found_idle Struck grade c part place reason idle low there =
     let (found, is, none) = idle part place low in subst (λ x. IfSome x (IsIdle Struck grade c)) (there found is) none
 
+-- if no reason of the list strikes anything more, no given does
 givens_settled : (p : Puzzle) (Own : Striking) (grade : Grade) (c : CandidatesValue)
     → AreAllIdle (AllStrikes p Own) grade c → AreGivensSettled p c
 givens_settled p Own grade c idle = λ at cell value pair h.
@@ -65,11 +66,13 @@ givens_settled p Own grade c idle = λ at cell value pair h.
     found_idle (AllStrikes p Own) grade c Squares (2 * at) (Given at) idle (omega (arith, inside)) (λ found is. is.0 at refl)
     cell value (latin_has grade (Given at) refl) pair h
 
+-- if no reason of the list strikes anything more, no square as a peer does
 peer_idle : (Struck : Striking) (grade : Grade) (c : CandidatesValue) (by : ℕ) → AreAllIdle Struck grade c
     → by < c.size * c.size → IsIdle Struck grade c (Peer by)
 peer_idle Struck grade c by idle inside =
     found_idle Struck grade c Squares (2 * by + 1) (Peer by) idle (omega (arith, inside)) (λ found is. is.1 by refl)
 
+-- if no reason of the list strikes anything more, no value in a place of a line does
 place_idle : (Struck : Striking) (grade : Grade) (c : CandidatesValue) (line index other : ℕ) → AreAllIdle Struck grade c
     → line < 2 * c.size → index < c.size → other < c.size → IsIdle Struck grade c (Place line index (other + 1))
 place_idle Struck grade c line index other idle line_is index_is low =
@@ -78,6 +81,7 @@ place_idle Struck grade c line index other idle line_is index_is low =
     found_idle Struck grade c Places ((line * c.size + index) * c.size + other) (Place line index (other + 1)) idle below
     (λ found is. is line index other index_is low refl)
 
+-- if no reason of the list strikes anything more, no peer and no place along a line does
 rest_settled : (p : Puzzle) (Own : Striking) (grade : Grade) (c : CandidatesValue) → p.size ≡ c.size
     → AreAllIdle (AllStrikes p Own) grade c → (line : ℕ) → line < 2 * c.size → IsRestQuiet line c
 rest_settled p Own grade c size idle line line_is = λ k v low pair h. elim h [
@@ -108,12 +112,13 @@ next_on w line k = elim (cases_lt line w) [
       (omega (arith, line_cell-column w (line - w) k, line_cell-column w (line - w) (k + 1))))
 ]
 
+-- if no reason of the list strikes anything more, no sign between two neighbours does
 sign_idle : (Struck : Striking) (grade : Grade) (c : CandidatesValue) (at from to : ℕ) → AreAllIdle Struck grade c
     → at < 4 * (c.size * c.size) → IsSignAt c.size at from to → IsIdle Struck grade c (Sign from to)
 sign_idle Struck grade c at from to idle low there =
     found_idle Struck grade c Signs at (Sign from to) idle low (λ found is. is from to there)
 
--- a clue or a sign that looks along a line strikes nothing more
+-- if no reason of the list strikes anything more, no clue or sign that looks along a line does
 along_idle : (Struck : Striking) (grade : Grade) (c : CandidatesValue) → AreAllIdle Struck grade c
     → (line : ℕ) (reason : Reason) (cell : ℕ) → line < 2 * c.size → LooksAlong c.size line reason cell → IsIdle Struck grade c reason
 along_idle Struck grade c idle line (Bound place) cell low along = found_idle Struck grade c Clues (3 * place) (Bound place) idle
@@ -138,6 +143,7 @@ along_idle Struck grade c idle line (Sign from to) cell low (here, inr (k, insid
     ]
 along_idle Struck grade c idle line reason cell low along = absurd along
 
+-- if no reason of the list strikes anything more, no clue or sign of the game does
 clues_settled : (p : Puzzle) (Own : Striking) → StandOnLines p Own → (grade : Grade) (c : CandidatesValue) → p.size ≡ c.size
     → AreAllIdle (AllStrikes p Own) grade c → AreCluesSettled (AllStrikes p Own) grade c
 clues_settled p Own stand grade c size idle = λ reason cell value is has pair h.
@@ -145,6 +151,7 @@ clues_settled p Own stand grade c size idle = λ reason cell value is has pair h
     let (line, low, along) = subst (λ (w : ℕ). StandsAlong w reason cell) size stands in
     along_idle (AllStrikes p Own) grade c idle line reason cell low along cell value has pair h
 
+-- if no reason of the list strikes anything more, no group of squares of a line does
 groups_settled : (p : Puzzle) (Own : Striking) (grade : Grade) (c : CandidatesValue) → p.size ≡ c.size
     → AreAllIdle (AllStrikes p Own) grade c → IsLower Easy grade → (line : ℕ) → line < 2 * c.size → IsGroupQuiet line c
 groups_settled p Own grade c size idle past line line_is = λ cell value pair h.
@@ -165,7 +172,7 @@ groups_settled p Own grade c size idle past line line_is = λ cell value pair h.
     (λ found there. there line h.squares h.union line_is h.below refl (h.is, h.same)) cell value (le-leb 2 (rank grade) (omega (arith, past))) pair
     (subst (λ (w : ℕ). IsBySet w c line h.squares h.union cell value) (sym size) is)
 
--- then no reason of the grade does
+-- if no reason of the list strikes anything more, the grade is settled
 pub idle_settled : (p : Puzzle) (Own : Striking) → StandOnLines p Own → (grade : Grade) (c : CandidatesValue) → c.size ≤ 9
     → c.size ≡ p.size → AreAllIdle (AllStrikes p Own) grade c → IsSettled (AllStrikes p Own) grade c
 idle_settled p Own stand grade c small size idle =
@@ -174,11 +181,12 @@ idle_settled p Own stand grade c small size idle =
 
 -- ---- one step after another
 
+-- a list that has a pair isn't empty
 some_pair : (pairs : List (ℕ × ℕ)) (cell v : ℕ) → has_pair pairs cell v ≡ true → 0 < length pairs
 some_pair [] cell v has = absurd (cc)
 some_pair (pair ∷ pairs) cell v has = omega arith
 
--- a new step strikes something
+-- to take away what a new step strikes makes the trail longer
 pub new_longer : (Struck : Striking) (grade : Grade) (c d : CandidatesValue) (s : Step) → c.size ≤ 9 → IsNew Struck grade c s
     → d.trail ≡ c.trail ++ pairs_of s.cell s.values → length c.trail < length d.trail
 new_longer Struck grade c d s small new is =
@@ -187,7 +195,7 @@ new_longer Struck grade c d s small new is =
     ∙ and_from (Rattle.std.specs.Prelude.◌==◌ s.cell s.cell) (has_number s.values new.some.0) (eq-eqb s.cell s.cell refl) new.some.1) in
     omega (arith, one, ap length is, length-append c.trail (pairs_of s.cell s.values))
 
--- and leads on
+-- steps and then a new one lead to the candidates from which its pairs are taken
 pub new_leads : (Struck : Striking) → IsAntitone Struck → (grade : Grade) (c d e : CandidatesValue) (steps more : List Step)
     (s : Step) → Leads Struck grade c (steps_of steps) d → IsNew Struck grade d s → e.size ≡ d.size → e.trail ≡ d.trail ++ pairs_of s.cell s.values
     → more ≡ steps ++ s ∷ [] → Leads Struck grade c (steps_of more) e

@@ -37,7 +37,7 @@ Among less more = (cell value : ℕ) → has_pair less.strikes cell value ≡ tr
 
 -- ---- a step that strikes more
 
--- it leaves fewer
+-- a step that strikes more leaves fewer
 more_fewer : (c : CandidatesValue) (less more : StepValue) → Among less more → IsFewer (without c less.strikes) (without c more.strikes)
 more_fewer c less more among = λ cell value left.
     let was = was_left c more.strikes cell value left in
@@ -62,7 +62,7 @@ allowed_with : (grade : Grade) (front back : List StepValue) (step : StepValue) 
 allowed_with grade [] back step has h = (has, h)
 allowed_with grade (first ∷ front) back step has h = (h.0, allowed_with grade front back step has h.1)
 
--- where it is a step, what shows the goal with one that strikes less shows it with the step
+-- a chain that shows the goal shows it with a step in place of one that strikes less, if it is a step there
 shows_at : (Struck : Striking) → IsAntitone Struck → (grade : Grade) (c : CandidatesValue)
     (front rest : List StepValue) (less more : StepValue) (goal : Goal) → Among less more → IsStep Struck (left_by c front) more
     → has_reason grade more.reason ≡ true → Shows Struck grade c (front ++ less ∷ rest) goal → Shows Struck grade c (front ++ more ∷ rest) goal
@@ -79,7 +79,7 @@ shows_at Struck antitone grade c front rest less more goal among at has part =
           (subst (λ x. IsFewer (left_by (without end less.strikes) rest) x) (sym (left_append c front (more ∷ rest))) after.1)) part.shown;
     }
 
--- so it is where the step stands in a chain
+-- a step of a chain that shows the goal can take the place of one that strikes less, with other later steps
 pub shows_more : (Struck : Striking) → IsAntitone Struck → (grade : Grade) (c : CandidatesValue)
     (front back rest : List StepValue) (less more : StepValue) (goal : Goal) → Among less more → Shows Struck grade c (front ++ more ∷ back) goal
     → Shows Struck grade c (front ++ less ∷ rest) goal → Shows Struck grade c (front ++ more ∷ rest) goal
@@ -99,7 +99,7 @@ timely_less c (first ∷ front) back less more among h =
 
 -- ---- later steps, where a step strikes less
 
--- what shows the goal with other steps after a later front shows it where the step strikes all
+-- a later step of the chain with the step that strikes more: the chain up to there and the tail show the goal
 record Later (Struck : Striking) (grade : Grade) (c : CandidatesValue) (front back rest tail : List StepValue)
     (more step : StepValue) (goal : Goal) : Type 0 where
   mid : List StepValue
@@ -127,7 +127,7 @@ later Struck antitone grade c front back long rest tail less more step goal amon
           (shows_more Struck antitone grade c front back (mid ++ tail) less more goal among whole part);
     }
 
--- no later step can be left out, or strike less, where none could before
+-- if no later step can be left out, or strike less, none can once an earlier step strikes less
 pub tight_less : (Struck : Striking) → IsAntitone Struck → (grade : Grade) (c : CandidatesValue)
     (front back : List StepValue) (less more : StepValue) (goal : Goal) → Among less more → Shows Struck grade c (front ++ more ∷ back) goal
     → IsTightFrom (length front + 1) Struck grade c (front ++ more ∷ back) goal
@@ -162,7 +162,7 @@ lacks_among s t value low small lacks = λ cell v has.
     let h = (pairs_where t cell v small).0 has in
     (pairs_where s cell v low).1 (h.0 ∙ lacks.cell, ((lacks.values v).0 h.1).0)
 
--- what lacks the value of the step is among the step with that value less
+-- a step that strikes less and lacks a value strikes some of the pairs of the step without that value
 less_among : (s t : Step) (at value : ℕ) (less : StepValue) → s.values < 2 ^ 16 → t.values < 2 ^ 16 → IsStepWithout value s t
     → StrikesLess at value less (step_value s) → Among less (step_value t)
 less_among s t at value less low small lacks by = λ cell v has.
@@ -174,7 +174,7 @@ less_among s t at value less low small lacks by = λ cell v has.
     (subst (λ (k : ℕ). has_pair less.strikes k v ≡ true) (h.0 ∙ sym here.0) has)) in
     (pairs_where t cell v small).1 (h.0 ∙ sym lacks.cell, (lacks.values v).1 (h.1, other))
 
--- where the goal isn't shown with a value less, it isn't with anything that lacks the value
+-- if the step without a value doesn't show the goal, no step that strikes less and lacks the value does
 pub needed_here : (Struck : Striking) → IsAntitone Struck → (grade : Grade) (c : CandidatesValue)
     (front back : List StepValue) (s t : Step) (value : ℕ) (less : StepValue) (goal : Goal) → s.values < 2 ^ 16 → t.values < 2 ^ 16 → IsStepWithout value s t
     → Shows Struck grade c (front ++ step_value s ∷ back) goal → (Shows Struck grade c (front ++ step_value t ∷ back) goal → ⊥)
@@ -188,11 +188,11 @@ needed_here Struck antitone grade c front back s t value less goal low small lac
 
 -- ---- leaving out one number
 
--- steps as values, in their parts
+-- if steps are a front, a step and a back, so are their values
 listed : (steps front back : List Step) (s : Step) → steps ≡ front ++ s ∷ back → steps_of steps ≡ steps_of front ++ step_value s ∷ steps_of back
 listed steps front back s is = ap steps_of is ∙ map-append step_value front (s ∷ back)
 
--- the steps before and after one
+-- each place of the steps has a front, the step there and a back
 pub parts_at : (steps : List Step) (place : ℕ) (s : Step) → place < length steps → s ≡ slice_index_or steps place s
     → (front : List Step) × (back : List Step) × (steps ≡ front ++ s ∷ back) × (length front ≡ place)
 parts_at steps place s low is =
@@ -200,7 +200,7 @@ parts_at steps place s low is =
     let same : s ≡ at.1 = is ∙ (λ i. slice_index_or (at.3 i) (sym at.4 i) s) ∙ get_or-append_seam at.0 at.1 at.2 s in
     (at.0, at.2, at.3 ∙ ap (λ (x : Step). at.0 ++ x ∷ at.2) (sym same), at.4)
 
--- the step doesn't strike the number
+-- if the step at a place doesn't strike the number, the steps stay as they are
 pub left_none : (Struck : Striking) (grade : Grade) (c : CandidatesValue) (place value : ℕ) (steps : List Step) (s : Step)
     (goal : Goal) → place < length steps → s ≡ slice_index_or steps place s → s.values < 2 ^ 16 → has_number s.values value ≡ false
     → IsLeftOut Struck grade c place value steps steps goal
@@ -219,7 +219,7 @@ left_none Struck grade c place value steps s goal low is small none =
       needed = λ less cell by shown. both_ways (has_number s.values value) none ((pairs_where s cell value small).0 by.has).1;
     }
 
--- it does, and goes without
+-- the number is left out if the step without it is put in the step's place
 pub left_less : (Struck : Striking) (grade : Grade) (c : CandidatesValue) (place value : ℕ) (steps : List Step)
     (s t : Step) (goal : Goal) → place < length steps → s ≡ slice_index_or steps place s → s.values < 2 ^ 16 → t.values < 2 ^ 16 → IsStepWithout value s t
     → IsLeftOut Struck grade c place value steps (slice_set steps place t) goal
@@ -238,7 +238,7 @@ left_less Struck grade c place value steps s t goal low is small few lacks =
       needed = λ less cell by shown. ((lacks.values value).0 ((pairs_where t cell value few).0 by.has).1).1 refl;
     }
 
--- what was put in its place goes again
+-- a step that is put back in its place makes the steps what they were
 pub set_back : (steps : List Step) (place : ℕ) (s t : Step) → place < length steps → s ≡ slice_index_or steps place s
     → slice_set (slice_set steps place t) place s ≡ steps
 set_back steps place s t low is =
@@ -246,7 +246,7 @@ set_back steps place s t low is =
     ap (λ (xs : List Step). slice_set xs place s) (ap (λ (xs : List Step). slice_set xs place t) parts ∙ set_at front s back t place at)
     ∙ set_at front t back s place at ∙ sym parts
 
--- it can't go without
+-- if the goal isn't shown without the number, the step is put back, and needs it
 pub left_with : (Struck : Striking) → IsAntitone Struck → (grade : Grade) (c : CandidatesValue) (place value : ℕ)
     (steps set : List Step) (s t : Step) (goal : Goal) → place < length steps → s ≡ slice_index_or steps place s → s.values < 2 ^ 16 → t.values < 2 ^ 16
     → IsStepWithout value s t → set ≡ slice_set steps place t → Shows Struck grade c (steps_of steps) goal
@@ -288,6 +288,7 @@ same_parts (h ∷ xs) (k ∷ ys) us bs x y same size =
     let rest = same_parts xs ys us bs x y tail (omega (arith, size)) in
     ((λ i. head i ∷ rest.0 i), rest.1, rest.2)
 
+-- once a number is left out or needed, the step needs each of its values up to and with this one
 pub narrowed_on : (Struck : Striking) → IsAntitone Struck → (grade : Grade) (c : CandidatesValue) (place value : ℕ)
     (old new : List Step) (goal : Goal) → Shows Struck grade c (steps_of old) goal → IsLeftOut Struck grade c place value old new goal
     → IsNarrowedBelow Struck grade c place value old goal → IsNarrowedBelow Struck grade c place (value + 1) new goal
@@ -328,7 +329,7 @@ narrowed_on Struck antitone grade c place value old new goal shows o h =
           ];
     }
 
--- and they are timely, if they were before
+-- steps with a number left out are timely, if they were before
 pub left_out_timely : (Struck : Striking) (grade : Grade) (c : CandidatesValue) (place value : ℕ)
     (old new : List Step) (goal : Goal) → IsLeftOut Struck grade c place value old new goal
     → AreTimely c (steps_of old) → AreTimely c (steps_of new)
@@ -347,11 +348,13 @@ struck_size Struck grade c steps front back step cell v goal is has shows =
     let size : (left_by c front).size ≡ c.size = left_size c front in
     (struck.0.low, subst (λ (n : ℕ). v ≤ n) size struck.0.high)
 
+-- a step needs each of its values below 1, since it strikes none
 pub needed_none : (Struck : Striking) (grade : Grade) (c : CandidatesValue) (place : ℕ) (steps : List StepValue)
     (goal : Goal) → Shows Struck grade c steps goal → IsNeededBelow 1 place Struck grade c steps goal
 needed_none Struck grade c place steps goal shows = λ front back step less cell v is at by below shown.
     absurd (omega (arith, below, (struck_size Struck grade c steps front back step cell v goal is by.has shows).0))
 
+-- a step that needs each of its values below 10 can't strike less
 pub needed_all : (Struck : Striking) (grade : Grade) (c : CandidatesValue) (place most : ℕ) (steps : List StepValue)
     (goal : Goal) → c.size ≤ 9 → 10 ≤ most → Shows Struck grade c steps goal → IsNeededBelow most place Struck grade c steps goal
     → IsNeededAt place Struck grade c steps goal
@@ -382,7 +385,7 @@ shows_empty Struck antitone grade c front back step goal none h =
           (subst (λ x. IsFewer (left_by (without end step.strikes) back) x) (sym (left_append c front back)) after.1)) h.shown;
     }
 
--- a step that strikes nothing can be put in
+-- a step that strikes nothing can be put in anywhere, and the goal is still shown
 shows_idle : (Struck : Striking) → IsAntitone Struck → (grade : Grade) (c : CandidatesValue)
     (front back : List StepValue) (reason : Reason) (goal : Goal) → has_reason grade reason ≡ true
     → Shows Struck grade c (front ++ back) goal → Shows Struck grade c (front ++ (record { reason = reason; strikes = [] }) ∷ back) goal
@@ -425,6 +428,7 @@ tight_needed Struck antitone grade c place steps front back s value goal is at l
       | inr other ↦ tight fs bs step same (omega (arith, behind, other)) shown
     ]
 
+-- if neither the step at a place nor a later one can strike less, none from the place on can
 pub needed_from : (Struck : Striking) (grade : Grade) (c : CandidatesValue) (place : ℕ) (steps : List StepValue)
     (goal : Goal) → IsNeededAt place Struck grade c steps goal → IsNeededFrom (place + 1) Struck grade c steps goal
     → IsNeededFrom place Struck grade c steps goal
@@ -434,7 +438,7 @@ needed_from Struck grade c place steps goal here later_ones = λ front back step
       | inr other ↦ later_ones front back step less cell v is (omega (arith, behind, other)) by shown
     ]
 
--- a step that goes leaves the later ones needed
+-- if no step after one can strike less, none can once that one goes
 pub needed_without : (Struck : Striking) → IsAntitone Struck → (grade : Grade) (c : CandidatesValue)
     (front back : List StepValue) (gone : StepValue) (goal : Goal) → Shows Struck grade c (front ++ gone ∷ back) goal
     → IsNeededFrom (length front + 1) Struck grade c (front ++ gone ∷ back) goal → IsNeededFrom (length front) Struck grade c (front ++ back) goal
@@ -451,7 +455,7 @@ needed_without Struck antitone grade c front back gone goal whole needed = λ fs
 
 -- ---- the loop over the steps
 
--- a step of which nothing is left goes
+-- once a step that strikes nothing goes, the steps from its place on are done
 pub narrowed_goes : (Struck : Striking) → IsAntitone Struck → (grade : Grade) (c : CandidatesValue) (place : ℕ)
     (steps front back rest : List Step) (s : Step) (goal : Goal) → steps ≡ front ++ s ∷ back → length front ≡ place → s.values < 2 ^ 16
     → ((n : ℕ) → has_number s.values n ≡ false) → Shows Struck grade c (steps_of steps) goal
@@ -480,7 +484,7 @@ narrowed_goes Struck antitone grade c place steps front back rest s goal is at l
           (subst (λ (n : ℕ). IsNeededFrom (n + 1) Struck grade c (steps_of steps) goal) (sym far) needed))));
     }
 
--- another one stays
+-- if a step strikes something and can't strike less, the steps from its place on are done with it
 pub narrowed_stays : (Struck : Striking) → IsAntitone Struck → (grade : Grade) (c : CandidatesValue) (place : ℕ)
     (steps front back : List Step) (s : Step) (value : ℕ) (goal : Goal) → steps ≡ front ++ s ∷ back → length front ≡ place → s.values < 2 ^ 16
     → has_number s.values value ≡ true → Shows Struck grade c (steps_of steps) goal

@@ -19,7 +19,7 @@ use Rattle.line_steps.specs.Reasons.{Striking}
 
 -- ---- a list without one of its elements
 
--- the element at the end of the front is the one that goes
+-- without the element after its front, a list is the front and then the back
 pub remove_at : {X : Type 0} (front back : List X) (x : X) → remove (front ++ x ∷ back) (length front) ≡ front ++ back
 remove_at front back x =
     let next : suc (length front) ≡ length front + 1 = omega arith in
@@ -49,7 +49,7 @@ fronts_part (x ∷ short) back (y ∷ long) rest same low =
     let h = fronts_part short back long rest tail (omega (arith, low)) in
     (h.0, (λ i. sym head i ∷ h.1 i), h.2)
 
--- steps without one are what is left of the list without it
+-- the values of steps without one are the steps' values without the one at its place
 pub steps_removed : (steps : List Step) (place : ℕ) → steps_of (remove steps place) ≡ remove (steps_of steps) place
 steps_removed steps place =
     map-append step_value (take place steps) (drop (suc place) steps)
@@ -62,7 +62,7 @@ with_allowed : (grade : Grade) (front back rest : List StepValue) (step : StepVa
 with_allowed grade [] back rest step whole part = (whole.0, part)
 with_allowed grade (first ∷ front) back rest step whole part = (whole.0, with_allowed grade front back rest step whole.1 part.1)
 
--- where a step stands in a chain, what shows the goal without it and some later steps shows it with the step
+-- if other steps show the goal after a step's front, they show it after the step, too
 pub shows_with : (Struck : Striking) → IsAntitone Struck → (grade : Grade) (c : CandidatesValue)
     (front back rest : List StepValue) (step : StepValue) (goal : Goal) → Shows Struck grade c (front ++ step ∷ back) goal
     → Shows Struck grade c (front ++ rest) goal → Shows Struck grade c (front ++ step ∷ rest) goal
@@ -80,7 +80,7 @@ shows_with Struck less grade c front back rest step goal whole part =
           (subst (λ x. IsFewer (left_by end rest) x) (sym (left_append c front (step ∷ rest))) after.1)) part.shown;
     }
 
--- of the goal a chain shows from candidates, it shows as much from others of which the same is left
+-- a chain that shows a goal from some candidates shows it from fewer
 pub shows_alike : (Struck : Striking) → IsAntitone Struck → (grade : Grade) (c d : CandidatesValue)
     (steps : List StepValue) (goal : Goal) → c.size ≡ d.size → IsFewer c d → Shows Struck grade c steps goal → Shows Struck grade d steps goal
 shows_alike Struck less grade c d steps goal size fewer h =
@@ -93,7 +93,7 @@ shows_alike Struck less grade c d steps goal size fewer h =
 
 -- ---- one pass from the last step to the first
 
--- a step that can be left out goes, and what was tight after it stays so
+-- if no step after one can be left out, none can once that one goes
 pub tight_without : (Struck : Striking) → IsAntitone Struck → (grade : Grade) (c : CandidatesValue)
     (steps : List StepValue) (place : ℕ) (goal : Goal) → place < length steps → Shows Struck grade c steps goal
     → IsTightFrom (place + 1) Struck grade c steps goal → IsTightFrom place Struck grade c (remove steps place) goal

@@ -56,7 +56,7 @@ peer_on w peer cell h =
       )
     ]
 
--- another square of one of its lines is a peer
+-- if a number stands on a line of an empty square, a peer of the square has it
 on_line_peer : (g : GridValue) (cell line at v : ℕ) → line < 2 * g.size → at < g.size → line_cell g.size line at ≡ cell → number_at g cell ≡ 0 → 1 ≤ v
     → StandsOn g line v → (peer : ℕ) × ArePeers g.size peer cell × (number_at g peer ≡ v)
 on_line_peer g cell line at v line_is at_is here blank low h = elim (cases_eq h.0 at) [
@@ -112,7 +112,7 @@ unseen_empty g cell first second row column result inside blank first_is second_
       ],
     )
 
--- one square of a line more
+-- with one square more of a line, its number is added to those found
 pub number_added : (g : GridValue) (line k number found one result : ℕ) → number ≡ number_at g (line_cell g.size line k)
     → ((v : ℕ) → (has_number found v ≡ true) ↔ ((j : ℕ) × (j < k) × (number_at g (line_cell g.size line j) ≡ v)))
     → ((v : ℕ) → has_number one v ≡ (v == number)) → ((v : ℕ) → has_number result v ≡ (has_number found v || has_number one v))

@@ -39,26 +39,26 @@ AreLive c (step ∷ steps) = IsLiveStep c step × AreLive (without c step.strike
 abbrev pub HasSome : CandidatesValue → Type 0
 HasSome c = (cell : ℕ) → cell < c.size * c.size → (value : ℕ) × IsLeft c cell value
 
--- so it is before each step: the steps end as soon as any square is left nothing
+-- before each step something is left of each square: the steps end as soon as any square is left nothing
 abbrev pub EndAtOnce : CandidatesValue → List StepValue → Type 0
 EndAtOnce c [] = Unit {0}
 EndAtOnce c (step ∷ steps) = HasSome c × EndAtOnce (without c step.strikes) steps
 
--- the first step strikes less: by the same reason some of the second's pairs, and this one of them not
+-- the first step strikes less than the second: by the same reason some of its pairs, and not this one of them
 pub record StrikesLess (cell value : ℕ) (less step : StepValue) : Type 0 where
   pub reason : less.reason ≡ step.reason
   pub among : (k v : ℕ) → has_pair less.strikes k v ≡ true → has_pair step.strikes k v ≡ true
   pub has : has_pair step.strikes cell value ≡ true
   pub lacks : has_pair less.strikes cell value ≡ false
 
--- no step can strike less and the goal still be shown, so that no number of a step can be left out
+-- no step can strike less with the goal still shown: no number of any step can be left out
 abbrev pub AreAllNeeded :
     Striking → Grade → CandidatesValue → List StepValue → Goal → Type 0
 AreAllNeeded Struck grade c steps goal =
     (front back : List StepValue) (step less : StepValue) (cell value : ℕ) → steps ≡ front ++ step ∷ back
     → StrikesLess cell value less step → Shows Struck grade c (front ++ less ∷ back) goal → ⊥
 
--- no step can strike less, so that the steps still leave the square nothing
+-- no step can strike less with the square still left nothing: no number of any step can be left out
 abbrev pub AreNeededForNothing :
     Striking → Grade → CandidatesValue → List StepValue → ℕ → Type 0
 AreNeededForNothing Struck grade c steps emptied =

@@ -15,7 +15,7 @@ pub record Refutes (Struck : Striking) (grade : Grade) (c : CandidatesValue) (st
   pub tight : (front back : List StepValue) (step : StepValue) → steps ≡ front ++ step ∷ back
       → LeavesNothing Struck grade c (front ++ back) cell → ⊥
 
--- a refutation: they do so from what is in view of the grid
+-- a refutation: from what is in view of the grid the steps leave the square nothing, and each is needed
 pub record IsRefutation (Struck : Striking) (grade : Grade) (g : GridValue) (steps : List StepValue)
     (cell : ℕ) : Type 0 where
   pub view : CandidatesValue

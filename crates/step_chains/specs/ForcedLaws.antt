@@ -18,12 +18,12 @@ pub record IsForcedAtOnce (Strikes : CandidatesValue → ℕ → ℕ → Type 0)
   pub number : ℕ
   pub others : (other : ℕ) → IsPair g.size cell other → other ≢ number → Strikes c cell other
 
--- what narrowing forces from the candidates that a grid's numbers leave, reasons force from what is in view
+-- if narrowing forces a square from the candidates of the grid's numbers, reasons do from what is in view
 abbrev pub ForcesMore : ℕ → (CandidatesValue → ℕ → ℕ → Type 0) → Striking → Type 0
 ForcesMore w Strikes Struck =
     (g : GridValue) (c view : CandidatesValue) (cell : ℕ) → g.size ≡ w → AreOfGrid g c → IsView g view
     → IsForcedAtOnce Strikes g c cell → IsForcedSquare Struck g view cell
 
--- in each puzzle of a game
+-- in each puzzle of a game, a square that narrowing forces is forced by reasons from what is in view
 abbrev pub NarrowingForcesMore : {P : Type 0} → (P → Puzzle) → (P → Striking) → Type 0
 NarrowingForcesMore {P} puzzle Struck = (p : P) → ForcesMore (puzzle p).size (IsNarrowed (Struck p)) (Struck p)

@@ -1,4 +1,4 @@
--- What the next hint of a grid says: by the steps of the least grade that lead to one, from what is in view of the grid.
+-- What the next hint of a grid says: by the steps of the least grade that lead to one, from what is in view.
 use Rattle.std.specs.Prelude.{◌≡◌, ◌≢◌, ℕ, ◌*◌, ◌<◌, List}
 use Rattle.latin_board.specs.Squares.{GridValue, number_at}
 use Rattle.trail_solver.specs.Pairs.{IsPair}
@@ -25,8 +25,8 @@ NothingFollows Struck grade g c =
     (steps : List StepValue) (goal : Goal) → IsGoalOf g.size goal → number_at g (goal_cell g.size goal) ≡ 0
     → Shows Struck grade c steps goal → ⊥
 
--- its steps of that grade show the number, those of no grade below show any, and no steps refute the grid's numbers;
--- or its steps refute them, and those of no grade below do; or no steps show a number, and none refute the grid's
+-- `Follows`: its steps show the number, steps of no lower grade show any, and no steps refute the numbers;
+-- `Refuted`: its steps refute the numbers, and no lower grade's do; `Nothing`: no steps do one or the other
 abbrev pub IsLeastFrom : Striking → GridValue → CandidatesValue → NextHint → Type 0
 IsLeastFrom Struck g view (Follows grade chain) =
     Explains Struck grade g view (steps_of chain.steps.items) chain.goal
@@ -36,7 +36,7 @@ IsLeastFrom Struck g view (Refuted grade refutation) =
     × ((lower : Grade) → IsLower lower grade → IsRefuted Struck lower view → ⊥)
 IsLeastFrom Struck g view Nothing = NothingFollows Struck Hard g view × (IsRefuted Struck Hard view → ⊥)
 
--- each of its steps strikes only what those before it leave, and the steps end as soon as any square is left nothing
+-- the hint's steps strike only what those before them leave, and end as soon as any square is left nothing
 abbrev pub HasLiveSteps : CandidatesValue → NextHint → Type 0
 HasLiveSteps view (Follows grade chain) =
     AreLive view (steps_of chain.steps.items) × EndAtOnce view (steps_of chain.steps.items)
@@ -44,7 +44,7 @@ HasLiveSteps view (Refuted grade refutation) =
     AreLive view (steps_of refutation.steps.items) × EndAtOnce view (steps_of refutation.steps.items)
 HasLiveSteps view Nothing = Unit {0}
 
--- and no number of a step can be left out
+-- no number of any step of the hint can be left out
 abbrev pub HasNeededSteps : Striking → CandidatesValue → NextHint → Type 0
 HasNeededSteps Struck view (Follows grade chain) =
     AreAllNeeded Struck grade view (steps_of chain.steps.items) chain.goal
@@ -52,7 +52,7 @@ HasNeededSteps Struck view (Refuted grade refutation) =
     AreNeededForNothing Struck grade view (steps_of refutation.steps.items) refutation.cell
 HasNeededSteps Struck view Nothing = Unit {0}
 
--- each solution that keeps the grid's numbers has its number; or there is no such solution
+-- each solution that keeps the grid's numbers has the hint's number; or, if it refutes them, there is none
 abbrev pub IsRightHint : Puzzle → GridValue → NextHint → Type 0
 IsRightHint p g (Follows grade chain) =
     (h : GridValue) → Completes p g h → number_at h (goal_cell g.size chain.goal) ≡ goal_value chain.goal
@@ -79,7 +79,7 @@ pub record IsHintFrom (p : Puzzle) (Struck : Striking) (g : GridValue) (view : C
   pub right : IsRightHint p g hint
   pub forced : (cell : ℕ) → IsForcedSquare Struck g view cell → hint ≢ Nothing
 
--- the hint of a grid: there is a view, it is what is in view of the grid, and the hint is the one from it
+-- the hint of a grid is the one from the candidates that are in view of the grid
 pub record IsHint (p : Puzzle) (Struck : Striking) (g : GridValue) (hint : NextHint) : Type 0 where
   pub view : CandidatesValue
   pub in_view : IsView g view

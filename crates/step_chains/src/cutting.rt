@@ -7,7 +7,7 @@ use crate::needs::left;
 use crate::replays::take;
 use trail_solver::Candidates;
 
-/// The steps from the candidates on to the first that leaves its square nothing, which is then what they come to, if there is one.
+/// The steps up to the first that leaves its square nothing, which is then their aim; or all, if none does.
 pub(crate) fn cut(candidates: &mut Candidates, found: Aimed) -> Aimed {
     let mark = candidates.mark();
     let emptied = emptied_first(candidates, found.steps.as_slice());

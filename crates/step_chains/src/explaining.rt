@@ -49,7 +49,7 @@ pub(crate) fn chain_to<P: Steps>(
     plain_number(alloc, p, grid, grade, goal, cache)
 }
 
-// The same, where one is found.
+// A short chain to a number of an empty square, where one is found.
 #[inline(never)]
 fn short_number<P: Steps>(
     alloc: Global,
@@ -141,8 +141,8 @@ pub(crate) fn refutation_at<P: Steps>(
     })
 }
 
-// All steps of the grade's while something is left of each square, without those that they come to the same without: a square that is left
-// nothing, or otherwise the aim, to which all of them together come.
+// All steps of the grade's while something is left of each square, but those that aren't needed to come to a
+// square that is left nothing, or otherwise to the aim, to which all of them together come.
 #[inline(never)]
 fn plain_chain<P: Steps>(
     alloc: Global,

@@ -1,4 +1,4 @@
-//! What all steps lead to first, and the least grade whose steps lead to the like.
+//! The aim of a hint: a square left nothing or a number, by the least grade whose steps lead to one.
 ghost use Rattle.line_steps.specs.Reasons.{StruckBy};
 ghost use Rattle.std.specs.Prelude.{◌≡◌, MatchOption};
 ghost use Rattle.step_chains.specs.declared.aims.Aim.TheVariants.{Number, Nothing};

@@ -31,7 +31,7 @@ pub(crate) fn shown_goal(candidates: &Candidates, grid: &Grid) -> Option<Goal>
     shown_on_lines(candidates, grid)
 }
 
-// The first that is the only value of its square.
+// The first number that is the only value of its square, if one is.
 fn shown_in_squares(candidates: &Candidates, grid: &Grid) -> Option<Goal>
     requires { candidates.now.size ≡ grid.now.size }
     ensures { MatchOption result ((cell value : ℕ) → IsOpenShown grid.now candidates.now (OnlyValue cell value) → ⊥)
@@ -46,7 +46,7 @@ fn shown_in_squares(candidates: &Candidates, grid: &Grid) -> Option<Goal>
     None
 }
 
-/// The same in one square.
+/// The number that is the only value of a square, if the square is empty and one is.
 pub(crate) fn shown_in_square(candidates: &Candidates, grid: &Grid, cell: usize) -> Option<Goal>
     requires size { candidates.now.size ≡ grid.now.size }
     requires inside { cell < grid.now.size * grid.now.size }
@@ -65,7 +65,7 @@ pub(crate) fn shown_in_square(candidates: &Candidates, grid: &Grid, cell: usize)
     None
 }
 
-// The first that has no other place in a line.
+// The first number that has only one place in a row or column, if one has.
 fn shown_on_lines(candidates: &Candidates, grid: &Grid) -> Option<Goal>
     requires { candidates.now.size ≡ grid.now.size }
     ensures { MatchOption result
@@ -80,7 +80,7 @@ fn shown_on_lines(candidates: &Candidates, grid: &Grid) -> Option<Goal>
     None
 }
 
-// The same in one row or column.
+// The first number that has only one place in this row or column, if one has.
 fn shown_on_line(candidates: &Candidates, grid: &Grid, line: u8) -> Option<Goal>
     requires size { candidates.now.size ≡ grid.now.size }
     requires line { line < 2 * grid.now.size }
@@ -96,7 +96,7 @@ fn shown_on_line(candidates: &Candidates, grid: &Grid, line: u8) -> Option<Goal>
     None
 }
 
-/// The same in one place of it.
+/// The number that no other square of the line can have, if this place's square is empty and there is one.
 pub(crate) fn shown_in_place(
     candidates: &Candidates,
     grid: &Grid,

@@ -42,7 +42,7 @@ pub fn next_hint<P: Steps>(alloc: Global, p: &P, grid: &Grid) -> Result<NextHint
     hint_knowing(alloc, p, grid, &mut cache)
 }
 
-// The same with `cache`, which is used and added to.
+// The next hint of a grid, with `cache`, which is used and added to.
 fn hint_knowing<P: Steps>(
     alloc: Global,
     p: &P,

@@ -17,8 +17,8 @@ const MOST_STEPS: usize = 30;
 // How many times two places become one.
 const MOST_JOINS: usize = 8;
 
-/// The steps of a chain from the candidates to the aim, of which a reason strikes at the later one of two places all that it strikes at both,
-/// or at the earlier one, where they still come to the aim.
+/// A chain's steps to the aim, with places of a reason made one, two at a time: all that it strikes at both
+/// is struck at the later one, or otherwise at the earlier one, where the steps still come to the aim.
 #[inline(never)]
 pub(crate) fn joined<P: Steps>(
     alloc: Global,
@@ -64,7 +64,7 @@ fn joined_once<P: Steps>(
     Ok(None)
 }
 
-// The same of the index of a look and one after it.
+// The steps with the look at an index and a later one of the same reason joined, if that can be.
 fn joined_from<P: Steps>(
     alloc: Global,
     p: &P,

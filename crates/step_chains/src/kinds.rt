@@ -24,8 +24,8 @@ pub(crate) enum Kind {
     Clue,
 }
 
-/// All of them, the cheapest first. Groups of squares come before what is left of a clue's line: where too few numbers are left for some squares of
-/// it, no order has a number there, and it is the group that says why.
+/// All kinds, the cheapest first. Groups of squares come before clues by what is left of their lines: where
+/// too few numbers are left for some squares of a line, no order has a number there, and the group says why.
 pub(crate) const KINDS: [Kind; 8] = [
     Kind::Peer,
     Kind::Place,

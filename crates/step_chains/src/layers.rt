@@ -37,8 +37,8 @@ pub(crate) struct Rounds<'a, P: Steps> {
     sought: Sought,
     // Whether the first round has all kinds, and not the cheapest alone.
     is_at_once: bool,
-    // With how many steps it wasn't found yet.
-    open: Option<usize>,
+    // How many steps there were when what is sought was last looked for and not found.
+    unfound_at: Option<usize>,
     // The squares of which one value is left and that were looked at: what they strike is listed.
     peers: Values,
     // Whether there are signs, which strike something whatever is left.
@@ -70,7 +70,7 @@ impl<'a, P: Steps> Rounds<'a, P> {
             steps: Vec::new(alloc),
             sought,
             is_at_once,
-            open: None,
+            unfound_at: None,
             peers: Values::none(),
             has_signs: true,
             signs: Values::none(),
@@ -110,7 +110,7 @@ impl<'a, P: Steps> Rounds<'a, P> {
         Ok(())
     }
 
-    // Rounds with the kinds up to one, while they strike anything and what is sought isn't found.
+    // Rounds with the kinds up to `last`, while they strike anything and what is sought isn't found.
     fn go_on(&mut self, p: &P, grid: &Grid, grade: Grade, last: usize) -> Result<(), OutOfMemory> {
         for round in 0..ROUNDS {
             if self.now.size() != grid.size() || self.has_found(grid) {
@@ -130,7 +130,7 @@ impl<'a, P: Steps> Rounds<'a, P> {
         requires { self.old.now.size ≡ grid.now.size }
     {
         let steps = Some(self.steps.len());
-        if self.open == steps {
+        if self.unfound_at == steps {
             return false;
         }
         let found = match self.sought {
@@ -138,12 +138,12 @@ impl<'a, P: Steps> Rounds<'a, P> {
             Sought::SquareEmptied => first_empty(&self.now).is_some(),
         };
         if !found {
-            self.open = steps;
+            self.unfound_at = steps;
         }
         found
     }
 
-    // One round with the kinds up to one, which is new in the first of these rounds. Its steps all look at the same candidates.
+    // One round with the kinds up to `last`, new in the first round. All steps look at the same candidates.
     fn round(
         &mut self,
         p: &P,
@@ -215,7 +215,7 @@ impl<'a, P: Steps> Rounds<'a, P> {
         Ok(())
     }
 
-    // The steps of the clues at the edge as the kind looks at them, where it sees what it didn't.
+    // The steps of the clues at the edge by a kind of look, where this sees what it didn't see before.
     fn look_at_clues(&mut self, p: &P, grade: Grade, kind: Kind) -> Result<(), OutOfMemory> {
         for place in 0..4 * self.now.size().get() as usize {
             match kind {
@@ -252,8 +252,8 @@ impl<'a, P: Steps> Rounds<'a, P> {
         if self.is_clued(place) {
             let row = row_of(&self.now, &squares_from(self.now.size(), place));
             let is_new = match reason {
-                Reason::Stand { .. } => self.stands.is_new(place, &row),
-                _ => self.clues.is_new(place, &row),
+                Reason::Stand { .. } => self.stands.note_new(place, &row),
+                _ => self.clues.note_new(place, &row),
             };
             if is_new {
                 let _strikes = self.look_from(p, grade, reason, place)?;
@@ -262,21 +262,21 @@ impl<'a, P: Steps> Rounds<'a, P> {
         Ok(())
     }
 
-    // The steps of the values that have one place left in a row or column that isn't what it was; or none, and then that of the line's first
-    // square.
+    // The steps of the values that have one place left in a row or column where fewer numbers are left than
+    // at the last look; a value that has none left is looked at in the line's first square.
     fn look_at_places(&mut self, p: &P, grade: Grade) -> Result<(), OutOfMemory> {
         let size = self.now.size();
         for line in 0..2 * size.get() as usize {
             let cells = squares_of(size, line);
             let row = row_of(&self.now, &cells);
-            if self.places.is_new(line, &row) {
+            if self.places.note_new(line, &row) {
                 self.look_along(p, grade, line, &cells, &row)?;
             }
         }
         Ok(())
     }
 
-    // The same in one row or column, of whose squares this is left.
+    // The steps of the values that have one place left, or none, in this row or column.
     fn look_along(
         &mut self,
         p: &P,
@@ -333,22 +333,22 @@ impl<'a, P: Steps> Rounds<'a, P> {
         Ok(())
     }
 
-    // The steps of groups of squares, of rows and columns that aren't what they were. A square that
-    // shares no value with another is in no group that strikes anything.
+    // The steps of groups of squares, in rows and columns where fewer numbers are left than at the
+    // last look. A square that shares no value with another is in no group that strikes anything.
     #[inline(never)]
     fn look_at_groups(&mut self, p: &P, grade: Grade) -> Result<(), OutOfMemory> {
         let size = self.now.size();
         for line in 0..2 * size.get() as usize {
             let cells = squares_of(size, line);
             let row = row_of(&self.now, &cells);
-            if self.groups.is_new(line, &row) {
+            if self.groups.note_new(line, &row) {
                 self.look_at_groups_on(p, grade, line, &cells, &row)?;
             }
         }
         Ok(())
     }
 
-    // The same of one row or column, of whose squares this is left.
+    // The steps of groups of squares of this row or column; `row` is what is left of its squares.
     fn look_at_groups_on(
         &mut self,
         p: &P,

@@ -56,7 +56,7 @@ impl Values {
     }
 }
 
-/// What is gone of some squares and needed anyhow.
+/// The values that are gone of some squares and that are needed anyhow.
 pub(crate) fn needed_in(cells: &ArrayVec<u8, 9>, gone: &Values, needs: &Values) -> Values {
     let mut needed = Values::none();
     for cell in cells.as_slice() {

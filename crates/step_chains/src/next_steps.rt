@@ -78,7 +78,7 @@ fn next_step<P: Steps>(
     None
 }
 
-// One by the reasons of a part of the list.
+// A step that strikes something that is left, by a reason of a part of the list, if there is one.
 fn step_in_part<P: Steps>(
     p: &P,
     grade: Grade,
@@ -98,7 +98,7 @@ fn step_in_part<P: Steps>(
     None
 }
 
-// One by the reason at a place of it.
+// A step that strikes something that is left, by the reason at a place of a part, if there is one.
 fn step_at<P: Steps>(
     p: &P,
     grade: Grade,

@@ -9,8 +9,8 @@ use named_steps::Steps;
 use number_sets::NumberSet;
 use trail_solver::{Candidates, Rules};
 
-/// Few of the values that are gone before a step, of the squares where its reason looks, by which it still strikes its own: those of
-/// the latest steps are left out first, and what is needed anyhow stays.
+/// Values whose absence lets a step strike its own, of the squares where its reason looks; rather few, since
+/// those of the latest steps are left out first if it can do without them. Those needed anyhow stay.
 #[inline(never)]
 pub(crate) fn few_premises<P: Steps>(
     p: &P,

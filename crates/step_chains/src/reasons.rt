@@ -3,8 +3,7 @@ ghost use Rattle.std.specs.Prelude.{◌≡◌, ◌↔◌, ℕ, ◌+◌, ◌*◌,
 ghost use Rattle.number_sets.specs.Sets.{has_number};
 ghost use Rattle.latin_board.specs.Lines.{line_cell};
 ghost use Rattle.line_steps.specs.Left.{IsLeft};
-ghost use Rattle.line_steps.specs.declared.reason.Reason.TheVariants.{Given, Peer, Place, Bound, Stand, Clue, Sign};
-ghost use Rattle.line_steps.specs.declared.reason.Reason.TheVariants.{Set};
+ghost use Rattle.line_steps.specs.declared.reason.Reason.TheVariants.{Given, Peer, Place, Bound, Stand, Clue, Sign, Set};
 ghost use Rattle.step_chains.specs.Inner.Listed.{IsFoundAt, IsSignAt, IsGroup, place_count};
 
 use latin_board::{Size, line_cell};
@@ -27,7 +26,7 @@ pub(crate) enum Part {
     Groups,
 }
 
-/// All of them, in their order.
+/// All parts, in their order.
 pub(crate) const PARTS: [Part; 5] = [
     Part::Squares,
     Part::Places,
@@ -145,7 +144,7 @@ fn group_count(width: u8) -> u16
     1 << width
 }
 
-// These squares of a row or column, with what is left of them.
+// The group of these squares of a row or column, if as many values are left of them as they are.
 fn group_on(candidates: &Candidates, line: usize, squares: NumberSet) -> Option<Reason>
     ensures { (values : ℕ) → line < 2 * candidates.now.size → squares < 2 ^ candidates.now.size
         → IsGroup candidates.now line squares values → result ≡ Some (Set line squares values) }
@@ -156,7 +155,7 @@ fn group_on(candidates: &Candidates, line: usize, squares: NumberSet) -> Option<
     group(line, squares, left_of(candidates, line as u8, squares))
 }
 
-/// Some squares of a row or column, of which these values are left, if they are as many.
+/// The group of some squares of a row or column and the values that are left of them, if these are as many.
 pub(crate) fn group(line: usize, squares: NumberSet, values: NumberSet) -> Option<Reason>
     ensures { count_ones values ≡ count_ones squares → result ≡ Some (Set line squares values) }
 {

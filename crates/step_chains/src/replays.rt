@@ -254,12 +254,12 @@ fn is_timely(candidates: &Candidates, step: &Step) -> bool
 {
     match first_empty(candidates) {
         Some(_) => false,
-        None => is_left(candidates, step),
+        None => is_live(candidates, step),
     }
 }
 
 // Whether a step is in a square of the size, and all that it strikes is left.
-fn is_left(candidates: &Candidates, step: &Step) -> bool
+fn is_live(candidates: &Candidates, step: &Step) -> bool
     ensures { OnTrue result (IsLiveStep candidates.now (step_value step.now)) }
 {
     let width = candidates.size().get() as usize;

@@ -14,27 +14,27 @@ pub(crate) const PLACES: usize = 36;
 /// How many numbers were left of each row when it was looked at last.
 #[derive(Clone, Copy, Debug)]
 pub(crate) struct Looks {
-    left: [u32; PLACES],
+    counts: [u32; PLACES],
 }
 
 impl Looks {
     /// None was looked at yet.
     pub(crate) fn none() -> Looks {
         Looks {
-            left: [u32::MAX; PLACES],
+            counts: [u32::MAX; PLACES],
         }
     }
 
-    /// Whether fewer numbers are left of a row than when it was looked at last. It is looked at now.
-    pub(crate) fn is_new(&mut self, place: usize, row: &[NumberSet; 9]) -> bool {
+    /// Whether fewer numbers are left of a row than when it was looked at last. It is noted as looked at now.
+    pub(crate) fn note_new(&mut self, at: usize, row: &[NumberSet; 9]) -> bool {
         let mut left = 0u32;
         for set in row {
             left = left.saturating_add(set.len());
         }
-        if place >= PLACES || self.left[place] == left {
+        if at >= PLACES || self.counts[at] == left {
             return false;
         }
-        self.left[place] = left;
+        self.counts[at] = left;
         true
     }
 }
@@ -68,7 +68,7 @@ pub(crate) fn struck_along<P: Steps>(
     struck_in_each(p, candidates, reason, cells, cache)
 }
 
-// The same, square by square.
+// What a reason strikes in each of some squares, found square by square.
 fn struck_in_each<P: Steps>(
     p: &P,
     candidates: &Candidates,

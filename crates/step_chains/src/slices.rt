@@ -51,8 +51,8 @@ pub(crate) fn slice<P: Steps>(
     Ok(kept)
 }
 
-/// The chain in which each reason strikes, where it first strikes anything, all that it is to strike in any of the steps, as far as it does so
-/// by then; and side by side in reading order. Each value is listed once.
+/// The chain in which each reason strikes, where it first strikes, all that it is to strike in any of the
+/// steps, as far as it does so by then, in the order of the squares. Each value is listed once.
 #[inline(never)]
 pub(crate) fn gathered<P: Steps>(
     alloc: Global,
@@ -78,8 +78,8 @@ pub(crate) fn gathered<P: Steps>(
     Ok(found)
 }
 
-// Lists all that the reason of the first of the steps is to strike in any of them, as far as it strikes it by what is left now, and takes it
-// away.
+// Lists all that the reason of the first step is to strike in any of the steps, as far as it does so by what
+// is left now, and takes it away.
 fn gather<P: Steps>(
     p: &P,
     candidates: &mut Candidates,
@@ -107,7 +107,7 @@ fn gather<P: Steps>(
     Ok(())
 }
 
-// What a reason is to strike in the steps, is left, and is struck by what is left now.
+// The values that a reason is to strike in the steps, that are left, and that it strikes by what is left now.
 fn struck_now<P: Steps>(
     p: &P,
     candidates: &Candidates,

@@ -11,13 +11,13 @@ pub record AreSoFar (told rest : List ToldStep) (groups : List ℕ) : Type 0 whe
   pub some : All (λ group. 1 ≤ group) groups
   pub whole : sum groups + length rest ≡ length told
 
--- after a group fewer are left
+-- once a group is told, fewer told steps are left
 pub shorter : (rest behind : List ToldStep) (steps : ℕ) → 1 ≤ steps → steps ≤ length rest → behind ≡ drop steps rest → length behind < length rest
 shorter rest behind steps some within is =
     let cut = ap length is ∙ length-drop steps rest in
     omega (arith, cut, some, within)
 
--- and one group more is told
+-- with one group more, the groups are of all told steps but those left behind it
 pub one_group : (told rest behind : List ToldStep) (groups next : List ℕ) (steps : ℕ) → 1 ≤ steps → steps ≤ length rest → next ≡ groups ++ steps ∷ []
     → behind ≡ drop steps rest → AreSoFar told rest groups → AreSoFar told behind next
 one_group told rest behind groups next steps some within grown is so_far =
@@ -29,7 +29,7 @@ one_group told rest behind groups next steps some within grown is so_far =
       whole = omega (arith, cut, more, whole, within);
     }
 
--- where none is left they are of all
+-- once no told step is left, the groups are of all
 pub all_grouped : (told rest : List ToldStep) (groups : List ℕ) → length rest ≡ 0 → AreSoFar told rest groups → AreGroups (length told) groups
 all_grouped told rest groups none so_far =
     let whole = so_far.whole in

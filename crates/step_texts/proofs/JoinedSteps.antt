@@ -7,24 +7,26 @@ use Rattle.step_chains.specs.declared.chain.Step.{Step}
 use Rattle.step_texts.specs.Looks.{HoldsAt, IsJoinable, AreRising, last_cell, AreJoined}
 use Rattle.line_steps.specs.Reasons.{Striking}
 
--- one more, at the end of those before
+-- the steps up to and with the next one are those before it and then this one
 pub grown : (steps : List Step) (at : ℕ) (step : Step) → at < length steps → step ≡ get_or steps at step → take (at + 1) steps ≡ take at steps ++ step ∷ []
 grown steps at step inside is = subst (λ (s : Step). take (at + 1) steps ≡ take at steps ++ s ∷ []) (sym is) (take_more steps at step inside)
 
+-- steps with rising squares and then one of a later square have rising squares
 rising_more : (cell : ℕ) (steps : List Step) (step : Step) → AreRising cell steps → last_cell cell steps < step.cell → AreRising cell (steps ++ step ∷ [])
 rising_more cell [] step rising after = (after, tt)
 rising_more cell (s ∷ ss) step rising after = (rising.0, rising_more s.cell ss step rising.1 after)
 
+-- of steps and then one more, this one's square is the last
 last_more : (cell : ℕ) (steps : List Step) (step : Step) → last_cell cell (steps ++ step ∷ []) ≡ step.cell
 last_more cell [] step = refl
 last_more cell (s ∷ ss) step = last_more s.cell ss step
 
--- the last of those before and one more
+-- of the steps up to and with the next one, this one's square is the last
 pub last_is : (cell at : ℕ) (steps : List Step) (step : Step) → at < length steps → step ≡ get_or steps at step
     → step.cell ≡ last_cell cell (take (at + 1) steps)
 last_is cell at steps step inside is = sym (ap (last_cell cell) (grown steps at step inside is) ∙ last_more cell (take at steps) step)
 
--- those joined by now and one more
+-- steps that are told together are so with the next one, if it can be told with them
 pub joined_more : (Struck : Striking) (w : ℕ) (c : CandidatesValue) (first : Step) (steps : List Step) (at : ℕ) (step : Step)
     (last : ℕ) → at < length steps → step ≡ get_or steps at step → last ≡ last_cell first.cell (take at steps)
     → AreJoined Struck w c first (take at steps) → IsJoinable Struck w c first.reason last step → AreJoined Struck w c first (take (at + 1) steps)

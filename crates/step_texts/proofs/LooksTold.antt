@@ -20,6 +20,7 @@ use Rattle.line_steps.specs.Reasons.{Striking}
 
 -- ---- the strikes of a look
 
+-- strikes that are told of steps, and then a strike told of one more step, are told of all of them
 strikes_push : (c : CandidatesValue) (reason : Reason) (steps : List Step) (strikes : List Strike) (step : Step) (strike : Strike)
     → AreToldStrikes c reason steps strikes → IsToldStrike c reason step strike → AreToldStrikes c reason (steps ++ step ∷ []) (strikes ++ strike ∷ [])
 strikes_push c reason [] [] step strike are is = (is, tt)
@@ -27,7 +28,7 @@ strikes_push c reason [] (k ∷ ks) step strike are is = absurd are
 strikes_push c reason (s ∷ ss) [] step strike are is = absurd are
 strikes_push c reason (s ∷ ss) (k ∷ ks) step strike are is = (are.0, strikes_push c reason ss ks step strike are.1 is)
 
--- one strike more
+-- with the next step and its strike, each strike is still told of the step at its place
 pub strikes_more : (c : CandidatesValue) (reason : Reason) (look : List Step) (at : ℕ) (strikes next : List Strike) (step : Step) (strike : Strike)
     → at < length look → step ≡ get_or look at step → next ≡ strikes ++ strike ∷ [] → AreToldStrikes c reason (take at look) strikes
     → IsToldStrike c reason step strike → AreToldStrikes c reason (take (at + 1) look) next
@@ -37,12 +38,12 @@ strikes_more c reason look at strikes next step strike inside of is are told =
 
 -- ---- looks one after another
 
--- of fewer candidates fewer are left by the same steps
+-- the same steps leave fewer of fewer candidates
 left_less : (c d : CandidatesValue) (steps : List StepValue) → IsFewer c d → IsFewer (left_by c steps) (left_by d steps)
 left_less c d [] fewer = fewer
 left_less c d (step ∷ steps) fewer = left_less (without c step.strikes) (without d step.strikes) steps (fewer_without c d step.strikes fewer)
 
--- a step holds by candidates of which the same is left
+-- a step that holds by some candidates holds by others of which the same is left
 holds_alike : (Struck : Striking) → IsAntitone Struck → (w : ℕ) (c d : CandidatesValue) (step : Step) → d.size ≡ c.size
     → AreAlike c d → HoldsAt Struck w d step → HoldsAt Struck w c step
 holds_alike Struck less w c d step size alike h = λ v has.
@@ -51,6 +52,7 @@ holds_alike Struck less w c d step size alike h = λ v has.
     let left : IsLeft c step.cell v = alike.0 step.cell v (record { pair = pair; may = may }) in
     (sym size ∙ same, (left.pair, left.may, less d c step.reason step.cell v alike.1 struck))
 
+-- steps that are told together by some candidates are so by others of which the same is left
 joined_alike : (Struck : Striking) → IsAntitone Struck → (w : ℕ) (c d : CandidatesValue) (first : Step) (more : List Step)
     → d.size ≡ c.size → AreAlike c d → AreJoined Struck w d first more → AreJoined Struck w c first more
 joined_alike Struck less w c d first more size alike h = record {
@@ -59,6 +61,7 @@ joined_alike Struck less w c d first more size alike h = record {
   rising = h.rising;
 }
 
+-- a step that can't be told with others can't be so by other candidates of which the same is left
 no_more_alike : (Struck : Striking) → IsAntitone Struck → (w : ℕ) (c d : CandidatesValue) (first : Step) (more rest : List Step)
     → d.size ≡ c.size → AreAlike c d → HasNoMore Struck w d first more rest → HasNoMore Struck w c first more rest
 no_more_alike Struck less w c d first more [] size alike h = tt
@@ -68,16 +71,18 @@ no_more_alike Struck less w c d first more (step ∷ rest) size alike h = λ j. 
   holds = holds_alike Struck less w d c step (sym size) (alike.1, alike.0) j.holds;
 })
 
--- however the rest is told, all is told by what was told before it and that
+-- whatever is told of the rest, all steps are told by the steps told so far and then these
 pub record GoesOn (Struck : Striking) (w : ℕ) (start d : CandidatesValue) (steps rest : List Step) (told : List ToldStep) : Type 0 where
   pub c : CandidatesValue
   pub size : d.size ≡ c.size
   pub alike : AreAlike c d
   pub onward : (later : List ToldStep) → AreTold Struck w c rest later → AreTold Struck w start steps (told ++ later)
 
+-- before anything is told, the rest is all steps
 pub none_yet : (Struck : Striking) (w : ℕ) (c : CandidatesValue) (steps : List Step) → GoesOn Struck w c c steps steps []
 none_yet Struck w c steps = record { c = c; size = refl; alike = (λ cell v h. h, λ cell v h. h); onward = λ later are. are }
 
+-- steps that have a first one are this one and then the others
 pub headed : (steps : List Step) (first : Step) → slice_get steps 0 ≡ Some first → steps ≡ first ∷ drop 1 steps
 headed [] first is = absurd (cc is)
 headed (step ∷ steps) first is = let same : step ≡ first = cc is in ap (λ s. s ∷ steps) same
@@ -85,6 +90,7 @@ headed (step ∷ steps) first is = let same : step ≡ first = cc is in ap (λ s
 one_suc : (n : ℕ) → n + 1 ≡ suc n
 one_suc n = omega arith
 
+-- with one look more, all steps are told by the looks so far and then whatever is told of the rest
 pub one_look : (Struck : Striking) → IsAntitone Struck → (w : ℕ) (start d e : CandidatesValue) (steps rest look behind : List Step)
     (first : Step) (n : ℕ) (told next : List ToldStep) (new : ToldStep) → rest ≡ first ∷ drop 1 rest → AreJoined Struck w d first (take n (drop 1 rest))
     → HasNoMore Struck w d first (take n (drop 1 rest)) (drop n (drop 1 rest)) → IsToldOf d first.reason look new
@@ -120,6 +126,7 @@ one_look Struck less w start d e steps rest look behind first n told next new he
           ));
     }
 
+-- once no step is left, the looks so far tell all steps
 pub all_told : (Struck : Striking) (w : ℕ) (start d : CandidatesValue) (steps rest : List Step) (told : List ToldStep)
     → rest ≡ [] → GoesOn Struck w start d steps rest told → AreTold Struck w start steps told
 all_told Struck w start d steps rest told none g = subst (λ xs. AreTold Struck w start steps xs) (append-nil told) (g.onward [] none)

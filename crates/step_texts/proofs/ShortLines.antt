@@ -5,7 +5,7 @@ use Rattle.std.proofs.lemmas.List.Elements.{All-push}
 use Rattle.arrayvec.specs.ArrayVec.{ArrayVec}
 use Rattle.step_texts.specs.Lines.{AreShort, line_items, line_texts}
 
--- one more line at the end
+-- short lines and then one more short line are short
 longer : (lines more : List (ArrayVec ℕ)) (line : ArrayVec ℕ) → more ≡ lines ++ line ∷ [] → length line.items ≤ 100 → AreShort (line_texts lines)
     → AreShort (line_texts more)
 longer lines more line grown fits short =
@@ -13,7 +13,7 @@ longer lines more line grown fits short =
     (subst AreShort (sym (map-append line_items lines (line ∷ [])))
     (All-push (λ (l : List ℕ). length l ≤ 100) (line_texts lines) line.items short fits))
 
--- that, if there was room
+-- short lines stay short when one more is put at the end, if there is room for it
 pub one_more : (more_is : Bool) (lines more : List (ArrayVec ℕ)) (line : ArrayVec ℕ) → more ≡ (if more_is then lines ++ line ∷ [] else lines)
     → length line.items ≤ 100 → AreShort (line_texts lines) → AreShort (line_texts more)
 one_more true lines more line grown fits short = longer lines more line grown fits short

@@ -11,7 +11,7 @@ use Rattle.step_texts.specs.declared.told.Strike.{Strike}
 use Rattle.step_texts.specs.declared.told.ToldStep.{ToldStep}
 use Rattle.step_texts.specs.Told.{AreToldCounts, AreToldStrikes, IsToldOf}
 
--- where more may stand, what was shown is shown
+-- a count that a line can show it can show where more may stand
 shown_more : (w : ℕ) (May More : ℕ → ℕ → Type 0) (place cell v count : ℕ) → ((at n : ℕ) → May at n → More at n) → CanShow w May place cell v count
     → CanShow w More place cell v count
 shown_more w May More place cell v count more s =
@@ -26,7 +26,7 @@ shown_more w May More place cell v count more s =
       there = s.there;
     }
 
--- so where more is left
+-- a count that is shown by some candidates is shown where more is left
 shown_left : (c d : CandidatesValue) → c.size ≡ d.size → IsFewer d c → (reason : Reason) (cell v count : ℕ) → IsShownBy c reason cell v count
     → IsShownBy d reason cell v count
 shown_left c d size fewer (Bound place) cell v count s = subst (λ w. CanShow w Anything place cell v count) size s
@@ -37,6 +37,7 @@ shown_left c d size fewer (Clue place) cell v count s =
     shown_more d.size (IsLeft c) (IsLeft d) place cell v count fewer (subst (λ w. CanShow w (IsLeft c) place cell v count) size s)
 shown_left c d size fewer reason cell v count s = s
 
+-- counts that are told by some candidates are told by others of which the same is left
 counts_alike : (c d : CandidatesValue) → c.size ≡ d.size → AreAlike c d → (reason : Reason) (cell values : ℕ) (shows : Option (List ℕ))
     → AreToldCounts c reason cell values shows → AreToldCounts d reason cell values shows
 counts_alike c d size alike reason cell values None told = ap (λ w. is_at_clue w reason) (sym size) ∙ told
@@ -48,6 +49,7 @@ counts_alike c d size alike reason cell values (Some shows) told = (
   ),
 )
 
+-- strikes that are told by some candidates are told by others of which the same is left
 strikes_alike : (c d : CandidatesValue) → c.size ≡ d.size → AreAlike c d → (reason : Reason) (steps : List Step) (strikes : List Strike)
     → AreToldStrikes c reason steps strikes → AreToldStrikes d reason steps strikes
 strikes_alike c d size alike reason [] [] told = told
@@ -63,6 +65,7 @@ strikes_alike c d size alike reason (step ∷ steps) (strike ∷ strikes) told =
   strikes_alike c d size alike reason steps strikes told.1,
 )
 
+-- a step that is told by some candidates is told by others of which the same is left
 pub told_alike : (c d : CandidatesValue) → c.size ≡ d.size → AreAlike c d → (reason : Reason) (look : List Step) (told : ToldStep)
     → IsToldOf c reason look told → IsToldOf d reason look told
 told_alike c d size alike reason look told t = record {

@@ -6,7 +6,7 @@ use Rattle.arrayvec.specs.ArrayVec.{ArrayVec}
 abbrev pub line_items : ArrayVec ℕ → List ℕ
 line_items line = line.items
 
--- those of each line
+-- the characters of each line
 abbrev pub line_texts : List (ArrayVec ℕ) → List (List ℕ)
 line_texts lines = map line_items lines
 

@@ -17,8 +17,8 @@ use Rattle.step_texts.specs.Lines.{AreShort, line_texts}
 use Rattle.step_texts.specs.Looks.{AreJoined, HasNoMore}
 use Rattle.line_steps.specs.Reasons.{Striking}
 
--- what is told of the counts of towers: for each number that is struck those of the lines with it there, where the
--- reason looks from a clue
+-- the counts of towers that are told, if the reason looks from a clue, and only then: for each number that is
+-- struck those that lines with it there show
 abbrev pub AreToldCounts : CandidatesValue → Reason → ℕ → ℕ → Option (List ℕ) → Type 0
 AreToldCounts c reason cell values None = is_at_clue c.size reason ≡ false
 AreToldCounts c reason cell values (Some shows) =
@@ -68,14 +68,14 @@ reason_clue clue (Clue place) = clue place
 reason_clue clue (Sign from to) = 0
 reason_clue clue (Set line squares values) = 0
 
--- the square is one of those from the place
+-- the square is one of those that are seen from a place at the edge
 pub record IsSeenFrom (w place cell : ℕ) : Type 0 where
   pub edge : place < 4 * w
   pub index : ℕ
   pub inside : index < w
   pub here : view_cell w place index ≡ cell
 
--- the square is one of those from the place of the reason's clue
+-- the square is one of those that are seen from the place of the reason's clue
 abbrev pub IsInView : ℕ → Reason → ℕ → Type 0
 IsInView w (Given at) cell = ⊥
 IsInView w (Peer by) cell = ⊥

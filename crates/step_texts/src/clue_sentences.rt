@@ -39,7 +39,7 @@ pub(crate) fn say_clue(
     write!(text, ": {why}, so {}.", Losses { size, strikes })
 }
 
-// What has to be known, and what would be seen with the numbers that are struck: all with which the same would be seen together.
+// What has to be known, and what would be seen with the struck numbers, told together where it is the same.
 fn say_shown(
     text: &mut Writing,
     at: &EdgeClue,

@@ -54,15 +54,15 @@ fn line_that_lacks(grid: &Grid, cell: usize, value: u8) -> Option<usize> {
 }
 
 // Whether all numbers but one stand in a row or column.
-fn lacks_only(grid: &Grid, at: usize, value: u8) -> bool {
+fn lacks_only(grid: &Grid, line: usize, value: u8) -> bool {
     let size = grid.size();
     let width = size.get();
     let mut stand = NumberSet::empty();
-    if at >= 2 * width as usize {
+    if line >= 2 * width as usize {
         return false;
     }
     for index in 0..width {
-        stand = stand.union(one(grid.get(line_cell(size, at as u8, index))));
+        stand = stand.union(one(grid.get(line_cell(size, line as u8, index))));
     }
     NumberSet::up_to(width).difference(stand) == one(value)
 }
@@ -87,13 +87,13 @@ pub(crate) fn say_empty(
 }
 
 // Whether told steps leave a number of what is in view at a place of a line.
-fn is_left(grid: &Grid, told: &[ToldStep], at: usize, index: usize, value: u8) -> bool {
+fn is_left(grid: &Grid, told: &[ToldStep], line: usize, index: usize, value: u8) -> bool {
     let size = grid.size();
     let width = size.get() as usize;
-    if at >= 2 * width || index >= width {
+    if line >= 2 * width || index >= width {
         return false;
     }
-    let cell = line_cell(size, at as u8, index as u8);
+    let cell = line_cell(size, line as u8, index as u8);
     let mut left = left_of(&view_of(grid), cell);
     for step in told {
         left = left.difference(struck_of(step, cell));

@@ -47,7 +47,7 @@ fn known_places(line: &ClueCounts) -> NumberSet {
     places
 }
 
-// These places but for the open ones, or those with one number, that nothing depends on, from the far end on.
+// These places without those on which nothing depends, of the open ones or of those with one number.
 fn without_needless(
     line: &ClueCounts,
     shown: &[ShownStrike],

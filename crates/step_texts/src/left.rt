@@ -24,11 +24,11 @@ pub(crate) fn left_of(candidates: &Candidates, cell: usize) -> NumberSet {
 }
 
 /// What is left at a place of a row or column; nothing at any other.
-pub(crate) fn left_on(candidates: &Candidates, at: usize, index: usize) -> NumberSet {
+pub(crate) fn left_on(candidates: &Candidates, line: usize, index: usize) -> NumberSet {
     let size = candidates.size();
     let width = size.get() as usize;
-    if at < 2 * width && index < width {
-        candidates.values(line_cell(size, at as u8, index as u8))
+    if line < 2 * width && index < width {
+        candidates.values(line_cell(size, line as u8, index as u8))
     } else {
         NumberSet::empty()
     }

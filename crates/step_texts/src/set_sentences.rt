@@ -50,14 +50,14 @@ struct Others {
 }
 
 impl Others {
-    fn of(candidates: &Candidates, at: usize, squares: NumberSet, values: NumberSet) -> Others {
+    fn of(candidates: &Candidates, line: usize, squares: NumberSet, values: NumberSet) -> Others {
         let width = candidates.size().get();
         let mut others = Others {
             squares: NumberSet::empty(),
             values: NumberSet::up_to(width).difference(values),
         };
         for index in 0..width {
-            let left = left_on(candidates, at, index as usize);
+            let left = left_on(candidates, line, index as usize);
             if left.is_single() {
                 others.values = others.values.difference(left);
             } else if !squares.has(index) {
@@ -67,28 +67,28 @@ impl Others {
         others
     }
 
-    // Whether they are fewer, as many squares as numbers, the only ones of the line for these, and those that lose the others.
+    // Whether the others are told in place of the set: they are fewer, and lose all but their own numbers.
     fn are_told(
         &self,
         candidates: &Candidates,
-        at: usize,
+        line: usize,
         squares: NumberSet,
         strikes: &[Strike],
     ) -> bool {
         self.squares.len() == self.values.len()
-            && self.squares.len() < open_of(candidates, at, squares).len()
-            && self.are_alone(candidates, at)
+            && self.squares.len() < open_of(candidates, line, squares).len()
+            && self.are_alone(candidates, line)
             && strikes.iter().all(|strike| {
                 strike.values.is_disjoint(self.values)
-                    && has_cell(candidates.size(), at, self.squares, strike.cell)
+                    && has_cell(candidates.size(), line, self.squares, strike.cell)
             })
     }
 
     // Whether their numbers are left nowhere else on the line.
-    fn are_alone(&self, candidates: &Candidates, at: usize) -> bool {
+    fn are_alone(&self, candidates: &Candidates, line: usize) -> bool {
         let width = candidates.size().get();
         for index in 0..width {
-            let left = left_on(candidates, at, index as usize);
+            let left = left_on(candidates, line, index as usize);
             if !self.squares.has(index) && !left.is_disjoint(self.values) {
                 return false;
             }
@@ -97,11 +97,11 @@ impl Others {
     }
 }
 
-// Those of some squares of a line of which more than one number is left.
-fn open_of(candidates: &Candidates, at: usize, squares: NumberSet) -> NumberSet {
+// The open squares among some of a line: those of which more than one number is left.
+fn open_of(candidates: &Candidates, line: usize, squares: NumberSet) -> NumberSet {
     let mut open = NumberSet::empty();
     for index in 0..candidates.size().get() {
-        if squares.has(index) && left_on(candidates, at, index as usize).len() > 1 {
+        if squares.has(index) && left_on(candidates, line, index as usize).len() > 1 {
             open = open.union(NumberSet::one(index));
         }
     }
@@ -109,13 +109,13 @@ fn open_of(candidates: &Candidates, at: usize, squares: NumberSet) -> NumberSet 
 }
 
 // Whether a cell is one of some squares of a line.
-fn has_cell(size: Size, at: usize, squares: NumberSet, cell: u8) -> bool {
+fn has_cell(size: Size, line: usize, squares: NumberSet, cell: u8) -> bool {
     let width = size.get();
-    if at >= 2 * width as usize {
+    if line >= 2 * width as usize {
         return false;
     }
     for index in 0..width {
-        if squares.has(index) && line_cell(size, at as u8, index) == cell as usize {
+        if squares.has(index) && line_cell(size, line as u8, index) == cell as usize {
             return true;
         }
     }

@@ -22,7 +22,7 @@ pub(crate) enum Showing {
 }
 
 impl Showing {
-    /// What the line shows with a number at an index, with which these counts are shown.
+    /// What would be seen with a number at an index, by the counts that the line shows with it there.
     fn of(line: &ClueCounts, index: u8, number: u8, counts: NumberSet, clue: u8) -> Showing
         requires index { index < line.now.size }
         requires number { number < 16 }
@@ -34,7 +34,7 @@ impl Showing {
         }
     }
 
-    /// What these counts are, beside the clue.
+    /// What counts are beside the clue: more, fewer, some of both, or none.
     pub(crate) fn beside(counts: NumberSet, clue: u8) -> Showing {
         let (Some(least), Some(greatest)) = (counts.least(), counts.greatest()) else {
             return Showing::Never;

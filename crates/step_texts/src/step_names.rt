@@ -41,7 +41,7 @@ pub trait StepNames: Steps {
         → c.size ≡ (Self.Rules.puzzle p).size
         → StruckBy Self.Rules.puzzle Self.Steps.own p c reason cell value → IsShownBy c reason cell value (reason_clue (edge_clue_of p) reason) → ⊥ };
 
-    // And a clue strikes each number of its squares of which it isn't among the counts.
+    // A clue strikes each number in a square of its line if the clue isn't among the counts with it there.
     ghost unshown_struck: { (p : Self) (c : CandidatesValue) (reason : Reason) (cell value : ℕ)
         → c.size ≡ (Self.Rules.puzzle p).size
         → 0 < reason_clue (edge_clue_of p) reason → IsInView (Self.Rules.puzzle p).size reason cell

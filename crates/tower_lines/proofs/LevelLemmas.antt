@@ -1,4 +1,4 @@
--- The levels of starts: how a value at the end leads from one to another, and that each start that a filling begins with has one.
+-- The levels of starts: to which level one more value leads, and that each front of a filling is at a level.
 use Rattle.std.proofs.lemmas.Bool.Decides.{nat_tests}
 use Rattle.std.proofs.Common.{◌≡◌, ℕ, ◌+◌, ◌-◌, ◌^◌, ◌<◌, ◌≤◌, ◌↔◌, inl, inr, true, false, ◌||◌, eqb, ltb, List, [], ◌∷◌, ◌++◌, length, get_or, refl, sym, ap, ◌∙◌, arith, append_assoc}
 use Rattle.std.specs.List.{list_all}
@@ -20,10 +20,11 @@ use Rattle.tower_lines.proofs.WholeLines.{whole_mask}
 
 -- ---- what is seen before and after the greatest value
 
--- the greatest value hides what comes after it
+-- a list that has n hides each value up to n that comes after it
 hidden_after : (p : List ℕ) (n x : ℕ) → is_in n p ≡ true → x ≤ n → list_all (λ y. ltb y x) p ≡ false
 hidden_after p n x has most = grind (arith, nat_tests, is_in-place, list_all_at)
 
+-- nothing is seen after the greatest value of the line
 none_seen : {sets : List ℕ} (p s : List ℕ) → IsStart sets (p ++ s) → is_in (length sets) p ≡ true → seen_after p s ≡ 0
 none_seen {sets} p [] start has = refl
 none_seen {sets} p (x ∷ s) start has =
@@ -32,7 +33,7 @@ none_seen {sets} p (x ∷ s) start has =
     let rest = none_seen (p ++ x ∷ []) s (rw whole start) (is_in-push p x (length sets) ∙ or_left _ _ has) in
     rw hidden (omega (arith, rest))
 
--- a start without the greatest value is below it
+-- all values of a start that lacks the greatest are lower than it
 all_lower : {sets : List ℕ} (p : List ℕ) → 0 < length sets → IsStart sets p → is_in (length sets) p ≡ false
     → list_all (λ y. ltb y (length sets)) p ≡ true
 all_lower {sets} p some start lacks =
@@ -41,7 +42,7 @@ all_lower {sets} p some start lacks =
     let e : (n - 1) + 1 ≡ n = omega arith in
     rw e at (tower_is p (n - 1) w.used ∙ lt-ltb w.mask (2 ^ (n - 1)) w.small)
 
--- it is seen where it comes
+-- some tower is seen after a start that lacks the greatest value if this comes later
 some_seen : {sets : List ℕ} (p s : List ℕ) → 0 < length sets → IsStart sets (p ++ s) → is_in (length sets) p ≡ false → is_in (length sets) s ≡ true
     → 0 < seen_after p s
 some_seen {sets} p [] some start lacks has = absurd (false≢true has)
@@ -56,7 +57,7 @@ some_seen {sets} p (x ∷ s) some start lacks has =
           omega (arith, rest))
     ]
 
--- a start with all values has the greatest
+-- a start with as many values as the line has squares has the greatest
 pub has_greatest : {sets : List ℕ} (line : List ℕ) → 0 < length sets → IsStart sets line → length line ≡ length sets → is_in (length sets) line ≡ true
 has_greatest {sets} line some start whole =
     let n = length sets in
@@ -71,14 +72,14 @@ tower_one mask k small = rw (lt-ltb mask (2 ^ k) small) refl
 tower_none : (mask k : ℕ) → 2 ^ k ≤ mask → tower mask k ≡ 0
 tower_none mask k large = rw (le-ltb mask (2 ^ k) large) refl
 
--- a start without the greatest value shows one more where a value between is above its mask
+-- a start without the greatest value shows a tower more with a value above its mask, and otherwise none
 shown_more : {sets : List ℕ} {mask : ℕ} (p : List ℕ) (k bit : ℕ) → k ≡ bit + 1 → IsStart sets p → is_in (length sets) p ≡ false
     → IsLowMask (length sets) mask p → seen (p ++ (k + 1) ∷ []) ≡ seen p + tower mask bit
 shown_more {sets} {mask} p k bit is start lacks used =
     let w = whole_of p start lacks in
     seen-more p k w.used ∙ ap (λ n. seen p + n) (tower_half w.mask mask k bit is (whole_half p start lacks used w))
 
--- it shows one more with the greatest
+-- a start without the greatest value shows a tower more with it
 shown_last : {sets : List ℕ} (p : List ℕ) (k : ℕ) → k + 1 ≡ length sets → IsStart sets p → is_in (length sets) p ≡ false
     → seen (p ++ (k + 1) ∷ []) ≡ seen p + 1
 shown_last {sets} p k is start lacks =
@@ -87,56 +88,57 @@ shown_last {sets} p k is start lacks =
     let small : w.mask < 2 ^ k = rw e at w.small in
     seen-more p k w.used ∙ ap (λ n. seen p + n) (tower_one w.mask k small)
 
--- the least value is seen where it is the first
+-- the first value of a line is seen
 shown_first : (p : List ℕ) (x : ℕ) → length p ≡ 0 → seen (p ++ x ∷ []) ≡ seen p + 1
 shown_first p x none = grind (arith, nat_tests, nil_from_length, seen-push)
 
--- and otherwise hidden
+-- the least value is hidden where it isn't the first
 shown_later : {sets : List ℕ} (p : List ℕ) (k : ℕ) → k ≡ 0 → IsStart sets p → 0 < length p → seen (p ++ (k + 1) ∷ []) ≡ seen p
 shown_later {sets} p k h2 start some = grind (arith, nat_tests, list_all_at, seen-push)
 
--- a start with it shows no more
+-- a start with the greatest value shows no tower more, whatever value comes
 shown_same : {sets : List ℕ} (p : List ℕ) (k : ℕ) → IsStart sets (p ++ (k + 1) ∷ []) → is_in (length sets) p ≡ true
     → seen (p ++ (k + 1) ∷ []) ≡ seen p
 shown_same p k start has = let parts = seen-append p ((k + 1) ∷ []) in omega (arith, none_seen p ((k + 1) ∷ []) start has)
 
--- a value below the greatest isn't it
+-- whether a list has the greatest value stays the same as a lower one comes
 greatest_in_push : (p : List ℕ) (n k : ℕ) → k + 1 < n → is_in n (p ++ (k + 1) ∷ []) ≡ is_in n p
 greatest_in_push p n k low = is_in-push p (k + 1) n ∙ ap (λ b. is_in n p || b) (ne_eqb (k + 1) n (λ e. omega arith)) ∙ or-false (is_in n p)
 
--- a start is at the last level where it has the greatest value
+-- a start with the greatest value is at the last level
 pub at_last : {sets : List ℕ} {clue level mask : ℕ} (p : List ℕ) → IsAtLevel sets clue level mask p → is_in (length sets) p ≡ true → level ≡ clue
 at_last {sets} {clue} {level} p at has = eqb-true level clue (sym at.last ∙ has)
 
--- and before it otherwise
+-- a start without the greatest value is below the last level
 at_low : {sets : List ℕ} {clue level mask : ℕ} (p : List ℕ) → IsAtLevel sets clue level mask p → is_in (length sets) p ≡ false → level < clue
 at_low {sets} {clue} {level} p at lacks = grind (arith, nat_tests)
 
+-- a start below the last level lacks the greatest value
 at_low_lacks : {sets : List ℕ} {clue level mask : ℕ} (p : List ℕ) → IsAtLevel sets clue level mask p → level < clue → is_in (length sets) p ≡ false
 at_low_lacks {sets} {clue} {level} p at low = at.last ∙ ne_eqb level clue (λ e. omega arith)
 
 -- ---- the step from one level to another
 
--- a value below the greatest after a start at a level
+-- a value below the greatest leads to the level that is then shown, if both levels or neither are the last
 pushed_at : {sets : List ℕ} {clue level mask level_then mask_then : ℕ} (p : List ℕ) (k : ℕ) → k + 1 < length sets → IsAtLevel sets clue level mask p
     → IsStart sets (p ++ (k + 1) ∷ []) → IsLowMask (length sets) mask_then (p ++ (k + 1) ∷ []) → seen (p ++ (k + 1) ∷ []) ≡ level_then → level_then ≤ clue
     → (level ≡ clue) ↔ (level_then ≡ clue) → IsAtLevel sets clue level_then mask_then (p ++ (k + 1) ∷ [])
 pushed_at {sets} {clue} {level} {mask} {level_then} p k value at start used shown low same =
     grind (arith, nat_tests, greatest_in_push)
 
--- whether a start lacks the least value, by its mask
+-- a start lacks the least value where `LacksLeast` says so of its level and mask
 lacks_least : {sets : List ℕ} {clue level mask : ℕ} (p : List ℕ) → 1 < length sets → IsAtLevel sets clue level mask p
     → LacksLeast (length p) clue level mask → is_in 1 p ≡ false
 lacks_least {sets} {clue} {level} p more at told =
     grind (arith, nat_tests, least_told, rest_low, at_low_lacks, rest_last)
 
--- a value that a start lacks, and the mask of the start with it
+-- the value k + 1 is one that the start lacks, and the start with it has this mask
 record IsNew (sets : List ℕ) (k mask_then : ℕ) (p : List ℕ) : Type 0 where
   high : k + 1 ≤ length sets
   fresh : is_in (k + 1) p ≡ false
   used : IsLowMask (length sets) mask_then (p ++ (k + 1) ∷ [])
 
--- such is the value of a step, with the mask that it leads to
+-- the value of a step is one that the start lacks, and the step leads to the mask of the start with it
 step_new : {sets : List ℕ} {clue k level mask level_then mask_then : ℕ} (p : List ℕ) → IsAtLevel sets clue level mask p
     → IsLevelStep (length p) (length sets) clue k level mask level_then mask_then → IsNew sets k mask_then p
 step_new {sets} {clue} {k} {level} {mask} {level_then} {mask_then} p at (Greatest s) =
@@ -154,6 +156,7 @@ step_new {sets} {clue} {k} {level} {mask} {level_then} {mask_then} p at (Between
     let fresh = sym (low_bit p k bit is at.used s.value) ∙ s.fresh in
     record { high = omega (arith, s.value); fresh = fresh; used = rw s.more (low_more p k bit is at.used s.value s.fresh) }
 
+-- a step by a candidate of the next square leads to the level and mask of the start with it
 pub step_from : {sets : List ℕ} {clue k level mask level_then mask_then : ℕ} (p : List ℕ) → IsAtLevel sets clue level mask p → length p < length sets
     → has_number (get_or sets (length p) 0) (k + 1) ≡ true → IsLevelStep (length p) (length sets) clue k level mask level_then mask_then
     → IsAtLevel sets clue level_then mask_then (p ++ (k + 1) ∷ [])
@@ -189,18 +192,18 @@ step_from {sets} {clue} {k} {level} {mask} {level_then} {mask_then} p at room ca
           ]
     ]
 
--- a start that has the greatest value just where it shows all the towers is at the level of those that it shows
+-- a start is at the level that it shows, if it shows all towers with the greatest value, and fewer without it
 front_of : {sets : List ℕ} {clue mask : ℕ} (p : List ℕ) → IsStart sets p → IsLowMask (length sets) mask p → (is_in (length sets) p ≡ true → seen p ≡ clue)
     → (is_in (length sets) p ≡ false → seen p < clue) → IsAtLevel sets clue (seen p) mask p
 front_of {sets} {clue} p start used all few = grind (arith, nat_tests)
 
--- where a start's front is, and how its last value leads from there
+-- the front p of a start is at the level that it shows, and the last value is a step from there
 pub record IsStepped (sets : List ℕ) (clue k level mask : ℕ) (p : List ℕ) : Type 0 where
   pub mask_before : ℕ
   pub front : IsAtLevel sets clue (seen p) mask_before p
   pub step : IsLevelStep (length p) (length sets) clue k (seen p) mask_before level mask
 
--- a start's front is at the level of the towers that it shows
+-- without its last value, a start at a level is at the level of the towers that it then shows
 front_at : {sets : List ℕ} {clue level mask front : ℕ} (p : List ℕ) (k : ℕ) → IsAtLevel sets clue level mask (p ++ (k + 1) ∷ [])
     → IsLowMask (length sets) front p → IsAtLevel sets clue (seen p) front p
 front_at {sets} {clue} {level} p k at used =
@@ -220,7 +223,7 @@ front_at {sets} {clue} {level} p k at used =
       seen-append,
     )
 
--- the greatest value after the front
+-- the greatest value at the end of a start is a step from the front's level to the start's
 step_greatest : {sets : List ℕ} {clue level mask front : ℕ} (p : List ℕ) (k : ℕ) → k + 1 ≡ length sets → IsAtLevel sets clue level mask (p ++ (k + 1) ∷ [])
     → IsAtLevel sets clue (seen p) front p → IsLevelStep (length p) (length sets) clue k (seen p) front level mask
 step_greatest {sets} p k greatest at from =
@@ -233,7 +236,7 @@ step_greatest {sets} p k greatest at from =
       same = low_unique (p ++ (k + 1) ∷ []) at.used (low_same p (k + 1) from.used (λ j l e. omega arith));
     }
 
--- the least
+-- the least value at the end of a start is a step from the front's level to the start's
 step_least : {sets : List ℕ} {clue level mask front : ℕ} (p : List ℕ) (k : ℕ) → k ≡ 0 → k + 1 < length sets → IsAtLevel sets clue level mask (p ++ (k + 1) ∷ [])
     → IsAtLevel sets clue (seen p) front p → IsLevelStep (length p) (length sets) clue k (seen p) front level mask
 step_least {sets} {clue} {level} {mask} {front} p k least value at from =
@@ -257,7 +260,7 @@ step_least {sets} {clue} {level} {mask} {front} p k least value at from =
       ];
     }
 
--- a value between them
+-- a value between least and greatest at the end of a start is a step from the front's level to the start's
 step_between : {sets : List ℕ} {clue level mask front : ℕ} (p : List ℕ) (k : ℕ) → 0 < k → k + 1 < length sets → IsAtLevel sets clue level mask (p ++ (k + 1) ∷ [])
     → IsAtLevel sets clue (seen p) front p → IsLevelStep (length p) (length sets) clue k (seen p) front level mask
 step_between {sets} {clue} {level} {mask} {front} p k some value at from =
@@ -303,7 +306,7 @@ stepped {sets} p k at =
 
 -- ---- the fronts of fillings
 
--- each has a level
+-- each front of a filling is at the level of the towers that it shows
 pub front_level : {sets : List ℕ} {clue : ℕ} (p s : List ℕ) → 0 < length sets → IsFilling sets clue (p ++ s)
     → (mask : ℕ) × IsAtLevel sets clue (seen p) mask p
 front_level {sets} {clue} p s some filling =

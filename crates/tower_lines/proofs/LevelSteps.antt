@@ -1,4 +1,4 @@
--- Of which kind a step is, and the masks that it leads to and from: the greatest value, the least, and those between them.
+-- The steps of the greatest value, the least, and those between, and the masks to and from which they lead.
 use Rattle.std.proofs.lemmas.Bool.Decides.{nat_tests}
 use Rattle.std.proofs.Common.{◌≡◌, ℕ, ◌+◌, ◌-◌, ◌^◌, ◌<◌, ◌≤◌, ◌⊎◌, ◌↔◌, inl, inr, true, false, not, ◌&&◌, ◌||◌, eqb, leb, ltb, List, [], get_or, refl, sym, ap, ◌∙◌, arith, count_ones, Bool}
 use Rattle.std.proofs.lemmas.Bool.{ltb-true, leb-true, lt-ltb, le-leb, and_parts, and_from, not-true, not_from_false}
@@ -11,9 +11,9 @@ use Rattle.number_sets.proofs.OneMore.{added_with, added_without, added_lacks, a
 use Rattle.tower_lines.specs.Inner.MaskSets.{has_mask, has_at}
 use Rattle.tower_lines.specs.Inner.Levels.{IsMove, Within, Hidden, Shown, LacksLeast, IsLastStep, IsLeastStep, IsLowStep, IsLevelStep, Between, AreFew, IsCommon, IsLinked, IsReachedBy, LeadsToLevels, IsPassing}
 
--- ---- of which kind a step is
+-- ---- which kind of step a value makes
 
--- of the greatest value
+-- each value has only steps of its own kind: the greatest, the least, and those between them
 pub only_greatest : {place width clue k level mask level_then mask_then : ℕ} → k + 1 ≡ width → IsLevelStep place width clue k level mask level_then mask_then
     → IsLastStep width clue k level mask level_then mask_then
 only_greatest top h1 = grind (arith, nat_tests)
@@ -26,9 +26,9 @@ only_between : {place width clue k level mask level_then mask_then : ℕ} → k 
     → IsLowStep width clue k level mask level_then mask_then
 only_between less h1 = grind (arith, nat_tests)
 
--- ---- the masks of the levels with a link, where it tells the level and the mask
+-- ---- a link that holds of known masks alone
 
--- this level and mask, where a test passes
+-- the level is `at`, the mask is `other`, and the test passes
 record IsAt (at other : ℕ) (test : Bool) (level mask : ℕ) : Type 0 where
   level_is : level ≡ at
   mask_is : mask ≡ other
@@ -38,38 +38,38 @@ found_at : {at other level mask : ℕ} {test : Bool} (levels : List (List ℕ)) 
     → test && has_at levels at other ≡ true
 found_at levels s here = and_from _ _ s.passes (rw (s.level_is, s.mask_is) at here)
 
--- from a mask at one of two levels
+-- if a link holds of `other` alone, at two levels by tests, `whole` tells if the levels have a mask with it
 linked_two : (Link : ℕ → ℕ → Type 0) (levels : List (List ℕ)) (first second other : ℕ) (far near whole : Bool)
     → whole ≡ ((near && has_at levels second other) || (far && has_at levels first other))
     → (far ≡ true → Link first other) → (near ≡ true → Link second other)
     → ((level mask : ℕ) → Link level mask → IsAt first other far level mask ⊎ IsAt second other near level mask) → (whole ≡ true) ↔ IsLinked Link levels
 linked_two Link levels first second other far near whole is to_first to_second only = grind (arith, nat_tests, found_at)
 
--- from that mask at one level
+-- if a link holds of `other` alone, at one level by a test, `whole` tells if the levels have a mask with it
 linked_one : (Link : ℕ → ℕ → Type 0) (levels : List (List ℕ)) (at other : ℕ) (test whole : Bool) → whole ≡ (test && has_at levels at other)
     → (test ≡ true → Link at other) → ((level mask : ℕ) → Link level mask → IsAt at other test level mask) → (whole ≡ true) ↔ IsLinked Link levels
 linked_one Link levels at other test whole is to only = grind (arith, nat_tests, linked_two)
 
--- from none
+-- if a link holds of no mask, the levels have no mask with it, as the set lacks this one
 pub linked_none : (Link : ℕ → ℕ → Type 0) (levels : List (List ℕ)) (set : List ℕ) (mask : ℕ) → has_mask set mask ≡ false
     → ((level mask : ℕ) → Link level mask → ⊥) → (has_mask set mask ≡ true) ↔ IsLinked Link levels
 linked_none Link levels set mask empty none = grind (arith, nat_tests)
 
 -- ---- the greatest value
 
--- it leads to the last level from the masks of the one before
+-- the greatest value leads to exactly those masks at the last level that the level before has
 pub greatest_reached : (place width clue k : ℕ) (levels : List (List ℕ)) (set : List ℕ) → k + 1 ≡ width → 0 < clue → set ≡ get_or levels (clue - 1) []
     → (mask : ℕ) → (has_mask set mask ≡ true) ↔ IsReachedBy place width clue k levels clue mask
 greatest_reached place width clue k levels set top some is mask = grind (arith, nat_tests, linked_one, only_greatest)
 
--- and from the level before the last to the masks of the last
+-- the greatest value leads from exactly those masks at the level before the last that the last level has
 pub greatest_leads : (place width clue k : ℕ) (after : List (List ℕ)) (set : List ℕ) → k + 1 ≡ width → 0 < clue → set ≡ get_or after clue []
     → (mask : ℕ) → (has_mask set mask ≡ true) ↔ LeadsToLevels place width clue k after (clue - 1) mask
 greatest_leads place width clue k after set top some is mask = grind (arith, nat_tests, linked_one, only_greatest)
 
 -- ---- the least value
 
--- where it isn't the first, it keeps the level, and comes to the masks there that are counted as lacking it
+-- as a later value the least keeps level and mask: it leads to masks that lack it, by their count of values
 pub least_reached : (place clue count level : ℕ) (levels : List (List ℕ)) (set : List ℕ) → 0 < place
     → ((mask : ℕ) → has_mask set mask ≡ (has_at levels level mask && eqb (count_ones mask) count))
     → ((mask : ℕ) → (count_ones mask ≡ count) ↔ LacksLeast place clue level mask)
@@ -77,7 +77,7 @@ pub least_reached : (place clue count level : ℕ) (levels : List (List ℕ)) (s
 least_reached place clue count level levels set some counted told width mask more =
     grind (arith, nat_tests, linked_one, and_comm, only_least)
 
--- it leads from these masks
+-- as a later value the least leads from the masks of its level that lack it, by their count of values
 pub least_leads : (place clue count level : ℕ) (after : List (List ℕ)) (set : List ℕ) → 0 < place
     → ((mask : ℕ) → has_mask set mask ≡ (has_at after level mask && eqb (count_ones mask) count))
     → ((mask : ℕ) → (count_ones mask ≡ count) ↔ LacksLeast place clue level mask)
@@ -85,27 +85,28 @@ pub least_leads : (place clue count level : ℕ) (after : List (List ℕ)) (set 
 least_leads place clue count level after set some counted told width mask more =
     grind (arith, nat_tests, linked_one, and_comm, only_least)
 
--- where it is the first, it goes to the next level
+-- as the first value the least leads to a level from the masks of the level before
 pub least_first_reached : (place clue level : ℕ) (levels : List (List ℕ)) (set : List ℕ) → place ≡ 0 → 1 ≤ level → level < clue
     → set ≡ get_or levels (level - 1) []
     → (width mask : ℕ) → 1 < width → (has_mask set mask ≡ true) ↔ IsReachedBy place width clue 0 levels level mask
 least_first_reached place clue level levels set none some early is width mask more =
     grind (arith, nat_tests, linked_one, only_least)
 
+-- as the first value the least leads from a level to the masks of the next
 pub least_first_leads : (place clue level : ℕ) (after : List (List ℕ)) (set : List ℕ) → place ≡ 0 → level + 1 < clue
     → set ≡ get_or after (level + 1) []
     → (width mask : ℕ) → 1 < width → (has_mask set mask ≡ true) ↔ LeadsToLevels place width clue 0 after level mask
 least_first_leads place clue level after set none early is width mask more =
     grind (arith, nat_tests, linked_one, only_least)
 
--- as the first it doesn't lead to the last level
+-- as the first value the least doesn't lead to the last level
 pub least_first_late : {place width clue level mask level_then mask_then : ℕ} → 1 < width → place ≡ 0 → clue ≤ level_then ⊎ clue ≤ level + 1
     → IsLevelStep place width clue 0 level mask level_then mask_then → ⊥
 least_first_late more none late s = grind (arith, nat_tests, only_least)
 
--- ---- a value between them
+-- ---- a value between the least and the greatest
 
--- it leads to a mask that has it from that mask without it
+-- a value between leads to a mask that has it, from that mask without it
 put_in : {place width clue k level level_then mask : ℕ} → k + 2 < width → has_number mask k ≡ true → IsMove clue k level (mask - 2 ^ k) level_then
     → IsLevelStep place width clue (k + 1) level (mask - 2 ^ k) level_then mask
 put_in {k = k} {mask = mask} less has moves =
@@ -113,12 +114,12 @@ put_in {k = k} {mask = mask} less has moves =
     let back : mask - 2 ^ k + 2 ^ k ≡ mask = omega arith in
     Between k refl record { value = less; fresh = added_lacks (added_without (mask - 2 ^ k) k mask has back); more = sym back; moves = moves }
 
--- and from a mask that lacks it to that mask with it
+-- a value between leads from a mask that lacks it, to that mask with it
 put_to : {place width clue k level level_then mask : ℕ} → k + 2 < width → not (has_number mask k) ≡ true → IsMove clue k level mask level_then
     → IsLevelStep place width clue (k + 1) level mask level_then (mask + 2 ^ k)
 put_to {k = k} less lacks moves = Between k refl record { value = less; fresh = not-true _ lacks; more = refl; moves = moves }
 
--- to the last level
+-- to the last level a value between leads from the last level's masks that lack it
 pub between_reached_last : (clue k : ℕ) (levels : List (List ℕ)) (from set : List ℕ) → from ≡ get_or levels clue []
     → ((m : ℕ) → has_mask set m ≡ (has_number m k && has_mask from (m - 2 ^ k)))
     → (place width mask : ℕ) → k + 2 < width → (has_mask set mask ≡ true) ↔ IsReachedBy place width clue (k + 1) levels clue mask
@@ -133,6 +134,7 @@ between_reached_last clue k levels from set is with place width mask less =
       passes = added_has (added_with x k mask b.fresh b.more);
     })
 
+-- from the last level a value between leads to the last level's masks that have it
 pub between_leads_last : (clue k : ℕ) (after : List (List ℕ)) (from set : List ℕ) → from ≡ get_or after clue []
     → ((m : ℕ) → has_mask set m ≡ (not (has_number m k) && has_mask from (m + 2 ^ k)))
     → (place width mask : ℕ) → k + 2 < width → (has_mask set mask ≡ true) ↔ LeadsToLevels place width clue (k + 1) after clue mask
@@ -147,12 +149,12 @@ between_leads_last clue k after from set is without place width mask less =
       passes = not_from_false _ b.fresh;
     })
 
--- a test before either of two is one before each
+-- a test before a choice of two is the same test before each of them
 test_each : (test first far second near : Bool) → (test && ((first && far) || (second && near))) ≡ (((test && near) && second) || ((test && far) && first))
 test_each false first far second near = refl
 test_each true first far second near = rw (and_comm first far, and_comm second near) (or_comm (far && first) (near && second))
 
--- to a level before the last: from the masks of that level that hide the value, and from those of the level before that don't
+-- to a level before the last a value leads from masks there that hide it, and others of the level before
 pub between_reached : (clue k level : ℕ) (levels : List (List ℕ)) (from lower hiding showing either set : List ℕ) → 1 ≤ level → level < clue
     → from ≡ get_or levels level [] → lower ≡ get_or levels (level - 1) []
     → ((m : ℕ) → has_mask hiding m ≡ (has_mask from m && leb (2 ^ k) m)) → ((m : ℕ) → has_mask showing m ≡ (has_mask lower m && ltb m (2 ^ k)))
@@ -178,14 +180,15 @@ between_reached clue k level levels from lower hiding showing either set some ea
       | Shown small next low ↦ inr record { level_is = omega arith; mask_is = back; passes = and_from _ _ has (lt-ltb x (2 ^ k) (omega arith)) }
     ])
 
--- whether such a value is hidden, and whether it is shown, as the sets tell it of the mask that it leads to
+-- the mask lacks the value and has a greater one, so the mask with it is not below the next power
 abbrev is_hidden : ℕ → ℕ → Bool
 is_hidden k mask = not (has_number mask k) && leb (2 ^ (k + 1)) (mask + 2 ^ k)
 
--- it is above all in the mask, tested from its low side
+-- all values of the mask are lower, so the mask with it is below the next power
 abbrev is_shown : ℕ → ℕ → Bool
 is_shown k mask = not (has_number mask k) && ltb (mask + 2 ^ k) (2 ^ (k + 1))
 
+-- a hidden value keeps the level, and a shown one leads to the next: both to the mask with it
 hidden_step : {place width clue level : ℕ} (k mask : ℕ) → k + 2 < width → level < clue → is_hidden k mask ≡ true
     → IsLevelStep place width clue (k + 1) level mask level (mask + 2 ^ k)
 hidden_step k mask less early p =
@@ -200,11 +203,12 @@ shown_step k mask less early p =
     let small = ltb-true (mask + 2 ^ k) (2 ^ (k + 1)) size in
     put_to less lacks (Shown (omega (arith, pow_more 2 k)) refl early)
 
+-- from a level before the last a hidden value keeps the level, and a shown one leads on, but not to the last
 step_from_low : {place width clue level : ℕ} (k mask : ℕ) → k + 2 < width → level < clue → (l y : ℕ) → IsLevelStep place width clue (k + 1) level mask l y
     → IsAt level (mask + 2 ^ k) (is_hidden k mask) l y ⊎ (IsAt (level + 1) (mask + 2 ^ k) (is_shown k mask) l y × (level + 1 < clue))
 step_from_low k mask less early l y s = grind (arith, nat_tests, only_between, pow_more)
 
--- from a level before the last to the masks of that level that hide the value, and to those of the next that show it, if that isn't the last
+-- from a level further from the last a value leads to masks there that hide it, and the next's that show it
 pub between_leads : (clue k level : ℕ) (after : List (List ℕ)) (same_level next hidden shown either set : List ℕ) → level + 1 < clue
     → same_level ≡ get_or after level [] → next ≡ get_or after (level + 1) []
     → ((m : ℕ) → has_mask hidden m ≡ (has_mask same_level m && leb (2 ^ (k + 1)) m)) → ((m : ℕ) → has_mask shown m ≡ (has_mask next m && ltb m (2 ^ (k + 1))))
@@ -219,7 +223,7 @@ between_leads clue k level after same_level next hidden shown either set early i
     (hidden_step k mask less (omega arith)) (shown_step k mask less early)
     (λ l y s. elim (step_from_low k mask less (omega arith) l y s) [ inl h ↦ inl h | inr n ↦ inr n.0 ])
 
--- from the level before the last to no mask of the last
+-- from the level before the last a value leads to masks there that hide it, and to none at the last
 pub between_leads_hidden : (clue k level : ℕ) (after : List (List ℕ)) (same_level hidden set : List ℕ) → level < clue → clue ≤ level + 1
     → same_level ≡ get_or after level [] → ((m : ℕ) → has_mask hidden m ≡ (has_mask same_level m && leb (2 ^ (k + 1)) m))
     → ((m : ℕ) → has_mask set m ≡ (not (has_number m k) && has_mask hidden (m + 2 ^ k)))
@@ -234,18 +238,19 @@ between_leads_hidden clue k level after same_level hidden set early late is hide
 
 -- ---- where the masks are to which a value leads, and from which
 
--- those of a level that are in the set of the masks from which it leads on
+-- the masks of `fronts` at a level from which a value leads on are those that the set of such masks has, too
 pub shared_passing : (place width clue k level : ℕ) (fronts after : List (List ℕ)) (set : List ℕ) → level ≤ clue
     → ((m : ℕ) → (has_mask set m ≡ true) ↔ LeadsToLevels place width clue k after level m)
     → (mask : ℕ) → IsPassing place width clue k fronts after level mask ↔ IsCommon fronts set level mask
 shared_passing place width clue k level fronts after set low leads mask = grind (arith, nat_tests)
 
--- it leads to no level before the first, no level past the next, and none past the last
+-- a level from 1 to the last that is at most one above the number of values before
 pub record IsInReach (clue place level : ℕ) : Type 0 where
   pub some : 1 ≤ level
   pub next : level ≤ place + 1
   pub last : level ≤ clue
 
+-- a value leads from the levels of starts with `place` values only to levels in reach
 pub in_reach : (place width clue k : ℕ) (levels : List (List ℕ)) → AreFew clue place levels
     → (level mask : ℕ) → IsReachedBy place width clue k levels level mask → IsInReach clue place level
 in_reach place width clue k levels few level mask r = grind (arith, nat_tests, pow_pos)

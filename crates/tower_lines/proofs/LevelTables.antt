@@ -1,4 +1,4 @@
--- What a value more does to levels that have the masks of all starts, and to those of starts that a filling begins with.
+-- The levels of all starts with so many values, and of those that fillings begin with, value by value.
 use Rattle.std.proofs.lemmas.Bool.Decides.{nat_tests}
 use Rattle.std.proofs.Common.{◌≡◌, ◌≢◌, ℕ, ◌+◌, ◌-◌, ◌<◌, ◌↔◌, true, List, [], ◌∷◌, ◌++◌, length, get_or, set, take, drop, sym, ap, ◌∙◌, subst, arith, append_assoc, length-append}
 use Rattle.std.proofs.lemmas.Bool.{eqb-false}
@@ -17,14 +17,14 @@ use Rattle.tower_lines.proofs.StartLemmas.{IsNextValue, start_next}
 
 -- ---- the levels of the starts with so many values
 
--- without values a start is at the first level, which isn't the last
+-- the start without values has the empty mask and is at a level below the last
 first_level : {sets : List ℕ} {clue level mask : ℕ} → IsAtLevel sets clue level mask [] → (mask ≡ 0) × (level < clue)
 first_level {sets} {clue} {level} {mask} at =
     let apart : level ≢ clue = eqb-false level clue (sym at.last) in
     let low = at.low in
     (none_from_numbers mask (λ k. at.used.bits k ∙ and-false _), omega arith)
 
--- the start without values, before any place
+-- the start without values has its levels: the empty mask at level 0 alone, or no mask for a clue of 0
 pub first_reached : {sets : List ℕ} {clue : ℕ} (levels : List (List ℕ)) → 0 < length sets
     → ((level mask : ℕ) → (has_at levels level mask ≡ true) ↔ ((level ≡ 0) × (mask ≡ 0) × (0 < clue))) → AreReached sets clue 0 levels
 first_reached {sets} {clue} levels some first level mask =
@@ -55,12 +55,12 @@ parted {sets} place line inside start =
       next = start_next (take place line) (value - 1 + 1) (drop (place + 1) line) (subst (IsStart sets) is start);
     }
 
--- the step from a start of so many values
+-- a step after `place` values is one after as many under another name
 step_at : {place place' width clue k level mask level_then mask_then : ℕ} → place ≡ place' → IsLevelStep place width clue k level mask level_then mask_then
     → IsLevelStep place' width clue k level mask level_then mask_then
 step_at same s = rw same at s
 
--- one value more
+-- from the levels of all starts so long, the next square's candidates lead to those of all starts one longer
 pub next_reached : {sets : List ℕ} {clue place : ℕ} {levels : List (List ℕ)} (next : List (List ℕ)) → place < length sets → AreReached sets clue place levels
     → ((level mask : ℕ) → (has_at next level mask ≡ true) ↔ IsReachedFrom place (length sets) clue (get_or sets place 0) levels level mask)
     → AreReached sets clue (place + 1) next
@@ -98,7 +98,7 @@ pub reached_few : {sets : List ℕ} {clue place : ℕ} (levels : List (List ℕ)
 reached_few {sets} {clue} {place} levels reached level mask e =
     grind (arith, nat_tests, seen_most, seen_some, first_level, nil_from_length)
 
--- a start with all values at the last level is a filling
+-- there is a filling exactly if the levels of all whole starts have a mask at the last level
 pub reached_filling : {sets : List ℕ} {clue : ℕ} (levels : List (List ℕ)) → 0 < length sets → AreReached sets clue (length sets) levels
     → ((mask : ℕ) × (has_at levels clue mask ≡ true)) ↔ ((line : List ℕ) × IsFilling sets clue line)
 reached_filling {sets} {clue} levels some reached = (
@@ -110,12 +110,12 @@ reached_filling {sets} {clue} levels some reached = (
 
 -- ---- the levels of the starts that a filling begins with
 
--- each start with all values at a level is a filling
+-- the levels of all whole starts are those that a filling begins with, since each such start is one
 pub last_continued : {sets : List ℕ} {clue : ℕ} {levels : List (List ℕ)} → 0 < length sets → AreReached sets clue (length sets) levels
     → AreContinued sets clue (length sets) levels
 last_continued {sets} {clue} {levels} some reached = grind (arith, nat_tests, at_last, has_greatest, append-nil)
 
--- a value that leads from a start to levels of which each start is continued: so is this start, with the value
+-- if a candidate leads from a start to a mask of starts that go on to fillings, both together go on to one
 continued_step : {sets : List ℕ} {after : List (List ℕ)} {clue place k level mask : ℕ} (p : List ℕ) → place < length sets → AreContinued sets clue (place + 1) after
     → length p ≡ place → has_number (get_or sets place 0) (k + 1) ≡ true → IsAtLevel sets clue level mask p → LeadsToLevels place (length sets) clue k after level mask
     → (rest : List ℕ) × IsFilling sets clue (p ++ (k + 1) ∷ rest)
@@ -144,7 +144,7 @@ passing_step {sets} {levels} {after} {clue} {place} {level} {mask} p k s inside 
       };
     }
 
--- one value less
+-- the masks that lead on to starts of fillings are those of the starts of fillings that are one shorter
 pub before_continued : {sets : List ℕ} {clue place : ℕ} {levels after before : List (List ℕ)} → place < length sets → AreReached sets clue place levels
     → AreContinued sets clue (place + 1) after
     → ((level mask : ℕ) → (has_at before level mask ≡ true) ↔ IsPassed place (length sets) clue (get_or sets place 0) levels after level mask)
@@ -170,7 +170,7 @@ before_continued {sets} {clue} {place} {levels} {after} {before} inside reached 
         let passing = passing_step line (value - 1) s inside reached continued long at (rw e at filling) in
         (is level mask).1 record { k = value - 1; inside = omega arith; candidate = rw (long, e) at next.candidate; passing = passing }
 
--- the values that lead from some start with so many values to one that a filling begins with
+-- the values that lead to some start that a filling begins with are those that a filling has at the place
 pub kept_supported : {sets : List ℕ} {clue place : ℕ} {levels after : List (List ℕ)} → place < length sets → AreReached sets clue place levels
     → AreContinued sets clue (place + 1) after → (value : ℕ)
     → IsKeptBy place (length sets) clue (get_or sets place 0) levels after value ↔ IsSupported sets clue place value
@@ -191,7 +191,7 @@ kept_supported {sets} {clue} {place} {levels} {after} inside reached continued v
 
 -- ---- an entry of a table that is put in
 
--- what holds of it, and of the others as they were
+-- what holds of the new entry, and of each other as it was, holds of each entry of the new table
 pub set_each : {A : Type 0} (P : ℕ → A → Type 0) (xs : List A) (i p : ℕ) (x d : A) → i < length xs → P i x → (p ≢ i → P p (get_or xs p d))
     → P p (get_or (set xs i x) p d)
 set_each P xs i p x d inside here other = grind (arith, nat_tests, get_or-set_same, get_or-set_other)

@@ -1,4 +1,4 @@
--- Masks without the least and the greatest value: one value more, the one mask of a list, and what its number of values tells.
+-- Masks without the least and the greatest value: each list has one, and its count tells of the least.
 use Rattle.std.proofs.lemmas.Bool.Decides.{nat_tests}
 use Rattle.std.proofs.Common.{◌≡◌, ◌≢◌, ℕ, ◌+◌, ◌-◌, ◌*◌, ◌/◌, ◌%◌, ◌^◌, ◌<◌, ◌≤◌, inl, inr, true, false, ◌&&◌, ltb, List, [], ◌∷◌, ◌++◌, length, refl, sym, ap, ◌∙◌, arith, count_ones}
 use Rattle.std.proofs.lemmas.Bool.{lt-ltb, le-ltb, cases_eq, cases_lt, and_from}
@@ -16,6 +16,7 @@ use Rattle.tower_lines.proofs.StartLemmas.{is_in-place, is_in-at}
 
 -- ---- the low mask of a list
 
+-- each start has a low mask
 pub low_mask_of : {sets : List ℕ} (p : List ℕ) → IsStart sets p → (mask : ℕ) × IsLowMask (length sets) mask p
 low_mask_of {sets} p start =
     let n = length sets in
@@ -32,7 +33,7 @@ low_mask_of {sets} p start =
       },
     )
 
--- a list has one low mask
+-- a list has only one low mask
 pub low_unique : {width m n : ℕ} (p : List ℕ) → IsLowMask width m p → IsLowMask width n p → m ≡ n
 low_unique {width} {m} {n} p h i = same_set m n (λ k. h.bits k ∙ sym (i.bits k))
 
@@ -41,7 +42,7 @@ pub low_bit : {width mask : ℕ} (p : List ℕ) (k bit : ℕ) → k ≡ bit + 1 
     → has_number mask bit ≡ is_in (k + 1) p
 low_bit {width} {mask} p k bit is h l = grind (arith, nat_tests)
 
--- one such value more
+-- a value between the least and the greatest that the mask lacks comes to list and mask
 pub low_more : {width mask : ℕ} (p : List ℕ) (k bit : ℕ) → k ≡ bit + 1 → IsLowMask width mask p → bit + 2 < width → has_number mask bit ≡ false
     → IsLowMask width (mask + 2 ^ bit) (p ++ (k + 1) ∷ [])
 low_more {width} {mask} p k bit is h low fresh =
@@ -54,7 +55,7 @@ low_more {width} {mask} p k bit is h low fresh =
       ];
     }
 
--- the least or the greatest value more
+-- a value for which the mask has no bit, the least or the greatest, leaves the mask as it is
 pub low_same : {width mask : ℕ} (p : List ℕ) (x : ℕ) → IsLowMask width mask p → ((j : ℕ) → j + 2 < width → j + 2 ≢ x)
     → IsLowMask width mask (p ++ x ∷ [])
 low_same {width} {mask} p x h apart = record {
@@ -70,14 +71,14 @@ low_same {width} {mask} p x h apart = record {
 none_high : {sets : List ℕ} (p : List ℕ) (x : ℕ) → IsStart sets p → is_in (length sets) p ≡ false → length sets ≤ x → is_in x p ≡ false
 none_high {sets} p x start lacks high = grind (arith, nat_tests, is_in-place, is_in-at)
 
--- the mask of all values of a start that lacks the greatest
+-- a start that lacks the greatest value has a mask of all its values
 pub whole_of : {sets : List ℕ} (p : List ℕ) → IsStart sets p → is_in (length sets) p ≡ false → IsMasked (length sets - 1) p
 whole_of {sets} p start lacks =
     let b = mask_of p start in
     let small = below_from_numbers b.mask (length sets - 1) (λ j l. b.used.bits j ∙ none_high p (j + 1) start lacks (omega arith)) in
     record { mask = b.mask; used = b.used; ones = b.ones; small = small }
 
--- but for the least they are the low mask
+-- the low mask of a start that lacks the greatest value is half the mask of all its values
 pub whole_half : {sets : List ℕ} {mask : ℕ} (p : List ℕ) → IsStart sets p → is_in (length sets) p ≡ false → IsLowMask (length sets) mask p
     → (w : IsMasked (length sets - 1) p) → mask ≡ w.mask / 2
 whole_half {sets} {mask} p start lacks h w =
@@ -89,7 +90,7 @@ whole_half {sets} {mask} p start lacks h w =
       | inr high ↦ rw (le-ltb (j + 2) (length sets) high) (sym (half ∙ none_high p (j + 2) start lacks high))
     ])
 
--- a value above the least is above all of both masks, or of none
+-- a value above the least is seen after both masks, that of all values and its half, or after neither
 pub tower_half : (whole mask k bit : ℕ) → k ≡ bit + 1 → mask ≡ whole / 2 → tower whole k ≡ tower mask bit
 tower_half whole mask k bit is half = grind (arith, nat_tests, pow_more)
 
@@ -106,21 +107,21 @@ ones_half m =
     ] in
     ap count_ones (sym parts) ∙ apart ∙ ap (λ n. count_ones (m / 2) + n) low
 
--- the low mask of a list with the least value, if it has it, and so many further values
+-- the list's values are those of the low mask, the least if the list has it, and `further` more
 pub record IsRest (p : List ℕ) (mask further : ℕ) : Type 0 where
   pub rest : ℕ
   pub half : mask ≡ rest / 2
   pub least : has_number rest 0 ≡ is_in 1 p
   pub ones : count_ones rest + further ≡ length p
 
--- the list lacks the least value where the mask has all but the further ones
+-- a list lacks the least value exactly if it has as many values as the low mask and the further ones
 pub least_tells : {mask further : ℕ} (p : List ℕ) → IsRest p mask further → is_in 1 p ≡ false → count_ones mask + further ≡ length p
 least_tells {mask} {further} p r lacks = grind (arith, nat_tests, bit_at_lowest, bit-from_no_number, ones_half)
 
 pub least_told : {mask further : ℕ} (p : List ℕ) → IsRest p mask further → count_ones mask + further ≡ length p → is_in 1 p ≡ false
 least_told {mask} {further} p r all = grind (arith, nat_tests, bit_at_lowest, bit-from_number, ones_half)
 
--- of a start without the greatest value
+-- a start without the greatest value has only the values of its low mask and perhaps the least
 pub rest_low : {sets : List ℕ} {mask : ℕ} (p : List ℕ) → IsStart sets p → is_in (length sets) p ≡ false → IsLowMask (length sets) mask p
     → IsRest p mask 0
 rest_low {sets} {mask} p start lacks h =
@@ -132,7 +133,7 @@ rest_low {sets} {mask} p start lacks h =
       ones = omega (arith, w.ones);
     }
 
--- and of one with it
+-- a start with the greatest value has one value besides those of its low mask and perhaps the least
 pub rest_last : {sets : List ℕ} {mask : ℕ} (p : List ℕ) → 1 < length sets → IsStart sets p → is_in (length sets) p ≡ true
     → IsLowMask (length sets) mask p → IsRest p mask 1
 rest_last {sets} {mask} p more start has h =

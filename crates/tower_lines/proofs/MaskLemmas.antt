@@ -20,17 +20,18 @@ use Rattle.tower_lines.proofs.StartLemmas.{start_next}
 pub is_in-push : (p : List ℕ) (x y : ℕ) → is_in y (p ++ x ∷ []) ≡ (is_in y p || eqb x y)
 is_in-push p x y = list_any-append (λ z. eqb z y) p (x ∷ []) ∙ ap (λ b. is_in y p || b) (or-false (eqb x y))
 
--- it has that value
+-- a list has the value that was put at its end
 pub is_in-push_same : (p : List ℕ) (x y : ℕ) → x ≡ y → is_in y (p ++ x ∷ []) ≡ true
 is_in-push_same p x y e = is_in-push p x y ∙ ap (λ b. is_in y p || b) (eq-eqb x y e) ∙ or-true (is_in y p)
 
--- of the others it has those that it had
+-- a value at the end of a list changes nothing for the other values
 pub is_in-push_other : (p : List ℕ) (x y : ℕ) → y ≢ x → is_in y (p ++ x ∷ []) ≡ is_in y p
 is_in-push_other p x y ne = is_in-push p x y ∙ ap (λ b. is_in y p || b) (ne_eqb x y (λ e. ne (sym e))) ∙ or-false (is_in y p)
 
 pub mask_none : IsMask 0 []
 mask_none = record { bits = λ k. has_number-none k }
 
+-- a value at the end of a list is one bit more in its mask
 pub mask_more : {m k n : ℕ} (p : List ℕ) → IsMask m p → IsAdded m k n → IsMask n (p ++ (k + 1) ∷ [])
 mask_more {m} {k} {n} p h a = record {
   bits = λ j. elim (cases_eq j k) [
@@ -73,7 +74,7 @@ mask_of {sets} p h = masked_along sets p [] h record {
   small = pow_pos (length sets);
 }
 
--- all of a list below k + 1, from its bits below k
+-- all values of a list are lower than k + 1, if it has no value j + 1 with j from k on
 all_below : (p : List ℕ) (k : ℕ) → ((j : ℕ) → is_in (j + 1) p ≡ true → j < k) → list_all (λ y. ltb y (k + 1)) p ≡ true
 all_below [] k h = refl
 all_below (x ∷ p) k h =
@@ -84,7 +85,7 @@ all_below (x ∷ p) k h =
     ]) in
     rw here (all_below p k (λ j e. h j (rw e (or-true (eqb x (j + 1))))))
 
--- and a value not below k + 1
+-- not all values of a list are lower than k + 1, if it has a value j + 1 with j from k on
 some_above : (p : List ℕ) (k j : ℕ) → k ≤ j → is_in (j + 1) p ≡ true → list_all (λ y. ltb y (k + 1)) p ≡ false
 some_above [] k j l e = absurd (false≢true e)
 some_above (x ∷ p) k j l e = grind (arith, nat_tests, and-false, some_above p k j l)
@@ -107,9 +108,11 @@ tower_is {mask} p k h =
 abbrev pub tower : ℕ → ℕ → ℕ
 tower mask k = cond (ltb mask (2 ^ k)) 1 0
 
+-- what is seen from the value k + 1 on: this value if it is above the mask, and what is seen after it
 seen-next : {mask : ℕ} (p s : List ℕ) (k : ℕ) → IsMask mask p
     → seen_after p ((k + 1) ∷ s) ≡ tower mask k + seen_after (p ++ (k + 1) ∷ []) s
 seen-next p s k h = rw (tower_is p k h) refl
 
+-- with the value k + 1 at its end a list shows a tower more if it is above the mask, and otherwise as many
 pub seen-more : {mask : ℕ} (p : List ℕ) (k : ℕ) → IsMask mask p → seen (p ++ (k + 1) ∷ []) ≡ seen p + tower mask k
 seen-more p k h = seen-append p ((k + 1) ∷ []) ∙ ap (λ n. seen p + n) (seen-next p [] k h) ∙ omega arith

@@ -40,13 +40,14 @@ has_number-with_bit k b h l =
 with_bit_small : (k : ℕ) → k < 6 → with_bit k < 2 ^ 64
 with_bit_small k h = ltb-true _ _ (agree_below_at (λ j. ltb (with_bit j) 18446744073709551616) (λ j. true) 6 k refl h)
 
--- the bits of a word moved up
+-- a word moved up by s has at each bit what was s bits below
 has_number-up : (w s b : ℕ) → s ≤ b → b < 64 → has_number (w * 2 ^ s % 2 ^ 64) b ≡ has_number w (b - s)
 has_number-up w s b most h =
     let e : s + (b - s) ≡ b = omega arith in
     has_number-mod (w * 2 ^ s) 64 b h ∙ ap (has_number (w * 2 ^ s)) (sym e)
     ∙ sym (has_number-shr (w * 2 ^ s) s (b - s)) ∙ ap (λ n. has_number n (b - s)) (shl-shr w s)
 
+-- a word moved up by 2 ^ k, cut to the masks with bit k, has those that were there without this bit
 pub raised_word : (w k b : ℕ) → k < 6 → b < 64
     → has_number (bit_and (w * 2 ^ (2 ^ k) % 2 ^ 64) (with_bit k)) b ≡ (has_number b k && has_number w (b - 2 ^ k))
 raised_word w k b small h =
@@ -60,15 +61,16 @@ has_number-not n b small h =
       | inr e ↦ (let none = bit-from_no_number n b e in rw e (number-from_bit (bit_not w64 n) b (omega (arith, flipped))))
     ]
 
--- the masks that another word lacks
+-- a word cut to what another lacks has the masks of the first that the second doesn't have
 pub has_number-lacks : (a n b : ℕ) → n < 2 ^ 64 → b < 64
     → has_number (bit_and a (bit_not w64 n)) b ≡ (has_number a b && not (has_number n b))
 has_number-lacks a n b small h = has_number-and a (bit_not w64 n) b ∙ ap (λ t. has_number a b && t) (has_number-not n b small h)
 
--- the bits of a word moved down
+-- a word moved down by s has at each bit what was s bits above
 has_number-down : (w s b : ℕ) → has_number (w / 2 ^ s) b ≡ has_number w (b + s)
 has_number-down w s b = let e : s + b ≡ b + s = omega arith in has_number-shr w s b ∙ ap (has_number w) e
 
+-- a word moved down by 2 ^ k, cut to the masks without bit k, has those that were there with this bit
 pub lowered_word : (w k b : ℕ) → k < 6 → b < 64
     → has_number (bit_and (w / 2 ^ (2 ^ k)) (bit_not w64 (with_bit k))) b ≡ (not (has_number b k) && has_number w (b + 2 ^ k))
 lowered_word w k b small h =
@@ -103,7 +105,7 @@ word_without_low words k m place low is =
 
 -- ---- the tables, whose rows are sets of two words
 
--- the masks of two words that pass each row's test are those of the row
+-- row k of the table has exactly the masks below 128 that pass the test of k
 abbrev are_rows : List (List ℕ) → (ℕ → ℕ → Bool) → Bool
 are_rows table test = agree_below (λ k. agree_below (λ m. has_mask (get_or table k []) m) (λ m. test k m) 128) (λ k. true) 9
 
@@ -117,7 +119,7 @@ row_has table test all k m few small =
 abbrev counts : List (List ℕ)
 counts = (1 ∷ 0 ∷ []) ∷ (4295033110 ∷ 1 ∷ []) ∷ (282668995843688 ∷ 4295033110 ∷ []) ∷ (78274679833913472 ∷ 282668995843688 ∷ []) ∷ (1614655367130677248 ∷ 78274679833913472 ∷ []) ∷ (7530159316599308288 ∷ 1614655367130677248 ∷ []) ∷ (9223372036854775808 ∷ 7530159316599308288 ∷ []) ∷ (0 ∷ 9223372036854775808 ∷ []) ∷ (0 ∷ 0 ∷ []) ∷ []
 
--- a value more is one bit more
+-- the words of the masks that have so many values
 abbrev pub with_count : ℕ → List ℕ
 with_count count = get_or counts count []
 
@@ -129,11 +131,11 @@ with_count_has count m few small = row_has counts (λ k n. eqb (count_ones n) k)
 abbrev bounds : List (List ℕ)
 bounds = (1 ∷ 0 ∷ []) ∷ (3 ∷ 0 ∷ []) ∷ (15 ∷ 0 ∷ []) ∷ (255 ∷ 0 ∷ []) ∷ (65535 ∷ 0 ∷ []) ∷ (4294967295 ∷ 0 ∷ []) ∷ (18446744073709551615 ∷ 0 ∷ []) ∷ (18446744073709551615 ∷ 18446744073709551615 ∷ []) ∷ (18446744073709551615 ∷ 18446744073709551615 ∷ []) ∷ []
 
--- the word of the masks that are below a power of two
+-- the words of the masks that are below 2 ^ k
 abbrev pub below_bit : ℕ → List ℕ
 below_bit k = get_or bounds k []
 
--- the masks below a bit, by its table
+-- the table's row k has exactly the masks below 2 ^ k
 pub below_bit_has : (k m : ℕ) → k < 9 → m < 128 → has_mask (below_bit k) m ≡ ltb m (2 ^ k)
 below_bit_has k m few small = row_has bounds (λ j n. ltb n (2 ^ j)) refl k m few small
 
@@ -152,7 +154,7 @@ has_mask-past words m h = grind (arith, nat_tests, get_or_past, has_number-none)
 has_mask-none : (n m : ℕ) → has_mask (replicate n 0) m ≡ false
 has_mask-none n m = grind (arith, nat_tests, get_or-replicate, has_number-none, length-replicate, has_mask-past)
 
--- a mask is in its word, or in another
+-- a set whose word i was written has there the masks of the new word, and elsewhere those that it had
 has_mask-set_same : (words : List ℕ) (i w m : ℕ) → i < length words → m / 64 ≡ i → has_mask (set words i w) m ≡ has_number w (m % 64)
 has_mask-set_same words i w m inside same = rw (same, get_or-set_same words i w 0 inside) refl
 
@@ -169,12 +171,12 @@ start_has n m some =
           ∙ sym (ne_eqb m 0 (λ e. other (rw e refl)))
     ]
 
--- a set has just the masks that pass a test where its words do, and none past them passes it
+-- a set has exactly the masks that pass a test, if this is so within its words and no mask past them passes
 pub words_have : (test : ℕ → Bool) (words : List ℕ) (n : ℕ) → length words ≡ n → ((m : ℕ) → m / 64 < n → has_mask words m ≡ test m)
     → ((m : ℕ) → 64 * n ≤ m → test m ≡ false) → (m : ℕ) → has_mask words m ≡ test m
 words_have test words n room here past m = grind (arith, nat_tests, has_mask-past)
 
--- no mask past the words comes of one inside by one of its values
+-- a mask past the words isn't one inside with a low bit more
 pub with_past_low : (words : List ℕ) (n k m : ℕ) → length words ≡ n → k < 6 → 64 * n ≤ m → (has_number m k && has_mask words (m - 2 ^ k)) ≡ false
 with_past_low words n k m room low past =
     elim (cases_Bool (has_number m k)) [

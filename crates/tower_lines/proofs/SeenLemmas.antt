@@ -33,11 +33,11 @@ pub seen_some : (p : List ℕ) → 0 < length p → 0 < seen p
 seen_some [] h = absurd (omega arith)
 seen_some (x ∷ p) h = omega arith
 
--- one more value at the end
+-- a value at the end of a list is a tower more if it is greater than all before it
 pub seen-push : (p : List ℕ) (x : ℕ) → seen (p ++ x ∷ []) ≡ seen p + cond (list_all (λ y. ltb y x) p) 1 0
 seen-push p x = seen-append p (x ∷ []) ∙ omega arith
 
--- a height is greater than all of a list where it is at least the least height that is seen
+-- `least` is the least height that is seen after the list: a height is greater than all of it from there on
 pub record IsLeastSeen (p : List ℕ) (least : ℕ) : Type 0 where
   pub taller : (x : ℕ) → list_all (λ y. ltb y x) p ≡ leb least x
 
@@ -45,7 +45,7 @@ pub record IsLeastSeen (p : List ℕ) (least : ℕ) : Type 0 where
 pub least_seen_more : (p : List ℕ) (least height : ℕ) → IsLeastSeen p least → least ≤ height → IsLeastSeen (p ++ height ∷ []) (height + 1)
 least_seen_more p least height h l = grind (arith, nat_tests, list_all-append)
 
--- after one that is hidden, the same heights are
+-- after a height that is hidden, the same heights are seen as before it
 pub least_seen_same : (p : List ℕ) (least height : ℕ) → IsLeastSeen p least → height < least → IsLeastSeen (p ++ height ∷ []) least
 least_seen_same p least height h l = grind (arith, nat_tests, list_all-append)
 
@@ -53,6 +53,6 @@ least_seen_same p least height h l = grind (arith, nat_tests, list_all-append)
 pub seen-more_seen : (p : List ℕ) (least height : ℕ) → IsLeastSeen p least → least ≤ height → seen (p ++ height ∷ []) ≡ seen p + 1
 seen-more_seen p least height h l = seen-push p height ∙ rw (h.taller height) (rw (le-leb least height l) refl)
 
--- and one that is hidden is none
+-- a height that is hidden is no tower more
 pub seen-more_hidden : (p : List ℕ) (least height : ℕ) → IsLeastSeen p least → height < least → seen (p ++ height ∷ []) ≡ seen p
 seen-more_hidden p least height h l = seen-push p height ∙ rw (h.taller height) (rw (lt-leb least height l) (omega arith))

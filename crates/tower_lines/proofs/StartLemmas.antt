@@ -21,6 +21,7 @@ is_in-place x (y ∷ p) e =
 pub is_in-at : (x : ℕ) (p : List ℕ) (i : ℕ) → i < length p → get_or p i 0 ≡ x → is_in x p ≡ true
 is_in-at x p i l e = list_any_at (λ y. eqb y x) p i 0 l (eq-eqb (get_or p i 0) x e)
 
+-- the front of a start is a start
 pub start_front : {sets : List ℕ} (p s : List ℕ) → IsStart sets (p ++ s) → IsStart sets p
 start_front {sets} p s h =
     let n = length-append p s in
@@ -32,7 +33,7 @@ start_front {sets} p s h =
       apart = λ i j o l e. h.apart i j o (omega arith) (same i (omega arith) ∙ e ∙ sym (same j l));
     }
 
--- what is known of a value that a start can have next
+-- a value that a start can have next: a candidate of the next square, from 1 to the length, and not used
 pub record IsNextValue (sets p : List ℕ) (v : ℕ) : Type 0 where
   pub room : length p < length sets
   pub low : 1 ≤ v
@@ -40,7 +41,7 @@ pub record IsNextValue (sets p : List ℕ) (v : ℕ) : Type 0 where
   pub candidate : has_number (get_or sets (length p) 0) v ≡ true
   pub fresh : is_in v p ≡ false
 
--- of a start that goes on, what is known of its next value
+-- the next value of a start that goes on is one that it can have next
 pub start_next : {sets : List ℕ} (p : List ℕ) (v : ℕ) (s : List ℕ) → IsStart sets (p ++ v ∷ s) → IsNextValue sets p v
 start_next {sets} p v s h =
     let n = length-append p (v ∷ s) in
@@ -57,12 +58,12 @@ start_next {sets} p v s h =
           h.apart i (length p) low inside (get_or_append_left p (v ∷ s) 0 i low ∙ there ∙ sym here));
     }
 
--- what holds of each place of p and of v after it
+-- what holds at each place of p, and at the place of v after it, holds at each place of both
 push_each : (P : ℕ → ℕ → Type 0) (p : List ℕ) (v : ℕ) → ((j : ℕ) → j < length p → P j (get_or p j 0)) → P (length p) v
     → (j : ℕ) → j < length (p ++ v ∷ []) → P j (get_or (p ++ v ∷ []) j 0)
 push_each P p v each last j l = grind (arith, nat_tests, length_push, get_or_append_left, get_or_at)
 
--- a start with such a value more is a start
+-- a start with a value more that it can have next is a start
 pub start_more : {sets : List ℕ} (p : List ℕ) (v : ℕ) → IsStart sets p → IsNextValue sets p v → IsStart sets (p ++ v ∷ [])
 start_more {sets} p v h next =
     record {

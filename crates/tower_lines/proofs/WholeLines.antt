@@ -9,7 +9,7 @@ use Rattle.tower_lines.specs.LineFillings.{IsStart}
 use Rattle.tower_lines.specs.Inner.LineMasks.{IsMask}
 use Rattle.tower_lines.proofs.MaskLemmas.{mask_of}
 
--- a start has each value as soon as it has as many as the line
+-- a start with as many values as the line has squares has each value, so its mask has all bits up to there
 pub whole_mask : {sets : List ℕ} (p : List ℕ) → IsStart sets p → length p ≡ length sets → IsMask (2 ^ length sets - 1) p
 whole_mask {sets} p start whole =
     let w = length sets in

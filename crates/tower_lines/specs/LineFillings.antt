@@ -3,14 +3,14 @@ use Rattle.std.specs.Prelude.{◌≡◌, ◌≢◌, ℕ, ◌<◌, ◌≤◌, tru
 use Rattle.number_sets.specs.Sets.{has_number}
 use Rattle.tower_lines.specs.TowersSeen.{seen}
 
--- values for the first squares of a line: each from 1 to the line's length and a candidate of its square, none twice
+-- a start: values for a line's first squares, each from 1 to its length and a candidate there, none twice
 pub record IsStart (sets line : List ℕ) : Type 0 where
   pub room : length line ≤ length sets
   pub values : (j : ℕ) → j < length line → (1 ≤ slice_index line j) × (slice_index line j ≤ length sets)
   pub candidates : (j : ℕ) → j < length line → has_number (slice_index sets j) (slice_index line j) ≡ true
   pub apart : (i j : ℕ) → i < j → j < length line → slice_index line i ≢ slice_index line j
 
--- values for all squares of the line, which show as many towers as the clue says
+-- a filling: a start with a value for each square of the line that shows as many towers as the clue says
 pub record IsFilling (sets : List ℕ) (clue : ℕ) (line : List ℕ) : Type 0 where
   pub start : IsStart sets line
   pub whole : length line ≡ length sets

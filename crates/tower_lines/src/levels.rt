@@ -1,11 +1,11 @@
-//! The starts of a line by levels, each level a set of masks: how a value more leads from some to others.
+//! The starts of a line by levels, each level a set of masks, and how one more value leads on from there.
 //!
-//! A start's level is the number of towers that it shows. Nothing after the greatest value of the line is seen, so a start with
-//! that value has to show all the towers of the clue: it is at the last level, whose number is the clue, and there is no other start. So the
-//! masks are without the greatest value, and without the least, 1, too: whether a start has it is told by how many other values it has.
+//! A start's level is the number of towers that it shows. Nothing after the greatest value is seen, so a
+//! start with this value has to show all towers of the clue. Such starts, and no others, are at the last
+//! level, the one of the clue's number. So a mask can leave out the greatest value. It also leaves out the
+//! least, 1, since the number of the other values tells whether a start has it.
 
-ghost use Rattle.std.specs.Prelude.{◌≡◌, ℕ, ◌+◌, ◌-◌, ◌*◌, ◌^◌, ◌<◌, ◌≤◌, ◌↔◌, ◌==◌, ◌&&◌, true, false, count_ones};
-ghost use Rattle.std.specs.Prelude.{IsTrue};
+ghost use Rattle.std.specs.Prelude.{◌≡◌, ℕ, ◌+◌, ◌-◌, ◌*◌, ◌^◌, ◌<◌, ◌≤◌, ◌↔◌, ◌==◌, ◌&&◌, true, false, count_ones, IsTrue};
 ghost use Rattle.number_sets.specs.Sets.{has_number};
 ghost use Rattle.tower_lines.specs.Inner.MaskSets.{has_mask, has_at};
 ghost use Rattle.tower_lines.specs.Inner.Levels.{AreAdded, AreNoted, AreFew, IsCommon, IsReachedBy, IsReachedFrom};
@@ -55,7 +55,7 @@ fn counted<const W: usize>(levels: &Levels<W>, level: usize, count: usize) -> Ma
     levels[level].of_count(count)
 }
 
-/// How many values the mask of a start with so many has, where it lacks the least: all, but for the greatest at the last level.
+/// How many values the mask of a start without the least has: all `place`, or one fewer at the last level.
 fn count_without_least(place: usize, last: usize, level: usize) -> usize
     requires some { 0 < place }
     requires level { level ≤ last }
@@ -65,8 +65,9 @@ fn count_without_least(place: usize, last: usize, level: usize) -> usize
     if level == last { place - 1 } else { place }
 }
 
-/// The masks at a level to which a value below the greatest leads from the levels. The least is seen where it is the first, and otherwise
-/// hidden; another comes before the last level to the masks of the level that hide it, and to those of the level before that don't.
+/// The masks at a level to which a value below the greatest leads from the levels. The least is seen if it is
+/// the first, and hidden otherwise. Another leads to the last level from that level's masks; and to a level
+/// before it from the masks there that hide it, and from those of the level before that don't.
 fn reached<const W: usize>(
     levels: &Levels<W>,
     place: usize,
@@ -166,7 +167,7 @@ fn add_reached<const W: usize>(
     }
 }
 
-/// Adds what one value more, one of these, leads to from the levels, which are those of starts with as many values as the place says.
+/// Adds the masks to which these values lead from the levels, those of the starts with `place` values.
 pub fn add_levels<const W: usize>(
     levels: &Levels<W>,
     place: usize,
@@ -240,8 +241,8 @@ fn add_leading<const W: usize>(
     some
 }
 
-/// Goes back by one place: puts in the place of the levels after it those masks of the levels before it from which one of these
-/// values leads there, and answers the values that do. The levels before it are those of starts with as many values as the place says.
+/// Goes back by one square, from the levels after it to those before it, of the starts with `place` values.
+/// Puts into `after` those of their masks from which some value leads on, and answers the values that do.
 pub fn pass_back<const W: usize>(
     levels: &Levels<W>,
     place: usize,

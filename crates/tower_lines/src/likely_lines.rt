@@ -11,7 +11,7 @@ use number_sets::NumberSet;
 /// For each value the places where it can stand.
 type Places = [u16; 10];
 
-/// For each count the first places from which the values that are left can show so many towers more.
+/// For each count of towers the first places from which the values that are left can show so many more.
 type Starts = [u16; 10];
 
 /// Values for the squares of a line, from the clue on, and then zeros.
@@ -23,17 +23,17 @@ pub fn likely_line(sets: &[NumberSet], clue: u8) -> [u8; 9]
     let places = places_of(sets);
     let starts = starts_of(&places, sets.len());
     let mut line = [0; 9];
-    let mut left = usize::from(clue);
+    let mut to_show = usize::from(clue);
     let mut first = 1 << sets.len();
     let mut taken = 0;
     for lower in (0..sets.len()).rev() {
         let open = places[lower + 1] & !taken;
         let hidden = open & !before(first);
-        let place = if hidden != 0 && starts_with(&starts[lower], left) & first != 0 {
+        let place = if hidden != 0 && starts_with(&starts[lower], to_show) & first != 0 {
             lowest(hidden)
         } else {
-            left = left.wrapping_sub(1);
-            first = lowest(open & before(first) & starts_with(&starts[lower], left));
+            to_show = to_show.wrapping_sub(1);
+            first = lowest(open & before(first) & starts_with(&starts[lower], to_show));
             first
         };
         taken |= place;
@@ -42,7 +42,7 @@ pub fn likely_line(sets: &[NumberSet], clue: u8) -> [u8; 9]
     line
 }
 
-// A value that one square alone has can stand there, and each other in the squares that have several.
+// For each value the squares with it as their only candidate, or if there are none those with several.
 fn places_of(sets: &[NumberSet]) -> Places
     requires { length sets.now ≤ 9 }
 {
@@ -58,7 +58,7 @@ fn places_of(sets: &[NumberSet]) -> Places
     places.map(|own| if own == 0 { open } else { own })
 }
 
-// For each number of values, those from 1 up to it, the first places that they can go on from.
+// For each n up to the width the first places from which the values 1 to n can go on, by how many these show.
 fn starts_of(places: &Places, width: usize) -> [Starts; 10]
     requires { width ≤ 9 }
 {
@@ -92,7 +92,7 @@ fn starts_with(starts: &Starts, count: usize) -> u16 {
     if count < 10 { starts[count] } else { 0 }
 }
 
-// Puts a value at a place of the line, where it is one.
+// Puts a value at the place of the mask, or nowhere where the mask has none in the line.
 fn put(line: &mut [u8; 9], place: u16, value: u8) {
     let place = place.trailing_zeros() as usize;
     if place < 9 {

@@ -1,7 +1,6 @@
 //! The values that each square of a line with a clue can take.
 
-ghost use Rattle.std.specs.Prelude.{◌≡◌, ℕ, ◌+◌, ◌<◌, ◌≤◌, ◌↔◌, true, false, [], length, replicate, slice_index};
-ghost use Rattle.std.specs.Prelude.{slice_index_or, IsTrue, List};
+ghost use Rattle.std.specs.Prelude.{◌≡◌, ℕ, ◌+◌, ◌<◌, ◌≤◌, ◌↔◌, true, false, [], length, replicate, slice_index, slice_index_or, IsTrue, List};
 ghost use Rattle.number_sets.specs.Sets.{has_number, no_numbers};
 ghost use Rattle.tower_lines.specs.LineFillings.{IsFilling, IsSupported};
 ghost use Rattle.tower_lines.specs.Inner.MaskSets.{has_at};
@@ -56,7 +55,7 @@ fn is_reached(sets: &[NumberSet], clue: u8) -> bool
     }
 }
 
-// The same, by masks in so many words.
+// Whether a line has a filling, by sets of masks in `W` words.
 fn is_reached_by<const W: usize>(sets: &[NumberSet], clue: usize) -> bool
     requires some { 0 < length sets.now }
     requires short { length sets.now ≤ 9 }
@@ -72,7 +71,7 @@ fn is_reached_by<const W: usize>(sets: &[NumberSet], clue: usize) -> bool
     !whole[clue].is_empty()
 }
 
-// What is supported, by masks in so many words.
+// The values that each square has in some filling, by sets of masks in `W` words.
 fn supported_by<const W: usize>(sets: &[NumberSet], clue: usize) -> [NumberSet; 9]
     requires some { 0 < length sets.now }
     requires short { length sets.now ≤ 9 }
@@ -99,7 +98,7 @@ fn supported_by<const W: usize>(sets: &[NumberSet], clue: usize) -> [NumberSet; 
     kept
 }
 
-// Puts for each number of places the levels of the starts that have so many values where no level has a mask yet.
+// Fills in for each number of values the levels of the starts that have so many. No level has a mask before.
 fn add_starts<const W: usize>(sets: &[NumberSet], clue: usize, starts: &mut [Levels<W>; 10])
     requires some { 0 < length sets.now }
     requires short { length sets.now ≤ 9 }

@@ -107,7 +107,7 @@ impl<const W: usize> MaskSet<W> {
         true
     }
 
-    /// The masks with no value greater than that of the bit, which shows it where it is the next one.
+    /// The masks with no value greater than that of the bit, which was seen if it came last.
     pub fn showing(&self, bit: u8) -> Self
         requires bit { bit < 8 }
         requires small { W ≤ 2 }
@@ -116,7 +116,7 @@ impl<const W: usize> MaskSet<W> {
         self.below(bit + 1)
     }
 
-    /// The masks with a value greater than that of the bit, which hides it where it is the next one.
+    /// The masks with a value greater than that of the bit, which was hidden if it came last.
     pub fn hiding(&self, bit: u8) -> Self
         requires bit { bit < 8 }
         requires small { W ≤ 2 }
@@ -169,14 +169,14 @@ impl<const W: usize> MaskSet<W> {
         requires { W ≤ length others.now }
         ensures { (m : ℕ) → has_mask result m ≡ (has_mask words.now m && not (has_mask others.now m)) }
     {
-        let mut left = [0; W];
+        let mut rest = [0; W];
         for i in 0..W {
-            left[i] = words[i] & !others[i];
+            rest[i] = words[i] & !others[i];
         }
-        MaskSet { words: left }
+        MaskSet { words: rest }
     }
 
-    /// The masks that lack the bit, with it.
+    /// The masks of the set that lack the bit, with the bit put in.
     pub fn with(&self, bit: u8) -> Self
         requires bit { bit < 5 + W }
         requires small { W ≤ 2 }
@@ -189,7 +189,7 @@ impl<const W: usize> MaskSet<W> {
         }
     }
 
-    // The same for a bit with which masks stay in their words.
+    // `with` for a bit below 6: masks stay in their words.
     fn with_low(&self, bit: u8) -> Self
         requires { bit < 6 }
         ensures { (m : ℕ) → has_mask result m ≡ (has_number m bit && has_mask self.now (m - 2 ^ bit)) }
@@ -203,7 +203,7 @@ impl<const W: usize> MaskSet<W> {
         MaskSet { words }
     }
 
-    // The same for the last bit of a set of two words, with which masks are in the other word.
+    // `with` for bit 6 in a set of two words: masks go from the first word to the second.
     fn with_last(&self) -> Self
         requires { W ≡ 2 }
         ensures { (m : ℕ) → has_mask result m ≡ (has_number m 6 && has_mask self.now (m - 2 ^ 6)) }
@@ -213,7 +213,7 @@ impl<const W: usize> MaskSet<W> {
         MaskSet { words }
     }
 
-    /// The masks that have the bit, without it.
+    /// The masks of the set that have the bit, with the bit taken out.
     pub fn without(&self, bit: u8) -> Self
         requires bit { bit < 5 + W }
         requires small { W ≤ 2 }
@@ -227,7 +227,7 @@ impl<const W: usize> MaskSet<W> {
         }
     }
 
-    // The same for a bit without which masks stay in their words.
+    // `without` for a bit below 6: masks stay in their words.
     fn without_low(&self, bit: u8) -> Self
         requires { bit < 6 }
         ensures { (m : ℕ) → has_mask result m
@@ -242,7 +242,7 @@ impl<const W: usize> MaskSet<W> {
         MaskSet { words }
     }
 
-    // The same for the last bit of a set of two words, without which masks are in the other word.
+    // `without` for bit 6 in a set of two words: masks go from the second word to the first.
     fn without_last(&self) -> Self
         requires { W ≡ 2 }
         ensures { (m : ℕ) → has_mask result m ≡ (not (has_number m 6) && has_mask self.now (m + 2 ^ 6)) }

@@ -8,18 +8,19 @@ use Rattle.towers_game.specs.Laws.SquarePart.{squares_of_letter}
 use Rattle.byte_text.specs.Bytes.{letter_a, letter_z}
 use Rattle.line_steps.proofs.FilledLemmas.{filled_one, filled_run}
 
--- a digit sets one square
+-- a digit fills the next square with its number
 pub digit_filled : (w n place v : ℕ) (xs ys : List ℕ) → ys ≡ set xs place v → IsFilledTo 0 (w * w) place xs → n ≡ w
     → 0 < n * n - place → IsFilledTo 0 (w * w) (place + 1) ys
 digit_filled w n place v xs ys is filled width room =
     let area : n * n ≡ w * w = ap (λ k. k * k) width in
     rw is (filled_one 0 (w * w) place v xs filled (omega arith)).0
 
--- a letter leaves its run of squares at 0
+-- a letter fills its run of squares, which stay 0
 pub letter_filled : (w n place k : ℕ) (xs : List ℕ) → IsFilledTo 0 (w * w) place xs → n ≡ w → k ≤ n * n - place
     → IsFilledTo 0 (w * w) (place + k) xs
 letter_filled w n place k xs filled width fits = grind (arith, nat_tests, filled_run)
 
+-- once a letter is taken, the squares so far end with its blank ones
 pub letter_taken : (w n place byte : ℕ) (xs : List ℕ) → IsFilledTo 0 (w * w) place xs → n ≡ w
     → byte - letter_a + 1 ≤ n * n - place → letter_a ≤ byte → byte ≤ letter_z
     → take (place + (byte - letter_a + 1)) xs ≡ take place xs ++ squares_of byte

@@ -27,9 +27,11 @@ use Rattle.line_steps.specs.declared.reason.Reason.TheVariants.{Bound}
 abbrev pub IsNoGreater : ℕ → List ℕ → Type 0
 IsNoGreater m before = (x : ℕ) → list_all (λ y. ltb y x) before ≡ true → m < x
 
+-- a value is no greater than the greatest of a list that ends with it
 last_no_greater : (before : List ℕ) (m : ℕ) → IsNoGreater m (before ++ m ∷ [])
 last_no_greater before m x tall = grind (arith, nat_tests, list_all-append)
 
+-- a value that is no greater than the greatest of a list is so when the list gets longer
 more_no_greater : (before : List ℕ) (m v : ℕ) → IsNoGreater m before → IsNoGreater m (before ++ v ∷ [])
 more_no_greater before m v h x tall =
     h x (and_parts _ _ (sym (list_all-append (λ y. ltb y x) before (v ∷ [])) ∙ tall)).0
@@ -50,11 +52,12 @@ seen_above n m before (x ∷ line) most h within =
           rw hidden (omega arith)
     ]
 
+-- one tower more, or none, is at most one more
 step_most : (b : Bool) (towers most : ℕ) → towers ≤ most → cond b 1 0 + towers ≤ most + 1
 step_most true towers most h = omega arith
 step_most false towers most h = omega arith
 
--- with one for each value before it, and itself
+-- no more towers are seen than the place of a square, counted from 1, and one for each value above its own
 seen_around : (n j : ℕ) (before line : List ℕ) → All (λ v. v ≤ n) line → j < length line → seen_after before line + get_or line j 0 ≤ n + j + 1
 seen_around n j before [] within inside = absurd (omega arith)
 seen_around n zero before (x ∷ line) within inside =
@@ -66,7 +69,7 @@ seen_around n (suc j) before (x ∷ line) within inside =
 
 -- ---- a square near a clue
 
--- no line that shows so many towers has a greater number near its beginning
+-- no line that shows the clue's towers has in a square near the clue a number that is too great for it there
 pub low_unfilled : (w place clue j value : ℕ) → j < w → w + j + 1 < value + clue → IsUnfilled w Anything place clue (view_cell w place j) value
 low_unfilled w place clue j value near high = record {
   index = j;
@@ -79,7 +82,7 @@ low_unfilled w place clue j value near high = record {
       omega (arith, high, same, filling.shown, seen_around w j [] line within (omega (arith, near, filling.whole)));
 }
 
--- what is too great for a clue in the k-th square from it, counted from 1, is struck by the clue alone
+-- taking away the numbers too great for a clue in the k-th square from it, counted from 1, is a chain of Easy
 pub low_leads : (v : TowersValue) (place clue k most all low high cell : ℕ) (a b : CandidatesValue) → a.size ≡ v.size → place < 4 * a.size
     → clue ≡ clue_of v place → 0 < k → k < clue → clue ≤ a.size → most + clue ≡ a.size + k → cell ≡ view_cell a.size place (k - 1)
     → ((n : ℕ) → has_number low n ≡ (nat_le 1 n && nat_le n most)) → ((n : ℕ) → has_number high n ≡ (has_number all n && not (has_number low n)))

@@ -1,4 +1,4 @@
--- What stands alone in one set of a row is no filling's value in another place, so what is kept of the reduced row is kept of the row.
+-- A row without numbers that stand alone in other sets has the same fillings, so the same is kept of it.
 use Rattle.std.proofs.lemmas.Bool.Decides.{nat_tests}
 use Rattle.std.proofs.Common.{◌≡◌, ◌≢◌, ◌↔◌, ℕ, ◌<◌, ◌≤◌, true, List, length, take, slice_index, sym, ◌∙◌, subst, arith}
 use Rattle.std.proofs.lemmas.Bool.{true_from_ne_false}
@@ -14,19 +14,20 @@ never_elsewhere : (sets line : List ℕ) (clue k j : ℕ) → IsFilling sets clu
     → IsSingle (slice_index sets j) (slice_index line k) → ⊥
 never_elsewhere sets line clue k j f inside other_inside other single = grind (arith, nat_tests)
 
+-- a single number of one of a row's first sets is single among these
 single_taken : (width j v : ℕ) (sets : List ℕ) → j < width → IsSingle (slice_index sets j) v → IsSingle (slice_index (take width sets) j) v
 single_taken width j v sets low single = subst (λ (set : ℕ). IsSingle set v) (sym (get_or-take width sets j 0 low)) single
 
--- what is alone in a set is in none of those that are empty
+-- a set with a single number is one of the first, if all sets past the width are empty
 not_past : (width j v : ℕ) (sets : List ℕ) → ((k : ℕ) → width ≤ k → IsEmpty (slice_index sets k)) → IsSingle (slice_index sets j) v → j < width
 not_past width j v sets empty single = grind (arith, nat_tests)
 
--- where a set is left without numbers that stand alone, these stand alone elsewhere
+-- a set without some numbers that stand alone is a reduced set: they stand alone in other sets
 pub reduced_set : (width : ℕ) (sets : List ℕ) (k lone rest : ℕ) → ((n : ℕ) → (has_number lone n ≡ true) ↔ IsLone width sets n)
     → IsWithout (slice_index sets k) lone rest → IsReducedSet width sets k rest
 reduced_set width sets k lone rest is without = grind (arith, nat_tests)
 
--- of the row without what stands alone elsewhere the same is kept
+-- the same is kept of a row as of that row without numbers that stand alone elsewhere
 pub kept_reduced : (width clue : ℕ) (sets row kept : List ℕ) → IsReduced 9 sets row → width ≤ 9 → length sets ≡ 9
     → ((k : ℕ) → width ≤ k → IsEmpty (slice_index sets k)) → AreKept (take width row) clue kept → AreKept (take width sets) clue kept
 kept_reduced width clue sets row kept reduced small count empty stays =

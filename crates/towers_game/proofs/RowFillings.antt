@@ -11,6 +11,7 @@ pub record HaveFillings (clue : ℕ) (from onto : List ℕ) : Type 0 where
   pub count : length from ≡ length onto
   pub each : (line : List ℕ) → IsFilling from clue line → (k : ℕ) → k < length onto → has_number (slice_index onto k) (slice_index line k) ≡ true
 
+-- a value that is supported by one row is supported by a row that has its fillings
 supported_too : (clue place value : ℕ) (from onto : List ℕ) → HaveFillings clue from onto → IsSupported from clue place value
     → IsSupported onto clue place value
 supported_too clue place value from onto have s = grind (arith, nat_tests)

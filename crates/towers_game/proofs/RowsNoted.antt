@@ -1,4 +1,4 @@
--- What is known of no rows, and of one more.
+-- What the cache knows of rows: of none at first, and then of one more.
 use Rattle.std.proofs.lemmas.Bool.Decides.{nat_tests}
 use Rattle.std.proofs.Common.{◌≡◌, ℕ, ◌<◌, ◌≤◌, false, [], List, length, replicate, set, take, slice_index, slice_index_or, refl, sym, ◌∙◌, subst, arith}
 use Rattle.std.proofs.lemmas.Bool.{both_ways}
@@ -10,10 +10,11 @@ use Rattle.towers_game.specs.Inner.RowCache.{IsCached, AreCached}
 use Rattle.towers_game.specs.Inner.RowSets.{AreKept, AreWithin}
 use Rattle.towers_game.proofs.RowFillings.{HaveFillings, kept_of_both, has_taken}
 
+-- no set of a row of empty sets has a number
 nothing_has : (k value : ℕ) → has_number (slice_index (replicate 9 0) k) value ≡ false
 nothing_has k value = grind (arith, nat_tests, get_or-replicate, has_number-none, get_or_past, length-replicate)
 
--- a row of no squares has no fillings' values
+-- a cache that has a row of no squares in each slot, with nothing kept of it, is right
 pub none_known : AreCached (replicate SLOTS 0) (replicate SLOTS 0) (replicate SLOTS (replicate 9 0)) (replicate SLOTS (replicate 9 0))
 none_known = record {
   each = λ place low.
@@ -33,14 +34,14 @@ none_known = record {
       (subst (λ (found : List ℕ). IsCached 0 (slice_index widths place) (slice_index_or rows place []) found) (sym kept) none);
 }
 
--- the row of one slot is another one, of which this is kept
+-- a cache stays right when one slot gets another row, and what is kept of that row
 pub one_known : (widths clues : List ℕ) (sets kept : List (List ℕ)) (place width clue : ℕ) (row found : List ℕ)
     → length widths ≡ SLOTS → length clues ≡ SLOTS → length sets ≡ SLOTS → length kept ≡ SLOTS → place < SLOTS → AreCached widths clues sets kept → IsCached width clue row found
     → AreCached (set widths place width) (set clues place clue) (set sets place row) (set kept place found)
 one_known widths clues sets kept place width clue row found ws cs ss ks low known new =
     grind (arith, nat_tests, get_or-set_same, get_or-set_other)
 
--- of a row between what is known and what is kept of it the same is kept
+-- if a row is within a known row, and all that is kept of that is within it, the same is kept of both
 pub kept_between : (width clue : ℕ) (sets kept row : List ℕ) → IsCached width clue sets kept → width ≤ 9 → length row ≡ 9
     → AreWithin kept row → AreWithin row sets → AreKept (take width row) clue kept
 kept_between width clue sets kept row known small count low high =

@@ -14,6 +14,7 @@ pub record IsSettled (sets : List ℕ) (n used : ℕ) (line : List ℕ) : Type 0
   pub in_used : (k : ℕ) → k < n → has_number used (slice_index line k) ≡ true
   pub apart : (i j : ℕ) → i < j → j < n → slice_index line i ≢ slice_index line j
 
+-- if the next set has a single value that none before has, the line is settled one square further
 pub settled_more : (sets line : List ℕ) (n used more v : ℕ) → IsSettled sets n used line → n < 9 → IsSingle (slice_index sets n) v
     → (IsShared used (slice_index sets n) → ⊥) → ((u : ℕ) → has_number more u ≡ (has_number used u || has_number (slice_index sets n) u))
     → IsSettled sets (n + 1) more (set line n v)

@@ -19,12 +19,12 @@ use Rattle.line_steps.proofs.FilledLemmas.{row_next}
 use Rattle.towers_game.proofs.Supports.{unfilled_tested}
 use Rattle.line_steps.proofs.GivenSets.{up_to_pair}
 
--- any value may stand in each square
+-- a row of full sets has what may stand in the squares from a place, where anything may
 pub full_may : (c : CandidatesValue) (place all : ℕ) (row : List ℕ) → place < 4 * c.size → ((v : ℕ) → has_number all v ≡ (nat_le 1 v && nat_le v c.size))
     → AreFull all c.size row → AreMaySets c.size Anything place c.size row
 full_may c place all row inside members full = grind (arith, nat_tests, up_to_pair, view_inside)
 
--- what stands in an empty set's square is none
+-- nothing stands in a square of which nothing is left
 standing_none : (all left set : ℕ) → IsStandingSet all left set → IsEmpty left → IsEmpty set
 standing_none all left set is none v = false_from_ne_true (has_number set v) (λ has.
     let no : (n : ℕ) → has_number left n ≡ true → ⊥ = λ n there. both_ways (has_number left n) (none n) there in
@@ -33,7 +33,7 @@ standing_none all left set is none v = false_from_ne_true (has_number set v) (λ
     let one : v ≡ 1 = h.1 1 (λ n there. absurd (no n there)) in
     omega (arith, zero, one))
 
--- what stands in one square more
+-- when the k-th set is put in, the first k + 1 sets of the row have what may stand in their squares
 pub standing_next : (all k value : ℕ) (left row : List ℕ) → k < 9 → IsStandingSet all (slice_index left k) value → AreStandingSets all left k row
     → AreStandingSets all left (k + 1) (set row k value)
 standing_next all k value left row low here before = record {
@@ -41,7 +41,7 @@ standing_next all k value left row low here before = record {
   each = row_next (λ j n. IsStandingSet all (slice_index left j) n) row k value before.count low here before.each;
 }
 
--- what stands in each square may stand there
+-- a row of standing sets has what may stand in the squares from a place, where lone values stand
 pub standing_may : (c : CandidatesValue) (place all : ℕ) (left row : List ℕ) → c.size ≤ 9 → place < 4 * c.size
     → ((v : ℕ) → has_number all v ≡ (nat_le 1 v && nat_le v c.size)) → AreMaySets c.size (IsLeft c) place c.size left → AreStandingSets all left 9 row
     → AreMaySets c.size (Standing c) place c.size row
@@ -65,7 +65,7 @@ standing_may c place all left row small inside members are standing = record {
   ];
 }
 
--- what isn't kept of the numbers of the size is what is struck, in each square from a place
+-- in each square from a place, the values of the size that aren't kept are those that are struck
 row_struck : (w place clue : ℕ) (May : ℕ → ℕ → Type 0) (sets kept row : List ℕ) → w ≤ 9 → place < 4 * w → AreMaySets w May place w sets
     → AreKept (take w sets) clue kept → AreMissing w kept 9 row → AreStruckFrom w (IsUnfilled w May place clue) place w row
 row_struck w place clue May sets kept row small inside are kept_is missing = record {
@@ -85,7 +85,7 @@ row_struck w place clue May sets kept row small inside are kept_is missing = rec
       );
 }
 
--- the same where the width is known by another name
+-- in each square from a place, the values that aren't kept are struck, if the sets' width is that of the grid
 pub row_struck_at : (w width place clue : ℕ) (May : ℕ → ℕ → Type 0) (sets kept row : List ℕ) → width ≡ w → w ≤ 9 → place < 4 * w
     → AreMaySets w May place w sets → AreKept (take width sets) clue kept → AreMissing width kept 9 row
     → AreStruckFrom w (IsUnfilled w May place clue) place w row

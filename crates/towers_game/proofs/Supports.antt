@@ -1,4 +1,4 @@
--- A value is in no filling by what may stand exactly where no filling by the sets of that supports it.
+-- A value is in no filling from a place exactly where the sets of what may stand there don't support it.
 use Rattle.std.proofs.lemmas.Bool.Decides.{nat_tests}
 use Rattle.std.proofs.Common.{◌≡◌, ◌↔◌, ℕ, ◌*◌, ◌<◌, ◌≤◌, true, false, List, length, take, slice_index, sym, ap, ◌∙◌, arith, Bool}
 use Rattle.std.proofs.lemmas.Bool.{both_ways, false_from_ne_true, true_from_ne_false}
@@ -18,13 +18,16 @@ record IsRow (w : ℕ) (May : ℕ → ℕ → Type 0) (place : ℕ) (row : List 
   count : length row ≡ w
   each : (k v : ℕ) → k < w → (has_number (slice_index row k) v ≡ true) ↔ (IsPair w (view_cell w place k) v × May (view_cell w place k) v)
 
+-- the first w sets of what may stand are a row of the line's squares
 row_of_sets : (w : ℕ) (May : ℕ → ℕ → Type 0) (place : ℕ) (sets : List ℕ) → w ≤ 9 → AreMaySets w May place w sets → IsRow w May place (take w sets)
 row_of_sets w May place sets small h = grind (arith, nat_tests, length-take-le, get_or-take)
 
+-- a filling by what may stand is a filling of the row
 to_sets : (w : ℕ) (May : ℕ → ℕ → Type 0) (place clue : ℕ) (row line : List ℕ) → IsRow w May place row → IsFillingFrom w May place clue line
     → IsFilling row clue line
 to_sets w May place clue row line r f = grind (arith, nat_tests)
 
+-- a filling of the row is a filling by what may stand
 from_sets : (w : ℕ) (May : ℕ → ℕ → Type 0) (place clue : ℕ) (row line : List ℕ) → IsRow w May place row → IsFilling row clue line
     → IsFillingFrom w May place clue line
 from_sets w May place clue row line r f =
@@ -39,7 +42,7 @@ from_sets w May place clue row line r f =
       shown = f.shown;
     }
 
--- what is supported in the k-th square is what a line by what may stand has there
+-- a value is supported in the k-th square exactly if some filling from the place has it there
 pub filled_supported : (w : ℕ) (May : ℕ → ℕ → Type 0) (place clue k v : ℕ) (sets : List ℕ) → w ≤ 9 → k < w → AreMaySets w May place w sets
     → IsSupported (take w sets) clue k v ↔ ((line : List ℕ) × IsFillingFrom w May place clue line × (slice_index line k ≡ v))
 filled_supported w May place clue k v sets small low are =
@@ -53,7 +56,7 @@ filled_supported w May place clue k v sets small low are =
       },
     )
 
--- what is supported in the k-th square is what isn't struck there
+-- a value isn't kept in the k-th square exactly if no filling from the place has it there
 pub unfilled_tested : (w : ℕ) (May : ℕ → ℕ → Type 0) (place clue cell k v : ℕ) (sets kept : List ℕ) → w ≤ 9 → place < 4 * w → k < w
     → view_cell w place k ≡ cell → AreMaySets w May place w sets
     → ((place value : ℕ) → (has_number (slice_index kept place) value ≡ true) ↔ IsSupported (take w sets) clue place value)
@@ -77,7 +80,7 @@ unfilled_tested w May place clue cell k v sets kept small place_in low here are 
           h.none s.line (from_sets w May place clue (take w sets) s.line r s.filling) (ap (slice_index s.line) one ∙ s.here)),
     )
 
--- each set is within the other where no number is beyond, and otherwise not
+-- each set of a row is within that of another exactly if there is no number beyond
 pub within_test : (result : Bool) (some all : List ℕ) (beyond : ℕ) → ((n : ℕ) → (has_number beyond n ≡ true) ↔ IsBeyond 9 some all n)
     → MatchBool result (IsEmpty beyond) ((n : ℕ) × (has_number beyond n ≡ true)) → MatchBool result (AreWithin some all) (AreWithin some all → ⊥)
 within_test result some all beyond is none = grind (arith, nat_tests, true_from_ne_false)

@@ -10,7 +10,7 @@ use Rattle.trail_solver.proofs.KeptItems.{entry-kept}
 use Rattle.trail_solver.proofs.ItemsLost.{kept-before}
 use Rattle.line_steps.proofs.GivenDenied.{given_denied}
 
--- a Towers puzzle without an item, of which a given went from the candidates
+-- dropping an item denies it, if its number, in case it is a given, went from its square's candidates
 pub towers_denied : (v : TowersValue) (i : ℕ) (old new : CandidatesValue) → IsTowers v
     → KeepsEach (λ g. 4 * v.size ≤ i → number_at g (i - 4 * v.size) ≢ slice_index v.givens (i - 4 * v.size)) old new
     → Denies (towers_puzzle v) (towers_puzzle (cut_towers v (λ j. not (j == i)))) (towers_puzzle (cut_towers v (λ j. not (j == i)))) old new

@@ -7,7 +7,7 @@ use Rattle.towers_game.specs.Towers.{TowersValue, clue_of}
 use Rattle.towers_game.specs.Fillings.{IsUnfilled}
 use Rattle.towers_game.specs.TowersReasons.{IsByClue}
 
--- what is in no filling by the clue that stands there is what the clue strikes
+-- the clue of a place strikes just the values that no filling from there has
 pub clue_struck : (p : TowersValue) (w : ℕ) (May : ℕ → ℕ → Type 0) (place clue cell result v : ℕ) → w ≡ p.size → place < 4 * w
     → clue ≡ clue_of p place → clue ≢ 0 → (has_number result v ≡ true) ↔ (IsPair w cell v × IsUnfilled w May place clue cell v)
     → (has_number result v ≡ true) ↔ (IsPair w cell v × IsByClue p May place cell v)

@@ -17,30 +17,34 @@ use Rattle.trail_solver.proofs.ItemsLost.{item_emptied, given_emptied}
 abbrev pub HasClues : GridValue → ℕ → List ℕ → Type 0
 HasClues g n clues = IsFilledBy zero 36 (λ place. seen (line_from g place)) n clues
 
+-- the clues of a grid, with its numbers as givens, are those of a Towers puzzle
 pub full_kept : (g : GridValue) (clues : List ℕ) → IsGrid g → HasClues g (4 * g.size) clues → KeepsTowers clues g
 full_kept g clues is_grid h = grind (arith, nat_tests, full_valid)
 
+-- setting a clue to 0 cuts its item out of the puzzle
 pub clue_dropped : (givens : GridValue) (clues : List ℕ) (i : ℕ) → i < 4 * givens.size
     → towers_value (set clues i 0) givens ≡ cut_towers (towers_value clues givens) (λ j. not (j == i))
 clue_dropped givens clues i inside = grind (arith, nat_tests, item_emptied)
 
+-- setting a given to 0 cuts its item out of the puzzle
 pub given_dropped : (old new : GridValue) (clues : List ℕ) (i k : ℕ) → 4 * old.size + k ≡ i → new.size ≡ old.size
     → new.numbers ≡ set old.numbers k 0
     → towers_value clues new ≡ cut_towers (towers_value clues old) (λ j. not (j == i))
 given_dropped old new clues i k e size numbers = grind (arith, nat_tests, given_emptied)
 
--- another clue at a place
+-- setting an entry of the table puts that clue at its place in the puzzle
 pub clue_put : (givens : GridValue) (clues : List ℕ) (place n : ℕ) → place < 4 * givens.size
     → towers_value (set clues place n) givens ≡ with_clue (towers_value clues givens) place n
 clue_put givens clues place n inside = rw (take-set-lt (4 * givens.size) clues place n inside) refl
 
--- no clue and no given
+-- an empty table of clues and a blank grid stand for the blank puzzle
 pub blank_value : (w : ℕ) (clues : List ℕ) (givens : GridValue) → clues ≡ replicate 36 0 → givens ≡ blank_grid w → IsGrid givens
     → towers_value clues givens ≡ blank_towers w
 blank_value w clues givens none blank is_grid =
     let large : w ≤ 9 = subst (λ (g : GridValue). g.size ≤ 9) blank is_grid.largest in
     rw (none, blank, take-replicate (4 * w) 36 zero (omega (arith, large))) refl
 
+-- an empty table of clues, with any givens, is that of a Towers puzzle
 pub blank_kept : (clues : List ℕ) (givens : GridValue) → clues ≡ replicate 36 0 → IsGrid givens → KeepsTowers clues givens
 blank_kept clues givens none is_grid =
     let w = givens.size in

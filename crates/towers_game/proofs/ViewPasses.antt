@@ -27,11 +27,11 @@ use Rattle.towers_game.specs.declared.towers.clue_rows.Look.{Look}
 use Rattle.towers_game.specs.declared.towers.clue_rows.Look.TheVariants.{Alone, Stands, Marks}
 use Rattle.line_steps.proofs.LineEnds.{ends}
 
--- the place of a square in the row from a place, and back
+-- turning an index from a place into one of its line, twice in turn, gives back the index
 view_index_twice : (w place k : ℕ) → k < w → view_index w place (view_index w place k) ≡ k
 view_index_twice w place k low = grind (arith, nat_tests)
 
--- the values that are in no filling, square by square along the line
+-- taking the struck values away in the order of the line takes those that are in no filling from the place
 pub view_taken : (May : ℕ → ℕ → Type 0) (line place clue : ℕ) (row along : List ℕ) (a b : CandidatesValue) → view_line a.size place ≡ line
     → AreStruckFrom a.size (IsUnfilled a.size May place clue) place a.size row → IsAlong a.size place row a.size along
     → Takes (λ cell v. (k : ℕ) × (k < a.size) × (cell ≡ line_cell a.size line k) × (has_number (slice_index along k) v ≡ true)) a b
@@ -56,15 +56,17 @@ view_taken May line place clue row along a b on r is t =
     let set : slice_index along k ≡ slice_index row h.index = is.each k low ∙ ap (slice_index row) (view_index_twice w place h.index h.inside) in
     (k, low, sym h.here ∙ at h.index, subst (λ (n : ℕ). has_number n v ≡ true) (sym set) has)) t
 
--- the reason by which a clue is looked at so
+-- the reason that looks at the clue of a place in this way
 abbrev look_reason : Look → ℕ → Reason
 look_reason Alone place = Bound place
 look_reason Stands place = Stand place
 look_reason Marks place = Clue place
 
+-- the reason of a look is of its grade
 look_has : (look : Look) (place : ℕ) → has_reason (look_grade look) (look_reason look place) ≡ true
 look_has look place = grind (arith, nat_tests)
 
+-- a value that the clue of a place strikes in one way to look at it is struck by the reason of that look
 look_struck : (v : TowersValue) (look : Look) (c : CandidatesValue) (place cell value : ℕ) → IsByClue v (May look c) place cell value
     → IsTowersStruckBy v c (look_reason look place) cell value
 look_struck v Alone c place cell value h =
@@ -74,7 +76,7 @@ look_struck v Stands c place cell value h =
 look_struck v Marks c place cell value h =
     record { place_is = h.place_is; clued = h.clued; unfilled = h.unfilled }
 
--- what is taken away from a place a clue strikes, and it strikes nothing more where all stays along its line
+-- taking away the values that are in no filling from a place is a chain of its clue's reason
 pub view_leads : (v : TowersValue) (look : Look) (place clue : ℕ) (a b : CandidatesValue) → a.size ≡ v.size → place < 4 * a.size → clue ≡ clue_of v place
     → clue ≢ 0 → Takes (λ cell x. IsUnfilled a.size (May look a) place clue cell x) a b → LeadsTo (IsTowersStruckBy v) (look_grade look) a b
 view_leads v look place clue a b size place_in is some t =
@@ -90,6 +92,7 @@ view_leads v look place clue a b size place_in is some t =
       }),
     ))
 
+-- once the values in no filling are gone, the clue strikes nothing that is left, if all stayed on its line
 pub view_calm : (v : TowersValue) (look : Look) (line place clue : ℕ) (a b : CandidatesValue) → a.size ≡ v.size → place < 4 * a.size
     → view_line a.size place ≡ line → clue ≡ clue_of v place → Takes (λ cell x. IsUnfilled a.size (May look a) place clue cell x) a b → StaysOn line a b
     → IsViewQuiet v look place b

@@ -10,7 +10,7 @@ use Rattle.line_steps.specs.Left.{HasNoOther}
 abbrev pub Anything : ℕ → ℕ → Type 0
 Anything cell value = Unit {0}
 
--- where nothing but one value is left of a square that value may stand there, and anything elsewhere
+-- where one value alone is left of a square, only that may stand there; where several are left, any value may
 abbrev pub Standing : CandidatesValue → ℕ → ℕ → Type 0
 Standing c cell value = (alone : ℕ) → HasNoOther c cell alone → value ≡ alone
 
@@ -23,7 +23,7 @@ pub record IsFillingFrom (w : ℕ) (May : ℕ → ℕ → Type 0) (place clue : 
   pub apart : (i j : ℕ) → i < j → j < w → slice_index line i ≢ slice_index line j
   pub shown : seen line ≡ clue
 
--- the square is one of those from the place, and no such line has the value there
+-- the square is one of those from the place, and no line that shows the clue's towers has the value there
 pub record IsUnfilled (w : ℕ) (May : ℕ → ℕ → Type 0) (place clue cell value : ℕ) : Type 0 where
   pub index : ℕ
   pub inside : index < w

@@ -21,13 +21,13 @@ May Marks c cell value = IsLeft c cell value
 abbrev pub IsMaySet : ℕ → (ℕ → ℕ → Type 0) → ℕ → ℕ → Type 0
 IsMaySet w May cell set = (v : ℕ) → (has_number set v ≡ true) ↔ (IsPair w cell v × May cell v)
 
--- the first n sets are those of the first n squares from a place, and the others are empty
+-- the k-th of the first n sets has what may stand in the k-th square from a place, and the others are empty
 pub record AreMaySets (w : ℕ) (May : ℕ → ℕ → Type 0) (place n : ℕ) (sets : List ℕ) : Type 0 where
   pub count : length sets ≡ 9
   pub each : (k : ℕ) → k < n → IsMaySet w May (view_cell w place k) (slice_index sets k)
   pub rest : (k : ℕ) → n ≤ k → IsEmpty (slice_index sets k)
 
--- the least grade that has it
+-- the least grade that looks at clues so
 abbrev pub look_grade : Look → Grade
 look_grade Alone = Easy
 look_grade Stands = Easy

@@ -9,7 +9,7 @@ use Rattle.line_steps.specs.Struck.{IsNarrowed}
 use Rattle.line_steps.specs.declared.reason.Reason.{Reason}
 use Rattle.line_steps.specs.declared.reason.Reason.TheVariants.{Bound, Stand, Clue}
 
--- the line from a clued place shows the clue in no way with the value there, by what may stand in its squares
+-- the place has a clue, and no line from it that shows the clue, by what may stand in it, has the value there
 pub record IsByClue (v : TowersValue) (May : ℕ → ℕ → Type 0) (place cell value : ℕ) : Type 0 where
   pub place_is : place < 4 * v.size
   pub clued : 0 < clue_of v place
@@ -26,6 +26,6 @@ IsTowersOwn v c reason cell value = ⊥
 abbrev pub IsTowersStruckBy : TowersValue → Striking
 IsTowersStruckBy v = AllStrikes (towers_puzzle v) (IsTowersOwn v)
 
--- what a Towers puzzle rules out
+-- narrowing a Towers puzzle rules the value out
 abbrev pub IsTowersStruck : TowersValue → CandidatesValue → ℕ → ℕ → Type 0
 IsTowersStruck v = IsNarrowed (IsTowersStruckBy v)

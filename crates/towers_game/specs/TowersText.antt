@@ -1,7 +1,6 @@
 -- The descriptions of Towers puzzles: the grammar, the written form, and reading one.
 use Rattle.std.specs.Prelude.{◌≡◌, ℕ, ◌+◌, ◌-◌, ◌*◌, ◌/◌, ◌%◌, ◌≤◌, ◌⊎◌, Bool, true, false, ◌==◌, ◌&&◌, not}
-use Rattle.std.specs.Prelude.{if◌then◌else◌, List, [], ◌∷◌, ◌++◌, map, replicate, ◌||◌, nat_le, Option, Some, None}
-use Rattle.std.specs.Prelude.{Result, Ok, Err}
+use Rattle.std.specs.Prelude.{if◌then◌else◌, List, [], ◌∷◌, ◌++◌, map, replicate, ◌||◌, nat_le, Option, Some, None, Result, Ok, Err}
 use Rattle.std.specs.List.{join_with_byte, list_any, slice_split, list_all, flat_map}
 use Rattle.byte_text.specs.Decimals.{begins_digit, is_digit}
 use Rattle.towers_game.specs.Towers.{TowersValue, IsTowers}
@@ -24,8 +23,8 @@ clue_part clues = join_with_byte slash (map clue_field clues)
 abbrev pub blanks_of : ℕ → ℕ
 blanks_of b = b + 1 - letter_a
 
--- The text says the squares: a letter is a run of 1 to 26 blank ones, a digit that ends its run of digits is a given,
--- and `_` is nothing.
+-- the text says the squares: a letter is a run of 1 to 26 blank ones, a digit that ends its run of digits is
+-- a given, and `_` is nothing
 abbrev pub IsSquareText : ℕ → List ℕ → List ℕ → Type 0
 IsSquareText w [] squares = squares ≡ []
 IsSquareText w (b ∷ bs) squares =
@@ -35,13 +34,13 @@ IsSquareText w (b ∷ bs) squares =
     ⊎ ((digit_zero + 1 ≤ b) × (b ≤ digit_zero + w) × (begins_digit bs ≡ false)
     × ((more : List ℕ) × (squares ≡ (b - digit_zero) ∷ more) × IsSquareText w bs more))
 
--- The text is this front, and no square is given, or the front and after a `,` the squares.
+-- the text is this front, and no square is given, or the front and after a `,` the squares
 abbrev pub SaysSquares : ℕ → List ℕ → List ℕ → List ℕ → Type 0
 SaysSquares w text front squares =
     ((text ≡ front) × (squares ≡ replicate (w * w) 0))
     ⊎ ((part : List ℕ) × (text ≡ front ++ comma ∷ part) × IsSquareText w part squares)
 
--- The text describes the puzzle: the clues, and after them the squares, if any is given.
+-- the text describes the puzzle: the clues, and after them the squares, if any is given
 pub record IsTowersText (v : TowersValue) (text : List ℕ) : Type 0 where
   pub puzzle : IsTowers v
   pub parts : SaysSquares v.size text (clue_part v.clues) v.givens
@@ -71,7 +70,7 @@ square_part givens =
 abbrev pub towers_text : TowersValue → List ℕ
 towers_text v = clue_part v.clues ++ square_part v.givens
 
--- what slashes separate
+-- the fields of a clue part, which slashes separate
 abbrev pub fields : List ℕ → List (List ℕ)
 fields part = slice_split (λ b. b == slash) part
 
@@ -86,7 +85,7 @@ abbrev pub clue_in : List ℕ → ℕ
 clue_in [] = 0
 clue_in (b ∷ bs) = b - digit_zero
 
--- the clues that fields say, where each is one
+-- the clues that the fields say, or a fault where one of them says none
 abbrev pub clues_in : ℕ → List (List ℕ) → Result (List ℕ) IdFault
 clues_in w fs = if list_all (is_clue_field w) fs then Ok (map clue_in fs) else Err BadClue
 
@@ -118,7 +117,7 @@ squares_of b =
 unfoldable pub givens_at : ℕ → List ℕ → Result (List ℕ) IdFault
 givens_at w part = if is_square_part w part then exactly (w * w) (flat_map squares_of part) else Err BadSquares
 
--- the givens of a description that may lack that part: without it no square is given
+-- the givens of a description, which may lack the part after the comma: without it no square is given
 abbrev pub givens_behind : ℕ → Option (List ℕ) → Result (List ℕ) IdFault
 givens_behind w None = Ok (replicate (w * w) 0)
 givens_behind w (Some part) = givens_at w part

@@ -1,6 +1,7 @@
 -- The fields of `Candidates` agree as pairs go and come back.
-use Rattle.std.proofs.Common.{◌≡◌, ℕ, ◌*◌, ◌^◌, ◌<◌, ◌≤◌, eqb, leb, cond, Bool, true, false, not, ◌&&◌, ◌||◌, List, [], ◌++◌, length, replicate, refl, sym, ap, ◌∙◌, subst, inl, inr, le-leb, arith}
-use Rattle.std.proofs.lemmas.Bool.{false≢true, and_from, and_parts, cases_Bool, eq-eqb, eqb-true, or_cases, or_left, or_right}
+use Rattle.std.proofs.lemmas.Bool.Decides.{nat_tests}
+use Rattle.std.proofs.Common.{◌≡◌, ℕ, ◌*◌, ◌^◌, ◌<◌, ◌≤◌, eqb, leb, cond, Bool, true, false, not, ◌&&◌, ◌||◌, List, [], ◌++◌, length, replicate, refl, sym, ap, ◌∙◌, le-leb, arith}
+use Rattle.std.proofs.lemmas.Bool.{false≢true, and_from, and_parts, cases_Bool, eq-eqb, or_left, or_right}
 use Rattle.std.proofs.Math.Bool.{and-true, or-false}
 use Rattle.std.proofs.lemmas.List.{get_or-replicate}
 use Rattle.std.proofs.lemmas.List.Folds.{list_any-append}
@@ -18,11 +19,11 @@ use Rattle.trail_solver.proofs.SetPairs.{has_pair-pairs_of, apart_pairs}
 pub squares_fit : (w : ℕ) → w ≤ 9 → w * w ≤ CELLS
 squares_fit w high = mul-le w w 9 9 high high
 
--- and at most `PAIRS` pairs
+-- a grid of the size has at most `PAIRS` pairs of a square and a value
 pub pairs_fit : (w : ℕ) → w ≤ 9 → w * w * w ≤ PAIRS
 pairs_fit w high = mul-le (w * w) w CELLS 9 (squares_fit w high) high
 
--- at the start no pair has gone
+-- the sets of all values agree with the empty trail
 pub agrees_at_start : (w : ℕ) → 3 ≤ w → w ≤ 9 → AgreesWithTrail w (replicate CELLS (numbers_to w)) []
 agrees_at_start w low high = record {
   smallest = low;
@@ -39,61 +40,43 @@ agrees_at_start w low high = record {
 
 -- ---- pairs go and come back
 
--- the pairs of a set at the end of a list
+-- a list followed by a cell's pairs of a set has the pairs that it had, and these
 has_pair-after : (ps : List (ℕ × ℕ)) (cell set c v : ℕ) → set < 2 ^ 16
     → has_pair (ps ++ pairs_of cell set) c v ≡ (has_pair ps c v || (eqb c cell && has_number set v))
 has_pair-after ps cell set c v small =
     list_any-append (same_pair c v) ps (pairs_of cell set) ∙ ap (λ b. has_pair ps c v || b) (has_pair-pairs_of cell set c v small)
 
--- a test turned over where s says so: twice is nothing
+-- b, or its opposite where s is true
 abbrev turned_where : Bool → Bool → Bool
 turned_where s b = cond s (not b) b
 
+-- to turn a test over twice changes nothing
 turned_back : (s a b : Bool) → a ≡ turned_where s b → b ≡ turned_where s a
-turned_back true a b is = rw is (sym (not_not b))
-  where
-    not_not : (c : Bool) → not (not c) ≡ c
-    not_not true = refl
-    not_not false = refl
-turned_back false a b is = sym is
+turned_back s a b is = grind (arith, nat_tests)
 
--- a value is turned over as its pair goes or comes back, if its value is one of the size's
+-- for a value of the size, to turn over whether it is left is to turn over whether its pair is gone
 turned_value : (s r gone : Bool) → (s ≡ true → r ≡ true) → turned_where s (r && not gone) ≡ (r && not (turned_where s gone))
 turned_value true r gone in_range = rw (in_range refl) refl
 turned_value false r gone in_range = refl
 
--- where the cell's pairs of a set go that aren't in the trail, they alone are then in the trail where they weren't
+-- a trail that gets a cell's pairs of a set, none of which it had, differs in these pairs alone
 turned_by_set : (trail : List (ℕ × ℕ)) (cell set : ℕ) → set < 2 ^ 16 → ((v : ℕ) → has_number set v ≡ true → has_pair trail cell v ≡ false)
     → (c v : ℕ) → has_pair (trail ++ pairs_of cell set) c v ≡ turned_where (eqb c cell && has_number set v) (has_pair trail c v)
-turned_by_set trail cell set small absent c v =
-    has_pair-after trail cell set c v small ∙ elim (cases_Bool (eqb c cell && has_number set v)) [
-      | inl same ↦
-          let p = and_parts (eqb c cell) (has_number set v) same in
-          let P : ℕ → Type 0 = λ k. has_pair trail k v ≡ false in
-          let here : has_pair trail c v ≡ false = subst P (sym (eqb-true c cell p.0)) (absent v p.1) in
-          rw (here, same) refl
-      | inr other ↦ rw other (or-false (has_pair trail c v))
-    ]
+turned_by_set trail cell set small absent c v = grind (arith, nat_tests, has_pair-after, cases_Bool, or-false)
 
--- a list of the size's pairs with more of them
+-- a list of the size's pairs, followed by a cell's pairs of a set that are of the size, has only such pairs
 more_in_range : (w : ℕ) (trail : List (ℕ × ℕ)) (cell set : ℕ) → set < 2 ^ 16 → ((c v : ℕ) → has_pair trail c v ≡ true → IsPair w c v)
     → ((v : ℕ) → has_number set v ≡ true → IsPair w cell v) → (c v : ℕ) → has_pair (trail ++ pairs_of cell set) c v ≡ true → IsPair w c v
-more_in_range w trail cell set small k each c v h =
-    elim (or_cases (has_pair trail c v) (eqb c cell && has_number set v) (sym (has_pair-after trail cell set c v small) ∙ h)) [
-      | inl before ↦ k c v before
-      | inr is ↦
-          let p = and_parts (eqb c cell) (has_number set v) is in
-          subst (λ (i : ℕ). IsPair w i v) (sym (eqb-true c cell p.0)) (each v p.1)
-    ]
+more_in_range w trail cell set small k each c v h = grind (arith, nat_tests, has_pair-after)
 
--- what a new trail owes the old one, if they differ in the cell's pairs of a set alone
+-- the new trail has pairs of the size, none twice, and differs from the old one in a cell's pairs of a set
 record DiffersBySet (w : ℕ) (trail next : List (ℕ × ℕ)) (cell set : ℕ) : Type 0 where
   pub each : (v : ℕ) → has_number set v ≡ true → IsPair w cell v
   pub turned : (c v : ℕ) → has_pair next c v ≡ turned_where (eqb c cell && has_number set v) (has_pair trail c v)
   pub in_range : (c v : ℕ) → has_pair next c v ≡ true → IsPair w c v
   pub apart : AreApart next
 
--- those pairs are turned over
+-- if trail and sets both change in the cell's values of a set alone, they agree as before
 agrees_turned : (w : ℕ) (old new : List ℕ) (trail next : List (ℕ × ℕ)) (cell set : ℕ) → AgreesWithTrail w old trail
     → FlipsSet old new cell set → DiffersBySet w trail next cell set → AgreesWithTrail w new next
 agrees_turned w old new trail next cell set k f d = record {
@@ -114,26 +97,21 @@ agrees_turned w old new trail next cell set k f d = record {
   apart = d.apart;
 }
 
--- candidates of a cell go: their pairs join the trail, and the values are turned over
+-- candidates of a cell go: their pairs join the trail, the cell's set loses them, and both agree
 pub agrees_struck : (w : ℕ) (old new : List ℕ) (trail : List (ℕ × ℕ)) (cell set : ℕ) → AgreesWithTrail w old trail → set < 2 ^ 16
     → ((v : ℕ) → has_number set v ≡ true → IsPair w cell v) → ((v : ℕ) → has_number set v ≡ true → has_pair trail cell v ≡ false)
     → FlipsSet old new cell set → AgreesWithTrail w new (trail ++ pairs_of cell set)
 agrees_struck w old new trail cell set k small each absent f =
-    agrees_turned w old new trail (trail ++ pairs_of cell set) cell set k f (record {
-      each = each;
-      turned = turned_by_set trail cell set small absent;
-      in_range = more_in_range w trail cell set small k.in_range each;
-      apart = apart_pairs trail cell set k.apart absent;
-    })
+    grind (arith, nat_tests, agrees_turned, turned_by_set, more_in_range, apart_pairs)
 
--- the values of the last pairs of a trail are pairs of the size, and none of them is in front
+-- the last pairs of a trail are pairs of the size
 pub last_are_pairs : (w : ℕ) (sets : List ℕ) (trail : List (ℕ × ℕ)) (cell set : ℕ) → set < 2 ^ 16
     → AgreesWithTrail w sets (trail ++ pairs_of cell set) → (v : ℕ) → has_number set v ≡ true → IsPair w cell v
 last_are_pairs w sets trail cell set small k v has =
     let s : Bool = eqb cell cell && has_number set v in
     k.in_range cell v (has_pair-after trail cell set cell v small ∙ or_right (has_pair trail cell v) s (and_from (eqb cell cell) (has_number set v) (eq-eqb cell cell refl) has))
 
--- the last pairs come back: they leave the trail, and the values are turned over
+-- the last pairs come back: they leave the trail, the cell's set has them again, and both agree
 pub agrees_returned : (w : ℕ) (old new : List ℕ) (trail : List (ℕ × ℕ)) (cell set : ℕ) → set < 2 ^ 16
     → AgreesWithTrail w old (trail ++ pairs_of cell set) → FlipsSet old new cell set → AgreesWithTrail w new trail
 agrees_returned w old new trail cell set small k f =
@@ -147,6 +125,6 @@ agrees_returned w old new trail cell set small k f =
       apart = apart_append trail (pairs_of cell set) k.apart;
     })
 
--- how long a trail gets
+-- a trail has no more pairs than there are of the size
 pub trail_fits : (w : ℕ) (sets : List ℕ) (trail : List (ℕ × ℕ)) → AgreesWithTrail w sets trail → length trail ≤ w * w * w
 trail_fits w sets trail k = length-le_from_apart w trail k.in_range k.apart

@@ -1,6 +1,7 @@
 -- What crowds rule out, and how narrowings by them follow one another.
-use Rattle.std.proofs.Common.{◌≡◌, ℕ, ◌<◌, ◌≤◌, Bool, true, false, List, slice_index, sym, ap, ◌∙◌, subst, arith, count_ones}
-use Rattle.latin_board.specs.Squares.{GridValue, number_at}
+use Rattle.std.proofs.lemmas.Bool.Decides.{nat_tests}
+use Rattle.std.proofs.Common.{◌≡◌, ℕ, ◌<◌, ◌≤◌, Bool, true, false, List, slice_index, subst, arith, count_ones}
+use Rattle.latin_board.specs.Squares.{GridValue}
 use Rattle.number_sets.specs.Sets.{has_number}
 use Rattle.trail_solver.specs.Candidates.{CandidatesValue, IsEarlier, IsWithin, may_be}
 use Rattle.trail_solver.specs.Inner.Pairings.{Covers, IsCrowd, IsLatinWithin, IsPairing, LacksRights, NarrowsLatin, OthersLack, pair_cell, pair_value}
@@ -13,6 +14,7 @@ use Rattle.trail_solver.proofs.Pigeonholes.{Injects, pigeonhole, none_else}
 
 -- ---- crowds
 
+-- a Latin square within the candidates gives each left of a crowd a right of its own among the crowd's rights
 crowd_injects : (c : CandidatesValue) (pairing : Pairing) (crowd rights : ℕ) (g : GridValue) (f : ℕ → ℕ) → c.size ≤ 9 → IsPairing c.size pairing
     → IsCrowd c pairing crowd rights → IsLatinWithin c g → IsMatched c.size g pairing f → Injects crowd rights f
 crowd_injects c pairing crowd rights g f small is crowded s m = record {
@@ -25,14 +27,14 @@ crowd_injects c pairing crowd rights g f small is crowded s m = record {
   apart = λ i j first second e. m.apart i j (crowded.lefts i first) (crowded.lefts j second) e;
 }
 
--- too few rights: there is no Latin square
+-- a crowd with fewer rights than lefts: no Latin square is within the candidates
 pub none_crowded : (c : CandidatesValue) (pairing : Pairing) (crowd rights : ℕ) → c.size ≤ 9 → IsPairing c.size pairing
     → IsCrowd c pairing crowd rights → count_ones rights < count_ones crowd → (g : GridValue) → IsLatinWithin c g → ⊥
 none_crowded c pairing crowd rights small is crowded few g s =
     let m = matched g c.size s.same_size s.is_grid s.latin pairing is in
     omega (arith, pigeonhole crowd rights m.0 (crowd_injects c pairing crowd rights g m.0 small is crowded s m.1))
 
--- just as many: none is left for the others
+-- a crowd with just as many rights as lefts: none of these rights is left for the other lefts
 pub others_lack : (c : CandidatesValue) (pairing : Pairing) (crowd rights : ℕ) → c.size ≤ 9 → IsPairing c.size pairing
     → IsCrowd c pairing crowd rights → count_ones rights ≡ count_ones crowd → OthersLack c pairing crowd rights
 others_lack c pairing crowd rights small is crowded same = record {
@@ -46,26 +48,19 @@ others_lack c pairing crowd rights small is crowded same = record {
   };
 }
 
--- the crowd of the lefts that were proposed, by the rights of each
+-- lefts are a crowd with all rights that are in the sides of these lefts
 pub crowd_counted : (c : CandidatesValue) (pairing : Pairing) (sides : List ℕ) (crowd rights : ℕ) → Covers c pairing sides
     → ((left : ℕ) → has_number crowd left ≡ true → left < c.size)
     → ((left right : ℕ) → left < c.size → has_number crowd left ≡ true → has_number (slice_index sides left) right ≡ true
     → has_number rights right ≡ true)
     → IsCrowd c pairing crowd rights
-crowd_counted c pairing sides crowd rights covers lefts all = record {
-  lefts = lefts;
-  all = λ left right has inside may. all left right (lefts left has) has (covers.each left right (lefts left has) inside may);
-}
+crowd_counted c pairing sides crowd rights covers lefts all = grind (arith, nat_tests)
 
 -- ---- narrowings, one after another
 
+-- a Latin square within the candidates is within those that a narrowing leaves
 latin_earlier : (a b : CandidatesValue) (g : GridValue) → NarrowsLatin a b true → IsLatinWithin a g → IsLatinWithin b g
-latin_earlier a b g n s = record {
-  is_grid = s.is_grid;
-  same_size = s.same_size ∙ sym n.less.size;
-  latin = s.latin;
-  within = n.keeps g s;
-}
+latin_earlier a b g n s = grind (arith, nat_tests)
 
 pub narrows_nothing : (c : CandidatesValue) → NarrowsLatin c c true
 narrows_nothing c = record { less = earlier_refl c; keeps = λ g s. s.within; refutes = tt }
@@ -75,30 +70,15 @@ narrows_none c none = record { less = earlier_refl c; keeps = λ g s. s.within; 
 
 -- two steps that narrow for Latin squares, one after the other
 pub narrows_then : (a b c : CandidatesValue) (result : Bool) → NarrowsLatin a b true → NarrowsLatin b c result → NarrowsLatin a c result
-narrows_then a b c true n m = record {
-  less = earlier_trans a b c n.less m.less;
-  keeps = λ g s. m.keeps g (latin_earlier a b g n s);
-  refutes = tt;
-}
-narrows_then a b c false n m = record {
-  less = earlier_trans a b c n.less m.less;
-  keeps = λ g s. m.keeps g (latin_earlier a b g n s);
-  refutes = λ g s. m.refutes g (latin_earlier a b g n s);
-}
+narrows_then a b c result n m = grind (arith, nat_tests, earlier_trans, latin_earlier)
 
--- what covers candidates covers later ones
+-- sides that cover candidates cover later ones, too
 pub covers_later : (a b : CandidatesValue) (pairing : Pairing) (sides : List ℕ) → IsEarlier a b → Covers a pairing sides → Covers b pairing sides
-covers_later a b pairing sides less covers =
-    let at : ℕ → Type 0 = λ n. (left right : ℕ) → left < n → right < n → may_be b (pair_cell n pairing left right) (pair_value pairing right) ≡ true
-    → has_number (slice_index sides left) right ≡ true in
-    record {
-      each = subst at (sym less.size) (λ left right low inside may.
-          covers.each left right low inside (was_left a b (pair_cell a.size pairing left right) (pair_value pairing right) less may));
-    }
+covers_later a b pairing sides less covers = grind (arith, nat_tests, was_left)
 
 -- ---- rights taken from a left
 
--- rights were taken that a grid lacks there
+-- rights went from a left: a grid within the candidates that lacks them there is still within
 pub record StrikesRights (old new : CandidatesValue) (pairing : Pairing) (left rights : ℕ) : Type 0 where
   pub less : IsEarlier old new
   pub keeps : (g : GridValue) → IsWithin old g → LacksRights old.size pairing left rights g → IsWithin new g
@@ -110,23 +90,14 @@ strikes_nothing c pairing left rights = record { less = earlier_refl c; keeps = 
 pub strikes_more : (old now new : CandidatesValue) (pairing : Pairing) (left rights right cell value : ℕ) → StrikesRights old now pairing left rights
     → right < old.size → has_number rights right ≡ true → cell ≡ pair_cell old.size pairing left right → value ≡ pair_value pairing right
     → Removes now new cell value → StrikesRights old new pairing left rights
-strikes_more old now new pairing left rights right cell value h inside has cell_is value_is r = record {
-  less = earlier_trans old now new h.less (removed_earlier now new cell value r);
-  keeps = λ g w lacks. within_removed now new cell value g r (h.keeps g w lacks)
-      (λ e. lacks.each right inside has (ap (number_at g) (sym cell_is) ∙ e ∙ value_is));
-}
+strikes_more old now new pairing left rights right cell value h inside has cell_is value_is r =
+    grind (arith, nat_tests, earlier_trans, removed_earlier, within_removed)
 
--- a left outside the crowd lost some of its rights
+-- to strike rights of a crowd from a left outside it loses no Latin square within the candidates
 pub narrows_struck : (old now new : CandidatesValue) (pairing : Pairing) (left crowd rights struck : ℕ) → OthersLack old pairing crowd rights
     → NarrowsLatin old now true → left < old.size → has_number crowd left ≡ false
     → ((n : ℕ) → has_number struck n ≡ true → has_number rights n ≡ true)
     → IsEarlier now new → ((g : GridValue) → IsWithin now g → LacksRights now.size pairing left struck g → IsWithin new g)
     → NarrowsLatin old new true
-narrows_struck old now new pairing left crowd rights struck others n low outside part less keeps = record {
-  less = earlier_trans old now new n.less less;
-  keeps = λ g s.
-      let P : ℕ → Type 0 = λ w. LacksRights w pairing left struck g in
-      let lacks = others.each g s left low outside in
-      keeps g (n.keeps g s) (subst P (sym n.less.size) (record { each = λ right inside has. lacks.each right inside (part right has) }));
-  refutes = tt;
-}
+narrows_struck old now new pairing left crowd rights struck others n low outside part less keeps =
+    grind (arith, nat_tests, earlier_trans)

@@ -1,11 +1,11 @@
--- Items that are denied.
-use Rattle.std.proofs.Common.{◌≡◌, sym, subst, inr}
+-- The denial of an item by a game that has no way to deny it.
+use Rattle.std.proofs.Common.{arith}
+use Rattle.std.proofs.lemmas.Bool.Decides.{nat_tests}
+use Rattle.std.proofs.Common.{◌≡◌}
 use Rattle.trail_solver.specs.Candidates.{CandidatesValue}
 use Rattle.trail_solver.specs.Puzzles.{Puzzle}
 use Rattle.trail_solver.specs.Solutions.{Denies}
 
--- without the item, the solutions are all that are to be looked at
+-- where nothing is denied, the puzzle without the item stands for the denied one, with all candidates
 pub nothing_denied : (puzzle without denied : Puzzle) (c : CandidatesValue) → denied ≡ without → Denies puzzle without denied c c
-nothing_denied puzzle without denied c same =
-    let P : Puzzle → Type 0 = λ p. Denies puzzle without p c c in
-    subst P (sym same) (record { some = λ g s w. s; others = λ g s w. inr (s, w) })
+nothing_denied puzzle without denied c same = grind (arith, nat_tests)

@@ -1,5 +1,6 @@
--- Candidates of which pairs go one after another, and what an earlier state says of a later one.
-use Rattle.std.proofs.Common.{◌≡◌, ℕ, ◌*◌, ◌<◌, ◌≤◌, true, false, List, [], ◌∷◌, ◌++◌, length, take, drop, refl, sym, ap, ◌∙◌, subst, take-append-drop, take_all, take_at, arith}
+-- Candidates from which pairs go one after another, and what an earlier state says of a later one.
+use Rattle.std.proofs.lemmas.Bool.Decides.{nat_tests}
+use Rattle.std.proofs.Common.{◌≡◌, ℕ, ◌*◌, ◌<◌, ◌≤◌, true, false, List, [], ◌∷◌, ◌++◌, length, drop, refl, sym, ap, ◌∙◌, subst, take-append-drop, take_all, take_at, arith}
 use Rattle.std.proofs.lemmas.Bool.{true_from_ne_false, both_ways, not-false, not_from_true, or_left, cond_both}
 use Rattle.std.proofs.lemmas.List.Folds.{list_any-append}
 use Rattle.std.proofs.lemmas.List.{length-take, take-take}
@@ -21,10 +22,7 @@ pub prefix_length : (ps qs : List (ℕ × ℕ)) → IsPrefix ps qs → length ps
 prefix_length ps qs h = omega (arith, length-take (length ps) qs, ap length h.is)
 
 pub prefix_trans : (ps qs rs : List (ℕ × ℕ)) → IsPrefix ps qs → IsPrefix qs rs → IsPrefix ps rs
-prefix_trans ps qs rs h k = record {
-  is =
-      sym (take-take (length ps) (length qs) rs (prefix_length ps qs h)) ∙ ap (λ (xs : List (ℕ × ℕ)). take (length ps) xs) k.is ∙ h.is;
-}
+prefix_trans ps qs rs h k = grind (arith, nat_tests, take-take, prefix_length)
 
 -- the pairs of a front are in the whole list
 pub has_pair-prefix : (ps qs : List (ℕ × ℕ)) (cell value : ℕ) → IsPrefix ps qs → has_pair ps cell value ≡ true
@@ -41,20 +39,20 @@ prefix_with_pair ps cell value =
 
 -- ---- earlier and later candidates
 
--- candidates are earlier than themselves, where nothing more has gone
+-- candidates count as earlier than themselves
 pub earlier_refl : (c : CandidatesValue) → IsEarlier c c
 earlier_refl c = record { size = refl; adds = prefix_refl c.trail }
 
--- earlier than what is earlier
+-- of three states, each earlier than the next, the first is earlier than the last
 pub earlier_trans : (a b c : CandidatesValue) → IsEarlier a b → IsEarlier b c → IsEarlier a c
 earlier_trans a b c h k = record { size = k.size ∙ h.size; adds = prefix_trans a.trail b.trail c.trail h.adds k.adds }
 
--- what is gone stays gone
+-- a pair that is gone stays gone
 pub stays_gone : (a b : CandidatesValue) (cell value : ℕ) → IsEarlier a b → may_be a cell value ≡ false → may_be b cell value ≡ false
 stays_gone a b cell value h k =
     not_from_true (has_pair b.trail cell value) (has_pair-prefix a.trail b.trail cell value h.adds (not-false (has_pair a.trail cell value) k))
 
--- what is left was left
+-- a pair that is left was left before
 pub was_left : (a b : CandidatesValue) (cell value : ℕ) → IsEarlier a b → may_be b cell value ≡ true → may_be a cell value ≡ true
 was_left a b cell value h k =
     true_from_ne_false (may_be a cell value) (λ e. both_ways (may_be b cell value) (stays_gone a b cell value h e) k)

@@ -16,7 +16,7 @@ abbrev pub HasFirst : (GridValue → Type 0) → ℕ → Type 0
 HasFirst A limit = (listed : List GridValue) × AreFirst A limit listed
 
 module _ (p : Puzzle) where
-  -- the solutions that begin with these numbers, and those that go on with v or a greater number
+  -- the solutions that begin with these numbers
   abbrev Begins : List ℕ → GridValue → Type 0
   Begins front g = Solves p g × ((k : ℕ) → k < length front → number_at g k ≡ get_or front k 0)
 
@@ -55,7 +55,7 @@ module _ (p : Puzzle) where
         less = let more = b.1 in let here = is.1 in omega arith;
       }
 
-  -- those that go on with v, and then those that go on with more
+  -- the first that go on with v or more are those that go on with v, and then those that go on with more
   first_from : (front : List ℕ) → ((v limit : ℕ) → v ≤ p.size → HasFirst (Begins (front ++ v ∷ [])) limit)
       → ((g : GridValue) → Solves p g → number_at g (length front) ≤ p.size)
       → (m v limit : ℕ) → v + m ≡ p.size + 1 → HasFirst (GoesOn front v) limit
@@ -76,7 +76,7 @@ module _ (p : Puzzle) where
       )
 
   module _ (smallest : 3 ≤ p.size) (largest : p.size ≤ 9) where
-    -- all numbers are there
+    -- where the numbers fill the grid, it is the only one that begins with them, if it is a solution
     whole_first : (front : List ℕ) (limit : ℕ) → length front ≡ p.size * p.size → All (λ n. n ≤ p.size) front
         → HasFirst (Begins front) limit
     whole_first front limit count within =

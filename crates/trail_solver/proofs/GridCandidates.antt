@@ -1,6 +1,6 @@
 -- The candidates that the numbers of a grid leave.
-use Rattle.std.proofs.Common.{◌≡◌, ◌↔◌, ℕ, ◌*◌, ◌<◌, ◌≤◌, true, ◌⊎◌, sym, subst, inl, inr, ⊎_elim, arith}
-use Rattle.std.proofs.lemmas.Bool.{cases_eq}
+use Rattle.std.proofs.lemmas.Bool.Decides.{nat_tests}
+use Rattle.std.proofs.Common.{◌≡◌, ◌↔◌, ℕ, ◌*◌, ◌<◌, ◌≤◌, true, ◌⊎◌, sym, subst, ⊎_elim, arith}
 use Rattle.latin_board.specs.Squares.{GridValue, number_at}
 use Rattle.trail_solver.specs.Pairs.{IsPair}
 use Rattle.trail_solver.specs.Candidates.{CandidatesValue, IsWithin, may_be}
@@ -23,15 +23,7 @@ pub record AreOfGridBelow (g : GridValue) (c : CandidatesValue) (k : ℕ) : Type
 -- a solution keeps the numbers of a grid where it is within the grid's candidates, and there alone
 pub within_of_kept : (p : Puzzle) (g h : GridValue) (c : CandidatesValue) → AreOfGrid g c → g.size ≡ p.size → Solves p h → Keeps g h
     → IsWithin c h
-within_of_kept p g h c of size s keeps = record {
-  each = λ cell less.
-      let inside : cell < g.size * g.size = subst (λ (n : ℕ). cell < n * n) of.size less in
-      let pair = solution_pair p h g.size cell s size inside in
-      (of.each cell (number_at h cell) pair).1 (⊎_elim
-      (λ z. inl z)
-      (λ n. inr (sym (keeps cell inside (omega (arith, n)))))
-      (cases_eq (number_at g cell) 0));
-}
+within_of_kept p g h c of size s keeps = grind (arith, nat_tests, solution_pair)
 
 pub kept_of_within : (p : Puzzle) (g h : GridValue) (c : CandidatesValue) → AreOfGrid g c → g.size ≡ p.size → Solves p h → IsWithin c h
     → Keeps g h
@@ -45,7 +37,7 @@ pub among_completes : (p : Puzzle) (g h : GridValue) (c : CandidatesValue) → A
 among_completes p g h c of size =
     (λ m. (m.0, kept_of_within p g h c of size m.0 m.1), λ m. (m.0, within_of_kept p g h c of size m.0 m.1))
 
--- what a search among the grid's candidates answers
+-- an answer on the solutions among a grid's candidates is one on the solutions that keep its numbers
 pub completions_fit : (p : Puzzle) (g : GridValue) (c : CandidatesValue) (answer : Answer) → AreOfGrid g c → g.size ≡ p.size
     → Fits (IsAmong p c) answer → Fits (Completes p g) answer
 completions_fit p g c answer of size fits =

@@ -6,7 +6,7 @@ use Rattle.trail_solver.specs.declared.answer.Answer.TheVariants.{None, One, Sev
 use Rattle.trail_solver.specs.Answers.{Fits}
 use Rattle.trail_solver.specs.Inner.Added.{Adds}
 
--- the same solutions, told otherwise
+-- an answer on some solutions is one on the same solutions under another name
 pub fits_same : (A B : GridValue → Type 0) (answer : Answer) → ((g : GridValue) → A g → B g) → ((g : GridValue) → B g → A g) → Fits A answer
     → Fits B answer
 fits_same A B None to from f = λ g b. f g (from g b)
@@ -22,13 +22,13 @@ adds_same A B (One g) (One k) to from f = (f.0, λ h b. f.1 h (from h b))
 adds_same A B (One g) (Several k h) to from (same, second, apart) = (same, to h second, apart)
 adds_same A B (Several g h) answer to from f = f
 
--- no solution joins
+-- where there is no solution to join, the answer stays
 pub adds_nothing : (A : GridValue → Type 0) (found : Answer) → ((g : GridValue) → A g → ⊥) → Adds A found found
 adds_nothing A None n = n
 adds_nothing A (One g) n = (refl, λ h a. absurd (n h a))
 adds_nothing A (Several g h) n = refl
 
--- what joins after what joined before
+-- where A's solutions join, and then B's, those of C, which is both, have joined
 pub adds_then : (A B C : GridValue → Type 0) (a b c : Answer) → ((g : GridValue) → A g → C g) → ((g : GridValue) → B g → C g)
     → ((g : GridValue) → C g → A g ⊎ B g) → Adds A a b → Adds B b c → Adds C a c
 adds_then A B C None None None ac bc split f h = λ g m. ⊎_elim (f g) (h g) (split g m)

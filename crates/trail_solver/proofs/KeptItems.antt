@@ -1,8 +1,8 @@
 -- Lists of which only some items are kept, and a puzzle's items as two lists: its clues or signs, and its givens after
 -- them.
+use Rattle.std.proofs.lemmas.Bool.Decides.{nat_tests}
 use Rattle.std.proofs.Common.{◌≡◌, ℕ, zero, suc, ◌+◌, ◌-◌, ◌*◌, ◌<◌, ◌≤◌, Bool, true, false, if◌then◌else◌, nat_lt}
-use Rattle.std.proofs.Common.{◌&&◌, List, [], ◌∷◌, length, slice_index, slice_index_or, refl, sym, ap, subst, ◌∙◌, inl}
-use Rattle.std.proofs.Common.{inr, arith}
+use Rattle.std.proofs.Common.{◌&&◌, List, [], ◌∷◌, length, slice_index, slice_index_or, refl, sym, ap, ◌∙◌, inl, inr, arith}
 use Rattle.std.specs.List.{AllByRecursion, All}
 use Rattle.std.proofs.lemmas.Bool.{lt-ltb, le-ltb, cases_lt, and_right}
 use Rattle.std.proofs.lemmas.List.Elements.{All-from_recursion, recursion_from_All}
@@ -35,10 +35,7 @@ kept-all empty i [] = refl
 kept-all empty i (x ∷ xs) = ap (λ ys. x ∷ ys) (kept-all empty (i + 1) xs)
 
 both_kept : {X : Type 0} (s t : Bool) (x y : X) → (if t then (if s then x else y) else y) ≡ (if s && t then x else y)
-both_kept true true x y = refl
-both_kept true false x y = refl
-both_kept false true x y = refl
-both_kept false false x y = refl
+both_kept s t x y = grind (arith, nat_tests)
 
 -- what is kept of what was kept is what both keep
 pub kept-kept : {X : Type 0} (empty : X) (first second : ℕ → Bool) (i : ℕ) (xs : List X)
@@ -96,26 +93,17 @@ All-kept w keep i xs h =
     All-from_recursion (λ n. n ≤ w) (kept_items zero keep i xs)
     (kept-within w keep i xs (recursion_from_All (λ n. n ≤ w) xs h))
 
--- a grid of givens is one still
+-- a grid of givens is still a grid when only some are kept
 pub IsGrid-kept : (g : GridValue) (keep : ℕ → Bool) (i : ℕ) → IsGrid g
     → IsGrid (record { size = g.size; numbers = kept_items zero keep i g.numbers })
-IsGrid-kept g keep i h = record {
-  smallest = h.smallest;
-  largest = h.largest;
-  count = length-kept zero keep i g.numbers ∙ h.count;
-  within = All-kept g.size keep i g.numbers h.within;
-}
+IsGrid-kept g keep i h = grind (arith, nat_tests, length-kept, All-kept)
 
 -- a number that is kept is the one that was there
 pub kept_number : (keep : ℕ → Bool) (i : ℕ) (xs : List ℕ) (k : ℕ) → 0 < slice_index (kept_items zero keep i xs) k
     → slice_index (kept_items zero keep i xs) k ≡ slice_index xs k
-kept_number keep i xs k = rw (entry-kept zero keep i xs k (i + k) refl) (either (keep (i + k)))
-  where
-    either : {n : ℕ} (b : Bool) → 0 < (if b then n else zero) → (if b then n else zero) ≡ n
-    either true low = refl
-    either false low = absurd (omega arith)
+kept_number keep i xs k = grind (arith, nat_tests, entry-kept)
 
--- what an item asks for, it asks for still if it is kept
+-- a number that is as an item asks is so still when only some items are kept
 pub still_asked : (keep : ℕ → Bool) (i : ℕ) (xs : List ℕ) (k number : ℕ)
     → (0 < slice_index xs k → number ≡ slice_index xs k)
     → 0 < slice_index (kept_items zero keep i xs) k → number ≡ slice_index (kept_items zero keep i xs) k
@@ -129,7 +117,7 @@ none_asked i xs k number = rw (entry-kept zero (λ j. false) i xs k (i + k) refl
 
 -- ---- a puzzle's items
 
--- whether it has one, where n are entries of one list, of which some say nothing, and the others are givens
+-- whether the puzzle has item i: the first n are entries of a list, of which some are empty, the rest givens
 abbrev pub has_entry : {X : Type 0} → (X → Bool) → X → ℕ → List X → List ℕ → ℕ → Bool
 has_entry present empty n xs givens i =
     if nat_lt i n then present (slice_index_or xs i empty) else nat_lt 0 (slice_index givens (i - n))
@@ -144,17 +132,9 @@ pub has_entry-kept : {X : Type 0} (present : X → Bool) (empty : X) → present
     → (n : ℕ) (xs : List X) (givens : List ℕ) (keep : ℕ → Bool) (i : ℕ)
     → has_entry present empty n (kept_items empty keep 0 xs) (kept_items zero keep n givens) i
     ≡ (has_entry present empty n xs givens i && keep i)
-has_entry-kept present empty none n xs givens keep i =
-    elim (cases_lt i n) [
-      | inl low ↦
-          rw (lt-ltb i n low, entry-kept empty keep 0 xs i i (omega arith))
-          (present_kept present empty none (keep i) (slice_index_or xs i empty))
-      | inr high ↦
-          rw (le-ltb i n high, entry-kept zero keep n givens (i - n) i (omega arith))
-          (present_kept (nat_lt 0) zero refl (keep i) (slice_index givens (i - n)))
-    ]
+has_entry-kept present empty none n xs givens keep i = grind (arith, nat_tests, entry-kept, present_kept)
 
--- a number that isn't positive is none
+-- a number that isn't positive is 0
 pub not_positive : (n : ℕ) → nat_lt 0 n ≡ false → n ≡ zero
 not_positive zero h = refl
 not_positive (suc n) h = cc (lt-ltb 0 (suc n) (omega arith))
@@ -171,7 +151,7 @@ items_agree present empty gone n xs givens a b count same = (
       same (n + k) (omega arith) (rw (le-ltb (n + k) n (omega arith), back) here)),
 )
 
--- a puzzle has every item that gives each number of a Latin square
+-- a puzzle has every item if each entry of its list says something and its givens fill a Latin square
 pub has_entry-full : {X : Type 0} (present : X → Bool) (empty : X) (n : ℕ) (xs : List X) (g : GridValue) (i : ℕ)
     → IsLatin g
     → (i < n → present (slice_index_or xs i empty) ≡ true) → i < n + g.size * g.size
@@ -183,16 +163,6 @@ has_entry-full present empty n xs g i latin here inside =
           (lt-ltb 0 (number_at g (i - n)) ((latin_full g latin).each (i - n) (omega arith)))
     ]
 
--- what holds at the widths 3 to 6 holds at each that is generated
+-- what holds at the widths 3, 4, 5 and 6 holds at each from 3 to 6
 pub small_widths : (Holds : ℕ → Type 0) → Holds 3 → Holds 4 → Holds 5 → Holds 6 → (w : ℕ) → 3 ≤ w → w ≤ 6 → Holds w
-small_widths Holds three four five six w low high =
-    elim (cases_lt w 4) [
-      | inl below ↦ let e : 3 ≡ w = omega arith in subst Holds e three
-      | inr from_four ↦ elim (cases_lt w 5) [
-        | inl below ↦ let e : 4 ≡ w = omega arith in subst Holds e four
-        | inr from_five ↦ elim (cases_lt w 6) [
-          | inl below ↦ let e : 5 ≡ w = omega arith in subst Holds e five
-          | inr from_six ↦ let e : 6 ≡ w = omega arith in subst Holds e six
-        ]
-      ]
-    ]
+small_widths Holds three four five six w low high = grind (arith, nat_tests)

@@ -1,13 +1,14 @@
 -- Lists of solutions as more of them join.
+use Rattle.std.proofs.lemmas.Bool.Decides.{nat_tests}
 use Rattle.std.proofs.Common.{◌≡◌, ℕ, ◌+◌, ◌-◌, ◌<◌, ◌⊎◌, List, [], ◌∷◌, ◌++◌, length, get_or, AllPairs, Contains, refl, sym, ap, ◌∙◌, subst, inl, inr, ⊎_elim, length-append, append_assoc, append-nil, arith}
 use Rattle.std.proofs.lemmas.Bool.{cases_lt}
 use Rattle.std.proofs.lemmas.List.{get_or_append_left, get_or-append_right}
-use Rattle.std.proofs.lemmas.List.Elements.{All-append, All-weaker, All-cons, All-nil, All-contains, Contains-get_or, Contains-append_left, Contains-append_right, Contains-push}
+use Rattle.std.proofs.lemmas.List.Elements.{All-append, All-weaker, All-contains, Contains-get_or, Contains-append_left, Contains-append_right}
 use Rattle.latin_board.specs.Squares.{GridValue}
 use Rattle.trail_solver.specs.Listings.{IsBelow, AreFirst}
 use Rattle.trail_solver.specs.Inner.Listed.{Lists}
 
--- pairs of two lists end to end
+-- what holds of all pairs in each of two lists, and of all across them, holds of all pairs of both end to end
 all_pairs_append : {X : Type 0} (R : X → X → Type 0) (xs ys : List X) → AllPairs R xs → AllPairs R ys
     → ((x y : X) → Contains xs x → Contains ys y → R x y) → AllPairs R (xs ++ ys)
 all_pairs_append {X} R xs ys h k cross i j d less inside =
@@ -34,45 +35,26 @@ all_pairs_append {X} R xs ys h k cross i j d less inside =
 
 -- ---- the first of the solutions
 
--- none, where there is none or no room
+-- where there is no solution, the empty list has the first
 pub AreFirst-none : (A : GridValue → Type 0) (limit : ℕ) → ((g : GridValue) → A g → ⊥) → AreFirst A limit []
-AreFirst-none A limit n = record {
-  few = omega arith;
-  solutions = All-nil A;
-  rising = λ i j d less inside. absurd (omega arith);
-  others = λ g a. absurd (n g a);
-}
+AreFirst-none A limit n = grind (arith, nat_tests)
 
--- of none at all, the empty list has the first
+-- where the limit is 0, the empty list has the first
 pub AreFirst-full : (A : GridValue → Type 0) (limit : ℕ) → limit ≡ 0 → AreFirst A limit []
-AreFirst-full A limit e = record {
-  few = omega arith;
-  solutions = All-nil A;
-  rising = λ i j d less inside. absurd (omega arith);
-  others = λ g a. inr (sym e, All-nil (λ f. IsBelow f g));
-}
+AreFirst-full A limit e = grind (arith, nat_tests)
 
--- the only one
+-- where there is just one solution, and room for it, the list of this one has the first
 pub AreFirst-only : (A : GridValue → Type 0) (limit : ℕ) (g : GridValue) → A g → ((h : GridValue) → A h → h ≡ g) → 0 < limit
     → AreFirst A limit (g ∷ [])
-AreFirst-only A limit g a only room = record {
-  few = omega arith;
-  solutions = All-cons A g [] a (All-nil A);
-  rising = λ i j d less inside. absurd (omega arith);
-  others = λ h b. inl (let P : GridValue → Type 0 = λ x. Contains (g ∷ []) x in subst P (sym (only h b)) (Contains-push [] g));
-}
+AreFirst-only A limit g a only room = grind (arith, nat_tests)
 
--- the same solutions, told otherwise
+-- the first of some solutions are the first of the same solutions under another name
 pub AreFirst-same : (A B : GridValue → Type 0) (limit : ℕ) (xs : List GridValue) → ((g : GridValue) → A g → B g)
     → ((g : GridValue) → B g → A g) → AreFirst A limit xs → AreFirst B limit xs
-AreFirst-same A B limit xs to from f = record {
-  few = f.few;
-  solutions = All-weaker A B to xs f.solutions;
-  rising = f.rising;
-  others = λ g b. f.others g (from g b);
-}
+AreFirst-same A B limit xs to from f = grind (arith, nat_tests)
 
--- those of A, and then those of B, all of which are greater
+-- the first of A and then of B, of which all are greater, are the first of C, which is both. One of A is
+-- listed, or A's fill the list and are below it; one of B is listed, or both fill the list and are below it
 pub AreFirst-then : (A B C : GridValue → Type 0) (limit : ℕ) (xs ys : List GridValue) → ((g : GridValue) → A g → C g)
     → ((g : GridValue) → B g → C g) → ((g : GridValue) → C g → A g ⊎ B g) → ((f g : GridValue) → A f → B g → IsBelow f g)
     → AreFirst A limit xs → AreFirst B (limit - length xs) ys → AreFirst C limit (xs ++ ys)
@@ -104,6 +86,7 @@ AreFirst-then A B C limit xs ys ac bc split below f h =
 
 -- ---- lists that go on
 
+-- a list stays as it is where the empty list has the first of what is to come
 pub lists_nothing : (A : GridValue → Type 0) (limit : ℕ) (xs : List GridValue) → AreFirst A (limit - length xs) [] → Lists A limit xs xs
 lists_nothing A limit xs f = record { more = []; whole = sym (append-nil xs); first = f }
 
@@ -112,6 +95,7 @@ pub lists_same : (A B : GridValue → Type 0) (limit : ℕ) (xs ys : List GridVa
     → ((g : GridValue) → B g → A g) → Lists A limit xs ys → Lists B limit xs ys
 lists_same A B limit xs ys to from f = record { more = f.more; whole = f.whole; first = AreFirst-same A B (limit - length xs) f.more to from f.first }
 
+-- what is listed of A, and then of B, of which all are greater, is listed of C, which is both
 pub lists_then : (A B C : GridValue → Type 0) (limit : ℕ) (xs ys zs : List GridValue) → ((g : GridValue) → A g → C g)
     → ((g : GridValue) → B g → C g) → ((g : GridValue) → C g → A g ⊎ B g) → ((f g : GridValue) → A f → B g → IsBelow f g)
     → Lists A limit xs ys → Lists B limit ys zs → Lists C limit xs zs

@@ -1,10 +1,12 @@
--- A square's other values go, or one of its values.
-use Rattle.std.proofs.Common.{◌≡◌, ◌≢◌, ℕ, ◌*◌, ◌<◌, eqb, true, false, not, ◌&&◌, ◌||◌, ◌⊎◌, List, ◌++◌, sym, ap, ◌∙◌, subst, inl, inr, ⊎_elim}
-use Rattle.std.proofs.lemmas.Bool.{cases_eq, cases_Bool, both_ways, eq-eqb, false_from_ne_true, ne_eqb, or_right, cond_both}
+-- What is gone when a square loses one value, or all values but one.
+use Rattle.std.proofs.Common.{arith}
+use Rattle.std.proofs.lemmas.Bool.Decides.{nat_tests}
+use Rattle.std.proofs.Common.{◌≡◌, ◌≢◌, ℕ, ◌*◌, ◌<◌, eqb, false, not, ◌&&◌, ◌||◌, ◌⊎◌, List, ◌++◌, sym, ap, ◌∙◌, subst, inl, inr, ⊎_elim}
+use Rattle.std.proofs.lemmas.Bool.{cases_eq, cases_Bool, both_ways, eq-eqb, false_from_ne_true, ne_eqb, cond_both}
 use Rattle.std.proofs.Math.Bool.{or-false}
 use Rattle.latin_board.specs.Squares.{GridValue, number_at}
 use Rattle.number_sets.specs.Sets.{has_number}
-use Rattle.trail_solver.specs.Pairs.{IsPair, IsPrefix, has_pair, pairs_of, with_pair}
+use Rattle.trail_solver.specs.Pairs.{IsPair, has_pair, pairs_of, with_pair}
 use Rattle.trail_solver.specs.Candidates.{CandidatesValue, IsCandidates, IsEarlier, IsSetOf, IsWithin, may_be}
 use Rattle.trail_solver.specs.Inner.Squares.{KeepsOnly}
 use Rattle.trail_solver.proofs.Trails.{same_pair, pair_from_test, has_pair-push}
@@ -15,19 +17,9 @@ use Rattle.trail_solver.proofs.StruckSets.{AreMissing, gone_missing, missing_are
 pub has_pair-with_pair : (ps : List (ℕ × ℕ)) (cell value c v : ℕ)
     → has_pair (with_pair ps cell value) c v ≡ (has_pair ps c v || same_pair c v (cell, value))
 has_pair-with_pair ps cell value c v =
-    cond_both (has_pair ps cell value) ps _ (λ (qs : List (ℕ × ℕ)). has_pair qs c v ≡ (has_pair ps c v || same_pair c v (cell, value)))
-    (λ there. elim (cases_Bool (same_pair c v (cell, value))) [
-      | inl same ↦
-          let p = pair_from_test c cell v value same in
-          let P : ℕ → Type 0 = λ k. has_pair ps k v ≡ true in
-          let Q : ℕ → Type 0 = λ k. has_pair ps cell k ≡ true in
-          let here : has_pair ps c v ≡ true = subst P (sym p.0) (subst Q (sym p.1) there) in
-          here ∙ sym (or_right (has_pair ps c v) (same_pair c v (cell, value)) same)
-      | inr other ↦ sym (ap (λ b. has_pair ps c v || b) other ∙ or-false (has_pair ps c v))
-    ])
-    (λ _. has_pair-push ps (cell, value) c v)
+    grind (arith, nat_tests, cond_both, cases_Bool, pair_from_test, or-false, has_pair-push)
 
--- what `remove` does
+-- the value went from the cell, as `remove` does it
 pub record Removes (old new : CandidatesValue) (cell value : ℕ) : Type 0 where
   pub size : new.size ≡ old.size
   pub trail : new.trail ≡ with_pair old.trail cell value
@@ -39,12 +31,9 @@ may_be-removed old new cell value c v r =
 
 -- candidates were earlier before a pair was removed
 pub removed_earlier : (old new : CandidatesValue) (cell value : ℕ) → Removes old new cell value → IsEarlier old new
-removed_earlier old new cell value r = record {
-  size = r.size;
-  adds = let P : List (ℕ × ℕ) → Type 0 = λ ps. IsPrefix old.trail ps in subst P (sym r.trail) (prefix_with_pair old.trail cell value);
-}
+removed_earlier old new cell value r = grind (arith, nat_tests, prefix_with_pair)
 
--- and no other went
+-- a removal takes no other pair away
 pub rest_removed : (old new : CandidatesValue) (cell value c v : ℕ) → Removes old new cell value → (c ≢ cell) ⊎ (v ≢ value)
     → may_be new c v ≡ may_be old c v
 rest_removed old new cell value c v r h =
@@ -52,7 +41,7 @@ rest_removed old new cell value c v r h =
     false_from_ne_true (same_pair c v (cell, value)) (λ e. let p = pair_from_test c cell v value e in ⊎_elim (λ n. n p.0) (λ n. n p.1) h) in
     may_be-removed old new cell value c v r ∙ ap (λ b. not (has_pair old.trail c v || b)) other ∙ ap not (or-false (has_pair old.trail c v))
 
--- the values but one go
+-- when all values but one go from a square, it keeps only this one
 pub one_kept : (old new : CandidatesValue) (cell value values one missing : ℕ) → IsCandidates old → IsSetOf old cell values
     → ((v : ℕ) → has_number one v ≡ eqb v value)
     → ((v : ℕ) → has_number missing v ≡ (has_number values v && not (has_number one v)))
@@ -66,16 +55,12 @@ one_kept old new cell value values one missing valid is single left size trail =
       rest = λ c v h. rest_missing old new cell values one missing c v m s (⊎_elim (λ n. inl n) (λ e. inr (single v ∙ eq-eqb v value e)) h);
     }
 
--- a grid that has the value there is still within
+-- a grid within the candidates that has the kept value in the cell is still within
 pub within_one_kept : (old new : CandidatesValue) (cell value : ℕ) (g : GridValue) → KeepsOnly old new cell value → IsWithin old g
     → number_at g cell ≡ value → IsWithin new g
-within_one_kept old new cell value g k w e = record {
-  each = λ c inside.
-      let inside' : c < old.size * old.size = subst (λ (n : ℕ). c < n * n) k.less.size inside in
-      k.rest c (number_at g c) (⊎_elim (λ same. inr (ap (number_at g) same ∙ e)) (λ n. inl n) (cases_eq c cell)) ∙ w.each c inside';
-}
+within_one_kept old new cell value g k w e = grind (arith, nat_tests)
 
--- and a grid within has the value there
+-- a grid within what is left has the kept value in the cell
 pub value_one_kept : (old new : CandidatesValue) (cell value : ℕ) (g : GridValue) → KeepsOnly old new cell value
     → IsPair old.size cell (number_at g cell) → IsWithin new g → number_at g cell ≡ value
 value_one_kept old new cell value g k pair w =

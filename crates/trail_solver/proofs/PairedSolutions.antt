@@ -18,7 +18,7 @@ pub paired_refutes : (p : Puzzle) (old new : CandidatesValue) (result : Bool) �
 paired_refutes p old new true size n = tt
 paired_refutes p old new false size n = λ g s w. n.refutes g (latin_solution p old g size s w)
 
--- one narrowing after another
+-- two narrowings that keep the solutions keep them one after the other
 pub kept_then : (p : Puzzle) (a b c : CandidatesValue) → KeepsSolutions p a b → KeepsSolutions p b c → KeepsSolutions p a c
 kept_then p a b c first second = λ g s w. second g s (first g s w)
 

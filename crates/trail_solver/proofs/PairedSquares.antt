@@ -1,5 +1,6 @@
 -- The pairs of a pairing as squares and values, and what a Latin square gives each left.
-use Rattle.std.proofs.Common.{◌≡◌, ℕ, ◌+◌, ◌-◌, ◌*◌, ◌<◌, ◌≤◌, true, inl, inr, sym, ap, ◌∙◌, subst, arith}
+use Rattle.std.proofs.lemmas.Bool.Decides.{nat_tests}
+use Rattle.std.proofs.Common.{◌≡◌, ℕ, ◌+◌, ◌-◌, ◌*◌, ◌<◌, ◌≤◌, true, inl, inr, sym, ap, ◌∙◌, arith}
 use Rattle.std.proofs.lemmas.Bool.{cases_eq, cases_lt}
 use Rattle.latin_board.specs.Squares.{GridValue, IsGrid, IsLatin, number_at}
 use Rattle.latin_board.specs.Lines.{line_cell}
@@ -14,18 +15,9 @@ use Rattle.trail_solver.specs.declared.pairing.Pairing.TheVariants.{Line, Value}
 -- the pair of a left and a right is one of the size
 pub pair_is_one : (w : ℕ) (pairing : Pairing) (left right : ℕ) → IsPairing w pairing → left < w → right < w
     → IsPair w (pair_cell w pairing left right) (pair_value pairing right)
-pair_is_one w (Line line) left right is first second = record {
-  inside = line_cell_inside w line left is first;
-  low = omega arith;
-  high = omega arith;
-}
-pair_is_one w (Value value) left right is first second = record {
-  inside = line_cell_inside w left right (omega arith) second;
-  low = is.0;
-  high = is.1;
-}
+pair_is_one w pairing left right is first second = grind (arith, nat_tests, line_cell_inside)
 
--- the values that may stand at a place, each one less
+-- the side of a line's place has the values that may stand there, each less 1
 pub place_side : (c : CandidatesValue) (line left set lowered right : ℕ) → line < 2 * c.size → left < c.size → right < c.size
     → IsSetOf c (line_cell c.size line left) set → ((n : ℕ) → has_number lowered n ≡ has_number set (n + 1))
     → may_be c (line_cell c.size line left) (right + 1) ≡ true → has_number lowered right ≡ true
@@ -34,7 +26,7 @@ place_side c line left set lowered right below first second of is may =
 
 -- ---- what a Latin square gives each left
 
--- each left has a right of its own, and no other
+-- f gives each left the right that it has in the grid: one of its own, and no other
 pub record IsMatched (w : ℕ) (g : GridValue) (pairing : Pairing) (f : ℕ → ℕ) : Type 0 where
   pub below : (left : ℕ) → left < w → f left < w
   pub here : (left : ℕ) → left < w → number_at g (pair_cell w pairing left (f left)) ≡ pair_value pairing (f left)
@@ -49,16 +41,7 @@ line_number g valid latin line left below first =
 
 line_matched : (g : GridValue) → IsGrid g → IsLatin g → (line : ℕ) → line < 2 * g.size
     → IsMatched g.size g (Line line) (λ left. number_at g (line_cell g.size line left) - 1)
-line_matched g valid latin line below = record {
-  below = λ left first. omega (arith, line_number g valid latin line left below first);
-  here = λ left first. omega (arith, line_number g valid latin line left below first);
-  apart = λ i j first second e. elim (cases_eq i j) [
-    | inl same ↦ same
-    | inr other ↦ absurd (line_differs g valid latin line i j below first second other
-        (omega (arith, line_number g valid latin line i below first, line_number g valid latin line j below second)))
-  ];
-  only = λ left right first second e. omega arith;
-}
+line_matched g valid latin line below = grind (arith, nat_tests, line_number, line_differs)
 
 -- the column where a row has the value
 column_at : (g : GridValue) → IsLatin g → (value : ℕ) → 1 ≤ value → value ≤ g.size → (row : ℕ)
@@ -85,19 +68,7 @@ column_differs g valid latin value i j k first second inside at_i at_j =
 
 value_matched : (g : GridValue) → IsGrid g → (latin : IsLatin g) → (value : ℕ) → (low : 1 ≤ value) → (high : value ≤ g.size)
     → IsMatched g.size g (Value value) (λ row. (column_at g latin value low high row).0)
-value_matched g valid latin value low high =
-    let at = column_at g latin value low high in
-    record {
-      below = λ row inside. ((at row).1 inside).0;
-      here = λ row inside. ((at row).1 inside).1;
-      apart = λ i j first second e.
-          let P : ℕ → Type 0 = λ k. number_at g (line_cell g.size j k) ≡ value in
-          column_differs g valid latin value i j (at i).0 first second ((at i).1 first).0 ((at i).1 first).1 (subst P (sym e) ((at j).1 second).1);
-      only = λ row right first second e. elim (cases_eq right (at row).0) [
-        | inl same ↦ same
-        | inr other ↦ absurd (line_differs g valid latin row right (at row).0 (omega arith) second ((at row).1 first).0 other (e ∙ sym ((at row).1 first).1))
-      ];
-    }
+value_matched g valid latin value low high = grind (arith, nat_tests, column_at, column_differs, line_differs)
 
 matched_here : (g : GridValue) → IsGrid g → IsLatin g → (pairing : Pairing) → IsPairing g.size pairing
     → (f : ℕ → ℕ) × IsMatched g.size g pairing f
@@ -107,6 +78,4 @@ matched_here g valid latin (Value value) is =
 
 pub matched : (g : GridValue) (w : ℕ) → g.size ≡ w → IsGrid g → IsLatin g → (pairing : Pairing) → IsPairing w pairing
     → (f : ℕ → ℕ) × IsMatched w g pairing f
-matched g w size valid latin pairing =
-    let P : ℕ → Type 0 = λ n. IsPairing n pairing → (f : ℕ → ℕ) × IsMatched n g pairing f in
-    subst P size (matched_here g valid latin pairing)
+matched g w size valid latin pairing = grind (arith, nat_tests, matched_here)

@@ -1,7 +1,8 @@
 -- The removals of candidates, and the trail that they are together.
+use Rattle.std.proofs.lemmas.Bool.Decides.{nat_tests}
 use Rattle.std.proofs.Common.{◌≡◌, ◌≢◌, ℕ, suc, ◌+◌, ◌-◌, ◌*◌, ◌^◌, ◌<◌, ◌≤◌, eqb, true, false, List, [], ◌∷◌, ◌++◌, length, get_or, take, drop, slice_get, Some, count_ones, refl, sym, ap, ◌∙◌, subst, inl, inr, arith, append_assoc, append-nil, length-append, take_at, take-append-drop, drop-cons}
 use Rattle.std.specs.Prelude.{All}
-use Rattle.std.proofs.lemmas.Bool.{and_from, both_ways, cases_Bool, eq-eqb, false_from_ne_true, not-true, or_left, or_right}
+use Rattle.std.proofs.lemmas.Bool.{and_from, both_ways, cases_Bool, eq-eqb, false_from_ne_true, or_left, or_right}
 use Rattle.std.proofs.lemmas.List.Elements.{All-cons, All-head, All-tail, All-push, All-nil}
 use Rattle.std.proofs.lemmas.List.Folds.{list_any-append}
 use Rattle.std.proofs.lemmas.Option.{get_or_from_slice_get, slice_get_within}
@@ -27,22 +28,16 @@ All-front : {X : Type 0} (P : X → Type 0) → (xs : List X) (x : X) → All P 
 All-front P [] x each = All-nil P
 All-front P (y ∷ xs) x each = All-cons P y xs (All-head P y (xs ++ x ∷ []) each) (All-front P xs x (All-tail P y (xs ++ x ∷ []) each))
 
--- one removal more
+-- the trail with one removal more is the trail before, and then the pairs of this removal
 pub trail_of_push : (rs : List Removal) (cell set : ℕ)
     → trail_of (rs ++ (record { cell = cell; values = set }) ∷ []) ≡ trail_of rs ++ pairs_of cell set
-trail_of_push rs cell set =
-    let r : Removal = record { cell = cell; values = set } in
-    flat_map-append (λ (q : Removal). pairs_of q.cell q.values) rs (r ∷ [])
-    ∙ ap (λ (ps : List (ℕ × ℕ)). trail_of rs ++ ps) (append-nil (pairs_of cell set))
+trail_of_push rs cell set = grind (arith, nat_tests, flat_map-append, append-nil)
 
 -- a set with some number has one or more
 some_ones : (set v : ℕ) → has_number set v ≡ true → 0 < count_ones set
-some_ones set v has =
-    let some : (set ≡ 0) → ⊥ = λ none. both_ways (has_number set v) (subst (λ (m : ℕ). has_number m v ≡ false) (sym none) (has_number-none v)) has in
-    let ones : count_ones set ≢ 0 = λ e. some (zero_from_ones set e) in
-    omega (arith, ones)
+some_ones set v has = grind (arith, nat_tests, has_number-none, zero_from_ones)
 
--- each removal is of one or more pairs
+-- there are no more removals than pairs in their trail, since each is of one or more
 removals_fit : (rs : List Removal) → All IsRemoval rs → length rs ≤ length (trail_of rs)
 removals_fit [] each = omega arith
 removals_fit (r ∷ rs) each =
@@ -52,7 +47,7 @@ removals_fit (r ∷ rs) each =
     let rest = removals_fit rs (All-tail IsRemoval r rs each) in
     omega (arith, some, count, rest, length-append (pairs_of r.cell r.values) (trail_of rs))
 
--- numbers of the size are below 16
+-- a set of numbers of the size is below 2 ^ 16
 pub set_below : (w cell set : ℕ) → w ≤ 9 → ((v : ℕ) → has_number set v ≡ true → IsPair w cell v) → set < 2 ^ 16
 set_below w cell set high each = below_from_numbers set 16 (λ v above.
     elim (cases_Bool (has_number set v)) [
@@ -62,19 +57,16 @@ set_below w cell set high each = below_from_numbers set 16 (λ v above.
 
 -- ---- candidates go
 
--- what is known of a set's numbers that are candidates
+-- the set has a number, and each of its numbers is a value of the size whose pair isn't in the trail
 pub record AreLeft (w : ℕ) (trail : List (ℕ × ℕ)) (cell set : ℕ) : Type 0 where
   pub some : (v : ℕ) × (has_number set v ≡ true)
   pub pairs : (v : ℕ) → has_number set v ≡ true → IsPair w cell v
   pub absent : (v : ℕ) → has_number set v ≡ true → has_pair trail cell v ≡ false
 
 pub are_left : (c : CandidatesValue) (cell set v : ℕ) → AreCandidates c cell set → has_number set v ≡ true → AreLeft c.size c.trail cell set
-are_left c cell set v there has = record {
-  some = (v, has);
-  pairs = λ u h. (there u h).0;
-  absent = λ u h. not-true (has_pair c.trail cell u) (there u h).1;
-}
+are_left c cell set v there has = grind (arith, nat_tests)
 
+-- candidates of a cell go: the fields hold with one removal more
 pub fields_struck : (w : ℕ) (old new : List ℕ) (rs : List Removal) (pairs cell set : ℕ) → AreFields w old rs pairs
     → AreLeft w (trail_of rs) cell set → FlipsSet old new cell set
     → AreFields w new (rs ++ (record { cell = cell; values = set }) ∷ []) (pairs + count_ones set)
@@ -93,7 +85,7 @@ pub room_for_last : (w : ℕ) (sets : List ℕ) (rs : List Removal) (r : Removal
 room_for_last w sets rs r pairs k =
     omega (arith, removals_fit (rs ++ r ∷ []) k.each, length-append rs (r ∷ []), trail_fits w sets (trail_of (rs ++ r ∷ [])) k.agrees, pairs_fit w k.agrees.largest)
 
--- how many pairs there are
+-- no more pairs are removed than the size has
 pub fields_bound : (w : ℕ) (sets : List ℕ) (rs : List Removal) (pairs : ℕ) → AreFields w sets rs pairs → pairs ≤ w * w * w
 fields_bound w sets rs pairs k = omega (arith, k.count, trail_fits w sets (trail_of rs) k.agrees)
 
@@ -126,10 +118,7 @@ removal_inside w sets rs pairs k r h e =
 -- the last removal is in a square of the size
 pub last_inside : (w : ℕ) (sets : List ℕ) (rs : List Removal) (r : Removal) (pairs : ℕ) → AreFields w sets (rs ++ r ∷ []) pairs
     → r.cell < w * w
-last_inside w sets rs r pairs k =
-    let here = All-last IsRemoval rs r k.each in
-    let agrees = subst (λ (ps : List (ℕ × ℕ)). AgreesWithTrail w sets ps) (trail_of_push rs r.cell r.values) k.agrees in
-    (last_are_pairs w sets (trail_of rs) r.cell r.values here.small agrees here.some.0 here.some.1).inside
+last_inside w sets rs r pairs k = grind (arith, nat_tests, All-last, trail_of_push, last_are_pairs)
 
 -- ---- the last ones come back
 
@@ -149,13 +138,14 @@ parted_trail rs cell set part rest p =
     ∙ ap (λ (ps : List (ℕ × ℕ)). trail_of rs ++ ps) (pairs_parted cell set part rest p.upper p.left)
     ∙ sym (append_assoc (trail_of rs) (pairs_of cell rest) (pairs_of cell part))
 
--- what is so of the trail that stays
+-- the trail that stays is a front of the whole one, shorter by the part's numbers, and agrees with the sets
 record Stays (w : ℕ) (sets : List ℕ) (whole now : List (ℕ × ℕ)) (part : ℕ) : Type 0 where
   pub agrees : AgreesWithTrail w sets now
   pub count : length whole ≡ length now + count_ones part
   pub some : 0 < count_ones part
   pub front : now ≡ take (length now) whole
 
+-- when the upper part of the last removal comes back, the trail that stays agrees with the sets
 stays : (w : ℕ) (old new : List ℕ) (rs : List Removal) (pairs cell set part rest : ℕ)
     → AreFields w old (rs ++ (record { cell = cell; values = set }) ∷ []) pairs → IsParted set part rest → FlipsSet old new cell part
     → Stays w new (trail_of (rs ++ (record { cell = cell; values = set }) ∷ [])) (trail_of rs ++ pairs_of cell rest) part
@@ -178,18 +168,14 @@ stays w old new rs pairs cell set part rest k p f =
 
 gives_back : (w : ℕ) (sets : List ℕ) (whole now : List (ℕ × ℕ)) (part pairs kept : ℕ) → Stays w sets whole now part → pairs ≡ length whole
     → count_ones part ≤ pairs - kept → kept < pairs → GivesBack kept whole now
-gives_back w sets whole now part pairs kept s count few more = record {
-  stays = omega (arith, s.count, count, few, more);
-  less = omega (arith, s.count, s.some);
-  front = s.front;
-}
+gives_back w sets whole now part pairs kept s count few more = grind (arith, nat_tests, stays)
 
--- what comes back, and how many pairs that is
+-- the fields hold without the part's pairs, and the trail gave these back
 pub record ComesBack (w : ℕ) (sets : List ℕ) (rs next : List Removal) (pairs cell set part kept : ℕ) : Type 0 where
   pub fields : AreFields w sets next (pairs - count_ones part)
   pub back : GivesBack kept (trail_of (rs ++ (record { cell = cell; values = set }) ∷ [])) (trail_of next)
 
--- a part of the last removal comes back
+-- if some of the last removal is to stay, its upper part comes back
 pub some_stay : (w : ℕ) (old new : List ℕ) (rs : List Removal) (pairs cell set part rest kept v : ℕ)
     → AreFields w old (rs ++ (record { cell = cell; values = set }) ∷ []) pairs → IsParted set part rest → FlipsSet old new cell part
     → count_ones part ≤ pairs - kept → kept < pairs → has_number rest v ≡ true
@@ -212,7 +198,7 @@ some_stay w old new rs pairs cell set part rest kept v k p f few more has =
       back = subst (λ (ps : List (ℕ × ℕ)). GivesBack kept (trail_of (rs ++ r ∷ [])) ps) (sym now) (gives_back w new (trail_of (rs ++ r ∷ [])) (trail_of rs ++ pairs_of cell rest) part pairs kept s k.count few more);
     }
 
--- all of it does
+-- if nothing of the last removal is to stay, all of it comes back
 pub none_stay : (w : ℕ) (old new : List ℕ) (rs : List Removal) (pairs cell set part rest kept : ℕ)
     → AreFields w old (rs ++ (record { cell = cell; values = set }) ∷ []) pairs → IsParted set part rest → FlipsSet old new cell part
     → count_ones part ≤ pairs - kept → kept < pairs → IsEmpty rest → ComesBack w new rs rs pairs cell set part kept
@@ -228,5 +214,3 @@ none_stay w old new rs pairs cell set part rest kept k p f few more none =
       };
       back = subst (λ (ps : List (ℕ × ℕ)). GivesBack kept (trail_of (rs ++ r ∷ [])) ps) now (gives_back w new (trail_of (rs ++ r ∷ [])) (trail_of rs ++ pairs_of cell rest) part pairs kept s k.count few more);
     }
-
--- ---- the removals are listed, one after another

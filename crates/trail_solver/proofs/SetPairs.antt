@@ -1,4 +1,5 @@
 -- The pairs of a cell and a set's numbers, as a list.
+use Rattle.std.proofs.lemmas.Bool.Decides.{nat_tests}
 use Rattle.std.proofs.Common.{◌≡◌, ℕ, zero, suc, ◌+◌, ◌-◌, ◌^◌, ◌<◌, eqb, cond, Bool, true, false, not, ◌&&◌, ◌||◌, List, [], ◌∷◌, ◌++◌, length, map, count_ones, refl, sym, ap, ◌∙◌, subst, inl, inr, ⊎_elim, arith, append_assoc, append-nil, length-append}
 use Rattle.std.specs.List.{filter, range_with_len}
 use Rattle.std.proofs.lemmas.Bool.{cases_eq, cases_Bool, both_ways, false_from_ne_true, and_parts, and_from, eqb-true, eq-eqb, ne_eqb, or_cases, or_left, or_right, or_from}
@@ -12,7 +13,7 @@ use Rattle.trail_solver.specs.Pairs.{AreApart, has_pair, pairs_of, with_pair}
 use Rattle.trail_solver.specs.Inner.Fields.{IsUpperPart}
 use Rattle.trail_solver.proofs.Trails.{same_pair, pair_from_test, test_from_pair, has_pair-push, apart_push}
 
--- those with the set's numbers below k
+-- the pairs of the cell and the set's numbers below k
 unfoldable pub pairs_to : ℕ → ℕ → ℕ → List (ℕ × ℕ)
 pairs_to cell set k = filter (λ p. has_number set p.1) (map (λ v. (cell, v)) (range_with_len 0 k))
 
@@ -26,7 +27,7 @@ pub to_zero : (cell set : ℕ) → pairs_to cell set zero ≡ []
 unfolding pairs_to
 to_zero cell set = refl
 
--- one number more
+-- the pairs below k + 1 are those below k, and that of k if the set has it
 to_more : (cell set k : ℕ) → pairs_to cell set (k + 1) ≡ pairs_to cell set k ++ cond (has_number set k) ((cell, k) ∷ []) []
 unfolding pairs_to
 to_more cell set k = filter_of_map_range_with_len_more (λ p. has_number set p.1) (λ v. (cell, v)) 0 k k (omega arith)
@@ -35,10 +36,7 @@ pub to_with : (cell set k : ℕ) → has_number set k ≡ true → pairs_to cell
 to_with cell set k has = to_more cell set k ∙ ap (λ b. pairs_to cell set k ++ cond b ((cell, k) ∷ []) []) has
 
 pub to_without : (cell set k : ℕ) → has_number set k ≡ false → pairs_to cell set (k + 1) ≡ pairs_to cell set k
-to_without cell set k lacks =
-    to_more cell set k
-    ∙ ap (λ b. pairs_to cell set k ++ cond b ((cell, k) ∷ []) []) lacks
-    ∙ append-nil (pairs_to cell set k)
+to_without cell set k lacks = grind (arith, nat_tests, to_more, append-nil)
 
 -- an induction over k, by whether the set has the number
 by_numbers : (P : ℕ → Type 0) (set : ℕ) → P 0 → ((k : ℕ) → has_number set k ≡ true → P k → P (k + 1))
@@ -51,7 +49,7 @@ by_numbers P set start with_it without (suc k) =
 
 -- ---- which pairs they are
 
--- what a pair of the list is
+-- the pair is of this cell, and its value is a number of the set below k
 pub record IsInSet (cell set k c v : ℕ) : Type 0 where
   pub square : c ≡ cell
   pub has : has_number set v ≡ true
@@ -112,7 +110,7 @@ has_pair-pairs_of cell set c v small =
 
 -- ---- no pair twice
 
--- a list without repeats that has none of them, and then they
+-- a list without repeats that has none of a set's pairs has no repeats with them at its end
 pub apart_pairs : (ps : List (ℕ × ℕ)) (cell set : ℕ) → AreApart ps → ((v : ℕ) → has_number set v ≡ true → has_pair ps cell v ≡ false)
     → AreApart (ps ++ pairs_of cell set)
 apart_pairs ps cell set apart absent =
@@ -130,7 +128,7 @@ apart_pairs ps cell set apart absent =
 
 -- ---- how many they are
 
--- sets that agree below k
+-- sets that agree below k have the same pairs there
 to_same : (cell a b k : ℕ) → ((j : ℕ) → j < k → has_number a j ≡ has_number b j) → pairs_to cell a k ≡ pairs_to cell b k
 to_same cell a b k =
     by_numbers (λ n. ((j : ℕ) → j < n → has_number a j ≡ has_number b j) → pairs_to cell a n ≡ pairs_to cell b n) a
@@ -202,10 +200,11 @@ pairs_of_one cell value set small is =
     ]))
     16 small
 
--- an upper part comes after the rest
+-- the rest of the set is what the part lacks
 pub record IsRest (set part rest : ℕ) : Type 0 where
   pub is : (v : ℕ) → has_number rest v ≡ (has_number set v && not (has_number part v))
 
+-- a set's pairs are those of the rest, and then those of its upper part
 pub pairs_parted : (cell set part rest : ℕ) → IsUpperPart set part → IsRest set part rest
     → pairs_of cell set ≡ pairs_of cell rest ++ pairs_of cell part
 pairs_parted cell set part rest upper left =
@@ -252,11 +251,9 @@ ones_of_one set value low is =
     let small : set < 2 ^ 16 = below_from_numbers set 16 (λ v above. is v ∙ ne_eqb v value (λ e. absurd (omega (arith, e, above, low)))) in
     sym (length-pairs_of 0 set small) ∙ ap length (pairs_of_one 0 value set low is)
 
--- a pair that a list lacks, at its end
+-- a pair that a list lacks comes to its end, as the pairs of a set of one number
 pub pairs_with_one : (ps : List (ℕ × ℕ)) (cell value set : ℕ) → has_pair ps cell value ≡ false → value < 16
     → ((k : ℕ) → has_number set k ≡ eqb k value) → ps ++ pairs_of cell set ≡ with_pair ps cell value
 pairs_with_one ps cell value set fresh low is =
     ap (λ (qs : List (ℕ × ℕ)). ps ++ qs) (pairs_of_one cell value set low is)
     ∙ sym (ap (λ (b : Bool). cond b ps (ps ++ (cell, value) ∷ [])) fresh)
-
--- ---- a list to which they are appended, one after another

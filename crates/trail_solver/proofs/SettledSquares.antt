@@ -7,7 +7,7 @@ use Rattle.trail_solver.specs.Candidates.{CandidatesValue, IsOnly}
 pub record AreSettledBelow (c : CandidatesValue) (cell : ℕ) : Type 0 where
   pub each : (k : ℕ) → k < cell → (v : ℕ) × IsOnly c k v
 
--- one square more
+-- where the squares below one are settled, and this one is, too, so are those below the next
 pub settled_below_more : (c : CandidatesValue) (cell v : ℕ) → AreSettledBelow c cell → IsOnly c cell v → AreSettledBelow c (cell + 1)
 settled_below_more c cell v below only = record {
   each = λ k less. ⊎_elim

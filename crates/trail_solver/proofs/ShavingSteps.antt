@@ -1,5 +1,7 @@
 -- The steps of shaving: what each does to the solutions among the candidates.
-use Rattle.std.proofs.Common.{ℕ, Bool, true, false, refl}
+use Rattle.std.proofs.Common.{arith}
+use Rattle.std.proofs.lemmas.Bool.Decides.{nat_tests}
+use Rattle.std.proofs.Common.{ℕ, Bool, true, refl}
 use Rattle.std.specs.Bool.{OnFalse}
 use Rattle.latin_board.specs.Squares.{GridValue}
 use Rattle.trail_solver.specs.Candidates.{CandidatesValue}
@@ -11,35 +13,22 @@ use Rattle.trail_solver.proofs.Earlier.{earlier_refl}
 use Rattle.trail_solver.proofs.OneKept.{Removes, removed_earlier}
 use Rattle.trail_solver.proofs.SearchSteps.{further_trans, within_removed}
 
--- no pair went
+-- a search that isn't changed is narrowed without a loss
 pub shaves_nothing : {P : Type 0} (puzzle : P → Puzzle) (s : SearchValue P) → NarrowsSearch puzzle s s true
-shaves_nothing puzzle s = record {
-  further = record { rules = refl; less = earlier_refl s.candidates };
-  same = λ h. (λ m. m, λ m. m);
-  refutes = tt;
-}
+shaves_nothing puzzle s = grind (arith, nat_tests, earlier_refl)
 
--- what narrowing says, in one word
+-- what is said of a narrowing, clause by clause, is `NarrowsSearch`
 pub narrows_from : {P : Type 0} (puzzle : P → Puzzle) (a b : SearchValue P) (result : Bool) → IsFurther a b
     → AreSame (IsAmong (puzzle a.rules) a.candidates) (IsAmong (puzzle b.rules) b.candidates)
     → OnFalse result ((g : GridValue) → IsAmong (puzzle a.rules) a.candidates g → ⊥) → NarrowsSearch puzzle a b result
 narrows_from puzzle a b result further same refutes = record { further = further; same = same; refutes = refutes }
 
--- pairs went, and then more
+-- two narrowings of a search, one after the other, are one
 pub shaves_then : {P : Type 0} (puzzle : P → Puzzle) (a b c : SearchValue P) (result : Bool) → NarrowsSearch puzzle a b true
     → NarrowsSearch puzzle b c result → NarrowsSearch puzzle a c result
-shaves_then puzzle a b c true n m = record {
-  further = further_trans a b c n.further m.further;
-  same = λ h. (λ x. (m.same h).0 ((n.same h).0 x), λ x. (n.same h).1 ((m.same h).1 x));
-  refutes = tt;
-}
-shaves_then puzzle a b c false n m = record {
-  further = further_trans a b c n.further m.further;
-  same = λ h. (λ x. (m.same h).0 ((n.same h).0 x), λ x. (n.same h).1 ((m.same h).1 x));
-  refutes = λ h x. m.refutes h ((n.same h).0 x);
-}
+shaves_then puzzle a b c result n m = grind (arith, nat_tests, further_trans)
 
--- a pair went that no solution has
+-- to take away a pair that no solution has narrows the search
 pub shaves_refuted : {P : Type 0} (puzzle : P → Puzzle) (old : SearchValue P) (next : CandidatesValue) (cell value : ℕ)
     → Removes old.candidates next cell value → ((h : GridValue) → IsAmongAt (puzzle old.rules) old.candidates cell value h → ⊥)
     → NarrowsSearch puzzle old (record { rules = old.rules; candidates = next }) true

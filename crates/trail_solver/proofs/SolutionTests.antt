@@ -1,5 +1,6 @@
 -- The tests that compute, and the rules that they stand for.
-use Rattle.std.proofs.Common.{◌≡◌, ℕ, ◌*◌, ◌<◌, eqb, Bool, true, ◌&&◌, ◌||◌, Decides, false, refl, sym, ap, ◌∙◌, inl, inr, eq-eqb, eqb-true, arith}
+use Rattle.std.proofs.lemmas.Bool.Decides.{nat_tests}
+use Rattle.std.proofs.Common.{◌≡◌, ℕ, ◌*◌, ◌<◌, eqb, Bool, true, ◌&&◌, ◌||◌, Decides, false, sym, ap, ◌∙◌, inl, inr, eq-eqb, eqb-true, arith}
 use Rattle.std.proofs.lemmas.Bool.{cases_eq, or_cases, or_left, or_right}
 use Rattle.std.proofs.lemmas.Bool.Decides.{Decides-and, Decides-eqb, Decides-like, same_from_decides}
 use Rattle.latin_board.specs.Squares.{GridValue, IsGrid, number_at, latin_test}
@@ -38,9 +39,7 @@ Decides-solves_test p g grid =
 -- an answer of two tests is that of a solution, where the sizes are equal and the grid is Latin
 pub tested_in_two : (p : Puzzle) (g : GridValue) (held b : Bool) → b ≡ (held && p.meets g) → g.size ≡ p.size → latin_test g ≡ true
     → Decides held (HoldsGivens p g) → b ≡ solves_test p g
-tested_in_two p g held b both size latin givens =
-    let same : held ≡ givens_test p g = same_from_decides held (givens_test p g) givens (Decides-givens_test p g) in
-    both ∙ rw (same, eq-eqb g.size p.size size, latin) refl
+tested_in_two p g held b both size latin givens = grind (arith, nat_tests, same_from_decides, Decides-givens_test)
 
 pub tested_in_one : (p : Puzzle) (g : GridValue) (held : Bool) → held ≡ false → g.size ≡ p.size → latin_test g ≡ true
     → Decides held (HoldsGivens p g) → held ≡ solves_test p g

@@ -45,14 +45,14 @@ apart_push (q ∷ qs) p a n =
     let parts = or_parts (same_pair p.0 p.1 q) (has_pair qs p.0 p.1) n in
     (has_pair-push qs p q.0 q.1 ∙ or_from (has_pair qs q.0 q.1) (same_pair q.0 q.1 p) a.0 (no_pair_turned p.0 q.0 p.1 q.1 parts.0), apart_push qs p a.1 parts.1)
 
--- a front of a list without repeats has none
+-- a front of a list without repeats has no repeats
 pub apart_append : (ps qs : List (ℕ × ℕ)) → AreApart (ps ++ qs) → AreApart ps
 apart_append [] qs a = tt
 apart_append (p ∷ ps) qs a =
     let parts = or_parts (has_pair ps p.0 p.1) (has_pair qs p.0 p.1) (sym (list_any-append (same_pair p.0 p.1) ps qs) ∙ a.0) in
     (parts.0, apart_append ps qs a.1)
 
--- and none of what comes after it
+-- a front of a list without repeats has none of the pairs that come after it
 pub apart_absent : (ps qs : List (ℕ × ℕ)) → AreApart (ps ++ qs) → (c v : ℕ) → has_pair qs c v ≡ true → has_pair ps c v ≡ false
 apart_absent [] qs a c v h = refl
 apart_absent (p ∷ ps) qs a c v h =

@@ -39,7 +39,7 @@ pub record IsOnly (c : CandidatesValue) (cell value : ℕ) : Type 0 where
 pub record IsWithin (c : CandidatesValue) (g : GridValue) : Type 0 where
   pub each : (cell : ℕ) → cell < c.size * c.size → may_be c cell (number_at g cell) ≡ true
 
--- later is earlier with more pairs gone
+-- the later candidates are the earlier ones after more pairs went, or none
 pub record IsEarlier (earlier later : CandidatesValue) : Type 0 where
   pub size : later.size ≡ earlier.size
   pub adds : IsPrefix earlier.trail later.trail

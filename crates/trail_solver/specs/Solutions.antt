@@ -40,8 +40,8 @@ pub record HasOtherWithin (p : Puzzle) (c : CandidatesValue) (g : GridValue) : T
 abbrev pub HasNoOtherWithin : Puzzle → CandidatesValue → GridValue → Type 0
 HasNoOtherWithin p c g = (h : GridValue) → Solves p h → IsWithin c h → h ≡ g
 
--- without an item more grids solve a puzzle: within the candidates that are left the denied puzzle has some of these,
--- and each of those within the old ones that doesn't solve the puzzle itself
+-- what solves the denied puzzle within the new candidates solves the puzzle without an item; what solves
+-- the latter within the old candidates solves the puzzle itself, or the denied one within the new candidates
 pub record Denies (puzzle without denied : Puzzle) (old new : CandidatesValue) : Type 0 where
   pub some : (g : GridValue) → Solves denied g → IsWithin new g → Solves without g
   pub others : (g : GridValue) → Solves without g → IsWithin old g

@@ -2,8 +2,7 @@
 ghost use Rattle.std.specs.Prelude.{◌≡◌, ℕ, ◌*◌, ◌^◌, ◌<◌, ◌≤◌, ◌++◌, [], length, take, count_ones, MatchOption};
 ghost use Rattle.latin_board.specs.declared.grid.TheConstants.{CELLS};
 ghost use Rattle.trail_solver.specs.Pairs.{IsPair, pairs_of, with_pair};
-ghost use Rattle.trail_solver.specs.Candidates.{CandidatesValue, AreCandidates, IsCandidates, IsSetOf, IsOnly};
-ghost use Rattle.trail_solver.specs.Candidates.{IsEarlier, may_be};
+ghost use Rattle.trail_solver.specs.Candidates.{CandidatesValue, AreCandidates, IsCandidates, IsSetOf, IsOnly, IsEarlier, may_be};
 ghost use Rattle.trail_solver.specs.Inner.Fields.{FlipsSet, GivesBack, IsUpperPart};
 
 use crate::trail::{PAIRS, Removal};

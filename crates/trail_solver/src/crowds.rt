@@ -1,5 +1,5 @@
-//! What the pairings of a Latin square rule out: lefts that have as many rights together as they are leave none of these to
-//! the others, and lefts that have fewer leave no Latin square.
+//! What the pairings of a Latin square rule out: lefts that have just as many rights as there are of them
+//! leave none of these rights to other lefts, and lefts that have fewer leave no Latin square.
 
 ghost use Rattle.std.specs.Prelude.{◌≡◌, ℕ, ◌<◌, true, slice_index, count_ones};
 ghost use Rattle.std.specs.Bool.{OnTrue};
@@ -23,7 +23,7 @@ pub(crate) fn narrow_by_pairings(candidates: &mut Candidates, losses: &Losses) -
     narrow_by_lines(candidates, losses) && narrow_by_values(candidates, losses)
 }
 
-// By the pairings of the lines.
+// Narrows by the pairings of the lines.
 #[tactic(auto, using(crate::proofs::CrowdSteps::narrows_then, crate::proofs::CrowdSteps::narrows_nothing))]
 fn narrow_by_lines(candidates: &mut Candidates, losses: &Losses) -> bool
     ensures { NarrowsLatin candidates.old candidates.new result }
@@ -37,7 +37,7 @@ fn narrow_by_lines(candidates: &mut Candidates, losses: &Losses) -> bool
     true
 }
 
-// By the pairings of the values.
+// Narrows by the pairings of the values.
 #[tactic(auto, using(crate::proofs::CrowdSteps::narrows_then, crate::proofs::CrowdSteps::narrows_nothing))]
 fn narrow_by_values(candidates: &mut Candidates, losses: &Losses) -> bool
     ensures { NarrowsLatin candidates.old candidates.new result }
@@ -51,7 +51,7 @@ fn narrow_by_values(candidates: &mut Candidates, losses: &Losses) -> bool
     true
 }
 
-// By one pairing, unless none of its pairs was lost.
+// Narrows by one pairing, unless none of its pairs was lost.
 #[tactic(auto, using(crate::proofs::CrowdSteps::narrows_nothing))]
 fn narrow_where_lost(candidates: &mut Candidates, pairing: Pairing, losses: &Losses) -> bool
     requires { IsPairing candidates.old.size pairing }
@@ -64,7 +64,7 @@ fn narrow_where_lost(candidates: &mut Candidates, pairing: Pairing, losses: &Los
     }
 }
 
-// By one pairing: each crowd that a matching proposes is counted.
+// Narrows by one pairing: each set of lefts that a matching proposes is counted.
 #[tactic(auto, using(crate::proofs::CrowdSteps::narrows_then, crate::proofs::CrowdSteps::narrows_nothing, crate::proofs::CrowdSteps::covers_later))]
 fn narrow_by_pairing(candidates: &mut Candidates, pairing: Pairing) -> bool
     requires { IsPairing candidates.old.size pairing }
@@ -81,7 +81,7 @@ fn narrow_by_pairing(candidates: &mut Candidates, pairing: Pairing) -> bool
     true
 }
 
-// By one crowd of lefts, if it is one; what is no left doesn't count.
+// Narrows by one proposed set of lefts, if it is a crowd; numbers in it that are no lefts don't count.
 #[tactic(auto, using(crate::proofs::CrowdSteps::narrows_nothing))]
 fn narrow_by_crowd(
     candidates: &mut Candidates,

@@ -95,7 +95,7 @@ impl<P: Rules> Listing<P> {
         }
     }
 
-    // Lists them by the values of the first open square.
+    // Lists the solutions among the candidates by the values of the first open square.
     #[cycle(listing)]
     fn list_values(&mut self, cell: usize) -> Result<(), OutOfMemory>
         requires first { IsFirstOpen self.old.search.candidates cell }
@@ -113,7 +113,7 @@ impl<P: Rules> Listing<P> {
         Ok(())
     }
 
-    // Lists those that have the value in the cell, and leaves the candidates as they were.
+    // Lists the solutions that have the value in the cell, and leaves the candidates as they were.
     #[cycle(listing)]
     #[tactic(auto, using(crate::proofs::ListingSteps::full_lists, crate::proofs::ListingSteps::guess_lists_none))]
     fn list_guess(&mut self, cell: usize, value: u8) -> Result<(), OutOfMemory>
@@ -132,13 +132,13 @@ impl<P: Rules> Listing<P> {
         if !self.search.candidates.may(cell, value) {
             return Ok(());
         }
-        let place = self.search.place();
+        let checkpoint = self.search.checkpoint();
         let done = if self.search.assume(cell, value) {
             self.list()
         } else {
             Ok(())
         };
-        self.search.go_back(place);
+        self.search.go_back(checkpoint);
         done
     }
 

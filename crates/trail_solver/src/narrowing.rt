@@ -35,7 +35,7 @@ pub(crate) fn narrow_after<P: Rules>(
     }
 }
 
-// By the pairings that lost a pair since the trail was so long, and by the rules again where that removed candidates.
+// Narrows by the pairings that lost a pair since the trail was so long, and then by the rules if pairs went.
 #[tactic(auto, using(crate::proofs::PairedSolutions::kept_then, crate::proofs::PairedSolutions::refuted_then))]
 fn narrow_closer<P: Rules>(p: &P, candidates: &mut Candidates, since: usize) -> bool
     requires { candidates.old.size ≡ (P.puzzle p.now).size }
@@ -53,7 +53,7 @@ fn narrow_closer<P: Rules>(p: &P, candidates: &mut Candidates, since: usize) -> 
     p.narrow(candidates)
 }
 
-// By the pairings alone: each solution is a Latin square.
+// Narrows by the pairings alone, since each solution is a Latin square.
 #[tactic(auto, using(crate::proofs::PairedSolutions::paired_keeps, crate::proofs::PairedSolutions::paired_refutes))]
 fn pair_off<P: Rules>(p: &P, candidates: &mut Candidates, since: usize) -> bool
     requires { candidates.old.size ≡ (P.puzzle p.now).size }

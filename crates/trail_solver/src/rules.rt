@@ -85,9 +85,9 @@ pub trait Rules: Copy {
         requires { i < items_of (puzzle self.old).size }
         ensures { self.new ≡ cut self.old (λ j. not (j == i)) };
 
-    /// The puzzle without the item, or one that asks the opposite of it, by its clues or by the candidates that are left: what
-    /// solves the puzzle without the item is a solution of the puzzle itself, or one of these. i is below the count, and the
-    /// sizes are equal.
+    /// The puzzle without the item, or one that asks the opposite of it, by its clues or by the candidates
+    /// that are left: what solves the puzzle without the item solves the puzzle itself, or this one within
+    /// these candidates. i is below the count, and the sizes are equal.
     #[tactic(auto, using(crate::proofs::DeniedItems::nothing_denied))]
     fn deny_item(&self, i: usize, candidates: &mut Candidates) -> Self
         requires inside { i < items_of (puzzle self.now).size }

@@ -20,7 +20,7 @@ use crate::rules::{Rules, solves};
 use crate::squares::{filled, keep_only, take_away};
 use std::marker::Model;
 
-/// How many failures each run may have that is left before the candidates are shaved.
+/// How many failures each of the first three runs may have. After them the candidates are shaved.
 const RUN_LIMITS: [u32; 3] = [100, 150, 225];
 
 /// How many failures the fourth run may have, after shaving. The fifth and last has no limit.
@@ -29,9 +29,9 @@ const LONG_RUN: u32 = 5000;
 /// A guess with so many failures is dear.
 const DEAR_GUESS: u32 = 300;
 
-/// A place to which a search can go back.
+/// A point to which a search can go back.
 #[derive(Clone, Copy)]
-pub(crate) struct Place {
+pub(crate) struct Checkpoint {
     pub mark: Mark,
     /// How long the trail was when the search looked closer last.
     looked: usize,
@@ -142,13 +142,13 @@ impl<P: Rules> Search<P> {
         ensures adds { RunAdds (IsAmongAt (P.puzzle self.old.rules) self.old.candidates cell value)
             limit result found.old found.new }
     {
-        let place = self.place();
+        let checkpoint = self.checkpoint();
         let all = if self.assume(cell, value) {
             self.run(found, limit)
         } else {
             true
         };
-        self.go_back(place);
+        self.go_back(checkpoint);
         all
     }
 
@@ -175,10 +175,10 @@ impl<P: Rules> Search<P> {
         ensures adds { MatchOption result (limit ≢ None)
             (Adds (IsAmong (P.puzzle self.old.rules) self.old.candidates) known.now) }
     {
-        let place = self.place();
+        let checkpoint = self.checkpoint();
         let mut found = *known;
         let all = self.run(&mut found, limit);
-        self.go_back(place);
+        self.go_back(checkpoint);
         if all { Some(found) } else { None }
     }
 
@@ -196,18 +196,18 @@ impl<P: Rules> Search<P> {
         self.last_answer(known)
     }
 
-    // The same of a search that had all its short runs: the candidates are shaved first.
+    // What `answer_with` answers, of a search that had all its short runs: the candidates are shaved first.
     fn last_answer(&mut self, known: &Answer) -> Answer
         ensures same { self.new ≡ self.old }
         ensures adds { Adds (IsAmong (P.puzzle self.old.rules) self.old.candidates) known.now result }
     {
-        let place = self.place();
+        let checkpoint = self.checkpoint();
         let answer = self.shaved_answer(known);
-        self.go_back(place);
+        self.go_back(checkpoint);
         answer
     }
 
-    // The same, where what shaving takes away stays away.
+    // What `last_answer` answers; what shaving takes away stays away.
     #[tactic(auto, using(crate::proofs::JoinedAnswers::adds_same, crate::proofs::JoinedAnswers::adds_nothing))]
     fn shaved_answer(&mut self, known: &Answer) -> Answer
         ensures further { IsFurther self.old self.new }
@@ -220,7 +220,7 @@ impl<P: Rules> Search<P> {
         }
     }
 
-    // The same of candidates that are shaved: by one more run with a limit, or otherwise by one without.
+    // What `answer_with` answers, of shaved candidates: by one run with a limit, or otherwise by one without.
     fn thorough_answer(&mut self, known: &Answer) -> Answer
         ensures same { self.new ≡ self.old }
         ensures adds { Adds (IsAmong (P.puzzle self.old.rules) self.old.candidates) known.now result }
@@ -286,11 +286,11 @@ impl<P: Rules> Search<P> {
         ensures refutes { OnFalse result ((g : GridValue)
             → IsAmong (P.puzzle self.old.rules) self.old.candidates g → ⊥) }
     {
-        let left = self.narrow_after(cell);
-        if !left {
+        let may_hold = self.narrow_after(cell);
+        if !may_hold {
             self.failures.note(&self.candidates, cell, side);
         }
-        left
+        may_hold
     }
 
     /// Narrows after the cell lost candidates; false where that finds that no solution is left.
@@ -306,25 +306,25 @@ impl<P: Rules> Search<P> {
         narrow_after(&self.rules, &mut self.candidates, &mut self.failures, cell)
     }
 
-    /// The place where the search is, to come back to.
-    pub fn place(&self) -> Place
+    /// The point where the search is, to come back to.
+    pub fn checkpoint(&self) -> Checkpoint
         ensures { result.mark ≡ length self.now.candidates.trail }
     {
-        Place {
+        Checkpoint {
             mark: self.candidates.mark(),
             looked: self.failures.looked,
         }
     }
 
-    /// Goes back to a place: each pair that was removed since is given back. The place isn't beyond where the search is.
+    /// Goes back to a checkpoint, not beyond where the search is: each pair that went since is given back.
     #[tactic(auto, using(crate::proofs::SearchSteps::given_back))]
-    pub fn go_back(&mut self, place: Place)
-        requires { place.mark ≤ length self.old.candidates.trail }
+    pub fn go_back(&mut self, checkpoint: Checkpoint)
+        requires { checkpoint.mark ≤ length self.old.candidates.trail }
         ensures { (earlier : SearchValue P) → IsFurther earlier self.old
-            → place.mark ≡ length earlier.candidates.trail → self.new ≡ earlier }
+            → checkpoint.mark ≡ length earlier.candidates.trail → self.new ≡ earlier }
     {
-        self.candidates.give_back(place.mark);
-        self.failures.looked = place.looked;
+        self.candidates.give_back(checkpoint.mark);
+        self.failures.looked = checkpoint.looked;
     }
 
     // Adds the only grid of the candidates, where it is a solution. It isn't inlined, so that the grid takes no room in the

@@ -30,7 +30,7 @@ impl<P: Rules> Search<P> {
         true
     }
 
-    // The same for the values of one square.
+    // Supposes each candidate of one square; false where that finds that no solution is among the candidates.
     #[tactic(auto, using(crate::proofs::ShavingSteps::shaves_nothing, crate::proofs::ShavingSteps::shaves_then))]
     fn shave_square(&mut self, cell: usize) -> bool
         requires { cell < self.old.candidates.size * self.old.candidates.size }
@@ -45,7 +45,7 @@ impl<P: Rules> Search<P> {
         true
     }
 
-    // The same for one pair, where it is one of several candidates of its square.
+    // Supposes one pair, if its square has other candidates, and takes it away where narrowing refutes it.
     #[tactic(auto, using(crate::proofs::ShavingSteps::shaves_nothing))]
     fn shave_pair(&mut self, cell: usize, value: u8) -> bool
         requires { IsPair self.old.candidates.size cell value }
@@ -68,11 +68,11 @@ impl<P: Rules> Search<P> {
         ensures refutes { OnFalse result ((g : GridValue)
             → IsAmongAt (P.puzzle self.old.rules) self.old.candidates cell value g → ⊥) }
     {
-        let place = self.place();
+        let checkpoint = self.checkpoint();
         keep_only(&mut self.candidates, cell, value);
-        let left = self.narrow_after(cell);
-        self.go_back(place);
-        left
+        let may_hold = self.narrow_after(cell);
+        self.go_back(checkpoint);
+        may_hold
     }
 
     // Takes away a pair that no solution has, and narrows; false where that finds that no solution is left.

@@ -32,8 +32,8 @@ const UNEQUAL: &str = "3:0,0L,0L,0U,0,0,0U,0,0,";
 /// Makes the call with this name in a session of this game.
 pub(crate) fn make_call(rt: &(impl Print + AllocGlobal), game: &str, name: &str) -> io::Result<()> {
     match (game, call_named(name)) {
-        ("towers", Some((start, call))) => tell::<Towers>(rt, TOWERS, start, call),
-        ("unequal", Some((start, call))) => tell::<Unequal>(rt, UNEQUAL, start, call),
+        ("towers", Some((start, call))) => make_in::<Towers>(rt, TOWERS, start, call),
+        ("unequal", Some((start, call))) => make_in::<Unequal>(rt, UNEQUAL, start, call),
         _ => println!(rt; "no such call"),
     }
 }
@@ -52,7 +52,7 @@ fn list_calls_of(rt: &impl Print, game: &str) -> io::Result<()> {
 }
 
 // Makes a call in one of two sessions that are equal, and says what came of it.
-fn tell<P: Draw>(
+fn make_in<P: Draw>(
     rt: &(impl Print + AllocGlobal),
     id: &str,
     start: Start,

@@ -43,7 +43,7 @@ fn answer_save<P: Game>(
     print_damaged::<P>(rt, &text)
 }
 
-// Of a save the folder says which game it is.
+// Answers one line. The folder of a save says which game it is of.
 fn answer(rt: &(impl Files + Print + AllocGlobal), line: &str) -> io::Result<()> {
     match line.split_once(' ') {
         _ if line.starts_with('#') => println!(rt; "{line}"),

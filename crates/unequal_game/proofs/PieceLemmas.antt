@@ -35,10 +35,12 @@ pieces_without_comma text rest wanted some h = elim h [
       | inr e ↦ ap (exactly wanted) e ∙ empty_last text (pieces_of text) lacks e
     ]
 
+-- once a piece is taken, fewer pieces are left of the text
 pub pieces_shorter : (o after : Option (List ℕ)) (bytes : List ℕ) → o ≡ Some bytes → after ≡ behind comma bytes
     → length (pieces_left after) < length (pieces_left o)
 pieces_shorter o after bytes e f = grind (arith, nat_tests, split_once)
 
+-- the pieces so far, then the next piece, and then those of the text after it are all pieces
 pub pieces_step : (ps : List (List ℕ)) (o after : Option (List ℕ)) (bytes piece : List ℕ) (all : List (List ℕ))
     → ps ++ pieces_left o ≡ all → o ≡ Some bytes → piece ≡ before comma bytes → after ≡ behind comma bytes
     → (ps ++ piece ∷ []) ++ pieces_left after ≡ all
@@ -46,6 +48,7 @@ pieces_step ps o after bytes piece all h e f g =
     let here : piece ∷ pieces_left after ≡ pieces_left o = rw (e, f, g) (sym (split_once bytes)) in
     append_assoc ps (piece ∷ []) (pieces_left after) ∙ ap (λ qs. ps ++ qs) here ∙ h
 
+-- if there are as many pieces as are wanted and some text is left, there are too many
 pub pieces_over : (ps all : List (List ℕ)) (o : Option (List ℕ)) (bytes : List ℕ) (wanted : ℕ) → ps ++ pieces_left o ≡ all
     → o ≡ Some bytes → length ps ≡ wanted → exactly wanted all ≡ Err TooMany
 pieces_over ps all o bytes wanted h e full = grind (arith, nat_tests, split_once, length-append, exactly_many)

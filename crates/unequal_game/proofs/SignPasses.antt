@@ -24,12 +24,12 @@ use Rattle.line_steps.specs.declared.grade.Grade.TheVariants.{Easy}
 pub end_inside : (w line : ℕ) (end : End) → line < 2 * w → IsEnd w line end → end.cell < w * w
 end_inside w line end low is = subst (λ (n : ℕ). n < w * w) (sym is.here) (line_cell_inside w line end.place low is.inside)
 
--- what was left of it is left where that of the line's squares is
+-- nothing goes from the square of an end if nothing goes along the line
 pub end_stays : (line : ℕ) (end : End) (a b : CandidatesValue) → IsEnd a.size line end → StaysOn line a b → (v : ℕ) → IsLeft a end.cell v → IsLeft b end.cell v
 end_stays line end a b is stays v left =
     subst (λ (n : ℕ). IsLeft b n v) (sym is.here) (stays end.place v is.inside (subst (λ (n : ℕ). IsLeft a n v) is.here left))
 
--- the lesser square's set stays when something goes of the greater, another one
+-- the set of the lesser square stays when something goes from the greater one, which is another square
 pub lesser_still : (v : UnequalValue) (a b : CandidatesValue) (greater lesser taken set : ℕ) → IsUnequal v → IsGreater v greater lesser
     → Strikes a b greater taken → IsSetOf a lesser set → IsSetOf b lesser set
 lesser_still v a b greater lesser taken set valid up s is =
@@ -37,17 +37,19 @@ lesser_still v a b greater lesser taken set valid up s is =
     let same : IsGreater v greater greater = subst (λ (n : ℕ). IsGreater v greater n) e up in
     never_both v greater greater valid same same) s is
 
--- the values of a set that is taken at one end, or of another at the other
+-- the square is the greater end and the value in one set, or it is the lesser end and the value in the other
 abbrev AtEnds : ℕ → ℕ → ℕ → ℕ → ℕ → ℕ → Type 0
 AtEnds greater lesser above below cell x =
     ((cell ≡ greater) × (has_number above x ≡ true)) ⊎ ((cell ≡ lesser) × (has_number below x ≡ true))
 
+-- if values go from one end and then values from the other, these and those are what goes
 ends_taken : (greater lesser above below : ℕ) (a b c : CandidatesValue) → Strikes a b greater above → Strikes b c lesser below
     → Takes (AtEnds greater lesser above below) a c
 ends_taken greater lesser above below a b c s t =
     takes_both (λ cell x. (cell ≡ greater) × (has_number above x ≡ true)) (λ cell x. (cell ≡ lesser) × (has_number below x ≡ true)) a b c
     (takes_struck a b greater above s) (takes_struck b c lesser below t)
 
+-- what goes from both ends by a sign goes by steps of the easy grade
 pub sign_leads : (v : UnequalValue) (greater lesser above below : ℕ) (a b c : CandidatesValue) → IsGreater v greater lesser
     → ((x : ℕ) → x ≤ a.size → (has_number above x ≡ true) ↔ ((u : ℕ) → IsLeft a lesser u → x ≤ u))
     → ((x : ℕ) → x ≤ a.size → (has_number below x ≡ true) ↔ ((u : ℕ) → IsLeft a greater u → u ≤ x))
@@ -59,6 +61,7 @@ sign_leads v greater lesser above below a b c up above_is below_is s t =
       | inr second ↦ (Sign greater lesser, refl, record { here = second.0; why = inl (up, (below_is x pair.high).0 second.1) })
     ])
 
+-- if what a sign strikes was taken and nothing went from either end, the sign strikes nothing more
 pub sign_calm : (v : UnequalValue) (greater lesser above below : ℕ) (a b c : CandidatesValue) → IsUnequal v → IsGreater v greater lesser
     → ((x : ℕ) → x ≤ a.size → (has_number above x ≡ true) ↔ ((u : ℕ) → IsLeft a lesser u → x ≤ u))
     → ((x : ℕ) → x ≤ a.size → (has_number below x ≡ true) ↔ ((u : ℕ) → IsLeft a greater u → u ≤ x))

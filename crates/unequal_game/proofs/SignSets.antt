@@ -1,4 +1,4 @@
--- The values that none that is left of a square is above, or none below.
+-- The values from the greatest on that is left of a square, and those up to the least, as sets.
 use Rattle.std.proofs.lemmas.Bool.Decides.{nat_tests}
 use Rattle.std.proofs.Common.{◌≡◌, ◌≢◌, ◌↔◌, ℕ, ◌+◌, ◌-◌, ◌*◌, ◌%◌, ◌^◌, ◌<◌, ◌≤◌, true, false, nat_le, nat_lt, ◌&&◌, bit_and, bit_or, bit_xor, sym, ap, ◌∙◌, inl, inr, arith, add-one}
 use Rattle.std.specs.Int.{bit_at}
@@ -16,7 +16,7 @@ use Rattle.line_steps.specs.Left.{IsLeft}
 
 -- ---- as numbers
 
--- twice a power
+-- the next power of two is twice this one
 pow_next : (k : ℕ) → 2 ^ (k + 1) ≡ 2 ^ k * 2
 pow_next k = rw add-one (pow-suc 2 k)
 
@@ -26,7 +26,7 @@ low_numbers set some small =
     let (k, power, last) = lowest_power set (omega (arith, some)) (omega (arith, small)) in
     (k, omega (arith, some, power, and_le_l set (set - 1), xor_add_and set (set - 1), pow_next k), last)
 
--- that number is the least
+-- the last number in which a set and the number before it differ is the least of the set
 low_least : (set k u : ℕ) → set ≢ 0 → set < 2 ^ 16 → bit_xor set (set - 1) ≡ 2 ^ (k + 1) - 1 → has_number set k ≡ true → has_number set u ≡ true → k ≤ u
 low_least set k u some small is last has = elim (cases_lt u k) [
   | inl below ↦
@@ -41,7 +41,7 @@ low_least set k u some small is last has = elim (cases_lt u k) [
   | inr above ↦ above
 ]
 
--- so they are the numbers that none of the set is below; for an empty set these are all
+-- a set and the number before it differ in the numbers that none of the set is below; an empty set in all
 pub up_to_least_has : (set result v : ℕ) → set < 2 ^ 16 → result ≡ bit_xor set ((set + 65535) % 65536)
     → (has_number result v ≡ true) ↔ ((v < 16) × ((u : ℕ) → has_number set u ≡ true → v ≤ u))
 up_to_least_has set result v small is = elim (cases_eq set 0) [
@@ -63,7 +63,7 @@ up_to_least_has set result v small is = elim (cases_eq set 0) [
       )
 ]
 
--- the numbers that none of the set is above
+-- the numbers from the greatest of a set on are those that none of the set is above
 pub from_greatest_has : (set top result v : ℕ) → set < 2 ^ 16 → 2 ^ top ≤ bit_or set 1 → bit_or set 1 < 2 * 2 ^ top → result ≡ 65535 * 2 ^ top % 65536
     → (has_number result v ≡ true) ↔ ((v < 16) × ((u : ℕ) → has_number set u ≡ true → u ≤ v))
 from_greatest_has set top result v small low high is =
@@ -84,18 +84,16 @@ from_greatest_has set top result v small low high is =
 
 -- ---- as what is left of a square
 
--- what bounds a square's set bounds what is left of it
+-- a number that bounds the set of a square bounds the values that are left of it
 pub bounds_left : (c : CandidatesValue) (from set bounds x : ℕ) (Is : ℕ → Type 0) → c.size ≤ 9 → x ≤ c.size → IsSetOf c from set
     → ((has_number bounds x ≡ true) ↔ ((x < 16) × ((u : ℕ) → has_number set u ≡ true → Is u)))
     → (has_number bounds x ≡ true) ↔ ((u : ℕ) → IsLeft c from u → Is u)
 bounds_left c from set bounds x Is small high is tested = grind (arith, nat_tests)
 
--- the values of the size that do
+-- the values of the size that bound the values that are left of a square
 pub bounds_struck : (c : CandidatesValue) (from set bounds all result v : ℕ) (Is : ℕ → Type 0) → c.size ≤ 9 → IsSetOf c from set
     → ((k : ℕ) → has_number all k ≡ (nat_le 1 k && nat_le k c.size))
     → ((has_number bounds v ≡ true) ↔ ((v < 16) × ((u : ℕ) → has_number set u ≡ true → Is u)))
     → ((n : ℕ) → has_number result n ≡ (has_number all n && has_number bounds n))
     → (has_number result v ≡ true) ↔ ((1 ≤ v) × (v ≤ c.size) × ((u : ℕ) → IsLeft c from u → Is u))
 bounds_struck c from set bounds all result v Is small is members tested shared = grind (arith, nat_tests, bounds_left)
-
--- ---- two squares

@@ -18,7 +18,7 @@ use Rattle.unequal_game.specs.Laws.Neighbours.{IsNext, next_line}
 use Rattle.unequal_game.specs.Laws.Signs.{IsSaid, below_between, each_sign_held, first_said, right_between, said_next, second_said, sign_held}
 use Rattle.line_steps.proofs.GivenDenied.{given_denied}
 
--- an Unequal puzzle without a given
+-- a given is denied if it goes from the puzzle, and its number from the candidates of its square
 pub number_denied : (v u : UnequalValue) (item : Item) (cell given : ℕ) (old new : CandidatesValue) → item ≡ Given cell → u ≡ with_item v (Given cell) 0
     → given ≡ slice_index v.givens cell → KeepsEach (λ g. number_at g cell ≢ given) old new
     → Denies (unequal_puzzle v) (unequal_puzzle (with_item v item 0)) (unequal_puzzle u) old new
@@ -30,11 +30,11 @@ number_denied v u item cell given old new at is value keeps = grind (arith, nat_
 abbrev with_signs : UnequalValue → List Sign → List Sign → UnequalValue
 with_signs v right below = record { size = v.size; right = right; below = below; givens = v.givens }
 
--- the same signs, but between two squares
+-- both puzzles have the same signs, but for the sign between these two squares
 abbrev AreSameBut : UnequalValue → UnequalValue → ℕ → ℕ → Type 0
 AreSameBut u v x y = (a b : ℕ) → (a ≡ x → b ≡ y → ⊥) → sign_between u a b ≡ sign_between v a b
 
--- a grid that holds the signs holds those that are the same but for one that it holds
+-- a grid that solves a puzzle solves one with the same signs but for one, if it holds that one
 solved_but : (v : UnequalValue) (r d p q : List Sign) (g : GridValue) (x y : ℕ) → AreSameBut (with_signs v p q) (with_signs v r d) x y
     → holds_sign (sign_between (with_signs v p q) x y) (number_at g x) (number_at g y) ≡ true
     → Solves (unequal_puzzle (with_signs v r d)) g → Solves (unequal_puzzle (with_signs v p q)) g
@@ -54,6 +54,7 @@ solved_but v r d p q g x y same here s = record {
 held_or_turned : (s : Sign) (m n : ℕ) → (IsSaid s → m ≢ n) → (holds_sign s m n ≡ true) ⊎ (holds_sign (turned_sign s) m n ≡ true)
 held_or_turned s m n differ = grind (arith, nat_tests, first_said, second_said)
 
+-- a Latin square has different numbers at both ends of a sign
 said_differ : (v : UnequalValue) (x y : ℕ) (g : GridValue) → IsUnequal v → IsGrid g → IsLatin g → g.size ≡ v.size
     → IsSaid (sign_between v x y) → number_at g x ≢ number_at g y
 said_differ v x y g valid is_grid latin size said =
@@ -62,7 +63,7 @@ said_differ v x y g valid is_grid latin size said =
     let differ = line_differs g is_grid latin on.line on.place (on.place + 1) on.line_is (omega (arith, on.place_is)) on.place_is (λ e. omega arith) in
     rw (on.first, on.second) at differ
 
--- of the grids that solve a puzzle without a sign, those that don't solve it with the sign have it the other way round
+-- of the grids that solve a puzzle without a sign, those that don't hold the sign hold it turned round
 sign_denied : (v : UnequalValue) (r d p q : List Sign) (x y : ℕ) (c : CandidatesValue) → IsUnequal v
     → AreSameBut (with_signs v r d) v x y → AreSameBut (with_signs v p q) v x y
     → sign_between (with_signs v r d) x y ≡ Absent → sign_between (with_signs v p q) x y ≡ turned_sign (sign_between v x y)
@@ -79,13 +80,15 @@ sign_denied v r d p q x y c valid without denied none turn = record {
       ];
 }
 
+-- to put a sign towards a right neighbour changes no other sign
 right_but : (v : UnequalValue) (cell : ℕ) (s : Sign) → AreSameBut (with_signs v (set v.right cell s) v.below) v cell (cell + 1)
 right_but v cell s a b apart = grind (arith, nat_tests, get_or-set_other)
 
+-- to put a sign towards a lower neighbour changes no other sign
 lower_but : (v : UnequalValue) (cell : ℕ) (s : Sign) → AreSameBut (with_signs v v.right (set v.below cell s)) v cell (cell + v.size)
 lower_but v cell s a b apart = grind (arith, nat_tests, get_or-set_other)
 
--- a sign towards the right neighbour is turned round
+-- a sign towards the right neighbour is denied if it is turned round
 pub right_denied : (v u : UnequalValue) (item : Item) (cell : ℕ) (c : CandidatesValue) → IsUnequal v → item ≡ RightSign cell
     → item_cell item < v.size * v.size → u ≡ denied_item v (RightSign cell)
     → Denies (unequal_puzzle v) (unequal_puzzle (with_item v item 0)) (unequal_puzzle u) c c
@@ -102,7 +105,7 @@ right_denied v u item cell c valid at within is =
     (right_between (with_signs v (set v.right cell turn) v.below) cell ∙ get_or-set_same v.right cell turn Absent count
     ∙ ap turned_sign (sym (right_between v cell)))))
 
--- the same of the lower neighbour
+-- a sign towards the lower neighbour is denied if it is turned round
 pub lower_denied : (v u : UnequalValue) (item : Item) (cell : ℕ) (c : CandidatesValue) → IsUnequal v → item ≡ LowerSign cell
     → item_cell item < v.size * v.size → u ≡ denied_item v (LowerSign cell)
     → Denies (unequal_puzzle v) (unequal_puzzle (with_item v item 0)) (unequal_puzzle u) c c

@@ -40,7 +40,7 @@ full_greater g a b is_grid =
       ],
     )
 
--- so do tables that hold its signs
+-- tables that hold the signs of a grid say of each two neighbours which one the grid has greater
 pub full_signs : (g : GridValue) (right below : List Sign) → IsGrid g → HoldsSignsOf g.size (sign_in_grid g) Right right
     → HoldsSignsOf g.size (sign_in_grid g) Down below → (a b : ℕ)
     → IsGreater (unequal_value right below g) a b ↔ (AreNeighbours g.size a b × (number_at g b < number_at g a))

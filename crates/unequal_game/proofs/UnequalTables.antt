@@ -1,4 +1,4 @@
--- The signs of an Unequal puzzle as two tables of 81 places: one item less.
+-- The signs of an Unequal puzzle as two tables of 81 places, where signs are put, turned round or taken away.
 use Rattle.std.proofs.lemmas.Bool.Decides.{nat_tests}
 use Rattle.std.proofs.Common.{◌≡◌, ℕ, ◌+◌, ◌*◌, ◌%◌, ◌<◌, ◌≤◌, replicate, None, Some, Bool, true, false, nat_lt, not, List, set, take, length-set, arith, refl, sym, ap, subst, ◌∙◌, inl, inr, ◌==◌, slice_index_or}
 use Rattle.std.proofs.Math.Seq.{take-set-lt}
@@ -22,7 +22,7 @@ use Rattle.unequal_game.specs.Laws.Signs.{none_at_end}
 use Rattle.line_steps.proofs.FilledLemmas.{IsFilledBy}
 use Rattle.trail_solver.proofs.ItemsLost.{kept-but_one}
 
--- the front with one sign set
+-- to set a sign in a table sets it in the front of the table
 pub sign_in_front : (n : ℕ) (places : List Sign) (cell : ℕ) (s : Sign) → cell < n → take n (set places cell s) ≡ set (take n places) cell s
 sign_in_front n places cell s inside = take-set-lt n places cell s inside
 
@@ -32,13 +32,13 @@ sign_put : (w : ℕ) (d : Direction) (places : List Sign) (cell : ℕ) (t : Sign
 sign_put w d places cell t inside gone kept =
     grind (arith, nat_tests, length-set, drop-set-lt, length-take, get_or-set_same, get_or-set_other, sign_in_front)
 
--- a sign that is turned round stands where one stood
+-- a table of signs stays one if a sign is turned round, since one stands there already
 pub turned_kept : (w : ℕ) (d : Direction) (places : List Sign) (cell : ℕ) (s t : Sign) → cell < w * w → KeepsSigns w d places
     → s ≡ slice_index_or (take (w * w) places) cell Absent → t ≡ turned_sign s → KeepsSigns w d (set places cell t)
 turned_kept w d places cell s t inside kept is turn =
     sign_put w d places cell t inside (λ none. turn ∙ ap turned_sign (is ∙ kept.ends cell none)) kept
 
--- to take the item of a number away is to keep all others
+-- to keep all entries but the one of a number keeps a list that hasn't that entry, and clears it otherwise
 
 others_stay : {X : Type 0} (empty : X) (present : X → Bool) → ((x : X) → present x ≡ false → x ≡ empty) → (number : ℕ → ℕ) (i : ℕ) (xs : List X)
     → ((cell : ℕ) → present (slice_index_or xs cell empty) ≡ true → number cell ≡ i → ⊥)
@@ -89,7 +89,7 @@ pub signs_filled : (w : ℕ) (sign : ℕ → ℕ → Sign) (d : Direction) (cell
     → IsFilledBy Absent 81 (sign_towards w sign d) cell places → HoldsSignsOf w sign d places
 signs_filled w sign d cell places all h = grind (arith, nat_tests, none_at_end)
 
--- a sign towards the right or the lower neighbour, where the square has one
+-- a sign can be put towards the right or the lower neighbour, where the square has one
 pub right_put : (w : ℕ) (places : List Sign) (cell : ℕ) (t : Sign) → cell < w * w → cell % w + 1 < w → KeepsSigns w Right places
     → KeepsSigns w Right (set places cell t)
 right_put w places cell t inside room kept =
@@ -102,7 +102,7 @@ below_put w places cell t inside room kept =
     sign_put w Down places cell t inside (λ none. absurd (let there : neighbour w cell Down ≡ Some (cell + w) = rw (lt-ltb (cell + w) (w * w) room) refl in
     let e : None ≡ Some (cell + w) = sym none ∙ there in cc)) kept
 
--- no sign and no given
+-- tables without signs and a grid of givens are a puzzle, and with a blank grid the blank puzzle
 pub blank_kept : (right below : List Sign) (givens : GridValue) → right ≡ replicate 81 Absent → below ≡ replicate 81 Absent → IsGrid givens
     → KeepsUnequal right below givens
 blank_kept right below givens none_right none_below is_grid =

@@ -11,7 +11,7 @@ use Rattle.unequal_game.specs.UnequalText.{letter_of}
 one_letter : (p : Direction → Bool) (d : Direction) → map letter_of (filter p (d ∷ [])) ≡ (if p d then (letter_of d ∷ []) else [])
 one_letter p d = elim (p d) as (λ t. map letter_of (if t then (d ∷ []) else []) ≡ (if t then (letter_of d ∷ []) else [])) [ true ↦ refl | false ↦ refl ]
 
--- one direction more
+-- with one direction more, its letter is written after the others if the test holds of it
 pub letters_more : (p : Direction → Bool) (ds : List Direction) (i : ℕ) (d : Direction) (front old new : List ℕ) → i < length ds
     → old ≡ front ++ map letter_of (filter p (take i ds))
     → new ≡ old ++ (if p (slice_index_or ds i d) then (letter_of (slice_index_or ds i d) ∷ []) else [])
@@ -28,7 +28,7 @@ range_more a (suc n) =
     let last : a + 1 + n ≡ a + suc n = omega arith in
     rw next (ap (λ xs. a ∷ xs) (range_more (a + 1) n ∙ ap (λ x. range_with_len (a + 1) n ++ x ∷ []) last))
 
--- one piece more
+-- with one piece more, the text is that of the pieces before it and then its own
 pub pieces_more : (f : ℕ → List ℕ) (i : ℕ) (old new : List ℕ) → old ≡ flat_map f (range_with_len 0 i) → new ≡ old ++ f i
     → new ≡ flat_map f (range_with_len 0 (i + 1))
 pieces_more f i old new before here = grind (arith, nat_tests, range_more, flat_map-append, append-nil)

@@ -197,7 +197,7 @@ blank_unequal w = record {
   givens = replicate (w * w) 0;
 }
 
--- of which squares the item of a kind is in a set of numbers
+-- whether the item of a kind at a square is in a set of item numbers
 abbrev pub keeps_kind : ℕ → (ℕ → Bool) → (ℕ → Item) → ℕ → Bool
 keeps_kind w keep kind cell = keep (item_number w (kind cell))
 
@@ -214,7 +214,7 @@ cut_unequal v keep = record {
 abbrev pub sign_towards : ℕ → (ℕ → ℕ → Sign) → Direction → ℕ → Sign
 sign_towards w sign d cell = option_map_or (sign cell) (neighbour w cell d) Absent
 
--- those signs of all squares
+-- the signs of all squares towards their neighbours in a direction, by a rule
 abbrev pub signs_towards : ℕ → (ℕ → ℕ → Sign) → Direction → List Sign
 signs_towards w sign d = map (sign_towards w sign d) (range_with_len 0 (w * w))
 

@@ -80,18 +80,18 @@ piece_written v cell = piece_text (piece_of v cell) ++ comma ∷ []
 abbrev pub unequal_text : UnequalValue → List ℕ
 unequal_text v = flat_map (piece_written v) (range_with_len 0 (v.size * v.size))
 
--- where the last piece is empty it is dropped
+-- the pieces without the last one, if that is empty
 abbrev pub without_empty_last : List (List ℕ) → List (List ℕ)
 without_empty_last [] = []
 without_empty_last ([] ∷ []) = []
 without_empty_last ((b ∷ bs) ∷ []) = (b ∷ bs) ∷ []
 without_empty_last (p ∷ q ∷ ps) = p ∷ without_empty_last (q ∷ ps)
 
--- what commas separate
+-- the pieces of a text are what commas separate, without an empty one at the end
 abbrev pub pieces_of : List ℕ → List (List ℕ)
 pieces_of text = without_empty_last (slice_split (λ b. b == comma) text)
 
--- the digit from 0 to w with which the piece begins, where no other stands after it
+-- the digit from 0 to w with which the piece begins, if no other digit stands after it
 abbrev pub number_in : ℕ → List ℕ → Option ℕ
 number_in w [] = None
 number_in w (b ∷ bs) =
@@ -140,7 +140,7 @@ abbrev pub says_greater : ℕ → List (List ℕ) → ℕ → ℕ → Bool
 says_greater w pieces a b =
     list_any (λ d. says pieces a d && option_map_or (λ c. c == b) (neighbour w a d) false) directions
 
--- two squares are each said to be the greater one
+-- of some two squares, each is said to be the greater one
 unfoldable pub contradicts : ℕ → List (List ℕ) → Bool
 contradicts w pieces =
     list_any (λ a. list_any (λ b. says_greater w pieces a b && says_greater w pieces b a) (range_with_len 0 (w * w)))

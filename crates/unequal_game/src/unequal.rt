@@ -3,8 +3,7 @@
 ghost use Rattle.std.specs.Prelude.{◌≡◌, ◌≢◌, ◌*◌, ◌<◌, ◌≤◌, ◌↔◌, IsTrue, IfSome, Some};
 ghost use Rattle.std.specs.Cmp.{decided, partial_equiv_from_equiv};
 ghost use Rattle.latin_board.specs.declared.grid.TheConstants.{CELLS};
-ghost use Rattle.unequal_game.specs.Unequal.{IsUnequal, IsGreater, unequal_given_grid, is_greater, sign_between};
-ghost use Rattle.unequal_game.specs.Unequal.{right_sign, lower_sign};
+ghost use Rattle.unequal_game.specs.Unequal.{IsUnequal, IsGreater, unequal_given_grid, is_greater, sign_between, right_sign, lower_sign};
 ghost use Rattle.unequal_game.specs.Laws.UnequalSameness.{same_unequal, same_unequal_decides};
 
 mod description;

@@ -27,7 +27,7 @@ TurnsAreARun {P} f reply =
     → (has_quit is_quit (line ∷ lines) ≡ false)
     × ((last : Option (History P)) × RepliesInTurn reply (line ∷ lines) first said last × (after ≡ saved_text f last))
 
--- and a text that a turn gave back is never refused as no save, up to the size that a save may have
+-- a text that a turn gave back is never refused as no save, up to the size that a save may have
 abbrev pub TextsAreTaken : {P : Type 0} → GameFacts P → GameReply P → Type 0
 TextsAreTaken f reply =
     (before said after refused : List ℕ) (line : Line) → IsTurnOutcome f reply before line said after Answered

@@ -20,7 +20,7 @@ use Rattle.web_turn.specs.declared.outcome.Outcome.TheVariants.{Answered, Ended,
 
 -- ---- what comes in
 
--- the game that is meant
+-- the game that a call means by a flag
 abbrev pub game_of : Bool → GameName
 game_of false = Towers
 game_of true = Unequal
@@ -30,7 +30,7 @@ abbrev pub file_of : List ℕ → Option (List ℕ)
 file_of [] = None
 file_of bytes = Some bytes
 
--- the line, of the bytes that have come without their LF
+-- the line of the bytes that have come without their LF: too long, or without one CR at its end
 abbrev pub come_line : List ℕ → Line
 come_line come = as_line (unless_long come)
 

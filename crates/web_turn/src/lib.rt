@@ -1,7 +1,8 @@
 //! Towers and Unequal for a page in a browser: one function, which answers one line.
 //!
-//! The page keeps a session as the text of a save, and passes that text with each line. So nothing is kept between two calls: the same text
-//! and line have the same answer, and where a call breaks off, a new copy of the code goes on with the text that the page has.
+//! The page keeps a session as the text of a save, and passes that text with each line. So nothing is kept between two calls: each
+//! answer is made of the text and the line alone, and if a call breaks off, a new copy of the code goes on with the text that the page
+//! has. The page calls `puzzles_turn`, which stands over this:
 //!
 //! ```
 //! let turn = answer_line(alloc, GameName::Towers, b"", b"new 3:3//////3/////")?;

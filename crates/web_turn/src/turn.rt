@@ -56,7 +56,7 @@ pub(crate) fn answer_line(
     }
 }
 
-// What comes of it in this game and format.
+// What comes of the line in this game and format.
 fn answer_in<T: Format<P>, P: Draw>(
     alloc: Global,
     before: &[u8],

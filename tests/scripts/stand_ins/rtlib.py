@@ -7,6 +7,7 @@ from typing import Dict, List
 
 KIT = os.path.dirname(os.path.dirname(os.path.realpath(__file__)))
 RATTLE = f'{KIT}/bin/rattle'
+#: As a kit has it: the words by which the prover keeps its results.
 KEPT = ['--incremental', 'out/incremental']
 
 

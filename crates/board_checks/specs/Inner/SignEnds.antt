@@ -9,11 +9,11 @@ use Rattle.board_checks.specs.Games.{demand_if_present}
 abbrev pub most_of : ℕ → ℕ → ℕ
 most_of w number = if number == 0 then w else number
 
--- and the least
+-- the least number that a square with this one, 0 for none, can hold
 abbrev pub least_of : ℕ → ℕ
 least_of number = if number == 0 then 1 else number
 
--- the one number is never greater than the other, whatever comes
+-- a square with the first number is never greater than one with the second, whatever comes into blank ones
 abbrev pub NeverExceeds : ℕ → ℕ → ℕ → Type 0
 NeverExceeds w greater lesser = most_of w greater ≤ least_of lesser
 

@@ -8,7 +8,7 @@ use Rattle.line_steps.specs.Views.{view_cell}
 pub record CanHold (w number set : ℕ) : Type 0 where
   pub each : (n : ℕ) → (has_number set n ≡ true) ↔ ((1 ≤ n) × (n ≤ w) × (0 < number → n ≡ number))
 
--- such a set for each square from an edge place
+-- for each square from an edge place there is the set of what it can hold
 pub record AreSetsFrom (g : GridValue) (place : ℕ) (sets : List ℕ) : Type 0 where
   pub room : length sets ≡ 9
   pub each : (k : ℕ) → k < g.size → CanHold g.size (number_at g (view_cell g.size place k)) (slice_index sets k)

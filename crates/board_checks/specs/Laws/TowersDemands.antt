@@ -63,7 +63,7 @@ demand_line v (Below cell) d valid e = absurd (none-some d e)
 
 -- ---- all that is demanded
 
--- the numbers of a clue's line are what is seen along
+-- the numbers on the squares of a clue's demand are those of the line from its place
 pub view_numbers : (v : TowersValue) (g : GridValue) (place : ℕ) → g.size ≡ v.size → place < 4 * v.size
     → numbers_of g (clue_demand v place) ≡ line_from g place
 view_numbers v g place size inside =

@@ -9,8 +9,7 @@ use Rattle.latin_board.specs.Lines.{ArePeers}
 use Rattle.latin_board.proofs.PeerLines.{line_peers}
 use Rattle.unequal_game.specs.declared.unequal.sign.Sign.{Sign}
 use Rattle.unequal_game.specs.declared.unequal.sign.Sign.TheVariants.{FirstGreater, SecondGreater}
-use Rattle.unequal_game.specs.Unequal.{UnequalValue, IsUnequal, HoldsSigns, sign_between, holds_sign, holds_signs}
-use Rattle.unequal_game.specs.Unequal.{is_present}
+use Rattle.unequal_game.specs.Unequal.{UnequalValue, IsUnequal, HoldsSigns, sign_between, holds_sign, holds_signs, is_present}
 use Rattle.unequal_game.specs.Laws.Neighbours.{IsNext, right_of, below_of, next_line, next_inside}
 use Rattle.unequal_game.specs.Laws.Signs.{IsSaid, right_between, below_between, said_next, greater_next}
 use Rattle.unequal_game.specs.Laws.SignLemmas.{signs_held, held_signs}
@@ -27,7 +26,7 @@ use Rattle.board_checks.specs.Laws.TwoSquares.{two_all, two_pairs}
 pub present_said : (s : Sign) → is_present s ≡ true → IsSaid s
 present_said s present none = grind (arith, nat_tests)
 
--- a sign between two squares, and what it demands
+-- the second square is the first one's right or lower neighbour, and the demand is that of their sign
 record IsDemanded (v : UnequalValue) (a b : ℕ) (d : Demand) : Type 0 where
   next : IsNext v.size a b
   is : sign_demand (sign_between v a b) a b ≡ d
@@ -37,12 +36,12 @@ demanded_between : (v : UnequalValue) (a b : ℕ) (d : Demand) → IsUnequal v
     → IsDemanded v a b d
 demanded_between v a b d valid e = grind (arith, nat_tests, cond_some, said_next, present_said)
 
--- the demand of the sign between a square and the next on its right
+-- the sign between a square and the next on its right demands what is demanded on the square's right
 pub right_demand : (v : UnequalValue) (cell : ℕ)
     → demand_if_present (sign_between v cell (cell + 1)) cell (cell + 1) ≡ unequal_demand v (RightOf cell)
 right_demand v cell = ap (λ (s : Sign). demand_if_present s cell (cell + 1)) (right_between v cell)
 
--- the demand of the sign between a square and the next below
+-- the sign between a square and the next below demands what is demanded below the square
 pub below_demand : (v : UnequalValue) (cell : ℕ) → 3 ≤ v.size
     → demand_if_present (sign_between v cell (cell + v.size)) cell (cell + v.size) ≡ unequal_demand v (Below cell)
 below_demand v cell small = ap (λ (s : Sign). demand_if_present s cell (cell + v.size)) (below_between v cell small)
@@ -91,7 +90,7 @@ demanded_met : (v : UnequalValue) (g : GridValue) (a b : ℕ) (d : Demand) → H
 demanded_met v g a b d held h =
     subst (λ (d : Demand). IsTrue (d.says (numbers_of g d))) h.is (sign_held v g a b held (sign_between v a b) refl)
 
--- what stands between a square and the next is demanded at a spot
+-- where all demands are met, the numbers of a square and the next are as the sign between them says
 met_between : (v : UnequalValue) (g : GridValue) (a b : ℕ) → IsUnequal v → MeetsAll (unequal_demand v) g
     → IsNext v.size a b
     → (s : Sign) → sign_between v a b ≡ s → is_present s ≡ true → holds_sign s (number_at g a) (number_at g b) ≡ true

@@ -7,7 +7,7 @@ use Rattle.line_steps.specs.Chains.{StepValue, IsChain, AreOfGrade, left_by}
 use Rattle.line_steps.specs.declared.grade.Grade.{Grade}
 use Rattle.line_steps.specs.Reasons.{Striking}
 
--- a chain of the grade's steps from all pairs leaves no more, and the square's numbers are left
+-- a chain of the grade from all pairs leaves no more than these candidates, which have the square's numbers
 pub record IsBase (Struck : Striking) (grade : Grade) (g : GridValue) (c : CandidatesValue) : Type 0 where
   pub size : c.size ≡ g.size
   pub steps : List StepValue

@@ -6,7 +6,7 @@ use Rattle.towers_game.specs.Towers.{towers_items}
 use Rattle.unequal_game.specs.Unequal.{unequal_items}
 use Rattle.trail_solver.proofs.KeptItems.{small_widths}
 
--- what holds of each width from 3 to 9
+-- a property of 3, 4, 5, 6, 7, 8 and 9 is one of each width from 3 to 9
 widths : (Holds : ℕ → Type 0) → Holds 3 → Holds 4 → Holds 5 → Holds 6 → Holds 7 → Holds 8 → Holds 9 → (w : ℕ) → 3 ≤ w
     → w ≤ 9 → Holds w
 widths Holds three four five six seven eight nine w low high = grind (arith, nat_tests, small_widths)

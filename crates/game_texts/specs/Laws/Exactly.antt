@@ -10,7 +10,7 @@ use Rattle.game_texts.specs.Laws.Refusals.{refused_then}
 pub exactly_taken : {X : Type 0} (n : ℕ) (xs ys : List X) → exactly n xs ≡ Ok ys → (xs ≡ ys) × (length xs ≡ n)
 exactly_taken n xs ys is = grind (arith, nat_tests, refused_then)
 
--- a list of that length is taken
+-- a list of the length that is asked for is taken
 pub exactly_again : {X : Type 0} (n : ℕ) (xs : List X) → length xs ≡ n → exactly n xs ≡ Ok xs
 exactly_again n xs count = rw (le-ltb (length xs) n (omega arith), le-ltb n (length xs) (omega arith)) refl
 

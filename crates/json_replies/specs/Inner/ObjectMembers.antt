@@ -19,7 +19,7 @@ said_list refused reply = (codes "refused", name_data refused) ∷ (codes "reply
 abbrev pub reply_list : Option (List ℕ) → List ℕ → Data → List (List ℕ × Data)
 reply_list refused reply session = said_list refused reply ++ (codes "session", session) ∷ []
 
--- the same with an answer, where its key stands
+-- what each object has, with an answer where its key stands
 abbrev pub further_list : FurtherLine → Data → Data → List (List ℕ × Data)
 further_list which answer session =
     if is_last_key which then reply_list None [] session ++ (further_key which, answer) ∷ []

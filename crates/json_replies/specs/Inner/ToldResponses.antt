@@ -13,7 +13,7 @@ use Rattle.json_replies.specs.FurtherLines.{BoardFacts}
 use Rattle.json_replies.specs.BeginReplies.{BeginGives}
 use Rattle.json_replies.specs.JsonReplies.{TellsOutcome, TellsAnswer}
 
--- the object of a reply or a refusal, where this session is left; the others as they are
+-- a reply or a refusal is told by its object, where this session is left; silence and quit stay as they are
 abbrev pub TellsResponse : {P : Type 0} → GameFacts P → Result Response Refusal → Option (History P) → Response → Type 0
 TellsResponse f (Ok (Reply said)) new (Reply text) = TellsOutcome f (Ok (text_bytes said, new)) new (text_bytes text)
 TellsResponse f (Ok Silence) new Silence = Unit {0}
@@ -21,7 +21,7 @@ TellsResponse f (Ok Quit) new Quit = Unit {0}
 TellsResponse f (Err refusal) new (Reply text) = OrLost (IsReplyLine f (Err refusal) new) (text_bytes text)
 TellsResponse f _ new _ = ⊥
 
--- what is told to a line that asks for this game
+-- the bytes are told to a line that asks for this game, and the session is the one that is left
 abbrev pub TellsBegun : {P : Type 0} → GameFacts P → BoardFacts P → Option (History P) → BeginLine (List ℕ) → List ℕ
     → Option (History P) → Type 0
 TellsBegun {P} f b old asked bytes new =

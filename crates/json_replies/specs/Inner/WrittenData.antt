@@ -33,7 +33,7 @@ word_or_null (Some word) = string word
 abbrev pub FollowsWhere : (Data → Type 0) → Written → Written → Type 0
 FollowsWhere Holds old new = (d : Data) × Holds d × Follow (d ∷ []) old new
 
--- some members as those of an object
+-- a list of members as the members of an object
 abbrev pub as_members : List (List ℕ × Data) → Members
 as_members [] = no_members
 as_members (m ∷ ms) = member m.0 m.1 (as_members ms)
@@ -42,7 +42,7 @@ as_members (m ∷ ms) = member m.0 m.1 (as_members ms)
 abbrev pub member_tokens : List (List ℕ × Data) → List Token
 member_tokens ms = flat_map (λ m. key m.0 ∷ json_tokens (outline m.1)) ms
 
--- each of them reads as itself
+-- the data of each member read as themselves
 abbrev pub AllMembersRead : List (List ℕ × Data) → Type 0
 AllMembersRead [] = Unit {0}
 AllMembersRead (m ∷ ms) = (of_json (outline m.1) ≡ Some m.1) × AllMembersRead ms
@@ -53,7 +53,7 @@ pub record MembersFollow (ms : List (List ℕ × Data)) (old new : Written) : Ty
   pub adds : new.tokens ≡ old.tokens ++ member_tokens ms
   pub reads : AllMembersRead ms
 
--- what a hint says, of a value of the code
+-- what a hint says, from the value of the code that has it
 abbrev pub said_data : Said → SaidData
 said_data s =
     record {

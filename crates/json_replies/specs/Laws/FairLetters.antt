@@ -9,7 +9,7 @@ use Rattle.json_replies.specs.FairLines.{AreFairLetters, letter_at}
 abbrev IsOwn : List ℕ → (Grade → Option ℕ) → Grade → ℕ → Type 0
 IsOwn letters letter grade code = Contains letters code × (letter_at letter (code ∷ []) ≡ Some grade)
 
--- so is the same code
+-- if one code is the grade's own, a code equal to it is so, too
 same_own : (letters : List ℕ) (letter : Grade → Option ℕ) (grade : Grade) (own code : ℕ) → IsOwn letters letter grade own
     → Some own ≡ Some code → IsOwn letters letter grade code
 same_own letters letter grade own code owns is =

@@ -22,7 +22,7 @@ no_float_or : (a b : Bool) → a ≡ false → b ≡ false → (a || b) ≡ fals
 no_float_or true b e h = e
 no_float_or false b e h = h
 
--- data that are not too deep, as the kit says it
+-- data that are not too deep have no float and that depth at most, as the kit says it
 mutual
   pub told_whole : (n : ℕ) (d : Data) → IsShallow n d → (has_float d ≡ false) × (depth d ≤ n)
   told_whole n null fit = (refl, omega arith)
@@ -49,7 +49,7 @@ mutual
       let (others, low) = members_whole n ms fit.1 in
       (no_float_or (has_float d) _ whole others, omega (arith, flat, low))
 
--- what fits fits where there is room for one level more
+-- data that fit where so many levels are left fit where one level more is left
 mutual
   pub deeper : (n : ℕ) (d : Data) → IsShallow n d → IsShallow (suc n) d
   deeper n null fit = fit
@@ -69,35 +69,35 @@ mutual
   members_deeper n no_members fit = fit
   members_deeper n (member k d ms) fit = (deeper n d fit.0, members_deeper n ms fit.1)
 
--- what holds of two holds of the one that a test takes
+-- what holds of two values holds of the one that a test takes
 pub either : {A : Type 0} (F : A → Type 0) (t : Bool) (x y : A) → F x → F y → F (if t then x else y)
 either F true x y one other = one
 either F false x y one other = other
 
 -- ---- lists
 
--- a list of such data is one level deeper
+-- a list of data that fit where n levels are left fits where one level more is left
 pub list_fits : {A : Type 0} (n : ℕ) (f : A → Data) → ((a : A) → IsShallow n (f a)) → (xs : List A)
     → IsShallow (suc n) (list_data f xs)
 list_fits n f each [] = tt
 list_fits n f each (x ∷ xs) = (each x, list_fits n f each xs)
 
--- each of the values can be written at this depth
+-- each of the data fits where so many levels are left
 abbrev pub AllFit : ℕ → List Data → Type 0
 AllFit n ds = AreShallow n (items_of ds)
 
--- and so can those of both
+-- if all data of two lists fit, those of both lists together do
 pub all_append : (n : ℕ) (xs ys : List Data) → AllFit n xs → AllFit n ys → AllFit n (xs ++ ys)
 all_append n [] ys fit more = more
 all_append n (x ∷ xs) ys fit more = (fit.0, all_append n xs ys fit.1 more)
 
--- a list whose parts can be written can be written one level up
+-- a list of the data of some numbers fits where one level more is left than for the data
 pub listed_fits : (n : ℕ) (f : ℕ → List Data) → ((k : ℕ) → AllFit n (f k)) → (ks : List ℕ)
     → IsShallow (suc n) (listed_data f ks)
 listed_fits n f each [] = tt
 listed_fits n f each (k ∷ ks) = all_append n (f k) (flat_map f ks) (each k) (listed_fits n f each ks)
 
--- a value that is there only at times can be written where the value can
+-- data that stand in a list only if a test is true fit where the data do
 pub when_fits : (n : ℕ) (t : Bool) (d : Data) → IsShallow n d → AllFit n (when t d)
 when_fits n t d fit = either (AllFit n) t (d ∷ []) [] (fit, tt) tt
 

@@ -3,7 +3,7 @@ use Rattle.std.specs.Prelude.{◌≡◌, ◌⊎◌, ℕ, ◌<◌, ◌==◌, ◌|
 use Rattle.number_sets.specs.Sets.{has_number, IsEmpty}
 use Rattle.line_steps.specs.Takes.{is_crossing}
 
--- new is old with a line more, and with those that cross it at some places
+-- new is old with the line, and with the lines that cross it at these places
 abbrev pub GainsAcross : ℕ → ℕ → ℕ → ℕ → ℕ → Type 0
 GainsAcross w line places old new =
     (k : ℕ) → has_number new k ≡ (has_number old k || ((k == line) || is_crossing w line places k))

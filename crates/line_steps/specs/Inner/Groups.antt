@@ -16,8 +16,8 @@ pub record IsUnion (w : ℕ) (c : CandidatesValue) (line squares union : ℕ) : 
 abbrev pub HasSeveral : CandidatesValue → ℕ → Type 0
 HasSeveral c cell = (u : ℕ) × (v : ℕ) × (u ≢ v) × IsLeft c cell u × IsLeft c cell v
 
--- the square is another one of the line than those of a group, of each of which several values are left, and of all
--- together as many as they are; and the value is one of these
+-- a group of the line's squares has several values left of each, and of all together as many as it has
+-- squares; the square is another one of the line, and the value is one of the group's
 pub record IsByGroup (c : CandidatesValue) (line cell value : ℕ) : Type 0 where
   pub squares : ℕ
   pub below : squares < 2 ^ c.size
@@ -31,25 +31,25 @@ pub record IsByGroup (c : CandidatesValue) (line cell value : ℕ) : Type 0 wher
   pub here : cell ≡ line_cell c.size line index
   pub one : has_number union value ≡ true
 
--- none of that is left
+-- nothing is left of what groups of the line's squares strike
 abbrev pub IsGroupQuiet : ℕ → CandidatesValue → Type 0
 IsGroupQuiet line c =
     (cell value : ℕ) → IsPair c.size cell value → IsByGroup c line cell value → may_be c cell value ≡ false
 
--- the numbers of the sets at some places
+-- the union has the numbers of the sets at these places, and no others
 pub record IsUnionOf (sets : List ℕ) (squares union : ℕ) : Type 0 where
   pub all : (k v : ℕ) → has_number squares k ≡ true → has_number (slice_index sets k) v ≡ true
       → has_number union v ≡ true
   pub only : (v : ℕ) → has_number union v ≡ true
       → (k : ℕ) × (has_number squares k ≡ true) × (has_number (slice_index sets k) v ≡ true)
 
--- the group is of these squares, and their sets have as many numbers together as they are
+-- the group is of some of these squares, and their sets have as many numbers together as it has squares
 pub record IsGroupOf (sets : List ℕ) (several group union : ℕ) : Type 0 where
   pub within : IsSubset group several
   pub is : IsUnionOf sets group union
   pub same : count_ones union ≡ count_ones group
 
--- such a group, below a bound as a number, has the value, and not the place
+-- some group whose number is below the bound has the value in one of its sets, and has not the square k
 abbrev pub IsStruckBelow : List ℕ → ℕ → ℕ → ℕ → ℕ → Type 0
 IsStruckBelow sets several bound k v =
     (group : ℕ) × (union : ℕ) × (group < bound) × IsGroupOf sets several group union × (has_number group k ≡ false)
@@ -62,7 +62,7 @@ abbrev pub AreAmong : CandidatesValue → ℕ → ℕ → ℕ → Type 0
 AreAmong c line squares values =
     (k v : ℕ) → has_number squares k ≡ true → IsLeft c (line_cell c.size line k) v → has_number values v ≡ true
 
--- the square is one of the line's others
+-- the square is one of the line's, and none of these
 abbrev pub IsOther : ℕ → ℕ → ℕ → ℕ → Type 0
 IsOther w line squares cell =
     (index : ℕ) × (index < w) × (cell ≡ line_cell w line index) × (has_number squares index ≡ false)

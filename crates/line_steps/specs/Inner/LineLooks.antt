@@ -9,8 +9,8 @@ use Rattle.line_steps.specs.declared.grade.Grade.{Grade}
 use Rattle.line_steps.specs.declared.lines.waiting.Waiting.{Waiting}
 use Rattle.line_steps.specs.Reasons.{Striking}
 
--- along the line the squares strike nothing in one another and can hold its numbers; or the clues or signs strike nothing
--- that is left, as the grade looks at them
+-- for squares: those of the line strike nothing in one another and can hold its numbers; for clues and signs:
+-- those along the line strike nothing that is left, as the grade looks at them
 abbrev pub IsQuietOn : Striking → Grade → Bool → ℕ → CandidatesValue → Type 0
 IsQuietOn Struck grade true line c = IsLineSettled line c
 IsQuietOn Struck grade false line c = IsQuietAlong Struck grade line c
@@ -24,7 +24,7 @@ waiting_for false waiting = waiting.clues
 abbrev pub IsNoneWaiting : ℕ → Waiting → Type 0
 IsNoneWaiting count waiting = (what : Bool) → HasNoneBelow count (waiting_for what waiting)
 
--- the line, one of the first, waited for this, and no longer does
+-- the line, one of the first, no longer waits for its squares or for its clues; the other set is as before
 pub record IsLook (count : ℕ) (old new : Waiting) (what : Bool) (line : ℕ) : Type 0 where
   pub taken : IsTaken count (waiting_for what old) (waiting_for what new) line
   pub other : waiting_for (not what) new ≡ waiting_for (not what) old
@@ -33,7 +33,7 @@ pub record IsLook (count : ℕ) (old new : Waiting) (what : Bool) (line : ℕ) :
 abbrev pub AreQuietBut : (ℕ → CandidatesValue → Type 0) → ℕ → CandidatesValue → Type 0
 AreQuietBut Quiet set c = (line : ℕ) → line < 2 * c.size → has_number set line ≡ false → Quiet line c
 
--- they are quiet along each line that doesn't wait
+-- the candidates are quiet along each line that doesn't wait, for squares as for clues and signs
 abbrev pub AreWaiting : Striking → Grade → Waiting → CandidatesValue → Type 0
 AreWaiting Struck grade waiting c = (what : Bool) → AreQuietBut (IsQuietOn Struck grade what) (waiting_for what waiting) c
 

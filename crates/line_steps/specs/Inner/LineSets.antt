@@ -4,13 +4,13 @@ use Rattle.latin_board.specs.Lines.{line_cell}
 use Rattle.trail_solver.specs.Candidates.{CandidatesValue, IsSetOf}
 use Rattle.number_sets.specs.Sets.{has_number, IsSubset}
 
--- the first n sets are of what is left of the line's squares
+-- the k-th of the first n sets has what is left of the line's square k
 pub record AreLineSets (c : CandidatesValue) (line n : ℕ) (sets : List ℕ) : Type 0 where
   pub count : length sets ≡ 9
   pub each : (k : ℕ) → k < n → IsSetOf c (line_cell c.size line k) (slice_index sets k)
 
--- what stands in a square of which a set of all these values is left: its only one, none where it is empty, and
--- otherwise any
+-- the values that may stand in a square if only lone values are seen: its only one, none where nothing is
+-- left of it, and otherwise any of all
 abbrev pub IsStandingSet : ℕ → ℕ → ℕ → Type 0
 IsStandingSet all left set = IsSubset left all → (v : ℕ)
     → (has_number set v ≡ true)

@@ -13,11 +13,11 @@ IsByRest c line index v =
     ((k : ℕ) × (k < c.size) × (k ≢ index) × HasNoOther c (line_cell c.size line k) v)
     ⊎ ((u : ℕ) × (1 ≤ u) × (u ≤ c.size) × (v ≢ u) × HasNoOtherPlace c line u index)
 
--- that is left of the square
+-- the rest of the line strikes the value in the square, and it is left there
 abbrev pub IsLeftByRest : CandidatesValue → ℕ → ℕ → ℕ → Type 0
 IsLeftByRest c line index v = IsByRest c line index v × IsLeft c (line_cell c.size line index) v
 
--- nothing of that is left
+-- nothing is left of what the squares of the line strike in one another
 abbrev pub IsRestQuiet : ℕ → CandidatesValue → Type 0
 IsRestQuiet line c =
     (k v : ℕ) → k < c.size → IsPair c.size (line_cell c.size line k) v → IsByRest c line k v
@@ -28,12 +28,12 @@ pub record IsLiveLine (line : ℕ) (c : CandidatesValue) : Type 0 where
   pub some : (k : ℕ) → k < c.size → (v : ℕ) × IsLeft c (line_cell c.size line k) v
   pub placed : (v : ℕ) → 1 ≤ v → v ≤ c.size → (k : ℕ) × (k < c.size) × IsLeft c (line_cell c.size line k) v
 
--- such a line whose squares strike nothing in one another
+-- something is left of each square and number of the line, and its squares strike nothing in one another
 pub record IsLineSettled (line : ℕ) (c : CandidatesValue) : Type 0 where
   pub live : IsLiveLine line c
   pub quiet : IsRestQuiet line c
 
--- new is old without what was left of that, which went at these places of the line
+-- new is old without what the line's squares strike in one another; that went at these places of the line
 pub record StrikesRest (line places : ℕ) (old new : CandidatesValue) : Type 0 where
   pub takes : Takes
       (λ cell v. (k : ℕ) × (k < old.size) × (cell ≡ line_cell old.size line k) × IsLeftByRest old line k v) old new
@@ -46,7 +46,7 @@ pub record IsAlone (c : CandidatesValue) (cell value : ℕ) : Type 0 where
   pub left : IsLeft c cell value
   pub alone : HasNoOther c cell value
 
--- the other squares of the line strike all that is left of those at these places, of which there is one
+-- all that is left at these places is struck by the line's other squares, and there is such a place
 pub record IsDead (line places : ℕ) (c : CandidatesValue) : Type 0 where
   pub place : ℕ
   pub low : place < c.size

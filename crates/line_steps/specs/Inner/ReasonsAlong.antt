@@ -21,7 +21,7 @@ pub record IsNthAlong (w line n : ℕ) (reason : Reason) : Type 0 where
   pub on : (k : ℕ) → n ≡ 2 * k + 6 → reason ≡ Sign (line_cell w line k) (line_cell w line (k + 1))
   pub back : (k : ℕ) → n ≡ 2 * k + 7 → reason ≡ Sign (line_cell w line (k + 1)) (line_cell w line k)
 
--- the first n sets are of the values that are struck in each of the line's first n squares
+-- the k-th of the first n sets has the values that are struck in the line's square k
 pub record AreStruckOn (w : ℕ) (Struck : ℕ → ℕ → Type 0) (line n : ℕ) (row : List ℕ) : Type 0 where
   pub count : length row ≡ 9
   pub each : (k v : ℕ) → k < n → (has_number (slice_index row k) v ≡ true)

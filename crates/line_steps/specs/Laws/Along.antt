@@ -13,7 +13,7 @@ use Rattle.line_steps.specs.declared.reason.Reason.TheVariants.{Given, Peer, Pla
 use Rattle.line_steps.specs.declared.grade.Grade.{Grade}
 use Rattle.line_steps.specs.declared.grade.Grade.TheVariants.{Latin}
 
--- what is left of candidates of which nothing went of a square was left
+-- a pair that is gone from candidates is gone from fewer of the same size
 pub was_gone : (c d : CandidatesValue) (cell value : ℕ) → d.size ≡ c.size → IsFewer c d → IsPair d.size cell value
     → (IsPair c.size cell value → may_be c cell value ≡ false) → may_be d cell value ≡ false
 was_gone c d cell value same fewer pair gone =
@@ -21,7 +21,7 @@ was_gone c d cell value same fewer pair gone =
     both_ways (may_be c cell value) (gone (subst (λ (w : ℕ). IsPair w cell value) same pair))
     (fewer cell value (record { pair = pair; may = may })).may)
 
--- what looks along a line it struck before, where all stayed along it and that holds for a game's own reasons
+-- a pair that a reason strikes along a line was struck before, if all stayed there and own reasons obey this
 pub all_look : (p : Puzzle) (Own : Striking)
     → ((c d : CandidatesValue) (reason : Reason) (cell value line : ℕ) → c.size ≡ p.size → line < 2 * c.size
     → LooksAlong c.size line reason cell → StaysOn line c d → Own d reason cell value → Own c reason cell value)
@@ -35,7 +35,7 @@ all_look p Own own c d (Set at squares values) cell value line size low along st
 all_look p Own own c d reason cell value line size low along stays h =
     own c d reason cell value line size low along stays h
 
--- where a game's own reasons strike nothing along a line, none does
+-- where a game's own reasons strike nothing along a line, no reason does
 pub quiet_own : (p : Puzzle) (Own : Striking) (grade : Grade) (line : ℕ) (c : CandidatesValue)
     → IsQuietAlong Own grade line c → IsQuietAlong (AllStrikes p Own) grade line c
 quiet_own p Own grade line c quiet (Given at) cell value has along pair h = absurd along

@@ -13,7 +13,7 @@ given_whole cut p at cell value kept h =
     let same = kept h.given in
     record { here = h.here; given = omega (arith, h.given, same); apart = λ e. h.apart (e ∙ sym same) }
 
--- what is struck in a puzzle of the size with some of the givens is struck in the whole, where that holds for a game's own reasons
+-- a pair that is struck in a cut of a puzzle is struck in the whole, if the game's own reasons obey this
 pub all_whole : (cut p : Puzzle) (First Own : Striking) → cut.size ≡ p.size
     → ((at : ℕ) → 0 < cut.given at → cut.given at ≡ p.given at)
     → ((c : CandidatesValue) (reason : Reason) (cell value : ℕ) → First c reason cell value → Own c reason cell value)

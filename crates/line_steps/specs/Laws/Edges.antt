@@ -1,4 +1,4 @@
--- What holds at each of the four edges holds of what a place's own edge gives.
+-- A fact that holds at each of the four edges holds at any place; the squares from a place are the grid's.
 use Rattle.std.proofs.Common.{ℕ, ◌*◌, ◌<◌, ◌≤◌, nat_lt, arith}
 use Rattle.std.proofs.lemmas.Bool.{cond_both, ltb-true, ltb-false}
 use Rattle.line_steps.specs.Views.{by_edge, view_index, view_line}
@@ -22,7 +22,7 @@ view_line_low w place inside =
     (λ from left. omega arith)
     (λ right. omega arith)
 
--- a square along that line is one of its squares
+-- the k-th square from a place has its index within its line
 pub view_index_low : (w place k : ℕ) → k < w → view_index w place k < w
 view_index_low w place k low =
     edge_cases (λ i. i < w) w place _ _ _ _ (λ upper. low) (λ from lower. omega arith) (λ from left. low)

@@ -21,7 +21,7 @@ pub record IsSquareOf (w : ℕ) (c : CandidatesValue) (g : GridValue) : Type 0 w
   pub latin : IsLatin g
   pub left : (cell : ℕ) → cell < w * w → IsLeft c cell (number_at g cell)
 
--- a solution within the candidates is one
+-- a solution within the candidates is a Latin square whose numbers are all left
 pub square_of : (p : Puzzle) (c : CandidatesValue) (g : GridValue) → c.size ≡ p.size → Solves p g → IsWithin c g
     → IsSquareOf p.size c g
 square_of p c g size s within = record {
@@ -51,6 +51,7 @@ given_sound p g at cell value holds inside h = λ same.
     let here : at < p.size * p.size = subst (λ (i : ℕ). i < p.size * p.size) h.here inside in
     h.apart (sym same ∙ ap (number_at g) h.here ∙ holds at here h.given)
 
+-- a Latin square within the candidates has no value where a lone value strikes it
 peer_sound : (w : ℕ) (c : CandidatesValue) (g : GridValue) (by cell value : ℕ) → IsSquareOf w c g
     → IsByPeer w c by cell value
     → number_at g cell ≢ value
@@ -59,7 +60,7 @@ peer_sound w c g by cell value s h = λ same.
     let peers : ArePeers g.size by cell = subst (λ (n : ℕ). ArePeers n by cell) (sym s.size) h.peers in
     peers_differ g s.is_grid s.latin by cell peers (one ∙ sym same)
 
--- in a line of the square, by the width of the candidates
+-- two places of a line of the Latin square have different numbers, by the width of the candidates
 differs : (w : ℕ) (c : CandidatesValue) (g : GridValue) → IsSquareOf w c g → (line i j : ℕ) → line < 2 * w → i < w
     → j < w → i ≢ j
     → number_at g (line_cell w line i) ≢ number_at g (line_cell w line j)
@@ -69,6 +70,7 @@ differs w c g s =
     → number_at g (line_cell n line i) ≢ number_at g (line_cell n line j) in
     subst P s.size (line_differs g s.is_grid s.latin)
 
+-- each number of the size stands in some place of each line of the Latin square
 stands_at : (w : ℕ) (c : CandidatesValue) (g : GridValue) → IsSquareOf w c g → (line v : ℕ) → line < 2 * w → 1 ≤ v
     → v ≤ w
     → (k : ℕ) × (k < w) × (number_at g (line_cell w line k) ≡ v)
@@ -77,6 +79,7 @@ stands_at w c g s =
     λ n. (line v : ℕ) → line < 2 * n → 1 ≤ v → v ≤ n → (k : ℕ) × (k < n) × (number_at g (line_cell n line k) ≡ v) in
     subst P s.size (value_at g s.latin)
 
+-- a Latin square within the candidates has no value where the last place of another strikes it
 place_sound : (w : ℕ) (c : CandidatesValue) (g : GridValue) (line index other cell value : ℕ) → IsSquareOf w c g
     → IsByPlace w c line index other cell value → number_at g cell ≢ value
 place_sound w c g line index other cell value s h = λ same.

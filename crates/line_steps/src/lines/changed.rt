@@ -1,7 +1,6 @@
-//! Which rows and columns have to be looked at again.
+//! Sets of rows and columns: of those that have to be looked at again.
 
-ghost use Rattle.line_steps.specs.Inner.ChangedLines.{HasNoneBelow, IsOneBelow, IsTaken};
-ghost use Rattle.line_steps.specs.Inner.ChangedLines.{LosesLine};
+ghost use Rattle.line_steps.specs.Inner.ChangedLines.{HasNoneBelow, IsOneBelow, IsTaken, LosesLine};
 ghost use Rattle.line_steps.specs.Takes.{is_crossing};
 ghost use Rattle.std.specs.Prelude.{◌≡◌, ℕ, ◌+◌, ◌*◌, ◌<◌, ◌≤◌, ◌==◌, ◌||◌, nat_lt, true, IfNone, MatchOption};
 ghost use Rattle.number_sets.specs.Sets.{has_number};

@@ -55,13 +55,14 @@ pub trait LinePass {
         ensures { LeadsTo (StruckBy puzzle own self.now) (grade self.now) candidates.old candidates.new }
     {}
 
-    // What a clue or a sign strikes that looks along a line it struck before, where all stayed that was left of the line's squares.
+    // What a clue or a sign that looks along a line strikes, it struck before, if nothing went of the line's
+    // squares since then.
     ghost looks_along: { (p : Self) (c d : CandidatesValue) (reason : Reason) (cell value line : ℕ)
         → c.size ≡ (puzzle p).size
         → line < 2 * c.size → LooksAlong c.size line reason cell → StaysOn line c d
         → own p d reason cell value → own p c reason cell value };
 
-    // What it strikes from candidates it strikes from fewer.
+    // What a clue or a sign strikes from candidates it strikes from fewer.
     ghost own_less: { (p : Self) (c d : CandidatesValue) (reason : Reason) (cell value : ℕ) → IsFewer c d
         → own p c reason cell value → own p d reason cell value };
 

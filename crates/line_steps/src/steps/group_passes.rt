@@ -1,4 +1,4 @@
-//! What groups of a line's squares strike: as many values as squares are all that is left of them.
+//! What groups of a line's squares strike: those of which only as many values are left as they have squares.
 ghost use Rattle.std.specs.Prelude.{◌≡◌, ◌↔◌, ℕ, ◌*◌, ◌^◌, ◌⊎◌, ◌<◌, ◌≤◌, Bool, true, false, length, slice_index, count_ones};
 ghost use Rattle.std.specs.Bool.{OnFalse, OnTrue};
 ghost use Rattle.number_sets.specs.Sets.{has_number, IsEmpty};
@@ -94,7 +94,7 @@ fn values_of(sets: &[NumberSet; 9], squares: NumberSet) -> NumberSet
     values
 }
 
-// Those of the set at one place, if it is among them.
+// The numbers of the set at one place, if it is among the squares, and otherwise none.
 fn values_at(sets: &[NumberSet; 9], squares: NumberSet, k: u8) -> NumberSet
     requires { k < 9 }
     ensures { (v : ℕ) → (has_number result v ≡ true)
@@ -107,7 +107,7 @@ fn values_at(sets: &[NumberSet; 9], squares: NumberSet, k: u8) -> NumberSet
     }
 }
 
-// Adds the values in each place but those of the squares, where they are as many.
+// Adds the values in each place outside the squares, if they are as many as the squares.
 fn add_elsewhere(squares: NumberSet, values: NumberSet, struck: &mut [NumberSet; 9])
     ensures { (k v : ℕ) → k < 9 → (has_number (slice_index struck.new k) v ≡ true)
         ↔ ((has_number (slice_index struck.old k) v ≡ true)

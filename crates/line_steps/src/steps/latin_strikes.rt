@@ -34,8 +34,8 @@ pub(crate) fn given_strikes<P: Rules>(
     NumberSet::up_to(size.get()).difference(NumberSet::one(given))
 }
 
-/// The values of the size that a square of which nothing else is left rules out in another. One that the grid doesn't have strikes
-/// nothing.
+/// The values of the size that one square rules out in another because nothing else is left of it. A square
+/// that the grid doesn't have strikes nothing.
 #[tactic(auto, using(crate::proofs::AloneSets::peer_struck))]
 pub(crate) fn by_peer(candidates: &Candidates, by: usize, cell: usize) -> NumberSet
     requires { cell < candidates.now.size * candidates.now.size }
@@ -83,8 +83,8 @@ pub fn alone_values(candidates: &Candidates, cell: usize) -> NumberSet
     }
 }
 
-/// The values of the size that another one's last place in a line rules out in a square; a line, a place or a value that the grid
-/// doesn't have strikes nothing.
+/// The values of the size that are ruled out in a square because it is another value's last place in a line.
+/// A line, a place or a value that the grid doesn't have strikes nothing.
 #[tactic(auto, using(crate::proofs::AloneSets::place_struck))]
 pub(crate) fn by_place(
     candidates: &Candidates,

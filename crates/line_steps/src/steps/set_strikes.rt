@@ -61,7 +61,7 @@ fn is_within(set: NumberSet, values: NumberSet) -> bool
     set.difference(values).is_empty()
 }
 
-// Whether a square is one of the line's others.
+// Whether a square is one of the line's, and none of these.
 fn is_other(size: Size, line: u8, squares: NumberSet, cell: usize) -> bool
     requires { line < 2 * size }
     ensures { IsTrue result ↔ IsOther size line squares cell }

@@ -1,4 +1,4 @@
--- Candidates that fill no grid, and those among which a solution is.
+-- Candidates that fill no grid.
 use Rattle.std.specs.Prelude.{ℕ, ◌*◌, ◌<◌}
 use Rattle.trail_solver.specs.Candidates.{CandidatesValue, IsOnly}
 

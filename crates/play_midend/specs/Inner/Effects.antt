@@ -13,18 +13,18 @@ effect_on p b (Number cell n) = with_number p b cell n
 effect_on p b (Mark cell n) = with_mark_flipped b cell n
 effect_on p b (Whole next) = next
 
--- the square and the number are the board's, and so is the size
+-- the square and the number are the board's; a whole board has the size of this one
 abbrev pub IsOfBoard : BoardValue → Effect → Type 0
 IsOfBoard b (Number cell n) = (cell < b.size * b.size) × (n ≤ b.size)
 IsOfBoard b (Mark cell n) = (cell < b.size * b.size) × (1 ≤ n) × (n ≤ b.size)
 IsOfBoard b (Whole next) = next.size ≡ b.size
 
--- one square alone
+-- the effect is on one square alone
 abbrev pub IsOfSquare : Effect → Type 0
 IsOfSquare (Whole next) = ⊥
 IsOfSquare _ = Unit {0}
 
--- the move isn't refused, and this is what it does
+-- the move isn't refused, and the effect is what it does to the board
 pub record IsEffect (p : Puzzle) (b : BoardValue) (m : Move) (effect : Effect) : Type 0 where
   pub allowed : refusal_of p b m ≡ None
   pub made : effect_on p b effect ≡ moved p b m

@@ -48,7 +48,7 @@ abbrev pub AreLater : Puzzle → BoardValue → List Link → Type 0
 AreLater p now [] = Unit {0}
 AreLater p now (r ∷ rs) = (next : BoardValue) × IsAhead p now r next × AreLater p next rs
 
--- the links of a session, so many of them past, and the board that it shows
+-- the links of a session, the first `count` of them past, go with the board that it shows
 pub record AreLinked (p : Puzzle) (links : List Link) (count : ℕ) (board : BoardValue) : Type 0 where
   pub size : board.size ≡ p.size
   pub inside : count ≤ length links

@@ -11,6 +11,6 @@ use Rattle.play_save.specs.FirstFaults.{first_of, count_at}
 abbrev pub header_of : HeaderRecord → KeyedRecord
 header_of r = record { key = Header r.key; value = r.value.now }
 
--- a count, as its record reads
+-- a count among the header records, if it can be read
 abbrev pub count_in : List HeaderRecord → WhichCount → Option ℕ
 count_in headers which = option_and_then count_at (first_of (values_of (Count which) (map header_of headers)))

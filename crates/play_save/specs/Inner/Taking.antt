@@ -1,6 +1,5 @@
 -- Records taken in turn: what was met after one more, and what the code keeps of it.
-use Rattle.std.specs.Prelude.{◌≡◌, ◌⊎◌, ℕ, ◌+◌, ◌≤◌, if◌then◌else◌, List, [], ◌∷◌, ◌++◌, length, map, Option, Some}
-use Rattle.std.specs.Prelude.{None, option_map, Result, Ok, Err}
+use Rattle.std.specs.Prelude.{◌≡◌, ◌⊎◌, ℕ, ◌+◌, ◌≤◌, if◌then◌else◌, List, [], ◌∷◌, ◌++◌, length, map, Option, Some, None, option_map, Result, Ok, Err}
 use Rattle.std.specs.Borrow.{Bor}
 use Rattle.play_midend.specs.declared.session.TheConstants.{MOST_STATES}
 use Rattle.play_save.specs.declared.fault.LoadFault.{LoadFault}
@@ -17,11 +16,11 @@ use Rattle.play_save.specs.SaveTexts.{SavedGame}
 use Rattle.play_save.specs.Inner.Headers.{header_of}
 use Rattle.play_save.specs.FirstFaults.{MetValue, first_of, count_met, fault_by}
 
--- what the code keeps, as what was met
+-- a state record that the code keeps, as contracts see it
 abbrev pub state_of : StateRecord → KeyedState
 state_of s = record { key = s.key; value = s.value.now }
 
--- the bytes that a loan shows
+-- the bytes that are borrowed, if any are
 abbrev pub bytes_of : Option (Bor (List ℕ)) → Option (List ℕ)
 bytes_of kept = option_map (λ bytes. bytes.now) kept
 
@@ -36,11 +35,11 @@ pub record IsPlayable (m : MetValue) : Type 0 where
   pub few : length m.states + 1 ≤ MOST_STATES
   pub inside : (position : ℕ) → count_met m Position ≡ Some position → (1 ≤ position) × (position ≤ length m.states + 1)
 
--- what was met after one more record
+-- the first value of each header after one more record of the header k
 abbrev pub with_first : (HeaderKey → Option (List ℕ)) → HeaderKey → List ℕ → HeaderKey → Option (List ℕ)
 with_first first k value j = if same_header k j then Some value else first j
 
--- the value of a header that stands once, or one state record more
+-- what was met after one more record: with the value of a header, or with one state record more
 abbrev pub added : MetValue → Key → List ℕ → MetValue
 added m (Header k) value = record m { first = with_first m.first k value }
 added m (State k) value = record m { states = m.states ++ record { key = k; value = value } ∷ [] }

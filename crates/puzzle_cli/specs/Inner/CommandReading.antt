@@ -12,7 +12,7 @@ use Rattle.puzzle_cli.specs.declared.command.line_fault.LineFault.TheVariants.{L
 use Rattle.puzzle_cli.specs.Lines.{Line}
 use Rattle.puzzle_cli.specs.Commands.{Reading, words}
 
--- what stands after a front
+-- the part of a line behind a front, if the line begins with the front
 abbrev pub rest_behind : List ℕ → List ℕ → Option (List ℕ)
 rest_behind front line = if bytes_eq (take (length front) line) front then Some (drop (length front) line) else None
 
@@ -25,7 +25,7 @@ entry_at (row ∷ rows) line = if bytes_eq line row.0 then Some row.1 else entry
 abbrev pub word_at : List ℕ → Option (Command (List ℕ))
 word_at line = entry_at words line
 
--- how many solutions a text asks for
+-- a number, if it isn't 0
 abbrev pub nonzero : ℕ → Option ℕ
 nonzero n = if n == 0 then None else Some n
 

@@ -6,8 +6,7 @@ use Rattle.clap.specs.declared.error.kind.ErrorKind.{ErrorKind}
 use Rattle.clap.specs.declared.error.kind.ErrorKind.TheVariants.{DisplayHelp, DisplayVersion, OutOfMemory}
 use Rattle.clap.specs.declared.parser.matches.Found.{Found}
 use Rattle.puzzle_cli.specs.declared.start.command_fault.CommandFault.{CommandFault}
-use Rattle.puzzle_cli.specs.declared.start.command_fault.CommandFault.TheVariants.{BadWords, HelpAsked}
-use Rattle.puzzle_cli.specs.declared.start.command_fault.CommandFault.TheVariants.{OutOfMemory as NoMemory}
+use Rattle.puzzle_cli.specs.declared.start.command_fault.CommandFault.TheVariants.{BadWords, HelpAsked, OutOfMemory as NoMemory}
 use Rattle.puzzle_cli.specs.declared.start.command_line.Args.{Args}
 use Rattle.puzzle_cli.specs.CommandLine.{AreRead, IsCommandLine, NotBoth, game_rule, game_word, word_texts}
 
@@ -40,7 +39,7 @@ IsToldOfKind kind (BadWords text) = (kind ≢ DisplayHelp) × (kind ≢ DisplayV
 IsToldOfKind kind (HelpAsked text) = (kind ≢ DisplayHelp) × (kind ≢ DisplayVersion) → ⊥
 IsToldOfKind kind NoMemory = ⊥
 
--- so the words are refused
+-- the words are read as this fault
 abbrev pub AreWordsRefused : List Text → CommandFault → Type 0
 AreWordsRefused words fault = AreRead words (Err fault)
 

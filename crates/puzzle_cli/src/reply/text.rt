@@ -11,7 +11,7 @@ use arrayvec::{ArrayString, ArrayVec};
 pub enum Text {
     /// A short one, which takes no memory.
     Short(ArrayString<64>),
-    /// The done clues, which take none either.
+    /// The done clues, which take no memory, either.
     Clues(ArrayVec<u8, 180>),
     /// The move that `solve` made. The session has changed by then, so it takes no memory either.
     Solved(ArrayVec<u8, 83>),

@@ -13,7 +13,7 @@ use thiserror::Error;
 pub enum CommandFault {
     /// The words are refused. The text says what was wrong, and what would be right.
     BadWords(String),
-    /// Help or the version was asked for. It is the text.
+    /// Help or the version was asked for, and this is the text.
     HelpAsked(String),
     /// A growth was refused.
     OutOfMemory,

@@ -6,11 +6,8 @@ ghost use Rattle.std.specs.String.{string_bytes};
 ghost use Rattle.clap.specs.Values.{kind_of};
 ghost use Rattle.clap.specs.Words.{app_of, first_value, found_of, rule_of};
 ghost use Rattle.puzzle_cli.specs.declared.start.command_line.GameName.{GameName};
-ghost use Rattle.puzzle_cli.specs.CommandLine.{AreRead, AreUnfit, IsCommandLine, NotBoth, game_word, option_rule};
-ghost use Rattle.puzzle_cli.specs.CommandLine.{program_line, word_texts};
-ghost use Rattle.puzzle_cli.specs.Inner.WordReading.{AreParsed, AreValuesFound, IsGameRule, IsParseFault};
-ghost use Rattle.puzzle_cli.specs.Inner.WordReading.{AreWordsRefused};
-ghost use Rattle.puzzle_cli.specs.Inner.WordReading.{IsToldOfKind};
+ghost use Rattle.puzzle_cli.specs.CommandLine.{AreRead, AreUnfit, IsCommandLine, NotBoth, game_word, option_rule, program_line, word_texts};
+ghost use Rattle.puzzle_cli.specs.Inner.WordReading.{AreParsed, AreValuesFound, IsGameRule, IsParseFault, AreWordsRefused, IsToldOfKind};
 
 use crate::start::command_fault::CommandFault;
 use crate::start::program_texts::{PUZZLES, ProgramTexts};

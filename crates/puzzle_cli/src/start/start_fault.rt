@@ -1,8 +1,7 @@
 //! Why a first session is refused.
 
 ghost use Rattle.std.specs.Prelude.{◌≡◌, ◌≤◌, length};
-ghost use Rattle.puzzle_cli.specs.StartFault.{start_fault_number, start_fault_name, start_fault_status};
-ghost use Rattle.puzzle_cli.specs.StartFault.{start_fault_line};
+ghost use Rattle.puzzle_cli.specs.StartFault.{start_fault_number, start_fault_name, start_fault_status, start_fault_line};
 
 use crate::view::decimal_text::decimal_text;
 use arrayvec::ArrayString;

@@ -14,18 +14,18 @@ pub record HasAlone (row : List ℕ) (place value : ℕ) (alone : List ℕ) : Ty
 abbrev pub IsFilled : List ℕ → ℕ → Type 0
 IsFilled sets count = (line : List ℕ) × IsFilling sets count line
 
--- the set has the counts from 1 on and below a number that are so
+-- the set has just those counts from 1 on and below n that are so
 abbrev pub AreCounts : (ℕ → Type 0) → ℕ → ℕ → Type 0
 AreCounts IsSo n counts =
     (count : ℕ) → (has_number counts count ≡ true) ↔ ((1 ≤ count) × (count < n) × IsSo count)
 
--- for each of these values below a number at a place, at its own index, the counts of the fillings with it there
+-- for each of the values below n, the set at its index has the counts of the fillings with it at the place
 abbrev pub AreCountsBelow : List ℕ → ℕ → ℕ → ℕ → List ℕ → Type 0
 AreCountsBelow sets place values n shows =
     (v count : ℕ) → v < n → has_number values v ≡ true
     → (has_number (slice_index shows v) count ≡ true) ↔ IsSupported sets count place v
 
--- so for all of the values
+-- for each of the values, the set at its index has the counts of the fillings with it at the place
 abbrev pub AreCountsOf : List ℕ → ℕ → ℕ → List ℕ → Type 0
 AreCountsOf sets place values shows =
     (v count : ℕ) → has_number values v ≡ true

@@ -8,7 +8,7 @@ AreLone width row numbers =
     (number : ℕ) → has_number numbers number ≡ true
     → (k : ℕ) × (k < width) × IsSingle (slice_index row k) number
 
--- the numbers of a set but for some of these, of which none is the set's only one
+-- the set without some of these numbers, but never without its only one
 pub record IsWithout (set numbers rest : ℕ) : Type 0 where
   pub fewer : IsSubset rest set
   pub taken : (number : ℕ) → has_number set number ≡ true → has_number rest number ≡ false

@@ -14,7 +14,7 @@ pub record IsOneLonger (low set : ℕ) (starts longer : List ℕ) : Type 0 where
       → has_number (slice_index starts least) count ≡ true
       → has_number (slice_index longer (height + 1)) (count + 1) ≡ true
 
--- so for the heights below a number, where the starts below it have no other counts than these
+-- the second starts are one longer up to height n, and the starts below height n have no counts but these
 pub record IsLongerBelow (n low set : ℕ) (starts : List ℕ) (counts : ℕ) (longer : List ℕ) : Type 0 where
   pub room : length longer ≡ 11
   pub below : (least count : ℕ) → least < n → has_number (slice_index starts least) count ≡ true

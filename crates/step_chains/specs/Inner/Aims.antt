@@ -19,7 +19,7 @@ use Rattle.step_chains.specs.Inner.FromEachView.{IsTimelyFrom, IsRefutedGrid, No
 use Rattle.step_chains.specs.Inner.Goals.{IsOfEmptySquare, IsShownByAll}
 use Rattle.line_steps.specs.Reasons.{Striking}
 
--- the goal that an aim stands for: where nothing is left of a square, nothing but 0 is
+-- the goal that an aim stands for; that a square is left nothing is said as: nothing but 0 is left of it
 abbrev pub aim_goal : Aim → Goal
 aim_goal (Number goal) = goal
 aim_goal (Nothing cell) = OnlyValue cell 0
@@ -41,7 +41,7 @@ pub record IsReached (Struck : Striking) (grade : Grade) (g : GridValue) (steps 
 abbrev pub IsLeftNothing : CandidatesValue → ℕ → Type 0
 IsLeftNothing c cell = (cell < c.size * c.size) × ((value : ℕ) → IsLeft c cell value → ⊥)
 
--- a square is left nothing, and the second aim is this; or something is left of each, and it is the first
+-- the second aim is a square that is left nothing; or something is left of each square, and it is the first
 abbrev pub IsAimOrNothing : CandidatesValue → Aim → Aim → Type 0
 IsAimOrNothing c aim end = ((cell : ℕ) × IsLeftNothing c cell × (end ≡ Nothing cell)) ⊎ (HasSome c × (end ≡ aim))
 
@@ -53,7 +53,7 @@ IsAimOrRefuted Struck grade g aim end = ((cell : ℕ) × (end ≡ Nothing cell) 
 abbrev pub AreLeftBy : Striking → Grade → GridValue → CandidatesValue → Type 0
 AreLeftBy Struck grade g c = (view : CandidatesValue) × IsView g view × LeadsTo Struck grade view c
 
--- they are all that the grade leaves, and something is left of each square
+-- these candidates are all that the grade leaves of what is in view, and something is left of each square
 abbrev pub IsOver : Striking → Grade → GridValue → CandidatesValue → Type 0
 IsOver Struck grade g c = (view : CandidatesValue) × IsView g view × IsClosure Struck grade view c × HasSome c
 
@@ -64,8 +64,8 @@ pub record LeadNowhere (Struck : Striking) (g : GridValue) : Type 0 where
   pub holds : IsRefutedGrid Struck Hard g → ⊥
   pub forced : (view : CandidatesValue) (cell : ℕ) → IsView g view → IsForcedSquare Struck g view cell → ⊥
 
--- all steps of the grade come to the aim, those of no grade below to one of its kind, and where it is a number no steps
--- refute the grid's
+-- all steps of the grade together come to the aim, and those of no grade below to one of its kind; if the aim
+-- is a number, no steps refute the grid's numbers
 abbrev pub IsLeastBy : Striking → GridValue → Grade → Aim → Type 0
 IsLeastBy Struck g grade (Number goal) =
     IsOfEmptySquare g goal × IsShownByAll Struck grade g goal × NoneBelowShows Struck grade g
@@ -73,6 +73,6 @@ IsLeastBy Struck g grade (Number goal) =
 IsLeastBy Struck g grade (Nothing cell) =
     (cell < g.size * g.size) × IsShownByAll Struck grade g (OnlyValue cell 0) × NoneBelowRefutes Struck grade g
 
--- the same of both together
+-- the grade is the least whose steps come to the aim, or to one of its kind
 abbrev pub IsLeastAim : Striking → GridValue → LeastAim → Type 0
 IsLeastAim Struck g least = IsLeastBy Struck g least.grade least.aim

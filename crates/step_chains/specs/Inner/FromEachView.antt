@@ -1,4 +1,4 @@
--- The parts of a hint, each with a view of its own or from every view; a view bound once is in `NextHints`.
+-- The parts of a hint, each with a view of its own or from every view. In `NextHints` all have the same view.
 use Rattle.std.specs.Prelude.{◌≢◌, ℕ, List, []}
 use Rattle.latin_board.specs.Squares.{GridValue}
 use Rattle.trail_solver.specs.Candidates.{CandidatesValue}
@@ -30,7 +30,7 @@ IsRefutedGrid Struck grade g = (view : CandidatesValue) × IsView g view × IsRe
 abbrev pub IsTimelyFrom : GridValue → List StepValue → Type 0
 IsTimelyFrom g steps = (view : CandidatesValue) × IsView g view × AreTimely view steps
 
--- and no step can strike less
+-- from what is in view of the grid no step can strike less with the goal still shown
 abbrev pub AreNeededFrom :
     Striking → Grade → GridValue → List StepValue → Goal → Type 0
 AreNeededFrom Struck grade g steps goal =
@@ -44,8 +44,8 @@ NoneBelowShows Struck grade g = (lower : Grade) → IsLower lower grade → Noth
 abbrev pub NoneBelowRefutes : Striking → Grade → GridValue → Type 0
 NoneBelowRefutes Struck grade g = (lower : Grade) → IsLower lower grade → IsRefutedGrid Struck lower g → ⊥
 
--- its steps of that grade show the number, those of no grade below show any, and no steps refute the grid's numbers;
--- or its steps refute them, and those of no grade below do; or no steps show a number, and none refute the grid's
+-- `Follows`: its steps show the number, steps of no lower grade show any, and no steps refute the numbers;
+-- `Refuted`: its steps refute the numbers, and no lower grade's do; `Nothing`: no steps do one or the other
 abbrev pub IsNextHint : Striking → GridValue → NextHint → Type 0
 IsNextHint Struck g (Follows grade chain) =
     IsExplained Struck grade g (steps_of chain.steps.items) chain.goal
@@ -54,20 +54,20 @@ IsNextHint Struck g (Refuted grade refutation) =
     IsRefutation Struck grade g (steps_of refutation.steps.items) refutation.cell × NoneBelowRefutes Struck grade g
 IsNextHint Struck g Nothing = NothingIsShown Struck Hard g × (IsRefutedGrid Struck Hard g → ⊥)
 
--- so does each of its steps from what is in view, of which there is one
+-- the hint's steps are timely from what is in view of the grid; for `Nothing` this says that there is a view
 abbrev pub IsTimelyHint : GridValue → NextHint → Type 0
 IsTimelyHint g (Follows grade chain) = IsTimelyFrom g (steps_of chain.steps.items)
 IsTimelyHint g (Refuted grade refutation) = IsTimelyFrom g (steps_of refutation.steps.items)
 IsTimelyHint g Nothing = IsTimelyFrom g []
 
--- and no number of a step can be left out; where nothing is left of a square, nothing but 0 is
+-- no number of any step of the hint can be left out; a refutation leaves nothing but 0 of its square
 abbrev pub IsNeededHint : Striking → GridValue → NextHint → Type 0
 IsNeededHint Struck g (Follows grade chain) = AreNeededFrom Struck grade g (steps_of chain.steps.items) chain.goal
 IsNeededHint Struck g (Refuted grade refutation) =
     AreNeededFrom Struck grade g (steps_of refutation.steps.items) (OnlyValue refutation.cell 0)
 IsNeededHint Struck g Nothing = Unit {0}
 
--- where a square is forced from each view, the hint says something
+-- if a square is forced from a view of the grid, the hint says something
 abbrev pub SaysAllForced : Striking → GridValue → NextHint → Type 0
 SaysAllForced Struck g hint =
     (view : CandidatesValue) (cell : ℕ) → IsView g view → IsForcedSquare Struck g view cell → hint ≢ Nothing

@@ -12,13 +12,13 @@ use Rattle.line_steps.specs.Reasons.{Striking}
 abbrev pub IsOfEmptySquare : GridValue → Goal → Type 0
 IsOfEmptySquare g goal = IsGoalOf g.size goal × (number_at g (goal_cell g.size goal) ≡ 0)
 
--- and the candidates show it
+-- the goal speaks of an empty square of the grid, and the candidates show it
 pub record IsOpenShown (g : GridValue) (c : CandidatesValue) (goal : Goal) : Type 0 where
   pub goal_of : IsGoalOf g.size goal
   pub empty : number_at g (goal_cell g.size goal) ≡ 0
   pub shown : IsShown c goal
 
--- all that the grade leaves of what is in view shows it
+-- from each view, the candidates that the grade leaves show the goal
 abbrev pub IsShownByAll : Striking → Grade → GridValue → Goal → Type 0
 IsShownByAll Struck grade g goal =
     (view d : CandidatesValue) → IsView g view → IsClosure Struck grade view d → IsShown d goal

@@ -1,4 +1,4 @@
--- Which reasons the list of all that may strike something has, part by part.
+-- The list of all reasons that may strike something, part by part: which reason is found at which place.
 use Rattle.std.specs.Prelude.{◌≡◌, ℕ, ◌+◌, ◌*◌, ◌^◌, ◌<◌, ◌⊎◌, count_ones, Option, Some}
 use Rattle.trail_solver.specs.Candidates.{CandidatesValue}
 use Rattle.line_steps.specs.Inner.Groups.{IsUnion}
@@ -7,13 +7,13 @@ use Rattle.line_steps.specs.declared.reason.Reason.TheVariants.{Given, Peer, Pla
 use Rattle.step_chains.specs.declared.reasons.Part.{Part}
 use Rattle.step_chains.specs.declared.reasons.Part.TheVariants.{Squares, Places, Clues, Signs, Groups}
 
--- the sign's first square is above the second, to its left, to its right or below it: a second square has four places
+-- the place of a sign: a square has four, for signs from above, from the left, from the right and from below
 abbrev pub IsSignAt : ℕ → ℕ → ℕ → ℕ → Type 0
 IsSignAt w place from to =
     ((place ≡ 4 * to) × (from + w ≡ to)) ⊎ (((place ≡ 4 * to + 1) × (from + 1 ≡ to))
     ⊎ (((place ≡ 4 * to + 2) × (from ≡ to + 1)) ⊎ ((place ≡ 4 * to + 3) × (from ≡ to + w))))
 
--- the values that are left of a line's squares, of which there are as many
+-- these values are all that is left of some squares of a line, and are as many as the squares
 abbrev pub IsGroup : CandidatesValue → ℕ → ℕ → ℕ → Type 0
 IsGroup c line squares values = IsUnion c.size c line squares values × (count_ones values ≡ count_ones squares)
 
@@ -25,8 +25,8 @@ place_count w Clues = 12 * w
 place_count w Signs = 4 * (w * w)
 place_count w Groups = 2 * w * 2 ^ w
 
--- what is found at a place of it: a square's given or the square as a peer, a value in a place of a line, a clue in one
--- of three ways, a sign, or a group
+-- what is found at a place of a part of the list: a given or a square as a peer, a value in a place
+-- of a line, a clue in one of three ways, a sign, or a group
 abbrev pub IsFoundAt : CandidatesValue → Part → ℕ → Option Reason → Type 0
 IsFoundAt c Squares place found =
     ((cell : ℕ) → place ≡ 2 * cell → found ≡ Some (Given cell))

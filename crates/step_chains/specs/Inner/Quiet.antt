@@ -25,15 +25,15 @@ IsIdleIn Struck grade c reason cell =
     (value : ℕ) → has_reason grade reason ≡ true → IsPair c.size cell value → Struck c reason cell value
     → may_be c cell value ≡ false
 
--- in no square
+-- if the grade has the reason, it strikes nothing more in any square
 abbrev pub IsIdle : Striking → Grade → CandidatesValue → Reason → Type 0
 IsIdle Struck grade c reason = (cell : ℕ) → IsIdleIn Struck grade c reason cell
 
--- what is found at a place of a part of the list, if anything, strikes nothing more
+-- the reason at a place of a part of the list, if there is one, strikes nothing more
 abbrev pub IsIdleAt : Striking → Grade → CandidatesValue → Part → ℕ → Type 0
 IsIdleAt Struck grade c part place =
     (found : Option Reason) × IsFoundAt c part place found × IfSome found (IsIdle Struck grade c)
 
--- nor at any of its places
+-- no reason at any place of the part strikes anything more
 abbrev pub AreIdleIn : Striking → Grade → CandidatesValue → Part → Type 0
 AreIdleIn Struck grade c part = (place : ℕ) → place < place_count c.size part → IsIdleAt Struck grade c part place

@@ -16,7 +16,7 @@ IsGradeStep Struck grade c step = (has_reason grade step.reason ≡ true) × IsS
 abbrev pub IsGradeChain : Striking → Grade → CandidatesValue → List StepValue → Type 0
 IsGradeChain Struck grade c steps = IsChain Struck c steps × AreOfGrade grade steps
 
--- they are, and leave what is left of the second candidates
+-- the steps are a chain of the grade's, and leave the same as is left of the second candidates
 pub record Leads (Struck : Striking) (grade : Grade) (c : CandidatesValue) (steps : List StepValue)
     (d : CandidatesValue) : Type 0 where
   pub chain : IsChain Struck c steps
@@ -28,7 +28,7 @@ pub record Leads (Struck : Striking) (grade : Grade) (c : CandidatesValue) (step
 abbrev pub IsTimelyStep : CandidatesValue → StepValue → Type 0
 IsTimelyStep c step = HasSome c × IsLiveStep c step
 
--- so it is of each step, where those before it have struck
+-- each step is timely once those before it have struck
 abbrev pub AreTimely : CandidatesValue → List StepValue → Type 0
 AreTimely c [] = Unit {0}
 AreTimely c (step ∷ steps) = IsTimelyStep c step × AreTimely (without c step.strikes) steps

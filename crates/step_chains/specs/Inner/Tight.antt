@@ -19,14 +19,14 @@ IsTightFrom place Struck grade c steps goal =
     (front back : List StepValue) (step : StepValue) → steps ≡ front ++ step ∷ back → place ≤ length front
     → Shows Struck grade c (front ++ back) goal → ⊥
 
--- from a place on no step can strike less
+-- no step from a place on can strike less with the goal still shown
 abbrev pub IsNeededFrom :
     ℕ → Striking → Grade → CandidatesValue → List StepValue → Goal → Type 0
 IsNeededFrom place Struck grade c steps goal =
     (front back : List StepValue) (step less : StepValue) (cell v : ℕ) → steps ≡ front ++ step ∷ back
     → place ≤ length front → StrikesLess cell v less step → Shows Struck grade c (front ++ less ∷ back) goal → ⊥
 
--- the step at a place can't do without a value below this one
+-- the step at a place can't do without any of its values below this one
 abbrev pub IsNeededBelow :
     ℕ → ℕ → Striking → Grade → CandidatesValue → List StepValue → Goal → Type 0
 IsNeededBelow value place Struck grade c steps goal =
@@ -34,7 +34,7 @@ IsNeededBelow value place Struck grade c steps goal =
     → length front ≡ place → StrikesLess cell v less step → v < value → Shows Struck grade c (front ++ less ∷ back) goal
     → ⊥
 
--- it can't strike less
+-- the step at a place can't strike less with the goal still shown
 abbrev pub IsNeededAt :
     ℕ → Striking → Grade → CandidatesValue → List StepValue → Goal → Type 0
 IsNeededAt place Struck grade c steps goal =
@@ -63,14 +63,14 @@ pub record IsLeftOut (Struck : Striking) (grade : Grade)
   pub needed : (less : StepValue) (cell : ℕ) → StrikesLess cell value less (step_value now)
       → Shows Struck grade c (steps_of front ++ less ∷ steps_of back) goal → ⊥
 
--- what is so of the steps while the numbers of one are left out
+-- no step after a place can be left out or strike less, and the step there needs each value below this one
 pub record IsNarrowedBelow (Struck : Striking) (grade : Grade)
     (c : CandidatesValue) (place value : ℕ) (steps : List Step) (goal : Goal) : Type 0 where
   pub tight : IsTightFrom (place + 1) Struck grade c (steps_of steps) goal
   pub needed : IsNeededFrom (place + 1) Struck grade c (steps_of steps) goal
   pub here : IsNeededBelow value place Struck grade c (steps_of steps) goal
 
--- what is so of the steps once those from a place on are done
+-- the steps show the goal, and from a place on none of them can be left out or strike less
 pub record IsDoneFrom (Struck : Striking) (grade : Grade)
     (c : CandidatesValue) (place : ℕ) (steps : List Step) (goal : Goal) : Type 0 where
   pub inside : place ≤ length steps
@@ -78,13 +78,13 @@ pub record IsDoneFrom (Struck : Striking) (grade : Grade)
   pub tight : IsTightFrom place Struck grade c (steps_of steps) goal
   pub needed : IsNeededFrom place Struck grade c (steps_of steps) goal
 
--- the second steps are the first with those from a place on done; they are timely, if the first are
+-- of the second steps, those from a place on are done; they are timely if the first steps are
 pub record IsDoneTo (Struck : Striking) (grade : Grade)
     (c : CandidatesValue) (place : ℕ) (old new : List Step) (goal : Goal) : Type 0 where
   pub done : IsDoneFrom Struck grade c place new goal
   pub timely : AreTimely c (steps_of old) → AreTimely c (steps_of new)
 
--- so with those after it done, and the step at the place striking nothing that it can do without
+-- of the second steps, those after a place are done, and the one there can't strike less
 pub record IsNarrowedTo (Struck : Striking) (grade : Grade)
     (c : CandidatesValue) (place : ℕ) (old new : List Step) (goal : Goal) : Type 0 where
   pub done : IsDoneFrom Struck grade c (place + 1) new goal

@@ -13,7 +13,7 @@ use Rattle.line_steps.specs.declared.reason.Reason.TheVariants.{Given, Bound, St
 use Rattle.shown_counts.specs.Shown.{CanShow, IsShownBy}
 use Rattle.step_texts.specs.Told.{reason_clue, IsSeenFrom, IsInView}
 
--- no line shows the clue with a value there that none of its lines has there
+-- if no filling of a clue's line has a value in a square, no line with the value there shows the clue
 unfilled_unshown : (w : ℕ) (May : ℕ → ℕ → Type 0) (place clue cell value : ℕ) → IsUnfilled w May place clue cell value
     → CanShow w May place cell value clue → ⊥
 unfilled_unshown w May place clue cell value u s =
@@ -21,7 +21,7 @@ unfilled_unshown w May place clue cell value u s =
     view_cell_once w place u.index s.index s.edge u.inside s.inside (u.here ∙ sym s.here) in
     u.none s.line s.filling (ap (slice_index s.line) same ∙ s.there)
 
--- and where none shows the clue with the value there, none of its lines has it there
+-- if no line with a value in a square shows the clue, no filling of the clue's line has the value there
 unshown_unfilled : (w : ℕ) (May : ℕ → ℕ → Type 0) (place clue cell value : ℕ) → IsSeenFrom w place cell
     → (CanShow w May place cell value clue → ⊥)
     → IsUnfilled w May place clue cell value
@@ -78,7 +78,7 @@ towers_told v c (Clue place) cell value size some seen none = record {
 }
 towers_told v c reason cell value size some seen none = absurd seen
 
--- in Unequal no clue strikes
+-- in Unequal no reason has a clue that strikes
 pub unequal_unshown : (v : UnequalValue) (c : CandidatesValue) (reason : Reason) (cell value : ℕ) → c.size ≡ v.size
     → IsUnequalStruckBy v c reason cell value
     → IsShownBy c reason cell value (reason_clue (λ _. zero) reason) → ⊥

@@ -1,4 +1,4 @@
--- What the masks of used values say of a line's starts, which stand beside them as lists.
+-- Lists of values that stand at the first places of a line, and masks of the values that are used there.
 use Rattle.std.specs.Prelude.{◌≡◌, ℕ, ◌+◌, Bool, not, ◌&&◌, nat_le, List, length, slice_index, ◌==◌}
 use Rattle.std.specs.List.{list_any}
 use Rattle.number_sets.specs.Sets.{has_number}
@@ -13,6 +13,6 @@ can_be sets place used value =
     nat_le 1 value
     && (nat_le value (length sets) && (has_number (slice_index sets place) value && not (has_number used value)))
 
--- the list's values are those of the mask, whose bit k stands for k + 1
+-- the mask has the list's values: bit k stands for the value k + 1
 pub record IsMask (mask : ℕ) (line : List ℕ) : Type 0 where
   pub bits : (k : ℕ) → has_number mask k ≡ is_in (k + 1) line

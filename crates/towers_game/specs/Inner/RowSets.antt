@@ -5,29 +5,29 @@ use Rattle.line_steps.specs.Views.{view_index}
 use Rattle.tower_lines.specs.LineFillings.{IsSupported}
 use Rattle.line_steps.specs.Inner.LineSets.{IsStandingSet}
 
--- the first n sets are of all these values, and the others are empty
+-- each of the first n sets has all these values, and the others are empty
 pub record AreFull (all n : ℕ) (row : List ℕ) : Type 0 where
   pub count : length row ≡ 9
   pub each : (k : ℕ) → k < n → slice_index row k ≡ all
   pub rest : (k : ℕ) → n ≤ k → IsEmpty (slice_index row k)
 
--- in each of the first n sets of a row is what stands in its square
+-- each of the first n sets of a row has what may stand in its square, if only lone values are seen
 pub record AreStandingSets (all : ℕ) (left : List ℕ) (n : ℕ) (row : List ℕ) : Type 0 where
   pub count : length row ≡ 9
   pub each : (k : ℕ) → k < n → IsStandingSet all (slice_index left k) (slice_index row k)
 
--- the first n sets of the row are of the values of the size that those kept lack
+-- each of the first n sets of the row has the values of the size that the kept set in its place lacks
 pub record AreMissing (w : ℕ) (kept : List ℕ) (n : ℕ) (row : List ℕ) : Type 0 where
   pub count : length row ≡ 9
   pub each : (k v : ℕ) → k < n
       → has_number (slice_index row k) v ≡ ((nat_le 1 v && nat_le v w) && not (has_number (slice_index kept k) v))
 
--- the first n sets are those of the row from a place, each at its square's place in the line
+-- the first n sets are those of the row from a place, in the order of the line's squares
 pub record IsAlong (w place : ℕ) (row : List ℕ) (n : ℕ) (along : List ℕ) : Type 0 where
   pub count : length along ≡ 9
   pub each : (k : ℕ) → k < n → slice_index along k ≡ slice_index row (view_index w place k)
 
--- the sets are of the values that the fillings of a row have in each of its places
+-- each set has just the values that the fillings of a row have in its place
 abbrev pub AreKept : List ℕ → ℕ → List ℕ → Type 0
 AreKept row clue kept =
     (place value : ℕ) → (has_number (slice_index kept place) value ≡ true) ↔ IsSupported row clue place value
@@ -43,7 +43,7 @@ pub record IsBeyond (n : ℕ) (some all : List ℕ) (number : ℕ) : Type 0 wher
   pub has : has_number (slice_index some place) number ≡ true
   pub lacks : has_number (slice_index all place) number ≡ false
 
--- each value that is kept of the first w sets stands in its square in some filling
+-- each value that is kept of one of the first w sets stands in its place in some filling
 abbrev pub AreSupported : ℕ → ℕ → List ℕ → List ℕ → Type 0
 AreSupported w clue sets kept =
     (k v : ℕ) → k < w → has_number (slice_index kept k) v ≡ true → IsSupported (take w sets) clue k v

@@ -13,7 +13,7 @@ abbrev pub IsViewQuiet : TowersValue → Look → ℕ → CandidatesValue → Ty
 IsViewQuiet v look place c =
     (cell value : ℕ) → IsPair c.size cell value → IsByClue v (May look c) place cell value → may_be c cell value ≡ false
 
--- no clue that looks along the line does
+-- as they are looked at, the clues along the line strike nothing that is left
 abbrev pub AreViewsQuiet : TowersValue → Look → ℕ → CandidatesValue → Type 0
 AreViewsQuiet v look line c =
     (place : ℕ) → place < 4 * c.size → view_line c.size place ≡ line → IsViewQuiet v look place c

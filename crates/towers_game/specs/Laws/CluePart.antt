@@ -1,7 +1,6 @@
 -- The clue part of a Towers description: what is read is written so, and what is written so is read.
 use Rattle.std.proofs.lemmas.Bool.Decides.{nat_tests}
-use Rattle.std.proofs.Common.{◌≡◌, ◌≢◌, ℕ, ◌+◌, ◌*◌, ◌<◌, ◌≤◌, true, List, [], ◌∷◌, length}
-use Rattle.std.proofs.Common.{map, Ok, refl, sym, ap, ◌∙◌, subst, arith}
+use Rattle.std.proofs.Common.{◌≡◌, ◌≢◌, ℕ, ◌+◌, ◌*◌, ◌<◌, ◌≤◌, true, List, [], ◌∷◌, length, map, Ok, refl, sym, ap, ◌∙◌, subst, arith}
 use Rattle.std.specs.List.{AllByRecursion, list_all, join_with_byte}
 use Rattle.std.proofs.lemmas.List.{length-map}
 use Rattle.std.proofs.lemmas.List.Splits.{join_with_byte-slice_split}
@@ -16,15 +15,19 @@ use Rattle.towers_game.specs.TowersText.{clue_field, clue_part, fields, is_clue_
 use Rattle.game_texts.specs.Laws.Exactly.{exactly_taken, exactly_again}
 use Rattle.game_texts.specs.Laws.Refusals.{refused_else}
 
+-- the field of a clue that is there is its digit
 clue_field_some : (clue : ℕ) → clue ≢ 0 → clue_field clue ≡ (digit_zero + clue) ∷ []
 clue_field_some clue some = rw (ne_eqb clue 0 some) refl
 
+-- a field that is read is the one of its clue, which is at most the width
 field_taken : (w : ℕ) (f : List ℕ) → is_clue_field w f ≡ true → (clue_field (clue_in f) ≡ f) × (clue_in f ≤ w)
 field_taken w f is = grind (arith, nat_tests, clue_field_some)
 
+-- the field of a clue up to the width is read as that clue
 field_again : (w clue : ℕ) → clue ≤ w → (is_clue_field w (clue_field clue) ≡ true) × (clue_in (clue_field clue) ≡ clue)
 field_again w clue within = grind (arith, nat_tests)
 
+-- fields that are read are those of their clues, which are at most the width
 fields_taken : (w : ℕ) (fs : List (List ℕ)) → list_all (is_clue_field w) fs ≡ true
     → (map clue_field (map clue_in fs) ≡ fs) × AllByRecursion (λ clue. clue ≤ w) (map clue_in fs)
 fields_taken w [] all = (refl, tt)
@@ -36,6 +39,7 @@ fields_taken w (f ∷ fs) all =
     let e = one.0 in let es = more.0 in cc in
     (whole, (one.1, more.1))
 
+-- the fields of clues up to the width are read as those clues
 fields_again : (w : ℕ) (clues : List ℕ) → AllByRecursion (λ clue. clue ≤ w) clues
     → (list_all (is_clue_field w) (map clue_field clues) ≡ true) × (map clue_in (map clue_field clues) ≡ clues)
 fields_again w [] within = (refl, refl)
@@ -50,10 +54,12 @@ fields_again w (clue ∷ clues) within =
 field_lacks : (c clue : ℕ) → c < digit_zero + 1 → Lacks c (clue_field clue)
 field_lacks c clue small = grind (arith, nat_tests)
 
+-- no fields of clues have a byte that is not a digit
 fields_lack : (c : ℕ) (clues : List ℕ) → c < digit_zero + 1 → AllByRecursion (Lacks c) (map clue_field clues)
 fields_lack c [] small = tt
 fields_lack c (clue ∷ clues) small = (field_lacks c clue small, fields_lack c clues small)
 
+-- a clue part has no comma
 pub clue_part_lacks_comma : (clues : List ℕ) → Lacks comma (clue_part clues)
 clue_part_lacks_comma clues =
     lacks_join comma slash (map clue_field clues) (omega arith) (fields_lack comma clues (omega arith))
@@ -74,6 +80,7 @@ clues_taken w part clues read =
     let lengths : length clues ≡ length steps.value = ap length (sym clues_are) ∙ length-map steps.value clue_in in
     (sym joined, lengths ∙ (ap length (sym same) ∙ count), subst (AllByRecursion (λ clue. clue ≤ w)) clues_are within)
 
+-- a clue part of as many clues as there are places, none above the width, is read as these clues
 pub clues_again : (w : ℕ) (clues : List ℕ) → 0 < w → length clues ≡ 4 * w → AllByRecursion (λ clue. clue ≤ w) clues
     → clues_at w (clue_part clues) ≡ Ok clues
 unfolding clues_at

@@ -10,12 +10,12 @@ use Rattle.byte_text.specs.Decimals.{is_digit, begins_digit}
 use Rattle.byte_text.specs.Bytes.{letter_z, letter_a, digit_nine, digit_zero, underscore}
 use Rattle.towers_game.specs.TowersText.{IsSquareText, blank_letters, given_written, squares_written}
 
--- one letter
+-- a letter before a text puts its blank squares before the text's squares
 letter_text : (w k : ℕ) (bs squares : List ℕ) → k < 26 → IsSquareText w bs squares
     → IsSquareText w ((letter_a + k) ∷ bs) (replicate (k + 1) 0 ++ squares)
 letter_text w k bs squares small text = grind (arith, nat_tests)
 
--- so many times `z`
+-- k times `z` before a text put 26 blank squares each before the text's squares
 zs_text : (w k : ℕ) (bs squares : List ℕ) → IsSquareText w bs squares
     → IsSquareText w (replicate k letter_z ++ bs) (replicate (k * 26) 0 ++ squares)
 zs_text w zero bs squares text = text
@@ -29,11 +29,12 @@ zs_text w (suc k) bs squares text =
     ∙ ap (λ xs. xs ++ squares) (replicate-append-replicate 26 (k * 26) 0 ∙ ap (λ m. replicate m 0) count) in
     subst (IsSquareText w (letter_z ∷ (replicate k letter_z ++ bs))) runs more
 
+-- the letters of a run that is not empty are `z` for each 26 and one letter more
 blank_letters_some : (n : ℕ) → n ≢ 0
     → blank_letters n ≡ replicate ((n - 1) / 26) letter_z ++ ((letter_a + (n - 1) % 26) ∷ [])
 blank_letters_some n some = rw (ne_eqb n 0 some) refl
 
--- `z` so many times, and one more letter
+-- k times `z` and a letter before a text put their blank squares before the text's squares
 run_text : (w k r : ℕ) (bs squares : List ℕ) → r < 26 → IsSquareText w bs squares
     → IsSquareText w ((replicate k letter_z ++ ((letter_a + r) ∷ [])) ++ bs) (replicate (k * 26 + (r + 1)) 0 ++ squares)
 run_text w k r bs squares small text =
@@ -47,7 +48,7 @@ run_text w k r bs squares small text =
     subst (λ t. IsSquareText w t (replicate (k * 26 + (r + 1)) 0 ++ squares)) bytes
     (subst (IsSquareText w (replicate k letter_z ++ ((letter_a + r) ∷ bs))) runs whole)
 
--- the letters of a run of blanks
+-- the letters of a run of n blank squares before a text put n of them before the text's squares
 blanks_text : (w n : ℕ) (bs squares : List ℕ) → IsSquareText w bs squares
     → IsSquareText w (blank_letters n ++ bs) (replicate n 0 ++ squares)
 blanks_text w n bs squares text = elim (cases_eq n 0) [
@@ -60,28 +61,32 @@ blanks_text w n bs squares text = elim (cases_eq n 0) [
       (replicate m 0 ++ squares)) count run)
 ]
 
--- No digit follows a given.
+-- a byte past `9` is no digit, so no text that begins with a letter begins with one
 digit_not : (b : ℕ) → digit_nine < b → is_digit b ≡ false
 digit_not b above = rw (lt-leb b digit_nine above) (and_right (nat_le digit_zero b) false refl)
 
+-- a text that begins with a letter begins with no digit
 letters_begin_at : (k r : ℕ) (bs : List ℕ)
     → begins_digit ((replicate k letter_z ++ ((letter_a + r) ∷ [])) ++ bs) ≡ false
 letters_begin_at zero r bs = digit_not (letter_a + r) (omega arith)
 letters_begin_at (suc k) r bs = refl
 
+-- the letters of a run that is not empty begin with no digit
 letters_begin : (n : ℕ) (bs : List ℕ) → n ≢ 0 → begins_digit (blank_letters n ++ bs) ≡ false
 letters_begin n bs some =
     rw (blank_letters_some n some) (letters_begin_at ((n - 1) / 26) ((n - 1) % 26) bs)
 
--- a given as it is written, and what stands after it
+-- a given as it is written, with more text after it, is that of its parts one after another
 given_whole : (n : ℕ) (after_given : Bool) (s : ℕ) (bs : List ℕ)
     → blank_letters n ++ ((if (n == 0) && after_given then (underscore ∷ []) else []) ++ ((digit_zero + s) ∷ bs))
     ≡ given_written n after_given s ++ bs
 given_whole n after_given s bs = simp append_assoc
 
+-- a given that is written after another given begins with no digit
 given_begins : (n s : ℕ) (bs : List ℕ) → begins_digit (given_written n true s ++ bs) ≡ false
 given_begins n s bs = grind (arith, nat_tests, given_whole, letters_begin)
 
+-- squares that are written after a given begin with no digit
 begins_written : (n : ℕ) (squares : List ℕ) → begins_digit (squares_written n true squares) ≡ false
 begins_written n [] = elim (cases_eq n 0) [
   | inl none ↦ rw none refl
@@ -92,21 +97,24 @@ begins_written n (s ∷ ss) =
     (λ bs. begins_digit bs ≡ false)
     (λ none. begins_written (n + 1) ss) (λ some. given_begins n s (squares_written 0 true ss))
 
--- a given, and `_` before it or not
+-- a digit before a text that begins with none puts a given before the text's squares
 digit_text : (w s : ℕ) (bs squares : List ℕ) → s ≢ 0 → s ≤ w → begins_digit bs ≡ false → IsSquareText w bs squares
     → IsSquareText w ((digit_zero + s) ∷ bs) (s ∷ squares)
 digit_text w s bs squares some within ends text = grind (arith, nat_tests)
 
+-- a given that is written with or without `_` before it puts its number before the squares
 given_text : (w s : ℕ) (separate : Bool) (bs squares : List ℕ) → s ≢ 0 → s ≤ w → begins_digit bs ≡ false
     → IsSquareText w bs squares
     → IsSquareText w ((if separate then (underscore ∷ []) else []) ++ ((digit_zero + s) ∷ bs)) (s ∷ squares)
 given_text w s true bs squares some within ends text = inl (refl, digit_text w s bs squares some within ends text)
 given_text w s false bs squares some within ends text = digit_text w s bs squares some within ends text
 
+-- n + 1 blank squares before some are n before one blank square and these
 zeros_more : (n : ℕ) (squares : List ℕ) → replicate (n + 1) 0 ++ squares ≡ replicate n 0 ++ 0 ∷ squares
 zeros_more n squares =
     ap (λ xs. xs ++ squares) (sym (replicate_more n 0)) ∙ append_assoc (replicate n 0) (0 ∷ []) squares
 
+-- the text that is written for some squares after n blank ones says all of these
 written_text : (w n : ℕ) (after_given : Bool) (squares : List ℕ) → AllByRecursion (λ s. s ≤ w) squares
     → IsSquareText w (squares_written n after_given squares) (replicate n 0 ++ squares)
 written_text w n after_given [] within =
@@ -126,7 +134,7 @@ written_text w n after_given (s ∷ ss) within =
     (given_text w s ((n == 0) && after_given) (squares_written 0 true ss) ss (eqb-false s 0 some) within.0
     (begins_written 0 ss) (written_text w 0 true ss within.1))))
 
--- what is written is a text of the squares
+-- the text that is written for some squares says these squares
 pub squares_written_text : (w : ℕ) (squares : List ℕ) → AllByRecursion (λ s. s ≤ w) squares
     → IsSquareText w (squares_written 0 false squares) squares
 squares_written_text w squares within = written_text w 0 false squares within

@@ -1,12 +1,11 @@
 -- The laws of Towers items: what a cut keeps, what two cuts make, and that the full puzzle of a Latin square is solved
 -- by it.
-use Rattle.std.proofs.lemmas.Bool.Decides.{nat_tests}
+use Rattle.std.proofs.lemmas.Bool.Decides.{nat_tests, Decides-at, Decides-like}
 use Rattle.std.proofs.Common.{◌≡◌, ◌↔◌, ℕ, zero, ◌+◌, ◌*◌, ◌<◌, ◌≤◌, Bool, true, false, ◌&&◌, ◌||◌, [], length}
 use Rattle.std.proofs.Common.{refl, sym, ◌∙◌, arith, nat_lt, ◌==◌, slice_index, slice_index_or}
 use Rattle.std.specs.Bool.{Decides, IsTrue}
 use Rattle.std.specs.List.{range_with_len}
 use Rattle.std.proofs.lemmas.Bool.{lt-ltb}
-use Rattle.std.proofs.lemmas.Bool.Decides.{Decides-at, Decides-like}
 use Rattle.std.proofs.lemmas.List.{length-reverse}
 use Rattle.std.proofs.lemmas.List.Elements.{All-map}
 use Rattle.std.proofs.lemmas.List.FromFn.{length-map-range_with_len, get_or-map-range_with_len}
@@ -21,12 +20,12 @@ use Rattle.towers_game.specs.Towers.{TowersValue, IsTowers, clue_of, HoldsClues,
 use Rattle.towers_game.specs.Towers.{towers_items, has_towers, cut_towers, full_towers, towers_given_grid}
 use Rattle.line_steps.specs.Views.{line_from}
 use Rattle.trail_solver.proofs.KeptItems.{length-kept, kept-all, kept-kept, All-kept, still_asked, none_asked}
-use Rattle.trail_solver.proofs.KeptItems.{has_entry-kept, items_agree, has_entry-full, not_positive, small_widths}
-use Rattle.trail_solver.proofs.KeptItems.{IsGrid-kept, kept_number}
+use Rattle.trail_solver.proofs.KeptItems.{has_entry-kept, items_agree, has_entry-full, not_positive, small_widths, IsGrid-kept, kept_number}
 use Rattle.line_steps.specs.Laws.Edges.{edge_cases}
 
 -- ---- the test of the clues
 
+-- the test of one clue tells whether it holds, where it is there
 one_clue_decides : (n m : ℕ) → Decides ((n == 0) || (m == n)) (0 < n → m ≡ n)
 one_clue_decides n m = grind (arith, nat_tests)
 
@@ -39,6 +38,7 @@ clues_decide v g =
     (all_in_range (holds_clue v g) (λ place. 0 < clue_of v place → seen (line_from g place) ≡ clue_of v place)
     (λ place. one_clue_decides (clue_of v place) (seen (line_from g place))) 0 (4 * v.size))
 
+-- an answer that is the test of the clues tells whether all hold
 pub clues_tested : (v : TowersValue) (g : GridValue) (t : Bool) → t ≡ holds_clues v g → IsTrue t ↔ HoldsClues v g
 clues_tested v g t value = Decides-at _ _ value (clues_decide v g)
 
@@ -126,9 +126,11 @@ cut_none v g is_grid latin size = record {
 
 -- ---- the full puzzle
 
+-- a column has as many squares as the grid is wide
 length-column : (g : GridValue) (column : ℕ) → length (column_of g column) ≡ g.size
 length-column g column = length-map-range_with_len (λ r. number_at g (r * g.size + column)) 0 g.size
 
+-- a row has as many squares as the grid is wide
 length-row : (g : GridValue) (row : ℕ) → length (row_of g row) ≡ g.size
 length-row g row = length-map-range_with_len (λ c. number_at g (row * g.size + c)) 0 g.size
 
@@ -136,9 +138,11 @@ length-row g row = length-map-range_with_len (λ c. number_at g (row * g.size + 
 pub length-line_from : (g : GridValue) (place : ℕ) → length (line_from g place) ≡ g.size
 length-line_from g place = grind (arith, nat_tests, edge_cases, length-column, length-reverse, length-row)
 
+-- from no place are more towers seen than the grid is wide
 pub seen_within : (g : GridValue) (place : ℕ) → seen (line_from g place) ≤ g.size
 seen_within g place = omega (arith, seen_most [] (line_from g place), length-line_from g place)
 
+-- the clue of the full puzzle at a place is the number of towers seen from there
 full_clue : (g : GridValue) (place : ℕ) → place < 4 * g.size → clue_of (full_towers g) place ≡ seen (line_from g place)
 full_clue g place inside =
     get_or-map-range_with_len (λ place. seen (line_from g place)) 0 (4 * g.size) place place 0 inside (omega arith)

@@ -33,13 +33,13 @@ use Rattle.line_steps.specs.declared.grade.Grade.TheVariants.{Easy, Hard}
 
 -- ---- fewer candidates
 
--- what a clue strikes by what may stand along its line it strikes by less
+-- a pair that a clue strikes by what may stand along its line is struck, too, if less may stand there
 clue_less : (v : TowersValue) (May Less : ℕ → ℕ → Type 0) (place cell value : ℕ)
     → ((k u : ℕ) → k < v.size → Less (view_cell v.size place k) u → May (view_cell v.size place k) u)
     → IsByClue v May place cell value → IsByClue v Less place cell value
 clue_less v May Less place cell value fewer h = grind (arith, nat_tests)
 
--- what may stand in a square may stand there while all stays that is left of it
+-- a value that may stand in a square may still stand there if the square has lost nothing
 may_stays : (look : Look) (c d : CandidatesValue) (cell value : ℕ) → ((u : ℕ) → IsLeft c cell u → IsLeft d cell u)
     → May look c cell value → May look d cell value
 may_stays Alone c d cell value stays may = tt
@@ -56,7 +56,7 @@ towers_own_less v c d (Clue place) cell value fewer h =
     clue_less v (IsLeft c) (IsLeft d) place cell value (λ k u low. may_stays Marks d c _ u (fewer _)) h
 towers_own_less v c d reason cell value fewer h = absurd h
 
--- so does each reason of Towers
+-- a pair that a reason of Towers strikes is struck from fewer candidates, too
 pub towers_less : (v : TowersValue) (c d : CandidatesValue) (reason : Reason) (cell value : ℕ) → IsFewer c d
     → IsTowersStruckBy v c reason cell value → IsTowersStruckBy v d reason cell value
 towers_less v = all_less (towers_puzzle v) (IsTowersOwn v) (towers_own_less v)
@@ -90,6 +90,7 @@ square_filling May place clue g inside is_grid latin may shown =
       shown = shown;
     }
 
+-- a value that no filling from a place has in a square is not there in a Latin square that shows the clue
 unfilled_sound : (w : ℕ) (May : ℕ → ℕ → Type 0) (place clue cell value : ℕ) (c : CandidatesValue) (g : GridValue)
     → place < 4 * w
     → IsSquareOf w c g → ((cell : ℕ) → cell < w * w → May cell (number_at g cell)) → seen (line_from g place) ≡ clue
@@ -106,6 +107,7 @@ unfilled_sound w May place clue cell value c g inside s may shown h = λ same.
     let at = subst Q s.size (λ low first. view_number g place h.index low first) inside h.inside in
     h.none (line_from g place) filling (at ∙ ap (number_at g) h.here ∙ same)
 
+-- a value that a clue strikes by what may stand is in no solution whose numbers all may stand
 clue_sound : (v : TowersValue) (May : ℕ → ℕ → Type 0) (place cell value : ℕ) (c : CandidatesValue) (g : GridValue)
     → Solves (towers_puzzle v) g
     → IsSquareOf v.size c g → ((cell : ℕ) → cell < v.size * v.size → May cell (number_at g cell))
@@ -134,6 +136,7 @@ towers_sound v c reason cell value g size solved within h = absurd h
 
 -- ---- cuts
 
+-- a value that a clue of a cut strikes is struck by that clue in the whole puzzle
 clue_whole : (v : TowersValue) (keep : ℕ → Bool) (May : ℕ → ℕ → Type 0) (place cell value : ℕ)
     → IsByClue (cut_towers v keep) May place cell value
     → IsByClue v May place cell value
@@ -149,7 +152,7 @@ towers_whole v keep c reason cell value h = absurd h
 
 -- ---- lines
 
--- what a clue strikes it struck before, where all stayed along its line
+-- a pair that a clue strikes was struck by it before, if all stayed along its line
 pub clue_was : (v : TowersValue) (look : Look) (place cell value : ℕ) (c d : CandidatesValue) → c.size ≡ v.size
     → place < 4 * c.size
     → StaysOn (view_line c.size place) c d → IsByClue v (May look d) place cell value
@@ -165,6 +168,7 @@ view_stays v look place c d size place_is same fewer stays quiet cell value pair
     was_gone c d cell value same fewer pair
     (λ there. quiet cell value there (clue_was v look place cell value c d size place_is stays h))
 
+-- a value that a clue along a line strikes was struck by it before, if all stayed along the line
 towers_looks : (v : TowersValue) (look : Look) (place cell value line : ℕ) (c d : CandidatesValue) → c.size ≡ v.size
     → (place < 4 * c.size) × (view_line c.size place ≡ line) × IsOn c.size line cell → StaysOn line c d
     → IsByClue v (May look d) place cell value
@@ -172,7 +176,7 @@ towers_looks : (v : TowersValue) (look : Look) (place cell value line : ℕ) (c 
 towers_looks v look place cell value line c d size along stays h =
     clue_was v look place cell value c d size along.0 (subst (λ (l : ℕ). StaysOn l c d) (sym along.1) stays) h
 
--- what a clue strikes that looks along a line it struck before, where all stayed along it
+-- a pair that a clue along a line strikes was struck by it before, if all stayed along the line
 pub towers_look : (v : TowersValue) (c d : CandidatesValue) (reason : Reason) (cell value line : ℕ) → c.size ≡ v.size
     → line < 2 * c.size
     → LooksAlong c.size line reason cell → StaysOn line c d → IsTowersOwn v d reason cell value
@@ -199,7 +203,7 @@ towers_stand v c (Stand place) cell value h = towers_stands v (Standing c) place
 towers_stand v c (Clue place) cell value h = towers_stands v (IsLeft c) place cell value h
 towers_stand v c reason cell value h = absurd h
 
--- what is left may stand
+-- a value that is left of a square may stand there
 left_stands : (c : CandidatesValue) (cell value : ℕ) → IsLeft c cell value → Standing c cell value
 left_stands c cell value left = λ alone none. none value left
 
@@ -208,16 +212,17 @@ easy_own : (v : TowersValue) (line : ℕ) (c : CandidatesValue) → AreViewsQuie
     → IsQuietAlong (IsTowersOwn v) Easy line c
 easy_own v line c quiet reason cell value has along pair h = grind (arith, nat_tests, clue_less)
 
+-- where clues strike nothing along a line by what stands in it, no reason along it strikes by Easy
 pub easy_along : (v : TowersValue) (line : ℕ) (c : CandidatesValue) → AreViewsQuiet v Stands line c
     → IsQuietAlong (IsTowersStruckBy v) Easy line c
 easy_along v line c quiet = quiet_own (towers_puzzle v) (IsTowersOwn v) Easy line c (easy_own v line c quiet)
 
--- and by Hard, where they strike nothing by its pencil marks
+-- where clues strike nothing along a line by all that is left in it, they strike nothing by Hard
 hard_own : (v : TowersValue) (line : ℕ) (c : CandidatesValue) → AreViewsQuiet v Marks line c
     → IsQuietAlong (IsTowersOwn v) Hard line c
 hard_own v line c quiet reason cell value has along pair h = grind (arith, nat_tests, clue_less, left_stands)
 
--- so none of theirs along the line does
+-- where clues strike nothing along a line by all that is left in it, no reason along it strikes by Hard
 pub hard_along : (v : TowersValue) (line : ℕ) (c : CandidatesValue) → AreViewsQuiet v Marks line c
     → IsQuietAlong (IsTowersStruckBy v) Hard line c
 hard_along v line c quiet = quiet_own (towers_puzzle v) (IsTowersOwn v) Hard line c (hard_own v line c quiet)

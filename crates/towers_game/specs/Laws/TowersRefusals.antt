@@ -1,10 +1,8 @@
 -- No reading of a description of Towers is refused for memory.
-use Rattle.std.proofs.Common.{arith}
+use Rattle.std.proofs.Common.{arith, ℕ, List, Option, Some, None}
 use Rattle.std.proofs.lemmas.Bool.Decides.{nat_tests}
-use Rattle.std.proofs.Common.{ℕ, List, Option, Some, None}
 use Rattle.game_texts.specs.IdFaults.{NotForMemory}
-use Rattle.towers_game.specs.TowersText.{clues_at}
-use Rattle.towers_game.specs.TowersText.{givens_at, givens_behind, towers_at}
+use Rattle.towers_game.specs.TowersText.{clues_at, givens_at, givens_behind, towers_at}
 use Rattle.game_texts.specs.Laws.NotForMemory.{not_for_memory-then, not_for_memory-if, exactly_not_for_memory}
 
 clues_not_for_memory : (w : ℕ) (part : List ℕ) → NotForMemory (clues_at w part)
@@ -19,6 +17,7 @@ behind_not_for_memory : (w : ℕ) (part : Option (List ℕ)) → NotForMemory (g
 behind_not_for_memory w None = tt
 behind_not_for_memory w (Some part) = givens_not_for_memory w part
 
+-- no reading of a whole description is refused for memory
 pub towers_not_for_memory : (w : ℕ) (text : List ℕ) → NotForMemory (towers_at w text)
 unfolding towers_at
 towers_not_for_memory w text =

@@ -1,4 +1,4 @@
--- Equality of Towers puzzles as a test that computes, and that it decides it.
+-- A test that computes whether two Towers puzzles are equal, and that its answer is right.
 use Rattle.std.specs.Prelude.{◌≡◌, Bool, ◌==◌, ◌&&◌}
 use Rattle.std.specs.Bool.{Decides}
 use Rattle.std.specs.Cmp.Lexicographic.{pointwise, bytes_decides}
@@ -10,6 +10,7 @@ use Rattle.towers_game.specs.Towers.{TowersValue}
 abbrev pub same_towers : TowersValue → TowersValue → Bool
 same_towers p q = p.size == q.size && pointwise ◌==◌ p.clues q.clues && pointwise ◌==◌ p.givens q.givens
 
+-- the test tells whether two puzzles are equal
 pub same_towers_decides : (p q : TowersValue) → Decides (same_towers p q) (p ≡ q)
 same_towers_decides p q =
     Decides-like (same_towers p q) (λ h i. record { size = h.0.0 i; clues = h.0.1 i; givens = h.1 i })

@@ -1,5 +1,5 @@
--- The laws of Towers descriptions: what is read describes the puzzle, what describes it is read, and what is written
--- does.
+-- The laws of Towers descriptions: a text that is read describes the puzzle, one that describes it is read,
+-- and the one that is written describes it.
 use Rattle.std.proofs.lemmas.Bool.Decides.{nat_tests}
 use Rattle.std.proofs.Common.{◌≡◌, ℕ, ◌*◌, ◌≤◌, true, false, ◌==◌, ◌||◌, not, List, [], ◌∷◌, ◌++◌, length, replicate}
 use Rattle.std.proofs.Common.{Option, Some, None, Result, Ok, inl, inr, refl, sym, ap, ◌∙◌, subst, arith, append-nil}
@@ -14,8 +14,7 @@ use Rattle.byte_text.proofs.ReadingLaws.{bind_taken, bind_again}
 use Rattle.byte_text.specs.Bytes.{comma}
 use Rattle.game_texts.specs.declared.id_fault.IdFault.{IdFault}
 use Rattle.towers_game.specs.Towers.{TowersValue, IsTowers}
-use Rattle.towers_game.specs.TowersText.{clue_part, IsTowersText, square_part, towers_text, clues_at}
-use Rattle.towers_game.specs.TowersText.{givens_behind, towers_at, SaysSquares}
+use Rattle.towers_game.specs.TowersText.{clue_part, IsTowersText, square_part, towers_text, clues_at, givens_behind, towers_at, SaysSquares}
 use Rattle.towers_game.specs.Laws.CluePart.{clue_part_lacks_comma, clues_taken, clues_again}
 use Rattle.towers_game.specs.Laws.SquarePart.{givens_taken, givens_again, squares_within, zeros_within}
 use Rattle.towers_game.specs.Laws.SquaresWritten.{squares_written_text}
@@ -28,9 +27,11 @@ made w clues givens = Ok (record { size = w; clues = clues; givens = givens })
 abbrev AllUpTo : ℕ → List ℕ → Type 0
 AllUpTo w ns = AllByRecursion (λ n. n ≤ w) ns
 
+-- blank squares are at most the width
 zeros_up_to : (w n : ℕ) → AllUpTo w (replicate n 0)
 zeros_up_to w n = subst (AllUpTo w) (append-nil (replicate n 0)) (zeros_within w n [] tt)
 
+-- givens that are read from a description are in range, and the text says them after its first comma
 givens_behind_taken : (w : ℕ) (text givens : List ℕ) (rest : Option (List ℕ)) → w ≤ 9 → behind comma text ≡ rest
     → givens_behind w rest ≡ Ok givens
     → (length givens ≡ w * w) × AllUpTo w givens × SaysSquares w text (before comma text) givens
@@ -42,6 +43,7 @@ givens_behind_taken w text givens (Some part) small cut read =
     let taken = givens_taken w part givens small read in
     (taken.0, squares_within w part givens taken.1, inr (part, cut_parts comma text part cut, taken.1))
 
+-- a description that is read describes the puzzle that is read, which is one of Towers of that width
 pub towers_taken : (w : ℕ) (text : List ℕ) (p : TowersValue) → 3 ≤ w → w ≤ 9 → towers_at w text ≡ Ok p
     → IsTowersText p text × IsTowers p × (p.size ≡ w)
 unfolding towers_at
@@ -68,13 +70,14 @@ towers_taken w text p small large read =
     subst (λ v. IsTowersText v text × IsTowers v × (v.size ≡ w)) is
     (record { puzzle = puzzle; parts = parts }, puzzle, refl)
 
--- where the description is cut, its clues and its givens are read
+-- a description that is cut at its comma has its clues before it, and its givens are read behind it
 cut_again : (w : ℕ) (text : List ℕ) (clues givens : List ℕ) → w ≤ 9 → length givens ≡ w * w
     → SaysSquares w text (clue_part clues) givens
     → (before comma text ≡ clue_part clues) × (givens_behind w (behind comma text) ≡ Ok givens)
 cut_again w text clues givens small count parts =
     grind (arith, nat_tests, clue_part_lacks_comma, behind_none_in, before_all, behind_at, before_at, givens_again)
 
+-- a description of a puzzle is read as that puzzle
 pub towers_again : (text : List ℕ) (p : TowersValue) → IsTowersText p text → towers_at p.size text ≡ Ok p
 unfolding towers_at
 towers_again text p h =
@@ -98,6 +101,7 @@ none_given (n ∷ ns) =
       | false ↦ λ given none. cc
     ] refl
 
+-- a text and the written squares of some givens after it say these givens
 written_parts : (w : ℕ) (front givens : List ℕ) → length givens ≡ w * w → AllUpTo w givens
     → SaysSquares w (front ++ square_part givens) front givens
 written_parts w front givens count within = grind (arith, nat_tests, squares_written_text, append-nil, none_given)

@@ -1,17 +1,16 @@
 -- The laws of what Towers items say: it shows which items there are, and it is all that a puzzle is.
 use Rattle.std.proofs.lemmas.Bool.Decides.{nat_tests}
-use Rattle.std.proofs.Common.{◌≡◌, ℕ, ◌+◌, ◌-◌, ◌*◌, ◌<◌, ◌≤◌, nat_lt, refl, sym, ◌∙◌, ap, arith}
-use Rattle.std.proofs.Common.{slice_index, Some}
+use Rattle.std.proofs.Common.{◌≡◌, ℕ, ◌+◌, ◌-◌, ◌*◌, ◌<◌, ◌≤◌, nat_lt, refl, sym, ◌∙◌, ap, arith, slice_index, Some}
 use Rattle.std.proofs.lemmas.Bool.{lt-ltb, le-ltb}
 use Rattle.std.proofs.lemmas.List.{get_or-replicate, ext_get_or}
 use Rattle.latin_board.proofs.Numbers.{number_within}
-use Rattle.towers_game.specs.Towers.{TowersValue, IsTowers, clue_of, towers_items, has_towers}
-use Rattle.towers_game.specs.Towers.{towers_says, towers_most, blank_towers}
+use Rattle.towers_game.specs.Towers.{TowersValue, IsTowers, clue_of, towers_items, has_towers, towers_says, towers_most, blank_towers}
 
--- what a clue says, and what a given says
+-- one of the first items says the clue at its place, and a later one the given of its square
 says_clue : (v : TowersValue) (i : ℕ) → i < 4 * v.size → towers_says v i ≡ clue_of v i
 says_clue v i inside = rw (lt-ltb i (4 * v.size) inside) refl
 
+-- a later item says the given of its square
 says_given : (v : TowersValue) (i : ℕ) → 4 * v.size ≤ i → towers_says v i ≡ slice_index v.givens (i - 4 * v.size)
 says_given v i past = rw (le-ltb i (4 * v.size) past) refl
 
@@ -46,16 +45,17 @@ value_all p q p_valid q_valid size same =
         sym (at p k) ∙ same (4 * p.size + k) (omega (arith, low))
         ∙ ap (λ n. towers_says q (4 * n + k)) size ∙ at q k
 
--- the blank puzzle says nothing
+-- no item of the blank puzzle says anything
 blank_says : (w i : ℕ) → i < towers_items w → towers_says (blank_towers w) i ≡ 0
 blank_says w i inside = grind (arith, nat_tests, says_clue, get_or-replicate, says_given)
 
+-- no item of a puzzle that is blank says anything
 pub blank_none : (v : TowersValue) (w : ℕ) → v ≡ blank_towers w → (i : ℕ) → i < towers_items w → towers_says v i ≡ 0
 blank_none v w is i inside = ap (λ (u : TowersValue). towers_says u i) is ∙ blank_says w i inside
 
 -- ---- places
 
--- a given says itself
+-- the item of a square says the square's given
 pub given_says : (v : TowersValue) (cell : ℕ) → towers_says v (4 * v.size + cell) ≡ slice_index v.givens cell
 given_says v cell = says_given v (4 * v.size + cell) (omega arith) ∙ ap (λ n. slice_index v.givens n) (omega arith)
 

@@ -15,6 +15,7 @@ use Rattle.line_steps.specs.Views.{line_from, view_cell, view_line, front_place}
 abbrev pub numbers_from : GridValue → ℕ → ℕ → List ℕ
 numbers_from g place n = map (λ k. number_at g (view_cell g.size place k)) (range_with_len 0 n)
 
+-- a line that is read backwards has the numbers of its squares from the last one on
 back_along : (g : GridValue) (line : ℕ)
     → reverse (line_of g line) ≡ map (λ k. number_at g (line_cell g.size line (g.size - 1 - k))) (range_with_len 0 g.size)
 back_along g line =
@@ -30,7 +31,7 @@ back_along g line =
     ∙ get_or-line_of g line (g.size - 1 - k) (omega arith)
     ∙ sym (get_or-map-range_with_len back 0 g.size k k 0 within (omega arith)))
 
--- what is seen from a place is the numbers in its squares
+-- the line from a place is the numbers in the squares from there, in turn
 pub line_from-numbers : (g : GridValue) (place : ℕ) → place < 4 * g.size → line_from g place ≡ numbers_from g place g.size
 line_from-numbers g place inside =
     let w = g.size in
@@ -52,11 +53,11 @@ line_from-numbers g place inside =
       ]
     ]
 
--- an entry of what is seen from a place is the number in that square
+-- the k-th entry of the line from a place is the number in the k-th square from there
 pub view_number : (g : GridValue) (place k : ℕ) → place < 4 * g.size → k < g.size
     → slice_index (line_from g place) k ≡ number_at g (view_cell g.size place k)
 view_number g place k inside low = grind (arith, nat_tests, line_from-numbers, get_or-map-range_with_len)
 
--- the line of the place before its first square
+-- the place before a line's first square looks along that line
 pub front_line : (w line : ℕ) → line < 2 * w → view_line w (front_place w line) ≡ line
 front_line w line inside = grind (arith, nat_tests)

@@ -21,7 +21,7 @@ pub enum Look {
     Alone,
     /// The numbers that stand in the line.
     Stands,
-    /// All pencil marks.
+    /// All that is left of its squares.
     Marks,
 }
 

@@ -6,8 +6,7 @@
 
 ghost use Rattle.byte_text.specs.Bytes.{slash};
 ghost use Rattle.std.specs.Prelude.{◌≡◌, ◌+◌, ◌*◌, ◌<◌, ◌≤◌, ◌==◌, ◌++◌, ◌&&◌, not, false, count_by, true, take};
-ghost use Rattle.std.specs.Prelude.{length, if◌then◌else◌, Some, None, Result, Ok, Err, IfOk, IfErr, OnOk, IfSome};
-ghost use Rattle.std.specs.Prelude.{IfNone, All};
+ghost use Rattle.std.specs.Prelude.{length, if◌then◌else◌, Some, None, Result, Ok, Err, IfOk, IfErr, OnOk, IfSome, IfNone, All};
 ghost use Rattle.std.specs.List.{flat_map, list_any};
 ghost use Rattle.byte_text.specs.Reading.{Gives};
 ghost use Rattle.game_texts.specs.IdFaults.{exactly};

@@ -16,7 +16,7 @@ use line_steps::{LinePass, front_place, strike_row};
 use number_sets::NumberSet;
 use trail_solver::Candidates;
 
-/// With all that is left in each line.
+/// Of a search: each clue is looked at with all that is left in its line.
 impl LinePass for Towers {
     ghost use Rattle.towers_game.specs.TowersReasons.{IsTowersOwn};
     ghost use Rattle.towers_game.specs.Laws.TowersReasons as reasons;

@@ -11,10 +11,10 @@ use number_sets::NumberSet;
 use std::marker::Model;
 use tower_lines::supported;
 
-// More of them keep more; but a slot has 38 bytes, and a hint has them on the stack.
+// More slots keep more rows; but a slot has 38 bytes, and a hint has them on the stack.
 const SLOTS: usize = 256;
 
-// A row has its place in one bucket, in any of so many slots.
+// A row has its place in one bucket, which has so many slots.
 const WAYS: usize = 4;
 
 const BUCKETS: usize = SLOTS / WAYS;
@@ -138,7 +138,7 @@ impl RowCache {
         );
     }
 
-    // The row is the one that is known in the slot.
+    // The slot knows this row from now on, and no longer the one before.
     #[tactic(auto, using(crate::proofs::RowsNoted::one_known))]
     fn note_in(
         &mut self,
@@ -158,7 +158,7 @@ impl RowCache {
     }
 }
 
-// Where a row is known: a number that is another one for most other rows.
+// The bucket in which a row is looked for and noted: most other rows have another one.
 fn bucket_of(sets: &[NumberSet; 9], clue: u8) -> usize
     ensures { result < BUCKETS }
 {

@@ -5,7 +5,7 @@ use Rattle.trail_solver.specs.declared.answer.Answer.{Answer}
 use Rattle.trail_solver.specs.declared.answer.Answer.TheVariants.{None, One, Several}
 use Rattle.trail_solver.specs.Answers.{Fits}
 
--- the answer, where these solutions join those that were found before
+-- what was found becomes this answer as these solutions join it; two that differ are enough
 abbrev pub Adds : (GridValue → Type 0) → Answer → Answer → Type 0
 Adds Solution None answer = Fits Solution answer
 Adds Solution (One g) None = ⊥

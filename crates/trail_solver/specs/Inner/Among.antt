@@ -8,10 +8,10 @@ use Rattle.trail_solver.specs.Puzzles.{Puzzle, Solves}
 abbrev pub IsAmong : Puzzle → CandidatesValue → GridValue → Type 0
 IsAmong p c g = Solves p g × IsWithin c g
 
--- one with the value in the cell
+-- a solution among the candidates that has the value in the cell
 abbrev pub IsAmongAt : Puzzle → CandidatesValue → ℕ → ℕ → GridValue → Type 0
 IsAmongAt p c cell value g = Solves p g × (IsWithin c g × (number_at g cell ≡ value))
 
--- one with a smaller value in the cell
+-- a solution among the candidates that has a smaller value in the cell
 abbrev pub IsAmongBelow : Puzzle → CandidatesValue → ℕ → ℕ → GridValue → Type 0
 IsAmongBelow p c cell value g = Solves p g × (IsWithin c g × (number_at g cell < value))

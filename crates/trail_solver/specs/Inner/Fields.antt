@@ -43,13 +43,13 @@ pub record FlipsSet (old new : List ℕ) (cell set : ℕ) : Type 0 where
       ≡ (if (c == cell) && has_number set v then not (has_number (slice_index old c) v)
       else has_number (slice_index old c) v)
 
--- some numbers of a set, and all that are greater than one of them
+-- the part has the greatest numbers of the set, at least one if the set has any
 pub record IsUpperPart (set part : ℕ) : Type 0 where
   pub within : IsSubset part set
   pub upper : (u v : ℕ) → has_number set u ≡ true → has_number part u ≡ false → has_number part v ≡ true → u < v
   pub some : IsEmpty part → IsEmpty set
 
--- new is a shorter front of old, and has what is to be kept
+-- the new trail is a shorter front of the old one, and still has the first `kept` pairs
 pub record GivesBack (kept : ℕ) (old new : List (ℕ × ℕ)) : Type 0 where
   pub stays : kept ≤ length new
   pub less : length new < length old

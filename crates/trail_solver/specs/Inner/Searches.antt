@@ -11,12 +11,12 @@ pub record SearchValue (P : Type 0) : Type 0 where
   pub rules : P
   pub candidates : CandidatesValue
 
--- later is earlier with more pairs gone
+-- the later search has the same rules, and its candidates are later ones
 pub record IsFurther {P : Type 0} (earlier later : SearchValue P) : Type 0 where
   pub rules : later.rules ≡ earlier.rules
   pub less : IsEarlier earlier.candidates later.candidates
 
--- the same grids
+-- A and B hold of the same grids
 abbrev pub AreSame : (GridValue → Type 0) → (GridValue → Type 0) → Type 0
 AreSame A B = (g : GridValue) → A g ↔ B g
 

@@ -43,7 +43,7 @@ pub record IsFilled (c : CandidatesValue) (g : GridValue) : Type 0 where
   pub same_size : g.size ≡ c.size
   pub each : (cell : ℕ) → cell < c.size * c.size → IsOnly c cell (number_at g cell)
 
--- new is old with all other values gone from the cell
+-- the new candidates are the old ones after all other values went from the cell
 pub record KeepsOnly (old new : CandidatesValue) (cell value : ℕ) : Type 0 where
   pub less : IsEarlier old new
   pub others : (v : ℕ) → IsPair old.size cell v → v ≢ value → may_be new cell v ≡ false

@@ -12,8 +12,8 @@ const LINES: usize = 18;
 /// After so many failures a search looks closer.
 const MANY: u32 = 8;
 
-/// After so many it is stuck: only then it goes by the last failed guess and by failures of squares, which cost easy puzzles more
-/// than they save.
+/// After so many it is stuck: only then does it go by the last failed guess and by failures of squares, which
+/// cost easy puzzles more than they save.
 const STUCK: u32 = 50;
 
 /// The two sides of a branch.
@@ -77,7 +77,7 @@ impl Failures {
         }
     }
 
-    /// Of a search that failed so often that it should look closer: how long the trail was when it did last. Now it is so long.
+    /// If it failed so often as to look closer: how long the trail was when it last did. Now it is so long.
     pub fn look_closer(&mut self, length: usize) -> Option<usize> {
         if self.total < MANY {
             return None;

@@ -15,7 +15,7 @@ pub(crate) struct Losses {
 }
 
 impl Losses {
-    /// Those of what the candidates lost since their trail was so long.
+    /// The rows, columns and values of the pairs that went since the trail was so long.
     pub fn since(candidates: &Candidates, length: usize) -> Losses {
         let size = candidates.size();
         let mut losses = Losses {

@@ -15,8 +15,8 @@ struct Matching {
     taken: NumberSet,
 }
 
-/// The sets of lefts that are worth to be looked at, each once, and empty sets for the rest: for the first lefts the sets of those
-/// that their rights lead to; one set has too few rights if the matching can't be completed, and then it is that set alone.
+/// Sets of lefts that are worth looking at, each once, and empty sets in the other places: one alone with too
+/// few rights if the matching can't be completed, and otherwise for each left those that its rights lead to.
 pub(crate) fn crowds(sides: &Sides, count: u8) -> Sides {
     let mut matching = Matching {
         owners: [0; SIDES],
@@ -41,12 +41,13 @@ impl Matching {
         self.search(sides, left)
     }
 
+    // Makes the left the owner of the right.
     fn give(&mut self, right: u8, left: u8) {
         self.owners[(right % 16) as usize] = left;
         self.taken = self.taken.union(NumberSet::one(right % 16));
     }
 
-    // The same by an augmenting path, breadth first.
+    // Gives a left a right by an augmenting path, breadth first, or tells which lefts it reaches instead.
     fn search(&mut self, sides: &Sides, left: u8) -> Option<NumberSet> {
         let mut reached = NumberSet::one(left % 16);
         let mut waiting = reached;
@@ -120,6 +121,7 @@ impl Matching {
     }
 }
 
+// The parents, with this one for each of the lefts.
 fn with_parent(parents: [u8; SIDES], lefts: NumberSet, parent: u8) -> [u8; SIDES] {
     let mut parents = parents;
     for left in 0..16 {
@@ -139,6 +141,7 @@ fn closed(next: Sides, count: u8) -> Sides {
     reach
 }
 
+// For each left that reaches `through`, also all that `through` reaches.
 fn closed_through(reach: Sides, through: u8) -> Sides {
     let more = reach[(through % 16) as usize];
     let mut all = reach;
@@ -150,14 +153,14 @@ fn closed_through(reach: Sides, through: u8) -> Sides {
     all
 }
 
-// One set, and no other.
+// One set in the first place, and empty sets in the others.
 fn alone(set: NumberSet) -> Sides {
     let mut sets = [NumberSet::empty(); SIDES];
     sets[0] = set;
     sets
 }
 
-// The sets that say more than rows and columns do, each once: neither one left, nor all of them.
+// The sets that can say something new, each once: neither of one left alone, nor of all of them.
 fn worthy(reach: Sides, count: u8) -> Sides {
     let all = NumberSet::up_to(count.min(14)).lowered();
     let mut sets = reach;

@@ -12,10 +12,10 @@ use crate::guessing::place_counts::PlaceCounts;
 use latin_board::line_cell;
 use number_sets::NumberSet;
 
-/// What a square or a value weighs in whose lines nothing failed: a few failures don't make much of it.
+/// What a square or a value weighs if nothing failed in its lines: so the first few failures change little.
 const WEIGHT: u32 = 4;
 
-/// How much more than a line's failure that of the square itself weighs.
+/// How many times as much as a failure in a line one in the square itself weighs.
 const SQUARE_WEIGHT: u32 = 8;
 
 /// A square, the value to try there first, and how good it is to branch there: in how many ways it goes on, and how much
@@ -68,7 +68,7 @@ fn best_by_weight(candidates: &Candidates, failures: &Failures) -> Option<Propos
     best
 }
 
-// The best, or the first square of a row that is better.
+// The best so far, or the best square of a row if that is better.
 fn best_square(
     candidates: &Candidates,
     failures: &Failures,
@@ -104,7 +104,7 @@ fn greatest(set: NumberSet) -> u8 {
     set.greatest().unwrap_or(0)
 }
 
-// The best, or the value of a line with the fewest places, where that is better.
+// The best so far, or the value of a line with the fewest places if that is better.
 fn best_value(
     candidates: &Candidates,
     failures: &Failures,

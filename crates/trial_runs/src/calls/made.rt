@@ -19,7 +19,7 @@ pub(crate) enum Made<P: Draw> {
 }
 
 impl<P: Draw> Made<P> {
-    /// It as text: a session as its save.
+    /// What the call made, as text: a session as its save.
     pub(crate) fn text(self, alloc: Global) -> Result<Vec<u8>, LoadFault> {
         match self {
             Made::Nothing => Ok(Vec::new(alloc)),

@@ -35,7 +35,7 @@ fn have_equal_moves<P: Draw>(one: &Session<P>, other: &Session<P>) -> bool {
     true
 }
 
-// Whether they show equal boards on the way back to the start.
+// Whether two sessions show equal boards on the way back to the start.
 fn go_back_alike<P: Draw>(one: &mut Session<P>, other: &mut Session<P>) -> bool {
     for _ in 1..one.position() {
         if one.undo().is_err() || other.undo().is_err() || !show_the_same(one, other) {
@@ -45,7 +45,7 @@ fn go_back_alike<P: Draw>(one: &mut Session<P>, other: &mut Session<P>) -> bool 
     true
 }
 
-// Whether they show equal boards on the way to the last state.
+// Whether two sessions show equal boards on the way to the last state.
 fn go_on_alike<P: Draw>(one: &mut Session<P>, other: &mut Session<P>) -> bool {
     for _ in one.position()..one.states() {
         if one.redo().is_err() || other.redo().is_err() || !show_the_same(one, other) {

@@ -74,28 +74,28 @@ fn status_and_save<P: Game>(alloc: Global, session: &Session<P>) -> Result<Vec<u
 
 /// What is kept of answers: how many there were, a digest of them in order, and by its number each one's name and how often it came.
 #[derive(Drop)]
-pub(crate) struct Block {
+pub(crate) struct Tally {
     pub(crate) texts: u64,
     digest: Digest,
     pub(crate) counts: [(&'static str, u64); ANSWERS],
 }
 
-impl Block {
-    /// Of no answer.
-    pub(crate) fn new() -> Block {
-        Block {
+impl Tally {
+    /// A tally of no answers.
+    pub(crate) fn new() -> Tally {
+        Tally {
             texts: 0,
             digest: Digest::new(),
             counts: [("", 0); ANSWERS],
         }
     }
 
-    /// The digest of all of them in full.
+    /// The digest of all answers in full.
     pub(crate) fn digest(&self) -> u64 {
         self.digest.0
     }
 
-    /// Takes one more.
+    /// Takes one more answer.
     pub(crate) fn take(&mut self, answer: &Answer) {
         self.texts = self.texts.saturating_add(1);
         self.digest.take(&answer.in_full);

@@ -39,7 +39,7 @@ pub(crate) struct SaveText<'a> {
 }
 
 impl<'a> SaveText<'a> {
-    /// The records are those up to the first place where none can be read.
+    /// The text, with its records up to the first place where none can be read.
     pub(crate) fn new(alloc: Global, text: &'a [u8]) -> Result<SaveText<'a>, AllocError> {
         let mut records = Vec::new(alloc);
         let mut rest = text;
@@ -59,7 +59,7 @@ impl<'a> SaveText<'a> {
 }
 
 impl Damage {
-    /// What is done, in words.
+    /// What the damage does, in words.
     pub(crate) fn name(self) -> &'static str {
         match self {
             Damage::Whole => "the whole text",
@@ -73,7 +73,7 @@ impl Damage {
         }
     }
 
-    /// A text has a number below this.
+    /// Each text that the damage makes has a number below this.
     pub(crate) fn numbers(self, save: &SaveText) -> usize {
         let records = save.records.len();
         match self {
@@ -85,7 +85,7 @@ impl Damage {
         }
     }
 
-    /// The text with a number. Of two numbers that would exchange the same records one has none.
+    /// The text with this number. Of two numbers that would exchange the same records one has none.
     pub(crate) fn text(
         self,
         alloc: Global,
@@ -114,7 +114,7 @@ impl Damage {
     }
 }
 
-// The bytes in front of a place, others, and those from a place on.
+// The bytes in front of a place, some others, and the bytes from another place on.
 fn with_bytes(
     alloc: Global,
     text: &[u8],
@@ -128,7 +128,7 @@ fn with_bytes(
     }
 }
 
-// The records in front of a place, and those from a place on.
+// The records in front of a place, and those from another place on.
 fn with_records(
     alloc: Global,
     records: &[&[u8]],
@@ -145,7 +145,7 @@ fn with_records(
     }
 }
 
-// The first has to stand before the second.
+// The records with two exchanged, of which the first has to stand before the second.
 fn with_exchange(
     alloc: Global,
     records: &[&[u8]],

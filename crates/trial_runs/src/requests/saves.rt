@@ -1,6 +1,6 @@
 //! What is printed of a save: what becomes of it, or of the texts that damage makes of it.
 
-use crate::requests::answers::{Answer, Block};
+use crate::requests::answers::{Answer, Tally};
 use crate::requests::damage::{DAMAGES, Damage, SaveText};
 use clue_rules::Game;
 use play_midend::Session;
@@ -67,19 +67,19 @@ fn print_kind<P: Game>(
     save: &SaveText,
     damage: Damage,
 ) -> io::Result<()> {
-    let mut block = Block::new();
+    let mut tally = Tally::new();
     for number in 0..damage.numbers(save) {
         if let Some(text) = damage.text(rt.alloc(), save, number)? {
-            block.take(&Answer::of::<P>(rt.alloc(), &text)?);
+            tally.take(&Answer::of::<P>(rt.alloc(), &text)?);
         }
     }
     print!(rt;
         "{}; {}; {:016x}",
         damage.name(),
-        block.texts,
-        block.digest()
+        tally.texts,
+        tally.digest()
     )?;
-    for (name, texts) in block.counts.iter() {
+    for (name, texts) in tally.counts.iter() {
         if *texts > 0 {
             print!(rt; "; {name} {texts}")?;
         }

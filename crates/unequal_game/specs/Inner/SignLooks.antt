@@ -13,7 +13,7 @@ IsSignQuiet v a b c =
     → (IsBySign v c a b cell value → may_be c cell value ≡ false)
     × (IsBySign v c b a cell value → may_be c cell value ≡ false)
 
--- no sign along the line does
+-- no sign between a square of the line and the next strikes anything more at either end
 abbrev pub AreSignsQuiet : UnequalValue → ℕ → CandidatesValue → Type 0
 AreSignsQuiet v line c =
     (k : ℕ) → k + 1 < c.size → IsSignQuiet v (line_cell c.size line k) (line_cell c.size line (k + 1)) c

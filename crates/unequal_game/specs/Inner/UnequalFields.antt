@@ -15,13 +15,13 @@ pub record KeepsSigns (w : ℕ) (d : Direction) (places : List Sign) : Type 0 wh
   pub padded : IsFilledTo Absent CELLS (w * w) places
   pub ends : (cell : ℕ) → neighbour w cell d ≡ None → slice_index_or (take (w * w) places) cell Absent ≡ Absent
 
--- signs to the right, signs below, and a grid of givens
+-- the fields of a puzzle: signs to the right, signs below, and a grid of givens
 pub record KeepsUnequal (right below : List Sign) (givens : GridValue) : Type 0 where
   pub right_kept : KeepsSigns givens.size Right right
   pub below_kept : KeepsSigns givens.size Down below
   pub grid : IsGrid givens
 
--- the puzzle that they stand for
+-- the puzzle that these fields stand for
 abbrev pub unequal_value : List Sign → List Sign → GridValue → UnequalValue
 unequal_value right below givens = record {
   size = givens.size;

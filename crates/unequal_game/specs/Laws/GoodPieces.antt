@@ -18,8 +18,7 @@ use Rattle.unequal_game.specs.UnequalText.{begins_with_number, direction_of, has
 use Rattle.unequal_game.specs.UnequalText.{contradicts, grid_in, puzzle_in, puzzle_at, ArePiecesOf}
 use Rattle.unequal_game.specs.Laws.Pieces.{comma_pieces, join-push, dropped_last, drop-push, pieces-push}
 use Rattle.unequal_game.specs.Laws.Letters.{direction_of-letter, contains_here, contains_there, contains_cases}
-use Rattle.unequal_game.specs.Laws.Letters.{number_in-piece, letters_piece, lacks_comma, read_piece, read_piece_written}
-use Rattle.unequal_game.specs.Laws.Letters.{number_small}
+use Rattle.unequal_game.specs.Laws.Letters.{number_in-piece, letters_piece, lacks_comma, read_piece, read_piece_written, number_small}
 use Rattle.game_texts.specs.Laws.Refusals.{refused_then}
 use Rattle.unequal_game.specs.Laws.Signs.{signed_valid}
 
@@ -39,7 +38,7 @@ good_taken w pieces v h = grind (arith, nat_tests, refused_then)
 pub good_again : (w : ℕ) (pieces : List (List ℕ)) → AreGood w pieces → puzzle_at w pieces ≡ Ok (puzzle_in w pieces)
 good_again w pieces h = rw (h.numbers, h.letters, h.inside, h.agree) refl
 
--- the pieces that were read, written again
+-- pieces that are read and written again are the same bytes
 pub read_pieces : (w : ℕ) (bytes : List (List ℕ)) → list_all (begins_with_number w) bytes ≡ true
     → list_all has_letters bytes ≡ true
     → map piece_text (map (read_piece w) bytes) ≡ bytes
@@ -67,7 +66,7 @@ read_valid w bytes small large count = signed_valid w (sign_said w bytes) (grid_
   within = All-from_recursion (λ n. n ≤ w) _ (numbers_within w bytes);
 })
 
--- the letters of the pieces point to squares of the grid
+-- the letters of a square point to squares of the grid exactly if its directions do
 pub letters_inside : (w cell : ℕ) (ds : List Direction) (d : Direction)
     → list_all (is_inside w cell) (map letter_of ds) ≡ true
     → Contains ds d → IsSome (neighbour w cell d)
@@ -132,7 +131,7 @@ pub pieces_some : (text : List ℕ) (pieces : List Piece) → 0 < length pieces 
 pieces_some text [] some h = absurd (omega arith)
 pieces_some text (p ∷ pieces) some h = pieces_again text p pieces h
 
--- a grid has squares
+-- a grid has at least one square
 pub square_some : (w : ℕ) → 3 ≤ w → 0 < w * w
 square_some w small = grind arith
 

@@ -1,8 +1,7 @@
 -- Letters and numbers as the bytes of a piece: what is read of a piece that was written, and what is written of one
 -- that was read.
 use Rattle.std.proofs.Common.{◌≡◌, ◌≢◌, ℕ, zero, suc, ◌+◌, ◌<◌, ◌≤◌, ◌⊎◌, Bool, true, false}
-use Rattle.std.proofs.Common.{List, [], ◌∷◌, length, drop, map, Option, Some, None, is_some, unwrap_or, refl, sym, ap}
-use Rattle.std.proofs.Common.{◌∙◌, inl, inr, arith, ◌==◌}
+use Rattle.std.proofs.Common.{List, [], ◌∷◌, length, drop, map, Option, Some, None, is_some, unwrap_or, refl, sym, ap, ◌∙◌, inl, inr, arith, ◌==◌}
 use Rattle.std.specs.List.{list_all, list_any, filter, filter_map, Contains}
 use Rattle.std.proofs.lemmas.Bool.{eq-eqb, false≢true, and_parts, cond_both, or_cases, or_right}
 use Rattle.std.proofs.lemmas.Bool.Decides.{nat_tests}
@@ -80,7 +79,7 @@ among_letters (x ∷ ds) d e =
 
 -- the pieces as texts
 
--- what is written after the number of a square is the letters of its directions
+-- after the number of a square's piece stand the letters of its directions
 pub letters_at : (pieces : List Piece) (cell : ℕ)
     → drop 1 (piece_at (map piece_text pieces) cell) ≡ map letter_of (directions_at pieces cell)
 letters_at [] cell = refl
@@ -131,7 +130,7 @@ lacks_comma p = ((λ e. omega arith), each p.greater)
     each [] = tt
     each (d ∷ ds) = (letter_no_comma d, each ds)
 
--- what is read of a piece
+-- the piece that is read from bytes: the number with which they begin, and the directions of the letters
 abbrev pub read_piece : ℕ → List ℕ → Piece
 read_piece w bytes = record {
   number = unwrap_or (number_in w bytes) 0;

@@ -33,7 +33,7 @@ below_of w a b e = grind (arith, nat_tests, cond_some)
 pub next_order : (w a b : ℕ) → 3 ≤ w → IsNext w a b → a < b
 next_order w a b small h = grind (arith, nat_tests)
 
--- the neighbour of a square is next to it, or it next to the neighbour
+-- of a square and a neighbour, one is the other's right or lower neighbour
 pub towards : (w a b : ℕ) (d : Direction) → 3 ≤ w → a < w * w → neighbour w a d ≡ Some b → IsNext w a b ⊎ IsNext w b a
 towards w a b Right small inside e = inl (record { inside = inside; points = inl e })
 towards w a b Down small inside e = inl (record { inside = inside; points = inr e })
@@ -96,6 +96,6 @@ next_line w a b small h =
 pub next_inside : (w a b : ℕ) → 3 ≤ w → IsNext w a b → b < w * w
 next_inside w a b small h = grind (arith, nat_tests, next_line, line_cell_inside)
 
--- the directions of two that are next to each other
+-- a square and its right or lower neighbour are neighbours, each of the other
 pub next_towards : (w a b : ℕ) → 3 ≤ w → IsNext w a b → AreNeighbours w a b × AreNeighbours w b a
 next_towards w a b small h = grind (arith, nat_tests, right_of, mod_below, mod-mul-add, next_inside, below_of)

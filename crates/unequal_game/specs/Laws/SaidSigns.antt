@@ -1,8 +1,7 @@
 -- What the letters of pieces say of which of two squares is the greater, and that no two squares contradict each other
 -- where no two neighbours do.
 use Rattle.std.proofs.lemmas.Bool.Decides.{nat_tests}
-use Rattle.std.proofs.Common.{◌≡◌, ℕ, ◌*◌, ◌<◌, ◌≤◌, true, false, ◌&&◌, List, map, Option, Some, None, refl, sym}
-use Rattle.std.proofs.Common.{◌∙◌, inl, inr, arith, ◌==◌}
+use Rattle.std.proofs.Common.{◌≡◌, ℕ, ◌*◌, ◌<◌, ◌≤◌, true, false, ◌&&◌, List, map, Option, Some, None, refl, sym, ◌∙◌, inl, inr, arith, ◌==◌}
 use Rattle.std.specs.Option.{option_map_or}
 use Rattle.std.specs.List.{list_any, range_with_len, Contains}
 use Rattle.std.proofs.lemmas.Bool.{false≢true, false_from_ne_true, and_parts}
@@ -16,7 +15,7 @@ use Rattle.unequal_game.specs.Laws.RangeTests.{range_some, none_in_range, range_
 use Rattle.unequal_game.specs.Laws.Neighbours.{IsNext, towards, next_inside}
 use Rattle.unequal_game.specs.Laws.Letters.{says_contains, contains_says}
 
--- each direction is one of all
+-- the list of all directions has each direction
 pub all_has : (d : Direction) → Contains directions d
 all_has Up = (0, omega arith, refl)
 all_has Right = (1, omega arith, refl)
@@ -26,7 +25,7 @@ all_has Left = (3, omega arith, refl)
 points_to : (o : Option ℕ) (b : ℕ) → option_map_or (λ c. c == b) o false ≡ true → o ≡ Some b
 points_to o b e = grind (arith, nat_tests)
 
--- the letter by which a square is said to be greater than another
+-- a square is said to be greater than another by a letter in the direction of that one
 said_by : (w : ℕ) (pieces : List (List ℕ)) (a b : ℕ) → says_greater w pieces a b ≡ true
     → (d : Direction) × (says pieces a d ≡ true) × (neighbour w a d ≡ Some b)
 said_by w pieces a b e =
@@ -96,7 +95,7 @@ neighbours_agree w pieces small right below = never_contradict w pieces (λ a b 
             let both : contradicts_towards w pieces d a ≡ true = rw (points, first, second) refl in
             false≢true (sym agree ∙ both)
 
--- a square that contradicts a neighbour is one of two
+-- if a square and a neighbour contradict each other, some two squares do
 pub squares_contradict : (w : ℕ) (pieces : List (List ℕ)) (cell : ℕ) (d : Direction) → 3 ≤ w → cell < w * w
     → contradicts_towards w pieces d cell ≡ true → contradicts w pieces ≡ true
 unfolding contradicts

@@ -1,7 +1,6 @@
 -- The signs of a puzzle as a grid holds them.
-use Rattle.std.proofs.Common.{arith}
+use Rattle.std.proofs.Common.{arith, ◌≡◌, ◌↔◌, Bool, true, inl, inr}
 use Rattle.std.proofs.lemmas.Bool.Decides.{nat_tests}
-use Rattle.std.proofs.Common.{◌≡◌, ◌↔◌, Bool, true, inl, inr}
 use Rattle.std.specs.Bool.{IsTrue}
 use Rattle.std.proofs.lemmas.Bool.{ltb-true}
 use Rattle.latin_board.specs.Squares.{GridValue, number_at}
@@ -17,7 +16,7 @@ signs_held v g valid h = record {
   ];
 }
 
--- where all signs hold, the test of them answers so
+-- where a grid has the greater number wherever the puzzle says so, the test of the signs is passed
 pub held_signs : (v : UnequalValue) (g : GridValue) → HoldsSigns v g → holds_signs v g ≡ true
 held_signs v g h = grind (arith, nat_tests, each_sign_held)
 

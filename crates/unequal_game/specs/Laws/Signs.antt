@@ -1,8 +1,7 @@
 -- The signs of a puzzle: between which squares they stand, which square they say to be the greater, and those that a
 -- rule gives.
 use Rattle.std.proofs.lemmas.Bool.Decides.{nat_tests}
-use Rattle.std.proofs.Common.{◌≡◌, ◌↔◌, Bool, ℕ, ◌+◌, ◌*◌, ◌<◌, ◌≤◌, ◌⊎◌, true, List, None, refl}
-use Rattle.std.proofs.Common.{sym, ◌∙◌, inl, inr, arith, slice_index_or}
+use Rattle.std.proofs.Common.{◌≡◌, ◌↔◌, Bool, ℕ, ◌+◌, ◌*◌, ◌<◌, ◌≤◌, ◌⊎◌, true, List, None, refl, sym, ◌∙◌, inl, inr, arith, slice_index_or}
 use Rattle.std.specs.Bool.{IsTrue}
 use Rattle.std.proofs.lemmas.Bool.{and_parts, eq-eqb, ne_eqb}
 use Rattle.std.proofs.lemmas.List.{get_or_past}
@@ -13,8 +12,7 @@ use Rattle.unequal_game.specs.declared.unequal.direction.Direction.TheVariants.{
 use Rattle.unequal_game.specs.declared.unequal.sign.Sign.{Sign}
 use Rattle.unequal_game.specs.declared.unequal.sign.Sign.TheVariants.{Absent, FirstGreater, SecondGreater}
 use Rattle.unequal_game.specs.Unequal.{UnequalValue, IsUnequal, IsGreater, neighbour, right_sign, lower_sign}
-use Rattle.unequal_game.specs.Unequal.{sign_between, is_greater, holds_sign, holds_signs}
-use Rattle.unequal_game.specs.Unequal.{holds_towards, sign_towards, signs_towards, signed_puzzle}
+use Rattle.unequal_game.specs.Unequal.{sign_between, is_greater, holds_sign, holds_signs, holds_towards, sign_towards, signs_towards, signed_puzzle}
 use Rattle.unequal_game.specs.Laws.Neighbours.{IsNext, right_of, below_of, next_order}
 use Rattle.unequal_game.specs.Laws.RangeTests.{all_in_range, range_all}
 
@@ -22,11 +20,11 @@ use Rattle.unequal_game.specs.Laws.RangeTests.{all_in_range, range_all}
 abbrev pub IsSaid : Sign → Type 0
 IsSaid s = Absent ≡ s → ⊥
 
--- both signs say something
+-- the sign whose first square is the greater says something
 pub first_said : IsSaid FirstGreater
 first_said e = cc
 
--- the one that points the other way
+-- the sign whose second square is the greater says something
 pub second_said : IsSaid SecondGreater
 second_said e = cc
 
@@ -47,13 +45,13 @@ said_next v a b valid said = grind (arith, nat_tests, right_of, below_of, get_or
 
 -- ---- which square is the greater
 
--- the sign between two squares where the first is the greater, or the second
+-- if a is said to be greater than b, the sign says so that stands between a and b, or between b and a
 pub greater_next : (v : UnequalValue) (a b : ℕ) → IsUnequal v → IsGreater v a b
     → (IsNext v.size a b × (sign_between v a b ≡ FirstGreater))
     ⊎ (IsNext v.size b a × (sign_between v b a ≡ SecondGreater))
 greater_next v a b valid h = grind (arith, nat_tests, said_next, first_said, second_said)
 
--- the sign between a square and the next says which is the greater
+-- where the first of two neighbours is the greater one, the sign says so
 pub greater_first : (v : UnequalValue) (a b : ℕ) → IsUnequal v → IsNext v.size a b → IsGreater v a b
     → sign_between v a b ≡ FirstGreater
 greater_first v a b valid next h = grind (arith, nat_tests, greater_next, next_order)
@@ -76,7 +74,7 @@ greater_tested v a b t value = rw value (greater_decides v a b)
 
 -- ---- the test of the signs
 
--- where it is passed, the numbers of a square and the next are as the sign between them says
+-- where the test is passed, the numbers of a square and the next are as the sign between them says
 pub sign_held : (v : UnequalValue) (g : GridValue) (a b : ℕ) → holds_signs v g ≡ true → IsNext v.size a b
     → holds_sign (sign_between v a b) (number_at g a) (number_at g b) ≡ true
 sign_held v g a b h next =
@@ -84,7 +82,7 @@ sign_held v g a b h next =
     let (on_right, below) = and_parts (holds_towards v g a Right) (holds_towards v g a Down) here in
     elim next.points [ inl right ↦ rw right at on_right | inr lower ↦ rw lower at below ]
 
--- and it is passed where they are for each square and the next
+-- the test is passed if the numbers of each square and the next are as the sign between them says
 pub each_sign_held : (v : UnequalValue) (g : GridValue)
     → ((a b : ℕ) → IsNext v.size a b → holds_sign (sign_between v a b) (number_at g a) (number_at g b) ≡ true)
     → holds_signs v g ≡ true
@@ -108,12 +106,12 @@ pub signed_valid : (w : ℕ) (sign : ℕ → ℕ → Sign) (givens : List ℕ) �
     → IsUnequal (signed_puzzle w sign givens)
 signed_valid w sign givens is_grid = grind (arith, nat_tests, length-map-range_with_len, none_at_end)
 
--- its sign between two neighbours is the one that was given
+-- a puzzle of signs by a rule has between two neighbours the sign that the rule gives
 pub signed_between : (w : ℕ) (sign : ℕ → ℕ → Sign) (givens : List ℕ) (a b : ℕ) → 3 ≤ w → IsNext w a b
     → sign_between (signed_puzzle w sign givens) a b ≡ sign a b
 signed_between w sign givens a b small h = grind (arith, nat_tests, right_of, sign_at, below_of)
 
--- which square is the greater, by the rule
+-- a puzzle of signs by a rule says that a square is the greater exactly if the rule gives the sign for it
 pub signed_greater : (w : ℕ) (sign : ℕ → ℕ → Sign) (givens : List ℕ) (a b : ℕ)
     → IsGrid (record { size = w; numbers = givens })
     → IsGreater (signed_puzzle w sign givens) a b

@@ -66,20 +66,20 @@ pub record IsItem (w : ℕ) (item : Item) : Type 0 where
   pub inside : item_number w item < unequal_items w
   pub back : item_at w (item_number w item) ≡ item
 
--- a sign between a square and its right neighbour
+-- a sign between a square and its right neighbour is an item that a puzzle can have
 pub is_right_item : (w cell : ℕ) → 3 ≤ w → cell < w * w → cell % w + 1 < w → IsItem w (RightSign cell)
 is_right_item w cell small inside room =
     grind (arith, nat_tests, div_below, mul_comm, mul-add-lt, div-mul-add, mod-mul-add)
 
--- a sign between a square and its lower neighbour
+-- a sign between a square and its lower neighbour is an item that a puzzle can have
 pub is_lower_item : (w cell : ℕ) → cell < pairs_across w → IsItem w (LowerSign cell)
 is_lower_item w cell low = grind (arith, nat_tests)
 
--- a given
+-- a given is an item that a puzzle can have
 pub is_given_item : (w cell : ℕ) → cell < w * w → IsItem w (Given cell)
 is_given_item w cell inside = grind (arith, nat_tests)
 
--- a sign that isn't present is none
+-- a sign that says nothing is absent
 pub not_present : (s : Sign) → is_present s ≡ false → s ≡ Absent
 not_present s h = grind (arith, nat_tests)
 
@@ -105,7 +105,7 @@ has_is_item v item valid here =
 
 -- ---- cuts
 
--- a cut is a puzzle
+-- a cut of a puzzle is a puzzle
 pub cut_valid : (v : UnequalValue) (keep : ℕ → Bool) → IsUnequal v → IsUnequal (cut_unequal v keep)
 cut_valid v keep h = record {
   givens = IsGrid-kept (unequal_given_grid v) (keeps_kind v.size keep Given) 0 h.givens;
@@ -169,7 +169,7 @@ cut_between : (v : UnequalValue) (keep : ℕ → Bool) (a b : ℕ)
     → (sign_between (cut_unequal v keep) a b ≡ sign_between v a b) ⊎ (sign_between (cut_unequal v keep) a b ≡ Absent)
 cut_between v keep a b = grind (arith, nat_tests, entry-kept)
 
--- a cut says of no two squares which is the greater, where the whole doesn't
+-- where a cut says which of two squares is the greater, the whole puzzle says so, too
 pub cut_greater : (v : UnequalValue) (keep : ℕ → Bool) (a b : ℕ) → IsGreater (cut_unequal v keep) a b → IsGreater v a b
 cut_greater v keep a b h = grind (arith, nat_tests, cut_between, first_said, second_said)
 

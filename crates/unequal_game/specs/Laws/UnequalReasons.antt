@@ -23,19 +23,19 @@ use Rattle.line_steps.specs.declared.grade.Grade.{Grade}
 
 -- ---- fewer candidates
 
--- what a sign strikes it strikes in another puzzle, and from other candidates, where its square is the greater or the
--- lesser one there too and no more is left of the square by which it strikes
+-- a sign strikes the same value in another puzzle and from other candidates, if that puzzle says of the same
+-- squares that they are the greater, and no more is left of the square by which the sign strikes
 sign_from : (v u : UnequalValue) (from to cell value : ℕ) (c d : CandidatesValue)
     → ((a b : ℕ) → IsGreater v a b → IsGreater u a b) → ((x : ℕ) → IsLeft d from x → IsLeft c from x)
     → IsBySign v c from to cell value → IsBySign u d from to cell value
 sign_from v u from to cell value c d says fewer h = grind (arith, nat_tests)
 
--- what a sign strikes it strikes from fewer
+-- a sign strikes from fewer candidates all that it strikes from more
 pub unequal_own_less : (v : UnequalValue) (c d : CandidatesValue) (reason : Reason) (cell value : ℕ) → IsFewer c d
     → IsUnequalOwn v c reason cell value → IsUnequalOwn v d reason cell value
 unequal_own_less v c d reason cell value fewer h = grind (arith, nat_tests, sign_from)
 
--- so does each reason of Unequal
+-- each reason of Unequal strikes from fewer candidates all that it strikes from more
 pub unequal_less : (v : UnequalValue) (c d : CandidatesValue) (reason : Reason) (cell value : ℕ) → IsFewer c d
     → IsUnequalStruckBy v c reason cell value → IsUnequalStruckBy v d reason cell value
 unequal_less v = all_less (unequal_puzzle v) (IsUnequalOwn v) (unequal_own_less v)
@@ -55,7 +55,7 @@ sign_sound : (v : UnequalValue) (c : CandidatesValue) (g : GridValue) (from to c
     → IsSquareOf v.size c g → IsBySign v c from to cell value → number_at g cell ≢ value
 sign_sound v c g from to cell value valid holds s h = grind (arith, nat_tests, ends_inside)
 
--- what a sign strikes is in no solution within the candidates
+-- a value that a sign strikes is in no solution within the candidates
 pub unequal_sound : (v : UnequalValue) (c : CandidatesValue) (reason : Reason) (cell value : ℕ) (g : GridValue)
     → IsUnequal v → c.size ≡ v.size
     → Solves (unequal_puzzle v) g → IsWithin c g → IsUnequalOwn v c reason cell value → number_at g cell ≢ value
@@ -66,7 +66,7 @@ unequal_sound v c reason cell value g valid size solved within h = absurd h
 
 -- ---- cuts
 
--- what a sign strikes in a cut it strikes in the whole
+-- a value that a sign strikes in a cut it strikes in the whole puzzle
 pub unequal_whole : (v : UnequalValue) (keep : ℕ → Bool) (c : CandidatesValue) (reason : Reason) (cell value : ℕ)
     → IsUnequalOwn (cut_unequal v keep) c reason cell value → IsUnequalOwn v c reason cell value
 unequal_whole v keep c (Sign from to) cell value h =
@@ -75,19 +75,19 @@ unequal_whole v keep c reason cell value h = absurd h
 
 -- ---- lines
 
--- what a sign strikes it struck before, where all stayed that was left of the square by which it strikes
+-- a sign struck before what it strikes now, if nothing went from the square by which it strikes
 pub sign_was : (v : UnequalValue) (from to cell value : ℕ) (c d : CandidatesValue)
     → ((u : ℕ) → IsLeft c from u → IsLeft d from u)
     → IsBySign v d from to cell value → IsBySign v c from to cell value
 sign_was v from to cell value c d stays h = sign_from v v from to cell value d c (λ a b up. up) stays h
 
--- a sign that strikes nothing strikes nothing where all stays at both ends
+-- a sign that strikes nothing more still strikes nothing more if nothing goes at either end
 pub sign_stays : (v : UnequalValue) (a b : ℕ) (c d : CandidatesValue) → d.size ≡ c.size → IsFewer c d
     → ((u : ℕ) → IsLeft c a u → IsLeft d a u)
     → ((u : ℕ) → IsLeft c b u → IsLeft d b u) → IsSignQuiet v a b c → IsSignQuiet v a b d
 sign_stays v a b c d same fewer first second quiet cell value pair = grind (arith, nat_tests, was_gone, sign_was)
 
--- what a sign strikes that looks along a line it struck before, where all stayed along it
+-- a sign that looks along a line struck before what it strikes now, if nothing went along the line
 pub unequal_look : (v : UnequalValue) (c d : CandidatesValue) (reason : Reason) (cell value line : ℕ) → c.size ≡ v.size
     → line < 2 * c.size
     → LooksAlong c.size line reason cell → StaysOn line c d → IsUnequalOwn v d reason cell value
@@ -116,12 +116,12 @@ pub unequal_stand : (v : UnequalValue) (c : CandidatesValue) (reason : Reason) (
     → IsUnequalOwn v c reason cell value → StandsAlong v.size reason cell
 unequal_stand v c reason cell value valid h = grind (arith, nat_tests, sign_on, turned)
 
--- where the signs along a line strike nothing
+-- if the signs along a line strike nothing more, no reason by a sign that looks along it does
 signs_own : (v : UnequalValue) (grade : Grade) (line : ℕ) (c : CandidatesValue) → AreSignsQuiet v line c
     → IsQuietAlong (IsUnequalOwn v) grade line c
 signs_own v grade line c quiet reason cell value has along pair h = grind (arith, nat_tests)
 
--- so none of theirs along the line does
+-- if the signs along a line strike nothing more, no reason of Unequal that looks along it does
 pub signs_along : (v : UnequalValue) (grade : Grade) (line : ℕ) (c : CandidatesValue) → AreSignsQuiet v line c
     → IsQuietAlong (IsUnequalStruckBy v) grade line c
 signs_along v grade line c quiet = quiet_own (unequal_puzzle v) (IsUnequalOwn v) grade line c (signs_own v grade line c quiet)

@@ -1,7 +1,6 @@
 -- No reading of a description of Unequal is refused for memory.
-use Rattle.std.proofs.Common.{arith}
+use Rattle.std.proofs.Common.{arith, ℕ, List}
 use Rattle.std.proofs.lemmas.Bool.Decides.{nat_tests}
-use Rattle.std.proofs.Common.{ℕ, List}
 use Rattle.game_texts.specs.IdFaults.{NotForMemory}
 use Rattle.unequal_game.specs.UnequalText.{unequal_at}
 use Rattle.game_texts.specs.Laws.NotForMemory.{not_for_memory-then, not_for_memory-if, exactly_not_for_memory}

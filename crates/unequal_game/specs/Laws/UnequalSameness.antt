@@ -39,6 +39,6 @@ same_unequal_decides p q =
     (Decides-and _ _ (Decides-eqb p.size q.size) (pointwise_decides same_sign_decides p.right q.right))
     (pointwise_decides same_sign_decides p.below q.below)) (bytes_decides p.givens q.givens))
 
--- and so does a value that is known to be its answer
+-- a value that is known to be the answer of the test tells whether two puzzles are equal
 pub same_unequal_tested : (p q : UnequalValue) (t : Bool) → t ≡ same_unequal p q → IsTrue t ↔ (p ≡ q)
 same_unequal_tested p q t value = Decides-at _ _ value (same_unequal_decides p q)

@@ -11,15 +11,12 @@ use Rattle.unequal_game.specs.declared.unequal.direction.Direction.TheVariants.{
 use Rattle.unequal_game.specs.declared.unequal.sign.Sign.{Sign}
 use Rattle.unequal_game.specs.declared.unequal.sign.Sign.TheVariants.{Absent, FirstGreater, SecondGreater}
 use Rattle.game_texts.specs.IdFaults.{exactly}
-use Rattle.unequal_game.specs.Unequal.{UnequalValue, IsUnequal, IsGreater, neighbour, sign_between, sign_towards}
-use Rattle.unequal_game.specs.Unequal.{signs_towards}
+use Rattle.unequal_game.specs.Unequal.{UnequalValue, IsUnequal, IsGreater, neighbour, sign_between, sign_towards, signs_towards}
 use Rattle.unequal_game.specs.UnequalText.{Piece, IsUnequalText, piece_text, directions_at, pieces_of, number_in}
-use Rattle.unequal_game.specs.UnequalText.{points_inside, says_greater, said_sign, sign_said, contradicts, puzzle_in}
-use Rattle.unequal_game.specs.UnequalText.{unequal_at, puzzle_at, Says}
+use Rattle.unequal_game.specs.UnequalText.{points_inside, says_greater, said_sign, sign_said, contradicts, puzzle_in, unequal_at, puzzle_at, Says}
 use Rattle.unequal_game.specs.Laws.RangeTests.{all_in_range, range_all}
 use Rattle.unequal_game.specs.Laws.Neighbours.{IsNext, towards, right_of, below_of}
-use Rattle.unequal_game.specs.Laws.Signs.{right_between, below_between, greater_first, greater_second, never_both}
-use Rattle.unequal_game.specs.Laws.Signs.{sign_at, signed_greater}
+use Rattle.unequal_game.specs.Laws.Signs.{right_between, below_between, greater_first, greater_second, never_both, sign_at, signed_greater}
 use Rattle.unequal_game.specs.Laws.Letters.{letters_at, directions_inside, read_piece}
 use Rattle.unequal_game.specs.Laws.GoodPieces.{AreGood, good_taken, good_again, read_pieces, map-number, read_valid}
 use Rattle.unequal_game.specs.Laws.GoodPieces.{letters_inside, inside_letters, some_pieces, pieces_some, square_some}
@@ -44,7 +41,7 @@ sign_matches : (s : Sign) (first second : Bool) → (s ≡ FirstGreater → firs
     → (first ≡ true → s ≡ FirstGreater) → (second ≡ true → s ≡ SecondGreater) → said_sign first second ≡ s
 sign_matches s first second a b c d = grind arith
 
--- the puzzle that pieces describe has the greater square where they say so
+-- the puzzle that pieces describe says which square is the greater exactly where the pieces say so
 greater_said : (w : ℕ) (pieces : List Piece) (a b : ℕ) → IsUnequal (puzzle_in w (map piece_text pieces))
     → length pieces ≡ w * w
     → contradicts w (map piece_text pieces) ≡ false
@@ -125,7 +122,7 @@ sign_again v text h a b next =
     (λ t. greater_first v a b h.puzzle next ((h.signs a b).1 (tested_says v.size pieces a b t)))
     (λ t. greater_second v a b h.puzzle next ((h.signs b a).1 (tested_says v.size pieces b a t)))
 
--- so the lists of signs that are read are the puzzle's
+-- the lists of signs that are read from a description of a puzzle are the puzzle's
 signs_again : (v : UnequalValue) (text : List ℕ) (h : IsUnequalText v text) (d : Direction) (signs : List Sign)
     → length signs ≡ v.size * v.size
     → ((cell : ℕ) → neighbour v.size cell d ≡ None → slice_index_or signs cell Absent ≡ Absent)

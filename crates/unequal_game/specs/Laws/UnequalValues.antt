@@ -13,18 +13,15 @@ use Rattle.unequal_game.specs.declared.unequal.item.Item.TheVariants.{RightSign,
 use Rattle.unequal_game.specs.declared.unequal.sign.Sign.{Sign}
 use Rattle.unequal_game.specs.declared.unequal.sign.Sign.TheVariants.{Absent}
 use Rattle.unequal_game.specs.Inner.UnequalItems.{HasPlace, with_item}
-use Rattle.unequal_game.specs.Unequal.{UnequalValue, IsUnequal, neighbour, right_sign, lower_sign}
-use Rattle.unequal_game.specs.Unequal.{sign_between}
+use Rattle.unequal_game.specs.Unequal.{UnequalValue, IsUnequal, neighbour, right_sign, lower_sign, sign_between}
 use Rattle.unequal_game.specs.Laws.Signs.{right_between, below_between}
 use Rattle.unequal_game.specs.Unequal.{unequal_items, item_at, item_number, has_item, has_unequal}
-use Rattle.unequal_game.specs.Unequal.{sign_number, numbered_sign, item_says, unequal_says, item_most, unequal_most}
-use Rattle.unequal_game.specs.Unequal.{blank_unequal, sign_item}
-use Rattle.unequal_game.specs.Laws.UnequalItems.{IsItem, number_of_item_at, has_place, is_right_item, is_lower_item}
-use Rattle.unequal_game.specs.Laws.UnequalItems.{is_given_item, square_parts}
+use Rattle.unequal_game.specs.Unequal.{sign_number, numbered_sign, item_says, unequal_says, item_most, unequal_most, blank_unequal, sign_item}
+use Rattle.unequal_game.specs.Laws.UnequalItems.{IsItem, number_of_item_at, has_place, is_right_item, is_lower_item, is_given_item, square_parts}
 
 -- ---- signs by their numbers
 
--- a sign has its number, and a number up to 2 its sign
+-- the sign of a sign's number is the sign, and the number of the sign of a number up to 2 is the number
 sign_back : (s : Sign) → numbered_sign (sign_number s) ≡ s
 sign_back s = grind (arith, nat_tests)
 
@@ -37,7 +34,7 @@ sign_same s t e = sym (sign_back s) ∙ ap numbered_sign e ∙ sign_back t
 
 -- ---- items and their places
 
--- different numbers are those of different items
+-- items of different numbers differ
 items_apart : (w i j : ℕ) → 3 ≤ w → j ≢ i → item_at w j ≢ item_at w i
 items_apart w i j small other same =
     other (sym (number_of_item_at w j small) ∙ ap (item_number w) same ∙ number_of_item_at w i small)
@@ -61,7 +58,7 @@ pub value_within : (v : UnequalValue) (i : ℕ) → IsUnequal v → i < unequal_
 value_within v i valid inside =
     says_within v (item_at v.size i) valid (has_place v.size i valid.givens.smallest inside)
 
--- what an item says is what its number says
+-- an item says what the item of its number says
 says_at : (v : UnequalValue) (w : ℕ) (item : Item) → v.size ≡ w → IsItem w item
     → item_says v item ≡ unequal_says v (item_number w item)
 says_at v w item size is = ap (item_says v) (sym is.back ∙ ap (λ n. item_at n (item_number w item)) (sym size))
@@ -124,7 +121,7 @@ other_says v item other n apart = grind (arith, nat_tests, get_or-set_other)
 with_size : (v : UnequalValue) (item : Item) (n : ℕ) → (with_item v item n).size ≡ v.size
 with_size v item n = grind (arith, nat_tests)
 
--- what the item of a number says then
+-- an item that is made to say a number says it, and all others say what they said
 pub put_one : (v u : UnequalValue) (item : Item) (i n : ℕ) → u ≡ with_item v item n → item ≡ item_at v.size i
     → IsUnequal v → i < unequal_items v.size → n ≤ unequal_most v.size i → unequal_says u i ≡ n
 put_one v u item i n put is valid inside fits =
@@ -141,7 +138,7 @@ blank_none v w is valid i inside = grind (arith, nat_tests, has_place, get_or-re
 
 -- ---- places
 
--- a given says itself
+-- the item of a given says the given
 pub given_says : (v : UnequalValue) (cell : ℕ) → IsUnequal v → cell < v.size * v.size
     → unequal_says v (item_number v.size (Given cell)) ≡ slice_index v.givens cell
 given_says v cell valid inside = sym (says_at v v.size (Given cell) refl (is_given_item v.size cell inside))
@@ -149,7 +146,7 @@ given_says v cell valid inside = sym (says_at v v.size (Given cell) refl (is_giv
 pub given_item_inside : (w cell : ℕ) → cell < w * w → item_number w (Given cell) < unequal_items w
 given_item_inside w cell inside = (is_given_item w cell inside).inside
 
--- there are no clues
+-- no item is a clue
 pub clue_says : (v : UnequalValue) (i : ℕ) → None ≡ Some i → false ≡ nat_lt 0 (unequal_says v i)
 clue_says v i is = absurd (cc)
 

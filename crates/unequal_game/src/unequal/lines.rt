@@ -84,7 +84,7 @@ pub(crate) fn strike_signs(p: &Unequal, candidates: &mut Candidates, line: u8) -
     changed
 }
 
-// The same of the sign between a square of the line and the next.
+// Takes away what the sign between two squares strikes, if there is one, and gives the places that lost any.
 #[tactic(auto, using(crate::proofs::SignPasses::end_inside))]
 fn strike_between(
     p: &Unequal,

@@ -48,7 +48,7 @@ impl Unequal {
         }
     }
 
-    // The same of a square and its lower neighbour.
+    // Whether the grid's numbers at a square and at its lower neighbour are as the sign between them says.
     fn holds_below(&self, grid: &Grid, cell: usize) -> bool
         requires size { grid.now.size ≡ self.now.size }
         requires inside { cell < self.now.size * self.now.size }
@@ -91,7 +91,7 @@ impl Unequal {
         self.right[cell] = self.right_sign(cell).turned();
     }
 
-    // The same of the sign towards the lower neighbour.
+    // Turns the sign towards the lower neighbour round, where there is one.
     #[tactic(auto, using(crate::proofs::UnequalTables::sign_in_front, crate::proofs::UnequalTables::turned_kept))]
     fn turn_below(&mut self, cell: usize)
         requires { cell < self.old.size * self.old.size }

@@ -31,7 +31,7 @@ prune-half-requires g t c κs within =
     let order = c.args.order.now in
     let first = c.split_at.result.0.now in
     let second = c.split_at.result.1.now in
-    let left = c.without_all.new.left in
+    let left = c.without_all.new.candidates in
     let parts : first ++ second ≡ order =
     parts_of order first second _ c.split_at.ensures.front c.split_at.ensures.back in
     let items : (k : ℕ) → k < length first → slice_index first k < f.items_of (f.puzzle p).size =
@@ -53,7 +53,7 @@ prune-requires g t c κs within =
     let order = c.args.order.now in
     let first = c.split_at.result.0.now in
     let second = c.split_at.result.1.now in
-    let left = c.without_all.new.left in
+    let left = c.without_all.new.candidates in
     let laws = laws_of g.met.P.Rules in
     let valid = c.size-size.ensures.valid in
     let tried = c.prune-half.ensures.in_turn in

@@ -18,7 +18,7 @@ prune-requires-clause-solves g c =
 
 pub prune-requires-clause-base : goal.prune-requires-clause-base
 prune-requires-clause-base g c =
-    base_all _ c.args.grade c.args.grid.now c.all-left.result (c.all-left.ensures.size ∙ c.size.ensures.value) c.all-left.ensures.trail
+    base_all _ c.args.grade c.args.grid.now c.all-candidates.result (c.all-candidates.ensures.size ∙ c.size.ensures.value) c.all-candidates.ensures.trail
 
 pub prune-requires-clause-follows : goal.prune-requires-clause-follows
 prune-requires-clause-follows g c =

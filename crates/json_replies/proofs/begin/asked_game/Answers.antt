@@ -12,7 +12,7 @@ use Rattle.json_replies.specs.DeskReplies.{IsThinBy, plain_params}
 use Rattle.json_replies.specs.FurtherLines.{BoardFacts}
 use Rattle.json_replies.proofs.begin.asked_game.Goals as goal
 
--- the session's puzzle, thinned by a grade
+-- the session's puzzle, thinned by a grade, is one that `thin` and its letter ask for
 thin_by_asked : {P : Type 0} (f : GameFacts P) (b : BoardFacts P) (old : Option (History P)) (asked : BeginLine (List ℕ)) (puzzle left p : P)
     (word : List ℕ) (params : Params) → asked ≡ ThinBy word → IsSomeAnd old (λ h. puzzle ≡ h.puzzle)
     → params ≡ plain_params (f.rules.puzzle left).size → p ≡ left → IsThinBy f.rules b.struck_by b.fair_letter word puzzle left
@@ -27,7 +27,19 @@ thin_by_asked {P} f b (Some h) asked puzzle left p word params is some plain sam
 pub returns-in_ok-thin_puzzle_by-in-ThinBy-clause-asked : goal.returns-in_ok-thin_puzzle_by-in-ThinBy-clause-asked
 returns-in_ok-thin_puzzle_by-in-ThinBy-clause-asked g c =
     let f = facts_of g.P.Rules g.P.Game g.P.Draw in
-    let b : BoardFacts g.row.P.Denot = record { demand = g.P.Demands.demand; clues = g.P.Shows.clues; signs = g.P.Shows.signs; struck_by = (StruckBy g.P.Rules.puzzle g.P.Steps.own); letter = g.P.StepNames.grade_letter; edge_clue = g.P.StepNames.edge_clue_of; says_greater = g.P.StepNames.says_greater_of; fair_letter = g.P.FairGame.letter_of; trial = g.P.FairGame.trial_of; initial = g.P.FairGame.initial_code; items = g.P.Items } in
+    let b : BoardFacts g.row.P.Denot = record {
+      demand = g.P.Demands.demand;
+      clues = g.P.Shows.clues;
+      signs = g.P.Shows.signs;
+      struck_by = (StruckBy g.P.Rules.puzzle g.P.Steps.own);
+      letter = g.P.StepNames.grade_letter;
+      edge_clue = g.P.StepNames.edge_clue_of;
+      says_greater = g.P.StepNames.says_greater_of;
+      fair_letter = g.P.FairGame.letter_of;
+      trial = g.P.FairGame.trial_of;
+      initial = g.P.FairGame.initial_code;
+      items = g.P.Items;
+    } in
     thin_by_asked f b c.args.session.now (begin_copied c.args.asked) c.in_ok-puzzle_of-in-ThinBy.field-0.now
     c.in_ok-thin_puzzle_by-in-ThinBy.field-0 c.plain-in-ThinBy.result.1 c.in-ThinBy.word.now c.plain-in-ThinBy.result.0
     (ap begin_copied c.in-ThinBy.is) c.in_ok-puzzle_of-in-ThinBy.ensures.ok c.plain-in-ThinBy.ensures.params c.plain-in-ThinBy.ensures.puzzle

@@ -14,7 +14,19 @@ use Rattle.json_replies.proofs.further.answer_line.Goals as goal
 pub returns : goal.returns
 returns g c =
     let f = facts_of g.P.Rules g.P.Game g.P.Draw in
-    let b : BoardFacts g.row.P.Denot = record { demand = g.P.Demands.demand; clues = g.P.Shows.clues; signs = g.P.Shows.signs; struck_by = (StruckBy g.P.Rules.puzzle g.P.Steps.own); letter = g.P.StepNames.grade_letter; edge_clue = g.P.StepNames.edge_clue_of; says_greater = g.P.StepNames.says_greater_of; fair_letter = g.P.FairGame.letter_of; trial = g.P.FairGame.trial_of; initial = g.P.FairGame.initial_code; items = g.P.Items } in
+    let b : BoardFacts g.row.P.Denot = record {
+      demand = g.P.Demands.demand;
+      clues = g.P.Shows.clues;
+      signs = g.P.Shows.signs;
+      struck_by = (StruckBy g.P.Rules.puzzle g.P.Steps.own);
+      letter = g.P.StepNames.grade_letter;
+      edge_clue = g.P.StepNames.edge_clue_of;
+      says_greater = g.P.StepNames.says_greater_of;
+      fair_letter = g.P.FairGame.letter_of;
+      trial = g.P.FairGame.trial_of;
+      initial = g.P.FairGame.initial_code;
+      items = g.P.Items;
+    } in
     let h = c.args.session.now in
     let which = c.args.which in
     let (answer, is, members) = c.in_ok-write_members.ensures in

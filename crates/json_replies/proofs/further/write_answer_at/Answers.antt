@@ -9,7 +9,19 @@ use Rattle.json_replies.proofs.further.write_answer_at.Goals as goal
 
 pub returns : goal.returns
 returns g c =
-    let b : BoardFacts g.row.P.Denot = record { demand = g.P.Demands.demand; clues = g.P.Shows.clues; signs = g.P.Shows.signs; struck_by = (StruckBy g.P.Rules.puzzle g.P.Steps.own); letter = g.P.StepNames.grade_letter; edge_clue = g.P.StepNames.edge_clue_of; says_greater = g.P.StepNames.says_greater_of; fair_letter = g.P.FairGame.letter_of; trial = g.P.FairGame.trial_of; initial = g.P.FairGame.initial_code; items = g.P.Items } in
+    let b : BoardFacts g.row.P.Denot = record {
+      demand = g.P.Demands.demand;
+      clues = g.P.Shows.clues;
+      signs = g.P.Shows.signs;
+      struck_by = (StruckBy g.P.Rules.puzzle g.P.Steps.own);
+      letter = g.P.StepNames.grade_letter;
+      edge_clue = g.P.StepNames.edge_clue_of;
+      says_greater = g.P.StepNames.says_greater_of;
+      fair_letter = g.P.FairGame.letter_of;
+      trial = g.P.FairGame.trial_of;
+      initial = g.P.FairGame.initial_code;
+      items = g.P.Items;
+    } in
     let (answer, is, follow) = c.in_ok-write_answer.ensures in (
       answer,
       answer_told (facts_of g.P.Rules g.P.Game g.P.Draw) b c.args.session.now c.puzzle.result.now c.board.result.now

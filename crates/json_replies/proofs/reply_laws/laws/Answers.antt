@@ -22,7 +22,19 @@ facts g = facts_of g.P.Rules g.P.Game g.P.Draw
 
 -- what a game says of boards
 abbrev boards : (g : Over) → BoardFacts g.row.P.Denot
-boards g = record { demand = g.P.Demands.demand; clues = g.P.Shows.clues; signs = g.P.Shows.signs; struck_by = (StruckBy g.P.Rules.puzzle g.P.Steps.own); letter = g.P.StepNames.grade_letter; edge_clue = g.P.StepNames.edge_clue_of; says_greater = g.P.StepNames.says_greater_of; fair_letter = g.P.FairGame.letter_of; trial = g.P.FairGame.trial_of; initial = g.P.FairGame.initial_code; items = g.P.Items }
+boards g = record {
+  demand = g.P.Demands.demand;
+  clues = g.P.Shows.clues;
+  signs = g.P.Shows.signs;
+  struck_by = (StruckBy g.P.Rules.puzzle g.P.Steps.own);
+  letter = g.P.StepNames.grade_letter;
+  edge_clue = g.P.StepNames.edge_clue_of;
+  says_greater = g.P.StepNames.says_greater_of;
+  fair_letter = g.P.FairGame.letter_of;
+  trial = g.P.FairGame.trial_of;
+  initial = g.P.FairGame.initial_code;
+  items = g.P.Items;
+}
 
 -- IDs are read in one way
 ids : (g : Over) → IdsAreReadOnce (facts g)

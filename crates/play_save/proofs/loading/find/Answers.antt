@@ -1,4 +1,7 @@
+use Rattle.std.proofs.lemmas.Grind.{common_steps}
 -- Each way out of the loop gives what is needed of the text, and each record that is taken leaves the same to read.
+use Rattle.std.proofs.Common.{arith}
+use Rattle.std.proofs.lemmas.Bool.Decides.{nat_tests}
 use Rattle.std.proofs.Common.{◌≡◌, false, true, Some, None, Ok, rules, inr}
 use Rattle.std.proofs.lemmas.Result.{err_from_is_err_and}
 use Rattle.play_save.specs.declared.fault.LoadFault.TheVariants.{Missing}
@@ -44,11 +47,7 @@ returns-in_err-take-clause-given g c =
     rw (is, same) (reads_fault c.in_err-take.field-0.0 c.loop-rest.invariant undone read has)
 
 pub loop-rest-smaller : goal.loop-rest-smaller
-loop-rest-smaller g c =
-    let some = c.in_ok-record.ensures.ok_part in
-    let read : record_at c.loop-rest.rest.now ≡ Ok (Some (entry_of c.in_ok-record.record, c.in_ok-record.after.now)) =
-    rw some at c.in_ok-next_record.ensures.value in
-    record_shorter c.loop-rest.rest.now (entry_of c.in_ok-record.record) c.in_ok-record.after.now read
+loop-rest-smaller g c = grind (arith, nat_tests, common_steps, record_shorter)
 
 pub loop-rest-preserved : goal.loop-rest-preserved
 loop-rest-preserved g c =

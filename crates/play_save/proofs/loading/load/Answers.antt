@@ -5,7 +5,7 @@ use Rattle.play_save.proofs.LoadAnswers.{load_found, load_only}
 use Rattle.play_save.proofs.loading.load.Given.{Over}
 use Rattle.play_save.proofs.loading.load.Goals as goal
 
--- what the game owes
+-- the game has what saves ask of its descriptions, by its laws
 owes : (g : Over) → Owes (saves_of g.P.Rules g.P.Game) g.P.Rules.valid
 owes g = let laws = g.met.P.Game in game_owes g.P.Rules g.P.Game laws.desc_taken laws.desc_again laws.desc_canonical
 

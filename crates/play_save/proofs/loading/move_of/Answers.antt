@@ -8,11 +8,11 @@ use Rattle.play_save.proofs.loading.move_of.Given.{Over}
 use Rattle.play_save.proofs.loading.move_of.Goals as goal
 use Rattle.play_save.proofs.loading.move_of.Goals.{in_default-read_desc-via-in-Ok-read_desc+else-same, in_default-read_desc-via-in_default-read_desc}
 
--- what the game owes
+-- the game has what saves ask of its descriptions, by its laws
 owes : (g : Over) → Owes (saves_of g.P.Rules g.P.Game) g.P.Rules.valid
 owes g = let laws = g.met.P.Game in game_owes g.P.Rules g.P.Game laws.desc_taken laws.desc_again laws.desc_canonical
 
--- what a test that failed tells
+-- if a test that equal things pass has failed, they differ
 differ : {A : Type 0} {a b : A} (r : Bool) → (a ≡ b → IsTrue r) → r ≡ false → a ≢ b
 differ r test failed same = let true_it = test same in cc
 

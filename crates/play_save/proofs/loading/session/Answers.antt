@@ -1,4 +1,4 @@
--- The last state is after the position.
+-- The position isn't after the last state, so the session can go back to it.
 use Rattle.std.proofs.Common.{length, map, ap, arith}
 use Rattle.play_save.specs.SaveTexts.{saves_of}
 use Rattle.play_save.specs.Inner.Taking.{state_of}

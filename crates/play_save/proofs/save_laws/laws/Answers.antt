@@ -1,4 +1,4 @@
--- The laws, of what a game owes.
+-- The laws of save texts, by what saves ask of a game.
 use Rattle.play_save.specs.SaveTexts.{saves_of}
 use Rattle.play_save.proofs.GameTexts.{game_owes}
 use Rattle.play_save.proofs.LoadAnswers.{saves_one_session, faults_where_none, saves_are_storable}

@@ -6,7 +6,7 @@ use Rattle.puzzles.proofs.whole_game.program.Goals as goal
 pub returns-in-Err : goal.returns-in-Err
 returns-in-Err g c = inr (c.in-Err.fault, c.in-Err.ensures.err, refl, refl)
 
--- lines of text
+-- src/whole_game.rt: the program answers in lines of text
 pub returns-in-Puzzles : goal.returns-in-Puzzles
 returns-in-Puzzles g c = inl (
   c.in-Ok.words.items,
@@ -15,7 +15,7 @@ returns-in-Puzzles g c = inl (
       c.deref-in-Puzzles.ensures.value c.program_name.ensures c.in-Puzzles.is c.play_words.ensures,
 )
 
--- objects
+-- src/whole_game.rt: the program answers in objects
 pub returns : goal.returns
 returns g c = inl (
   c.in-Ok.words.items,

@@ -5,7 +5,7 @@ use Rattle.std.proofs.lemmas.List.{take_more}
 use Rattle.trail_solver.proofs.Earlier.{earlier_trans}
 use Rattle.step_chains.specs.declared.chain.Step.{Step}
 use Rattle.step_chains.specs.ChainValues.{steps_of}
-use Rattle.step_chains.proofs.Blocks.{first_chain}
+use Rattle.step_chains.proofs.Pieces.{first_chain}
 use Rattle.step_chains.proofs.Followed.{follows_on, breaks_here, leads_known}
 use Rattle.step_chains.proofs.Live.{alike_on, taken_earlier}
 use Rattle.step_chains.proofs.replays.follow.Goals as goal

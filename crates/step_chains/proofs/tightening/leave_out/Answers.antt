@@ -8,7 +8,7 @@ use Rattle.step_chains.specs.declared.chain.Step.{Step}
 use Rattle.step_chains.specs.ChainValues.{steps_of}
 use Rattle.step_chains.specs.Inner.Aims.{aim_goal}
 use Rattle.step_chains.specs.Inner.Replays.{IsGradeChain}
-use Rattle.step_chains.proofs.Blocks.{first_chain}
+use Rattle.step_chains.proofs.Pieces.{first_chain}
 use Rattle.step_chains.proofs.Spare.{left_less, left_none, left_with, set_back}
 use Rattle.step_chains.proofs.tightening.leave_out.Goals as goal
 

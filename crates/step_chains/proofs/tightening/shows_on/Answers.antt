@@ -3,7 +3,7 @@ use Rattle.line_steps.specs.Reasons.{StruckBy}
 use Rattle.std.proofs.Common.{take}
 use Rattle.step_chains.specs.ChainValues.{steps_of}
 use Rattle.step_chains.specs.Inner.Aims.{aim_goal}
-use Rattle.step_chains.proofs.Blocks.{rest_tested}
+use Rattle.step_chains.proofs.Pieces.{rest_tested}
 use Rattle.step_chains.proofs.Followed.{leads_known}
 use Rattle.step_chains.proofs.tightening.shows_on.Goals as goal
 

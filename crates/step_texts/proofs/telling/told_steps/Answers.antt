@@ -13,7 +13,7 @@ loop-first-init g c =
     subst (λ xs. GoesOn (StruckBy g.P.Rules.puzzle g.P.Steps.own c.args.p.now) (g.P.Rules.puzzle c.args.p.now).size c.args.candidates c.args.candidates c.args.steps.now c.args.steps.now xs)
     (sym c.new-told.ensures.items) (none_yet (StruckBy g.P.Rules.puzzle g.P.Steps.own c.args.p.now) (g.P.Rules.puzzle c.args.p.now).size c.args.candidates c.args.steps.now)
 
--- where there is no first step there is none
+-- if there is no first step, there is no step
 none_left : (steps : List Step) → slice_get steps 0 ≡ None → steps ≡ []
 none_left [] none = refl
 none_left (step ∷ steps) none = absurd (cc none)

@@ -22,12 +22,12 @@ near a b was now longer bound less =
     nearer (length a.trail) (length b.trail) (was.squares % 2 ^ 32 + was.clues % 2 ^ 32) (now.squares % 2 ^ 32 + now.clues % 2 ^ 32) longer bound
     (omega (arith, first, second)) less
 
--- a set that lost a line is less
+-- a set that lost a line is a lesser number
 set_lost : (count line was now : ℕ) → count ≤ 32 → IsTaken count was now line → now % 2 ^ 32 < was % 2 ^ 32
 set_lost count line was now small taken =
     set_less line was now (omega (arith, taken.one.0, small)) taken.one.1 (λ k out. lost_one line k was now taken.rest out)
 
--- one line less waits
+-- after a line was taken, the numbers of the two waiting sets add up to less
 one_less : (count : ℕ) (was now : Waiting) (what : Bool) (line : ℕ) → count ≤ 32 → IsLook count was now what line
     → now.squares % 2 ^ 32 + now.clues % 2 ^ 32 < was.squares % 2 ^ 32 + was.clues % 2 ^ 32
 one_less count was now true line small look =

@@ -6,7 +6,7 @@ pub returns-clause-matched : goal.returns-clause-matched
 returns-clause-matched c = is_parsed _ _ _ (c.in_ok-command_line.ensures c.option-id.ensures.rule c.option-id.ensures.local)
     c.try_get_matches_from.ensures.matches c.try_get_matches_from.ensures.kinds
 
--- and its own faults
+-- the command line's own faults
 pub returns-clause-refused : goal.returns-clause-refused
 returns-clause-refused c = is_parse_fault _ _ _ (c.in_ok-command_line.ensures c.option-id.ensures.rule c.option-id.ensures.local)
     c.try_get_matches_from.ensures.kinds

@@ -56,7 +56,7 @@ list_guess-returns-clause-same g t c =
       | list_guess-then-assume w ↦ rw w.self-is (further_trans old c.assume.new.self w.list-done.new.self.search c.assume.ensures.further w.list-done.ensures.further)
       | list_guess-else-assume w ↦ rw w.self-is c.assume.ensures.further
     ] in
-    c.go_back.ensures old further c.place-place.ensures
+    c.go_back.ensures old further c.checkpoint-checkpoint.ensures
 
 pub list_guess-returns-clause-lists : goal.list_guess-returns-clause-lists
 list_guess-returns-clause-lists g t c =

@@ -10,7 +10,7 @@ use Rattle.line_steps.proofs.StayingLines.{loses_both, stays_first, stays_second
 use Rattle.line_steps.specs.declared.grade.Grade.TheVariants.{Easy}
 use Rattle.unequal_game.proofs.unequal.lines.strike_signs.Goals as goal
 
--- the square of the next place
+-- the square at the next place of a line is one step further
 next : (line k cell size w step : ℕ) → size ≡ w → line_cell size line (k + 1) ≡ line_cell size line k + step → cell ≡ line_cell w line k
     → cell + step ≡ line_cell w line (k + 1)
 next line k cell size w step same further here =

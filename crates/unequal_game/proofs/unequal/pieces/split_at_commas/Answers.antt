@@ -4,7 +4,7 @@ use Rattle.unequal_game.specs.Inner.UnequalPieces.{texts_of}
 use Rattle.unequal_game.proofs.PieceLemmas.{pieces_shorter, pieces_step, pieces_over}
 use Rattle.unequal_game.proofs.unequal.pieces.split_at_commas.Goals as goal
 
--- the text that is left, after its loan
+-- the text to which the rest refers, if there is a rest
 abbrev text_left : Option (Bor (List ℕ)) → Option (List ℕ)
 text_left rest = option_map (λ r. r.now) rest
 

@@ -1,6 +1,6 @@
 use Rattle.std.proofs.Common.{ℕ, ◌^◌, ◌<◌, subst, arith}
 use Rattle.step_chains.proofs.Live.{live_by_set}
-use Rattle.step_chains.proofs.replays.is_left.Goals as goal
+use Rattle.step_chains.proofs.replays.is_live.Goals as goal
 
 pub returns : goal.returns
 returns c =

@@ -6,8 +6,7 @@ use Rattle.trail_solver.specs.Candidates.{CandidatesValue}
 use Rattle.line_steps.specs.Left.{IsFewer}
 use Rattle.line_steps.specs.Chains.{StepValue, left_by}
 use Rattle.named_steps.specs.Chains.{Shows}
-use Rattle.line_steps.proofs.Chains.{IsAntitone, chain_less, left_size}
-use Rattle.line_steps.proofs.Chains.{left_append, chain_split}
+use Rattle.line_steps.proofs.Chains.{IsAntitone, chain_less, left_size, left_append, chain_split}
 use Rattle.named_steps.proofs.Shown.{shown_less}
 use Rattle.line_steps.specs.declared.grade.Grade.{Grade}
 use Rattle.named_steps.specs.declared.goal.Goal.{Goal}
@@ -17,11 +16,11 @@ use Rattle.step_chains.specs.ChainValues.{step_value, steps_of}
 use Rattle.step_chains.specs.Inner.Replays.{IsGradeChain, Leads}
 use Rattle.step_chains.proofs.Followed.{allowed_split, leads_joined, shows_where, from_place}
 
--- the steps before a place and those after it
+-- the steps before a place and then those from it on are all steps
 parts_of : (steps : List Step) (place : ℕ) → steps_of (take place steps) ++ steps_of (drop place steps) ≡ steps_of steps
 parts_of steps place = sym (map-append step_value (take place steps) (drop place steps)) ∙ ap steps_of (take-append-drop place steps)
 
--- the first steps of a chain are one
+-- the first steps of a chain are a chain
 pub first_chain : (Struck : Striking) (grade : Grade) (c : CandidatesValue) (steps : List Step) (place : ℕ) → IsGradeChain Struck grade c (steps_of steps)
     → IsGradeChain Struck grade c (steps_of (take place steps))
 first_chain Struck grade c steps place chain =
@@ -30,7 +29,7 @@ first_chain Struck grade c steps place chain =
     let back = steps_of (drop place steps) in
     ((chain_split Struck c front back h.0).0, (allowed_split grade front back h.1).0)
 
--- the others show what all show
+-- the later steps show a goal from what the first ones leave exactly if all steps show it
 pub rest_shows : (Struck : Striking) → IsAntitone Struck → (grade : Grade) (c d : CandidatesValue) (front back : List StepValue) (goal : Goal)
     → Leads Struck grade c front d → Shows Struck grade d back goal ↔ Shows Struck grade c (front ++ back) goal
 rest_shows Struck less grade c d front back goal first = (
@@ -52,7 +51,7 @@ rest_shows Struck less grade c d front back goal first = (
       },
 )
 
--- the test of the others is that of all
+-- a test of whether the later steps show the goal tells whether all steps show it
 pub rest_tested : (Struck : Striking) → IsAntitone Struck → (grade : Grade) (c d : CandidatesValue) (steps : List Step) (place : ℕ) (goal : Goal)
     (b : Bool) → Leads Struck grade c (steps_of (take place steps)) d
     → (IsTrue b ↔ Shows Struck grade d (steps_of (take (length steps - place) (drop place steps))) goal)
