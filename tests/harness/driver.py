@@ -98,11 +98,18 @@ class Driver:
         self.end()
 
     def wait_for(self, condition: str) -> None:
-        """Until an expression is true in the page, or in the one that comes after it."""
+        """Until an expression, or what it promises, is true in the page, or in the one that comes after it."""
         end = time.monotonic() + self._seconds
         while not self._holds(condition):
             assert time.monotonic() < end, f'{condition} in vain; there is {self.text()!r}'
             time.sleep(0.02)
+
+    def reload(self, condition: str) -> None:
+        """Loads the page again, until an expression is true in it. It sees what stands in the browser's store: to a page that is opened anew Chromium may give
+        an empty one, where the machine is busy.
+        """
+        self.value('location.reload()')
+        self.wait_for(f'performance.getEntriesByType("navigation")[0].type === "reload" && {condition}')
 
     def text(self) -> str:
         """All that can be read on the page."""
@@ -110,7 +117,7 @@ class Driver:
 
     def _holds(self, condition: str) -> bool:
         try:
-            return bool(self.value(f'Boolean({condition})'))
+            return bool(self.value(f'Promise.resolve({condition}).then(Boolean)'))
         except PageLeft:
             return False
 

@@ -30,6 +30,9 @@ KEY = re.compile(r'<(up|down|left|right)>|<([a-z]+)>|(.)')
 #: A picture beside the page, which keeps nothing; of a disk's pages Chromium shows it what they keep.
 BESIDE = f'file://{TOP}/page/icon.svg'
 
+#: The page shows a board.
+THERE = 'document.querySelector("[data-place]")'
+
 #: The page keeps nothing any more.
 NOTHING_MORE = 'Storage.prototype.setItem = IDBObjectStore.prototype.put = () => undefined'
 
@@ -152,7 +155,7 @@ class Player(Seen):
         """Opens the page, as on the next day."""
         self.driver.go(BLANK)
         self.driver.go(self.address + (f'#{link}' if link else ''))
-        self.driver.wait_for('document.readyState === "complete" && document.querySelector("[data-place]")')
+        self.driver.wait_for(f'document.readyState === "complete" && {THERE}')
 
     def enter(self, selector: str) -> None:
         """Goes to a button, and presses it as Enter does. Firefox's driver has no window in front, in which that key would."""

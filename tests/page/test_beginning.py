@@ -7,7 +7,7 @@ import pytest
 
 from tests.conftest import Programs
 from tests.harness import BLANK, Browser, Room, run
-from tests.page.playing import NO_JOURNAL, PHONE, TOWERS, Player, Scripted
+from tests.page.playing import NO_JOURNAL, PHONE, THERE, TOWERS, Player, Scripted
 from tests.page.test_keeping import solve_by_hints
 
 #: The first numbers by chance are 7, and all others this one: so many more digits make a number of eight.
@@ -95,7 +95,8 @@ def test_damaged(player: Player, spoil: str) -> None:
     # The database has nothing better.
     player.value(NO_JOURNAL)
     player.value('(Storage.prototype.setItem = () => undefined, true)')
-    player.look('{load}', counts='0 of')
+    player.driver.reload(THERE)
+    player.look('', counts='0 of')
     player.settles()
     assert player.text('#told') == 'That kept game can’t be read. It stays as it is.'
     assert player.value(f'localStorage[{json.dumps(name)}]') == text

@@ -6,7 +6,7 @@ import json
 import pytest
 
 from tests.harness import save_text
-from tests.page.playing import LAPTOP, NOTHING_MORE, PHONE, TOWERS, UNEQUAL, Player, Scripted
+from tests.page.playing import LAPTOP, NOTHING_MORE, PHONE, THERE, TOWERS, UNEQUAL, Player, Scripted
 
 
 @pytest.mark.always
@@ -14,8 +14,7 @@ def test_comes_back(player: Player) -> None:
     """After a reload, and on the next day, with its moves, hints and time; undo goes on where it was."""
     player.sit(TOWERS, LAPTOP)
     player.look('1<right>p23', 'row 1, column 2, empty, marks 2 3')
-    player.driver.value('location.reload()')
-    player.driver.wait_for('performance.getEntriesByType("navigation")[0].type === "reload" && document.querySelector("[data-place]")')
+    player.driver.reload(THERE)
     player.is_called('row 1, column 2, empty, marks 2 3')
     player.look('{load}uuu', 'row 1, column 1, empty')
     player.look('r', 'row 1, column 1, 1')

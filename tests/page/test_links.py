@@ -65,7 +65,7 @@ def test_result(player: Player) -> None:
     days = [f'{today - datetime.timedelta(days=back):%Y%m%d}' for back in range(3)]
     player.sit(f'towers-3-easy-{days[0]}', PHONE)
     player.waits('is_gone', '#share')
-    # The days before are put there once the page is: Chromium may give a page less than the page before it has kept, where a machine is busy.
+    # The days before are put into the store of the page that is there: one that is opened anew may see an empty one, as `Driver.reload` says.
     solved = [{'kind': 'towers-3-easy', 'when': at, 'seconds': 9, 'hints': 0, 'number': day} for at, day in enumerate(days[1:])]
     player.value(f'(localStorage["puzzles:solved"] = {json.dumps(json.dumps(solved))}, true)')
     solve_by_hints(player)

@@ -29,7 +29,7 @@ def full(player: Player, count: int, link: str = TOWERS) -> None:
     """Opens the list of so many games, besides the present one."""
     player.load(link)
     player.value(COPIES.replace('COUNT', str(count)))
-    player.look('{load}o', is_shown='#games')
+    player.look('o', is_shown='#games')
 
 
 def keys(player: Player) -> List[str]:
