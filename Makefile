@@ -102,8 +102,9 @@ site:
 play: export GAME := $(GAME)
 play: export ID := $(ID)
 play:
-	@case "$$GAME" in ''|towers|unequal) ;; *) echo 'make: GAME is towers or unequal' >&2; exit 2 ;; esac
-	@programs=$$($(READY)) || exit; \
+	@case "$$GAME" in ''|towers|skyscrapers|unequal|futoshiki) ;; *) echo 'make: GAME is towers or unequal' >&2; exit 2 ;; esac
+	@case "$$GAME" in skyscrapers) GAME=towers ;; futoshiki) GAME=unequal ;; esac; \
+	programs=$$($(READY)) || exit; \
 	if [ -t 0 ] && [ -t 1 ]; then PUZZLES_JSON="$${PUZZLES_JSON:-$$programs/puzzles-json}" exec board/puzzles-play "$${GAME:-$${ID:+towers}}" "$$ID"; \
 	else exec tools/play_in_pipe "$$programs/puzzles" "$$GAME" "$$ID"; fi
 

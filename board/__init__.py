@@ -1,6 +1,6 @@
 """The board for playing by hand, puzzles-play, over a whole terminal, and a line mode beside it.
 
-There is no rule of play here. What is wrong, what is full and what follows comes from the program, by the package `playing`, and is painted. From
+There is no rule of play here. Mistakes, full boards and steps all come from the program, by the package `playing`, and are painted. From
 below upwards:
 
 layout       where on a screen the squares, clues and texts are
@@ -18,6 +18,8 @@ prompt       a line typed at a prompt, or from a pipe
 lines        the line mode
 course_screen, course_lines   the cards of the course on the board, and in the line mode
 desk_picture   what a verdict puts over the board
+typed_wish   a line by which the desk thins out
+thin_menu    the menu by which it does
 desk_screen, desk_lines   the setter's desk on the board, and in the line mode
 manual       the keys and the rules, in a few lines
 main         the words of the command line

@@ -24,10 +24,8 @@ _puzzles_offer_files() { # WORD-AT-CURSOR BEFORE-EACH
     mapfile -t COMPREPLY < <(compgen -P "$2" -f -- "$1")
 }
 
-_puzzles() {
-    local word=${COMP_WORDS[COMP_CWORD]} before=${COMP_WORDS[COMP_CWORD - 1]} prefix='' used offered=()
-    used=$(_puzzles_used --id --load --save)
-    COMPREPLY=()
+# In its caller's variables: the word after a '=', the option before it, and the prefix that bash wants again before each answer.
+_puzzles_cut() {
     if [[ $before == = ]]; then
         before=${COMP_WORDS[COMP_CWORD - 2]}
     elif [[ $word == = ]]; then
@@ -35,6 +33,13 @@ _puzzles() {
     elif [[ $word == --*=* ]]; then
         before=${word%%=*} prefix=${word%%=*}= word=${word#*=}
     fi
+}
+
+_puzzles() {
+    local word=${COMP_WORDS[COMP_CWORD]} before=${COMP_WORDS[COMP_CWORD - 1]} prefix='' used offered=()
+    used=$(_puzzles_used --id --load --save)
+    COMPREPLY=()
+    _puzzles_cut
     case $before in
         --load | --save) _puzzles_offer_files "$word" "$prefix"; return ;;
         --id) return ;;
@@ -103,17 +108,11 @@ _puzzles_page() {
 
 _puzzles_sheet() {
     local word=${COMP_WORDS[COMP_CWORD]} before=${COMP_WORDS[COMP_CWORD - 1]} prefix='' used option offered=()
-    used=$(_puzzles_used --size --grade --seed --count --ids --per-page --answers --show-grades --title --paper --output --pdf --browser)
+    used=$(_puzzles_used --size --grade --series --seed --count --names --ids --per-page --answers --show-grades --title --paper --output --pdf --browser)
     COMPREPLY=()
-    if [[ $before == = ]]; then
-        before=${COMP_WORDS[COMP_CWORD - 2]}
-    elif [[ $word == = ]]; then
-        word=''
-    elif [[ $word == --*=* ]]; then
-        before=${word%%=*} prefix=${word%%=*}= word=${word#*=}
-    fi
+    _puzzles_cut
     case $before in
-        --ids | --output | --pdf | --browser) _puzzles_offer_files "$word" "$prefix"; return ;;
+        --names | --ids | --output | --pdf | --browser) _puzzles_offer_files "$word" "$prefix"; return ;;
         --size) _puzzles_offer "$word" 3 4 5 6 7 8 9; return ;;
         --grade)
             case $used in
@@ -126,10 +125,10 @@ _puzzles_sheet() {
         --answers) _puzzles_offer "$word" end none only; return ;;
         --show-grades) _puzzles_offer "$word" answers all none; return ;;
         --paper) _puzzles_offer "$word" a4 letter; return ;;
-        --seed | --count | --title) return ;;
+        --series | --seed | --count | --title) return ;;
     esac
     [[ $used == *' towers '* || $used == *' unequal '* ]] || offered+=(towers unequal)
-    for option in --size --grade --seed --count --ids --per-page --answers --show-grades --steps --example --title --ids-below --words --paper --large --output --pdf --browser --help --version; do
+    for option in --size --grade --series --seed --count --names --ids --per-page --answers --show-grades --steps --all-steps --example --title --ids-below --words --paper --large --duplex --output --pdf --browser --help --version; do
         [[ $used == *" $option "* ]] || offered+=("$option")
     done
     _puzzles_offer "$word" "${offered[@]}"
@@ -138,9 +137,13 @@ _puzzles_sheet() {
 # Files may be named again and again.
 _puzzles_check() {
     local word=${COMP_WORDS[COMP_CWORD]} used option offered=()
-    used=$(_puzzles_used)
+    used=$(_puzzles_used --certificate --seconds --megabytes)
     COMPREPLY=()
-    for option in --json --solutions --quick --help --version; do
+    case ${COMP_WORDS[COMP_CWORD - 1]} in
+        --certificate) _puzzles_offer_files "$word" ''; return ;;
+        --seconds | --megabytes) return ;;
+    esac
+    for option in --json --draw --table --solutions --quick --certificate --needed --seconds --megabytes --help --version; do
         [[ $used == *" $option "* ]] || offered+=("$option")
     done
     _puzzles_offer "$word" "${offered[@]}"

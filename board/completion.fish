@@ -1,7 +1,7 @@
 # Fish completion of puzzles, puzzles-json, puzzles-play, puzzles-page, puzzles-sheet and puzzles-check: games, options that were not used yet, and files where there may be one.
 
 # The options that have a value.
-set -g __puzzles_valued --id --load --save --size --grade --seed --count --ids --per-page --answers --title --paper --output --pdf --browser
+set -g __puzzles_valued --id --load --save --size --grade --seed --count --ids --per-page --answers --title --paper --output --pdf --browser --certificate --seconds --megabytes
 
 # The grades of both games.
 set -g __puzzles_grades trivial easy tricky hard extreme unreasonable recursive
@@ -76,19 +76,23 @@ complete -c puzzles-sheet -n __puzzles_no_game -a 'towers unequal' -d 'the game'
 complete -c puzzles-sheet -n '__puzzles_unused size' -l size -x -a '3 4 5 6 7 8 9' -d 'the sizes of the puzzles'
 complete -c puzzles-sheet -n '__puzzles_unused grade; and not __fish_seen_subcommand_from unequal' -l grade -x -a 'easy hard' -d 'their grades'
 complete -c puzzles-sheet -n '__puzzles_unused grade; and not __fish_seen_subcommand_from towers' -l grade -x -a 'trivial easy tricky' -d 'their grades'
-complete -c puzzles-sheet -n '__puzzles_unused seed' -l seed -x -d 'other puzzles for each number'
+complete -c puzzles-sheet -n '__puzzles_unused series' -l series -x -d 'other puzzles for each number'
+complete -c puzzles-sheet -n '__puzzles_unused seed' -l seed -x -d 'the puzzles of an older sheet'
 complete -c puzzles-sheet -n '__puzzles_unused count' -l count -x -d 'how many there are'
+complete -c puzzles-sheet -n '__puzzles_unused names' -l names -r -F -d 'a sheet for each name'
 complete -c puzzles-sheet -n '__puzzles_unused ids' -l ids -r -F -d 'the puzzles of a list'
 complete -c puzzles-sheet -n '__puzzles_unused per-page' -l per-page -x -a '1 2 3 4 6 9 12' -d 'how many a page has at most'
 complete -c puzzles-sheet -n '__puzzles_unused answers' -l answers -x -a 'end none only' -d 'where the answers are'
 complete -c puzzles-sheet -n '__puzzles_unused show-grades' -l show-grades -x -a 'answers all none' -d 'where grades are told'
 complete -c puzzles-sheet -n '__puzzles_unused steps' -l steps -d 'tell how each answer goes on'
+complete -c puzzles-sheet -n '__puzzles_unused all-steps' -l all-steps -d 'tell all steps of each answer'
 complete -c puzzles-sheet -n '__puzzles_unused example' -l example -d 'the cards of the course come first'
 complete -c puzzles-sheet -n '__puzzles_unused ids-below' -l ids-below -d 'each puzzle has its ID below it'
 complete -c puzzles-sheet -n '__puzzles_unused words' -l words -d 'the foot has the words that make the sheet'
 complete -c puzzles-sheet -n '__puzzles_unused title' -l title -x -d 'stands above'
 complete -c puzzles-sheet -n '__puzzles_unused paper' -l paper -x -a 'a4 letter' -d 'the size of the paper'
 complete -c puzzles-sheet -n '__puzzles_unused large' -l large -d 'one on a page'
+complete -c puzzles-sheet -n '__puzzles_unused duplex' -l duplex -d 'each name begins a new sheet of paper'
 complete -c puzzles-sheet -n '__puzzles_unused output' -l output -r -F -d 'where the page goes'
 complete -c puzzles-sheet -n '__puzzles_unused pdf' -l pdf -r -F -d 'print it to this file'
 complete -c puzzles-sheet -n '__puzzles_unused browser' -l browser -r -F -d 'the Chromium that prints'
@@ -97,7 +101,13 @@ complete -c puzzles-sheet -n '__puzzles_unused version V' -s V -l version -d 'sh
 
 complete -c puzzles-check -e
 complete -c puzzles-check -n '__puzzles_unused json' -l json -d 'write an object for each puzzle'
+complete -c puzzles-check -n '__puzzles_unused draw' -l draw -d 'write each puzzle as a drawing'
+complete -c puzzles-check -n '__puzzles_unused table' -l table -d 'write each as a table with tabs'
 complete -c puzzles-check -n '__puzzles_unused solutions' -l solutions -d 'write up to two solutions of each'
 complete -c puzzles-check -n '__puzzles_unused quick' -l quick -d "don't count what could be left out"
+complete -c puzzles-check -n '__puzzles_unused certificate' -l certificate -r -F -d 'write why, for verify.py'
+complete -c puzzles-check -n '__puzzles_unused needed' -l needed -d 'certificates also show that each item is needed'
+complete -c puzzles-check -n '__puzzles_unused seconds' -l seconds -x -d 'so long a certificate may take'
+complete -c puzzles-check -n '__puzzles_unused megabytes' -l megabytes -x -d 'so long a certificate may be'
 complete -c puzzles-check -n '__puzzles_unused help h' -s h -l help -d 'show a help text'
 complete -c puzzles-check -n '__puzzles_unused version V' -s V -l version -d 'show the version'

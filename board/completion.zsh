@@ -51,28 +51,38 @@ case $service in
     puzzles-check)
         _arguments -S \
             '--json[write an object for each puzzle]' \
+            '--draw[write each puzzle as a drawing]' \
+            '--table[write each as a table with tabs]' \
             '--solutions[write up to two solutions of each]' \
             "--quick[don't count what could be left out]" \
+            '--certificate=[write why, for verify.py]:file:_files' \
+            '--needed[certificates also show that each item is needed]' \
+            '--seconds=[so long a certificate may take]:seconds:' \
+            '--megabytes=[so long a certificate may be]:megabytes:' \
             '(- *)'{-h,--help}'[show a help text]' \
             '(- *)'{-V,--version}'[show the version]' \
-            '*:list, pictures or save file:_files' ;;
+            '*:list, drawings or save file:_files' ;;
     puzzles-sheet)
         _arguments -S \
             '--size=[the sizes of the puzzles]:size, as 5-7:(3 4 5 6 7 8 9)' \
             '--grade=[their grades]:grade:_puzzles_sheet_grade' \
-            '--seed=[other puzzles for each number]:number:' \
+            '--series=[other puzzles for each number]:number:' \
+            '--seed=[the puzzles of an older sheet]:number:' \
             '--count=[how many there are]:number:' \
+            '--names=[a sheet for each name]:list of names:_files' \
             '--ids=[the puzzles of a list]:list of IDs:_files' \
             '--per-page=[how many a page has at most]:number:(1 2 3 4 6 9 12)' \
             '--answers=[where the answers are]:where:(end none only)' \
             '--show-grades=[where grades are told]:where:(answers all none)' \
             '--steps[tell how each answer goes on]' \
+            '--all-steps[tell all steps of each answer]' \
             '--example[the cards of the course come first]' \
             '--title=[stands above]:title:' \
             '--ids-below[each puzzle has its ID below it]' \
             '--words[the foot has the words that make the sheet]' \
             '--paper=[the size of the paper]:paper:(a4 letter)' \
             '--large[one on a page]' \
+            '--duplex[each name begins a new sheet of paper]' \
             '--output=[where the page goes]:page:_files' \
             '--pdf=[print it to this file]:PDF:_files' \
             '--browser=[the Chromium that prints]:browser:_command_names -e' \

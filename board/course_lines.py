@@ -9,7 +9,7 @@ from board.lines import LineMode, say
 from playing.course import FOR_GAMES, Course
 from playing.naming import name
 
-#: What there is to do with a card: by whether it has a number.
+#: The task of a card, by whether it has a number.
 TASK = {True: 'Which number follows in {square}? Type {square} and it.', False: "'why' shows it."}
 
 

@@ -13,10 +13,10 @@ from playing.course import FOR_GAMES, Course
 from playing.game import Start
 from playing.steps import Shown
 
-#: What there is to do with a card: by whether it has a number.
+#: The task of a card, by whether it has a number.
 TASK = {True: 'Put the number that follows into the square with the *.', False: 'h shows it.'}
 
-#: What keys do.
+#: The lines of keys.
 WAY = 'n next card  b card before  h hint  H why  ? keys  q leave'
 
 

@@ -2,28 +2,33 @@
 
 from __future__ import annotations
 
-from typing import Callable, Optional
+from typing import Callable, List, Optional
 
 from board import manual, speech
+from board.file_names import file_name
 from board.lines import OFF_GRID, LineMode, say
 from board.prompt import Asking
 from board.typed_moves import OutOfGrid, typed_item
-from playing import shared_texts, texts
-from playing.board import GAMES
+from board.typed_wish import wish_in
+from playing import shared_texts
 from playing.choices import Choice
 from playing.desk import Desk
 from playing.game import Game
 from playing.games import SIZES
+from playing.naming import game_called
 from playing.verdict import Item
 
 NOT_HERE = "The desk has no such line. 'help' lists those that it has, and 'back' goes back to the game."
+NO_FILE = "'load FILE' reads a puzzle that is drawn in a file."
 NO_BOARD = "'desk unequal' turns to the draft of a game, 'desk unequal 5' and 'blank 5' to a blank board of a size from 3 to 9."
 
-#: What leads from a game to the desk; on the desk back, or to another board.
+NO_WISH = "'thin hard clues first half turn': a grade or 'any', numbers or clues first, and half turn, quarter turn or mirrored."
+
+#: The words that lead from a game to the desk; on the desk back, or to another board.
 ENTERING = ('desk', 'set')
 
 #: Commands of the line mode that are the same here.
-SAME = ('rules', 'board', 'row', 'column', 'clues', 'show', 'save', 'why')
+SAME = ('rules', 'board', 'row', 'column', 'clues', 'show', 'text', 'save', 'why')
 
 
 class GameLines(LineMode):
@@ -34,10 +39,15 @@ class GameLines(LineMode):
         self._commands.update(dict.fromkeys(ENTERING, self._sit))
 
     def _begun(self) -> None:
-        if self._game.at_desk:
+        if self._game.at_desk or self._game.drawn:
             self._sit(self._game.at_desk)
         else:
             super()._begun()
+
+    def _load(self, text: str) -> None:
+        super()._load(text)
+        if self._game.drawn:
+            self._sit('')
 
     def _sit(self, text: str) -> None:
         """The desk, until it is left, or its puzzle is to be played."""
@@ -60,29 +70,37 @@ class DeskLines(LineMode):
         super().__init__(desk, has_board, prompt)
         self._desk = desk
         self._before = game
-        #: What is to be played then; and which game's draft the player goes on with on the board.
+        #: The puzzle that is to be played then; and which game's draft the player goes on with on the board.
         self.choice: Optional[Choice] = None
         self.draft_of = ''
         self._commands = {
             **{name: self._commands[name] for name in SAME},
             **dict.fromkeys(('back', 'quit'), self._quit),
             **dict.fromkeys(ENTERING, lambda text: self._turn_to(text) if text else self._quit('')),
-            **dict.fromkeys(('thin', 'tidy'), lambda _: self._after(desk.thin())),
+            **dict.fromkeys(('thin', 'tidy'), self._thin),
+            'fill': lambda _: self._after(desk.fill()),
             'help': lambda _: say(*manual.DESK_LINES),
             'hint': self._why,
-            'check': lambda _: say(*speech.verdict(desk.board, desk.judge(), texts.BY_LINES.why)),
+            'check': lambda _: say(*speech.verdict(desk.board, desk.judge(), desk.told('below'))),
             'undo': lambda _: self._after(desk.along(-1)),
             'redo': lambda _: self._after(desk.along(1)),
             'blank': lambda text: self._turn_to(text or str(desk.board.size)),
             'game': self._take_game,
+            **dict.fromkeys(('load', 'open'), self._load),
             'play': self._play_it,
         }
+
+    def _games(self) -> List[Game]:
+        return [self._before, self._desk]
 
     def run_with(self, text: str) -> None:
         """Until the desk is left; at first with what the words say."""
         try:
+            self._desk.drawn, self._before.drawn = self._before.drawn, None
             if self._desk.turn_to(self._before.kind, self._before.board.size):
-                if text:
+                if self._desk.take_drawn():
+                    self._begun()
+                elif text:
                     self._turn_to(text)
                 else:
                     self._begun()
@@ -116,16 +134,25 @@ class DeskLines(LineMode):
         before = speech.faults(self._desk.board)
         if self._desk.put(item, number):
             faults = speech.faults(self._desk.board)
-            say(f'{speech.item(self._desk.board, item)}; {self._ruling()}', *([faults] if faults and faults != before else []))
+            say(f'{speech.item(self._desk.board, item)}{self._ruling()}', *([faults] if faults and faults != before else []))
 
     def _after(self, is_changed: bool) -> None:
-        """What there is now, where another puzzle has come."""
+        """The words for the puzzle that is there now."""
         if is_changed:
-            say(f'{speech.items(self._desk.board)}; {self._ruling()}')
+            say(f'{speech.items(self._desk.board)}{self._ruling()}')
 
     def _ruling(self) -> str:
-        """The verdict in a word; how it comes about is said when it is asked for."""
-        return shared_texts.SOLUTIONS.get(self._desk.ruled().kind, 'unknown').lower()
+        """The verdict in a word; how it comes about is said when it is asked for. An empty board says how it is filled."""
+        kind = self._desk.ruled().kind
+        return f'. {self._desk.told("")}' if kind == 'blank' else f'; {shared_texts.SOLUTIONS.get(kind, "unknown").lower()}'
+
+    def _thin(self, text: str) -> None:
+        if self._desk.has_one('thin'):
+            wish = wish_in(text, self._desk.kind, self._desk.verdict.letter)
+            if wish:
+                self._after(self._desk.thin(wish))
+            else:
+                say(NO_WISH)
 
     def _play(self, line: str) -> None:
         if line == 'id':
@@ -136,12 +163,19 @@ class DeskLines(LineMode):
     def _turn_to(self, text: str) -> None:
         """The draft of a game, or a blank board of a size."""
         desk, words = self._desk, text.lower().split()
-        games, sizes = [word for word in words if word in GAMES], [word for word in words if word not in GAMES]
+        games, sizes = [*filter(None, map(game_called, words))], [word for word in words if not game_called(word)]
         if len(games) > 1 or len(sizes) > 1 or not set(sizes) <= set(map(str, SIZES)):
             say(NO_BOARD)
         elif desk.turn_to((games or [desk.kind])[0], int((sizes or ['5'])[0])):
             if sizes:
                 desk.change(f'blank {sizes[0]}')
+            self._begun()
+
+    def _load(self, text: str) -> None:
+        file = file_name(text)
+        if not file:
+            say(NO_FILE)
+        elif self._desk.open(self._desk.kind, file) or self._desk.take_drawn():
             self._begun()
 
     def _take_game(self, _: str) -> None:

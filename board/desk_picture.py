@@ -1,4 +1,4 @@
-"""What the verdict of the setter's desk puts over the board: signs at the items that it marks, and numbers of solutions."""
+"""The marks that the verdict of the setter's desk puts over the board: signs at the items that it marks, and numbers of solutions."""
 
 from __future__ import annotations
 
@@ -10,7 +10,7 @@ from playing.naming import Place
 from playing.verdict import Item, Verdict
 
 #: The sign at an item that may be the mistake, and at one that isn't needed.
-SIGNS = {'none': ('?', Style.WRONG), 'one': ('-', Style.SHOWN)}
+SIGNS = {'none': ('?', Style.BLAMED), 'one': ('-', Style.SHOWN)}
 
 
 def which(verdict: Verdict) -> str:

@@ -38,7 +38,7 @@ class Chosen(NamedTuple):
 
 
 class Dialogues:
-    """What is asked and told on a screen."""
+    """Questions and sentences on a screen."""
 
     def __init__(self, screen: Screen, background: Background) -> None:
         self._screen = screen
@@ -104,10 +104,10 @@ class Dialogues:
             elif name != 'resize':
                 return key
 
-    def choose(self, title: str, rows: Sequence[str], at: int = 0) -> Optional[Chosen]:
-        """Which of the rows, from one on; nothing where it was left. What does nothing here is no key for the board either."""
+    def choose(self, title: str, rows: Sequence[str], at: int = 0, may_delete: bool = True) -> Optional[Chosen]:
+        """Which of the rows, from one on; nothing where it was left. A key that does nothing here is none for the board either."""
         while True:
-            self._screen.paint(self._rows(title, rows, at))
+            self._screen.paint(self._rows(title, rows, at, may_delete))
             name = self._screen.key().name
             room = max(1, self._screen.size[0] - LIST_LINES)
             if name in WAYS:
@@ -116,19 +116,19 @@ class Dialogues:
                 at = min(max(0, at + (room if name == 'page down' else -room)), len(rows) - 1)
             elif name in ('enter', ' '):
                 return Chosen(at)
-            elif name == 'x':
+            elif name == 'x' and may_delete:
                 return Chosen(at, is_deleted=True)
             elif is_number(name) and int(name) < len(rows):
                 return Chosen(int(name))
             elif name == 'q' or name in LEAVING:
                 return None
 
-    def _rows(self, title: str, rows: Sequence[str], at: int) -> List[Piece]:
+    def _rows(self, title: str, rows: Sequence[str], at: int, may_delete: bool) -> List[Piece]:
         """As many rows as the screen has room for, the chosen one among them."""
         height = self._screen.size[0]
         room = max(1, height - LIST_LINES)
         first = max(0, at - room + 1)
-        foot = 'arrows and Enter, or a number, choose; x deletes; Escape or q goes back'
+        foot = f'arrows and Enter, or a number, choose; {"x deletes; " if may_delete else ""}Escape or q goes back'
         pieces = [Piece(0, 1, title, Style.TITLE), Piece(height - 1, 1, foot, Style.GRID)]
         for number, row in enumerate(rows[first : first + room], first):
             pieces.append(Piece(number - first + 2, 1, f'{number if number < 10 else " "} {row}', is_cursor=number == at))

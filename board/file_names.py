@@ -16,7 +16,7 @@ def file_name(text: str) -> str:
 
 
 def question(file: str) -> str:
-    """What is to be asked before something is saved there; nothing where nothing is there, or something that no save goes to."""
+    """The question before something is saved there; nothing if nothing is there, or something to which no save goes."""
     if not os.path.lexists(file) or files.other_than_file(file):
         return ''
     found = files.read(file)
@@ -28,7 +28,7 @@ def question(file: str) -> str:
 
 
 def names_after(text: str) -> List[str]:
-    """What may come in place of a name that is being typed: names of files that begin so, folders with a `/`."""
+    """The names that may come in place of a name that is being typed: files that begin so, folders with a `/`."""
     folder, begin = os.path.split(file_name(text))
     names = [name for name in sorted(files.names_in(folder or '.')[0]) if name.startswith(begin) and (begin or not name.startswith('.'))]
     head = text[: len(text) - len(begin)]

@@ -5,7 +5,7 @@ from __future__ import annotations
 import os
 import time
 from functools import partial
-from typing import Callable, Dict, List, Optional
+from typing import Callable, Dict, List, Optional, Sequence
 
 from board import keys, manual, speech
 from board.dialogues import Dialogues, moving
@@ -18,10 +18,11 @@ from board.screen import Screen
 from playing import shared_texts
 from playing.board import GAMES, Board
 from playing.choices import Choice
+from playing.drawings.writing import as_text
 from playing.game import Game, Start
 from playing.games import GRADES
 from playing.hint_walk import HintPart, HintWalk, Press
-from playing.naming import Place
+from playing.naming import PRINTED_AS, Place
 from playing.state import Home, SavedGame
 from playing.steps import Shown
 from playing.texts import BY_KEYS, STAYS, last_moves, of_wrong
@@ -44,7 +45,7 @@ class FullScreen:
         self._is_pencil = False
         self._key = Key('')
         actions = self._all_actions()
-        #: What each key does, but those that move or walk.
+        #: The act of each key but those that move or walk.
         self._actions = {key: actions[name] for key, name in {**keys.ACTIONS, **keys.TERMINAL}.items()}
         self._file = ''
         self._shown = Shown()
@@ -69,12 +70,14 @@ class FullScreen:
             'next square': self._next_square,
             'square before': partial(self._next_square, -1),
             'tidy': self.game.toggle_marks,
+            'hints': self.game.toggle_hints,
             'undo': partial(play, 'undo'),
             'redo': partial(play, 'redo'),
             'done mark': self._done_mark,
             'restart': self.game.restart,
             'hint': self._hint,
             'why': self._why,
+            'keep': partial(self._say, shared_texts.KEEP_AT_END),
             'check': self.game.check,
             'back': self.game.back,
             'solve': self.game.solve,
@@ -96,6 +99,10 @@ class FullScreen:
 
     def confirm(self, question: str) -> bool:
         return self._dialogues.confirm(question)
+
+    def choose(self, title: str, rows: Sequence[str]) -> Optional[int]:
+        chosen = self._dialogues.choose(title, rows, may_delete=False)
+        return chosen.at if chosen else None
 
     def waiting(self, may_stop: bool) -> bool:
         """A key that was pressed before it was offered to stop stops nothing, and is heard afterwards."""
@@ -122,6 +129,7 @@ class FullScreen:
 
     def run(self) -> None:
         """Until the player leaves, or goes on in lines of text."""
+        self._screen.games = self._games()
         try:
             while not self._is_over:
                 self._draw()
@@ -131,6 +139,10 @@ class FullScreen:
             # A signal or a closed window ends it, too.
             if not self.wants_lines:
                 self.game.leave()
+
+    def _games(self) -> List[Game]:
+        """The games that are open here."""
+        return [self.game]
 
     def _answer(self, key: str) -> None:
         self._before_offer = None
@@ -183,9 +195,13 @@ class FullScreen:
             self.game.message = ''
         self._screen.paint(self._pieces())
 
-    def _page(self, title: str, lines: List[str]) -> None:
-        """A page of text. The key that closes it does its work on the board, unless it is one to close pages with."""
+    def _page(self, title: str, lines: List[str], more: Sequence[str] = ()) -> None:
+        """A page of text; the key that shows it shows more on a second one, if there is more. The key that closes it does its work on the board, unless it is
+        one to close pages with.
+        """
         key = self._dialogues.page(title, lines)
+        if more and key.name == self._key.name:
+            key = self._dialogues.page(title, more)
         if key.name not in keys.CLOSING and (key.name in self._actions or key.name in keys.STEPS or is_number(key.name)):
             self._screen.give_back(key)
 
@@ -274,11 +290,11 @@ class FullScreen:
             self._end_hint(walk)
         elif press is Press.STEPS:
             self._walk(walk, 0)
-        elif walk.is_refutation:
+        elif walk.is_refutation and not walk.hint.has_wrong_marks:
             self.game.message = f'{of_wrong(walk.moves, BY_KEYS)} h again: why.'
         else:
             self._show(walk.look())
-            self.game.message += f' h again: {walk.what_follows}.'
+            self.game.message = ' '.join(filter(None, [self.game.message, self.game.origin_told(walk), f'h again: {walk.what_follows}.']))
 
     def _show(self, part: HintPart) -> None:
         """Shows a part of a hint, and points at what it speaks of."""
@@ -291,7 +307,7 @@ class FullScreen:
         walk = self.game.hint_walk()
         if walk:
             walk.skip_to_steps()
-            self._page('Why', walk.whole())
+            self._page('. '.join(filter(None, ['Why', self.game.origin_told(walk)])), walk.whole())
             self._walk(walk, 0)
 
     def _walk(self, walk: HintWalk, at: int) -> None:
@@ -299,21 +315,25 @@ class FullScreen:
         self._step = min(max(0, at), walk.length - 1)
         self._show(walk.part(self._step))
         is_last = self._step == walk.length - 1
-        if not walk.is_refutation:
-            keys = 'Enter puts it in' if is_last else 'arrows walk  h the number'
+        if not walk.is_refutation and is_last:
+            keys = 'Enter puts it in' + ('  k keeps what is out' if walk.steps else '')
+        elif not walk.is_refutation:
+            keys = 'arrows walk  h the number'
         elif walk.moves:
             keys = f'{"Enter" if is_last else "arrows walk  b"} takes {last_moves(walk.moves)} back'
         else:
             keys = 'arrows walk'
-        self._way = f'{self._step + 1} of {walk.length}  {keys}'
+        self._way = keys if is_last else f'{self._step + 1} of {walk.count}  {keys}'
 
     def _walk_by(self, key: str) -> bool:
         """Whether a key walks along the steps that are shown, or leaves them."""
         walk = self.game.hint_walk() if self._step is not None else None
-        if walk is None or self._step is None or key not in {*keys.ALONG, 'enter', 'escape'}:
+        if walk is None or self._step is None or key not in {*keys.ALONG, 'enter', 'escape', keys.KEEP}:
             return False
         if key in keys.ALONG:
             self._walk(walk, self._step + keys.ALONG[key])
+        elif key == keys.KEEP:
+            self._keep(walk, self._step)
         elif key == 'escape':
             self._step = None
         elif self._step < walk.length - 1:
@@ -321,6 +341,16 @@ class FullScreen:
         else:
             self._end_hint(walk)
         return True
+
+    def _keep(self, walk: HintWalk, at: int) -> None:
+        """At the last step, leaves the walk with what it ruled out kept in the marks; otherwise the walk goes on."""
+        if walk is self.game.told_walk and at == walk.length - 1 and self.game.keep_ruled_out(walk):
+            self._step = None
+            self.game.message = f'{shared_texts.KEPT} h: the number. {self.game.message}'.strip()
+            return
+        why = self.game.message or shared_texts.KEEP_AT_END
+        self._walk(walk, at)
+        self.game.message = why
 
     def _end_hint(self, walk: HintWalk) -> None:
         self._step = None
@@ -440,11 +470,12 @@ class FullScreen:
         chosen = self.game.chosen
         if chosen:
             lines += ['', chosen.told, '', f'puzzles-play {chosen.game} {chosen.words}']
-        self._page(f'The ID of this puzzle, {name(board)} {grade(board)}', lines)
+        lines += ['', 'i again: the puzzle as text, as the usual program copies it']
+        self._page(f'The ID of this puzzle, {name(board)} {grade(board)}', lines, as_text(board))
 
     def _help(self) -> None:
         kind = self.game.kind
-        self._page(f'Keys, and the rules of {GAMES[kind]}', [*manual.KEYS, *manual.RULES[kind], *manual.LOOKS[kind], *manual.WORDS])
+        self._page(f'Keys, and the rules of {GAMES[kind]} ({PRINTED_AS[kind]})', [*manual.KEYS, *manual.RULES[kind], *manual.LOOKS[kind], *manual.WORDS])
 
     # --- the screen, and the end ---
 

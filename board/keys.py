@@ -22,7 +22,7 @@ STEPS: Dict[str, Tuple[int, int]] = {
     'down': (0, 1),
 }
 
-#: What each key does, by the name of an action that a front end has.
+#: The act of each key, by the name of an action that a front end has.
 ACTIONS: Dict[str, str] = {
     'enter': 'enter',
     'p': 'pencil',
@@ -55,8 +55,13 @@ ACTIONS: Dict[str, str] = {
     '\x03': 'quit',
 }
 
+#: The key that keeps what a hint ruled out, after its last step. On the page it goes up, and `x` keeps.
+KEEP = 'k'
+
 #: The same for keys of a terminal alone.
 TERMINAL: Dict[str, str] = {
+    KEEP: 'keep',
+    'K': 'hints',
     '\t': 'next square',
     'shift tab': 'square before',
     'T': 'lines',
@@ -66,8 +71,11 @@ TERMINAL: Dict[str, str] = {
     'resize': 'resize',
 }
 
-#: On the setter's desk: the sign on a side of the square, by which that is the greater one.
-SIGNS: Dict[str, Tuple[int, int]] = {'<': (-1, 0), '>': (1, 0), '^': (0, -1), 'v': (0, 1)}
+#: On the setter's desk: where a sign stands as it is read, right of the chosen square or below it, and whether that square is the greater one.
+SIGNS: Dict[str, Tuple[int, int, bool]] = {'<': (1, 0, False), '>': (1, 0, True), '^': (0, 1, False), 'v': (0, 1, True)}
+
+#: The key there that fills all clues or signs in.
+FILL = 'F'
 
 #: Keys that walk along the steps of a hint.
 ALONG: Dict[str, int] = {'left': -1, 'up': -1, 'right': 1, 'down': 1}

@@ -5,17 +5,20 @@ from __future__ import annotations
 import shutil
 import sys
 import textwrap
-from typing import Callable, Dict, Optional
+from typing import Callable, Dict, Optional, Sequence
 
 from board import manual, speech
 from board.file_names import file_name, question
-from board.prompt import Asking, asking
+from board.prompt import Asking, asking, tried_again
 from board.typed_moves import Kind, OutOfGrid, TypedMove, typed_move
-from playing.board import GAMES, Board
+from playing import shared_texts
+from playing.board import Board
 from playing.choices import FIRST_GRADE, Choice, Unknown, choice_of, remembered
+from playing.drawings.writing import as_text
 from playing.game import Game, Start
 from playing.games import GRADES
 from playing.hint_walk import HintWalk, Press
+from playing.naming import game_called
 from playing.printable import printable
 from playing.texts import BY_LINES, of_solved, of_wrong
 from playing.typed import is_number
@@ -33,6 +36,8 @@ SHORT: Dict[str, str] = {
     'm': 'move M',
     'P': 'possible',
     'M': 'tidy',
+    'k': 'keep',
+    'K': 'remember',
     'c': 'check',
     'b': 'back',
     'S': 'solve',
@@ -52,6 +57,7 @@ OTHERS: Dict[str, str] = {
 }
 
 NO_BOARD = 'The board needs a terminal with a screen.'
+CHOOSE = 'Type the number of one, or an empty line for none.'
 OFF_GRID = 'Rows and columns count from 1 to {size}.'
 
 
@@ -89,13 +95,16 @@ class LineMode:
             'possible': self._possible,
             'hint': self._hint,
             'why': self._why,
+            'keep': self._keep,
             'check': lambda _: self._game.check(),
             'completable': lambda _: self._game.check(),
             'solve': self._solve,
             'tidy': lambda _: self._game.toggle_marks(),
+            'remember': lambda _: self._game.toggle_hints(),
             'back': self._back,
             'show': lambda _: self._show(),
             'status': lambda _: say(f'{self._game.board.session.status} {self._position()}'),
+            'text': lambda _: say_whole(*as_text(self._game.board)),
             'grade': lambda _: say(speech.grade(self._game.board, self._game.grade)),
             'quit': self._quit,
         }
@@ -103,8 +112,13 @@ class LineMode:
     # --- the game's front end ---
 
     def confirm(self, question: str) -> bool:
-        answer = self._prompt.read(f'{question} y/N ')
+        answer = self._typed(f'{question} y/N ')
         return answer in ('y', 'Y', 'yes')
+
+    def choose(self, title: str, rows: Sequence[str]) -> Optional[int]:
+        say(title, *(f'{at}  {row}' for at, row in enumerate(rows)), CHOOSE)
+        answer = self._typed('number> ') or ''
+        return int(answer) if is_number(answer) and int(answer) < len(rows) else None
 
     def waiting(self, may_stop: bool) -> bool:
         if self._prompt.is_typed and not self._has_told:
@@ -140,9 +154,18 @@ class LineMode:
             self._begun()
         return self._game.has_game
 
+    def _typed(self, prompt: str) -> Optional[str]:
+        """A line; nothing at the end of the input."""
+        with tried_again(self._games()):
+            return self._prompt.read(prompt)
+
+    def _games(self) -> Sequence[Game]:
+        """The games that are open here."""
+        return [self._game]
+
     def _read(self) -> None:
         """Reads a line, and answers it."""
-        line = self._prompt.read(f'{self._game.kind} {self._position()}> ')
+        line = self._typed(f'{self._game.kind} {self._position()}> ')
         self._has_told = False
         self._game.keep_again()
         if line is None:
@@ -211,7 +234,7 @@ class LineMode:
         self._say_state(after, speech.faults(before))
 
     def _say_state(self, board: Board, told: str = '') -> None:
-        """What is contradicted, where that isn't told yet, and whether the board is full, and solved."""
+        """The contradictions that aren't told yet, and whether the board is full, and solved."""
         faults = speech.faults(board)
         if faults and faults != told:
             say(faults)
@@ -270,10 +293,12 @@ class LineMode:
         if walk is None:
             return
         press = walk.press()
-        if press is Press.LOOK and walk.is_refutation:
+        if press is Press.LOOK and walk.hint.has_wrong_marks:
+            say(f"{walk.look().text} 'hint' again says {walk.what_follows}.")
+        elif press is Press.LOOK and walk.is_refutation:
             say(f"{of_wrong(walk.moves, BY_LINES)} 'hint' again says why.")
         elif press is Press.LOOK:
-            say(f"{walk.look().text} 'hint' again gives {walk.what_follows}.")
+            say(' '.join(filter(None, [walk.look().text, self._game.origin_told(walk), f"'hint' again gives {walk.what_follows}."])))
         elif press is Press.STEPS:
             self._steps(walk)
         else:
@@ -283,7 +308,8 @@ class LineMode:
         """All steps, and the last sentence where that says no number."""
         sentences = walk.whole()
         say(*(sentences if walk.is_refutation else sentences[:-1]))
-        say(f"'hint' again {'takes the moves back' if walk.is_refutation else 'puts the number in'}. 'why 1' lists the numbers before step 1.")
+        ways = "'hint' again takes the moves back. " if walk.is_refutation else "'hint' again puts the number in. 'keep' keeps what they rule out. "
+        say(f"{'' if walk.hint.has_wrong_marks else ways}'why 1' lists the numbers before step 1.")
 
     def _end_hint(self, walk: HintWalk) -> None:
         before = self._game.board
@@ -302,7 +328,7 @@ class LineMode:
             return
         walk.skip_to_steps()
         if not text:
-            say(*walk.whole())
+            say(*filter(None, [self._game.origin_told(walk)]), *walk.whole())
         elif is_number(text) and 1 <= int(text) <= walk.length:
             self._one_step(walk, int(text) - 1)
         else:
@@ -314,6 +340,13 @@ class LineMode:
             squares = [place for place in board.squares if place in part.shown.left and (place in part.shown.rests_on or place in part.shown.struck)]
             say(f'Left before it: {speech.left(part.shown.left, squares)}.')
         say(part.text)
+
+    def _keep(self, _: str) -> None:
+        before, walk = self._game.board, self._game.told_walk
+        if walk is None:
+            say(shared_texts.KEEP_AT_END)
+        elif self._game.keep_ruled_out(walk):
+            say(speech.change(before, self._game.board))
 
     def _possible(self, _: str) -> None:
         before = self._game.board
@@ -340,8 +373,8 @@ class LineMode:
         board = self._game.board
         # `hard 9, number 7` as it is told; the commas of an ID stay.
         words = (text if set(text) & set(':!#') else text.replace(',', ' ')).split()
-        game = next((word.lower() for word in words if word.lower() in GAMES), self._game.kind)
-        words = [word for word in words if word.lower() not in GAMES]
+        game = next(filter(None, map(game_called, words)), self._game.kind)
+        words = [word for word in words if not game_called(word)]
         present = Choice(game, board.size, GRADES[game].get(board.session.letter, FIRST_GRADE))
         try:
             if all(word.isdecimal() or word.isalpha() for word in words):
@@ -409,9 +442,9 @@ class LineMode:
         self._is_over = not sys.stdin.isatty() or self._game.may_be_left()
 
 
-def say_whole(line: str) -> None:
-    """Prints a line as it is, however long, so that it can be copied."""
-    print(printable(line), flush=True)
+def say_whole(*lines: str) -> None:
+    """Prints lines as they are, however long, so that they can be copied."""
+    print(*map(printable, lines), sep='\n', flush=True)
 
 
 def say(*lines: str) -> None:

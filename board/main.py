@@ -13,6 +13,7 @@ from playing.choices import are_words, choice_of, first, ids, unread, without_nu
 from playing.command import SIGNALLED, complain, me, refuse, told_of_itself, unwritten, with_program, written
 from playing.course import OVER, Course
 from playing.game import Game, Start, is_there
+from playing.naming import game_called
 from playing.printable import printable
 from playing.state import State
 from playing.typed import is_number
@@ -27,10 +28,15 @@ usage: {me} [--lines] [GAME] [ID or FILE]
        {me} --ids [GAME] [SIZE] [GRADE] [number N or today] [COUNT]
        {me} --help | --version
 
-GAME is towers or unequal. Without an ID or a save file the last game is
-continued; if there is none, a new one begins. ? shows the keys. With --lines,
-or on a terminal without a screen, you play by lines of text, and 'help' lists
-them. This works in a pipe, too. For scripts there is puzzles-json GAME.
+GAME is towers, which is also called skyscrapers, or unequal, also called
+futoshiki. Without an ID or a file the last game is continued; if there is
+none, a new one begins. ? shows the keys. With --lines, or on a terminal
+without a screen, you play by lines of text, and 'help' lists them. This works
+in a pipe, too. For scripts there is puzzles-json GAME.
+
+FILE is a save, or a text with printed puzzles, as they are drawn or copied, or
+with IDs. A drawing is shown on the desk first, and p plays it there. If there
+are several, you choose one. puzzles-check --help has a drawing of each game.
 
 A SIZE from 3 to 9 or a GRADE begins a new game. The grades of Towers are easy,
 hard, extreme and unreasonable; those of Unequal are trivial, easy, tricky,
@@ -49,7 +55,7 @@ LEARN = 'learn'
 
 
 class Words(NamedTuple):
-    """What the command line asks for."""
+    """The wishes of the command line."""
 
     game: Optional[str]
     #: An ID or a file.
@@ -82,7 +88,7 @@ def main(words: List[str], here: str) -> int:
 
 
 def read(words: List[str]) -> Optional[Words]:
-    """What the words ask for; nothing where they can't be read. An empty word is none."""
+    """The wishes of the words; nothing where they can't be read. An empty word is none."""
     game, plain = parted(words)
     if any(word.startswith('-') for word in plain) or {'--lines', '--ids'} <= set(words):
         return None
@@ -101,7 +107,7 @@ def read(words: List[str]) -> Optional[Words]:
 
 def parted(words: List[str]) -> Tuple[Optional[str], List[str]]:
     """The game that is named, and the words that are neither this nor an option. That for the course may stand before the game."""
-    plain = [word for word in words if word not in ('--lines', '--ids', '')]
+    plain = [game_called(word) or word for word in words if word not in ('--lines', '--ids', '')]
     if plain[:1] == [LEARN] and plain[1:2] and plain[1] in GAMES:
         plain[:2] = [plain[1], LEARN]
     return (plain[0], plain[1:]) if plain and plain[0] in GAMES else (None, plain)

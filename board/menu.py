@@ -15,7 +15,7 @@ from playing.typed import is_number
 
 BY_ID = 'by an ID or a seed'
 
-#: What the number is to be, where none is typed.
+#: Ways to come by the number, if none is typed.
 BY_CHANCE, TODAYS, TYPED = 'random', "today's", 'typed'
 
 #: A window that has fewer lines has none free between those of the menu.
@@ -49,7 +49,7 @@ class Menu:
         self._take(present)
 
     def run(self, sentence: str = '') -> Optional[Choice]:
-        """What was chosen; nothing where another key went back. It may be run again, with a sentence on why that didn't begin."""
+        """The player's choice; nothing where another key went back. It may be run again, with a sentence on why that didn't begin."""
         self._sentence = sentence
         while True:
             self._screen.paint(self._pieces())

@@ -18,7 +18,8 @@ from playing.texts import of_solved
 
 
 class Style(Enum):
-    """How a piece looks. Red and dim pieces have a sign of their own too, for where there are no colours."""
+    """How a piece looks. Red and dim pieces have a sign of their own too, for where there are no colours. Mistakes alone are red: just the
+    errors that the program tells of the board."""
 
     PLAIN = 'plain'
     TITLE = 'title'
@@ -30,9 +31,11 @@ class Style(Enum):
     DONE = 'done'
     WRONG = 'wrong'
     SHOWN = 'shown'
-    #: What is left in a square while a hint is told, and what the step rules out.
+    #: The numbers left in a square while a hint is told, and those that the step rules out.
     LEFT = 'left'
     STRUCK = 'struck'
+    #: An item of a setter's puzzle that may be the mistake.
+    BLAMED = 'blamed'
 
 
 class Piece(NamedTuple):
@@ -47,7 +50,7 @@ class Piece(NamedTuple):
 
 
 class Look(NamedTuple):
-    """What is drawn besides the board."""
+    """The parts that are drawn besides the board."""
 
     cursor: Optional[Place] = None
     is_pencil: bool = False
@@ -58,13 +61,13 @@ class Look(NamedTuple):
     has_lines: bool = True
     #: How many hints the game had.
     hints: int = 0
-    #: What a hint points at.
+    #: The places at which a hint points.
     shown: Shown = Shown()
     #: The letter of the puzzle's grade, by the program's own steps.
     grade: str = ''
-    #: What keys do while one walks along the steps of a hint; nothing otherwise.
+    #: The line of keys while one walks along the steps of a hint; nothing otherwise.
     way: str = ''
-    #: What the title says, where that isn't how far a game is.
+    #: The title's end, if that isn't how far a game is.
     title: Sequence[str] = ()
 
 
@@ -72,7 +75,7 @@ class Look(NamedTuple):
 LINES = ('┌┬┐', '├┼┤', '└┴┘', '─', '│', '·')
 PLAIN_LINES = ('+++', '+++', '+++', '-', '|', '.')
 
-#: What a sentence says of a square, a row or a column.
+#: The words for a square, a row or a column.
 NAMED = re.compile(r'\br[1-9]c[1-9]|\b(row|column) [1-9]', re.IGNORECASE)
 
 KEYS_BELOW = [
@@ -97,7 +100,7 @@ def wrapped(text: str, columns: int) -> List[str]:
 
 
 def too_small(board: Board, lines: int, columns: int) -> List[Piece]:
-    """What is shown where the board has no room."""
+    """The lines that are shown if the board has no room."""
     wide, tall = wanted(board.size, board.session.game == 'towers')
     text = (
         f'{name(board)} needs a window of {wide} columns and {tall} lines, and this one has {columns} and {lines}. '
@@ -141,7 +144,7 @@ def told(board: Board, look: Look, layout: Layout) -> str:
 
 
 def told_of_full(board: Board, hints: int) -> str:
-    """What there is to say of a full board, after so many hints; nothing of another one."""
+    """The sentence on a full board, after so many hints; nothing of another one."""
     if board.is_solved:
         return of_solved(board.session.status, hints)
     return shared_texts.FULL_AND_WRONG if board.is_full else ''
@@ -203,7 +206,7 @@ def _left(board: Board, layout: Layout) -> Iterator[Piece]:
 
 
 def preview_text(left: List[int], struck: List[int], size: int, room: int) -> Tuple[str, str]:
-    """What is left in a square on one line, and after an x what the step rules out; that alone where there is no room for both."""
+    """The numbers left in a square on one line, and after an x those that the step rules out; these alone where there is no room for both."""
     kept = [number for number in left if number not in struck]
     if not struck:
         return marks_text(kept, size, room), ''
@@ -274,10 +277,10 @@ def _inside(board: Board, layout: Layout, place: Place, look: Look) -> Iterator[
 
 
 def _preview(board: Board, layout: Layout, place: Place, look: Look) -> Iterator[Piece]:
-    """What is left in an empty square before a step of a hint, in place of the player's marks; what the step rules out has an x."""
+    """The numbers left in an empty square before a step of a hint, in place of the player's marks; those that the step rules out have an x."""
     left, struck = (look.shown.left or {}).get(place, []), look.shown.struck.get(place, [])
     if not left:
-        yield Piece(*layout.centre(place), '!', Style.WRONG)
+        yield Piece(*layout.centre(place), '!', Style.STRUCK)
     elif layout.deep > 1:
         for number in left:
             is_struck = number in struck
@@ -380,8 +383,8 @@ def _side_title(board: Board, look: Look) -> List[str]:
 
 
 def _keys_aside(layout: Layout, look: Look, side: int) -> List[str]:
-    """What keys do; while one walks along the steps of a hint what they do then, which leaves more room for its sentences."""
-    # What one key does stands on one line.
+    """The line of keys; while one walks along the steps of a hint that of the walk, which leaves more room for its sentences."""
+    # The words for one key stand on one line.
     whole = '  '.join(words.replace(' ', '\0') for words in look.way.split('  '))
     return [line.replace('\0', ' ') for line in wrapped(whole, layout.columns - side)] or KEYS_ASIDE
 

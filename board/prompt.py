@@ -7,10 +7,11 @@ import os
 import signal
 import sys
 import termios
-from typing import Optional, Protocol
+from typing import Iterator, Optional, Protocol, Sequence
 
 from board.file_names import names_after
 from playing.command import end_by_signals
+from playing.kept_game import AGAIN, KeptGame
 from playing.printable import printable
 
 try:
@@ -23,11 +24,35 @@ else:
 #: Commands after which comes the name of a file.
 FILE_COMMANDS = ('load', 'save')
 
-#: What ends the line mode from outside.
+#: The signals that end the line mode from outside.
 ENDING = (signal.SIGHUP, signal.SIGTERM)
 
 #: No key interrupts.
 NO_KEY = b'\0'
+
+
+@contextlib.contextmanager
+def tried_again(games: Sequence[KeptGame]) -> Iterator[None]:
+    """Each second of this those that aren't kept are tried to be kept once more."""
+
+    def again(*_: object) -> None:
+        for game in games:
+            game.keep_again()
+        begin()
+
+    def begin() -> None:
+        # Not before the last time is over.
+        if not all(game.is_kept for game in games):
+            signal.setitimer(signal.ITIMER_REAL, AGAIN)
+
+    signal.signal(signal.SIGALRM, again)
+    begin()
+    try:
+        yield
+    finally:
+        # One that is on its way does nothing.
+        signal.signal(signal.SIGALRM, lambda *_: None)
+        signal.setitimer(signal.ITIMER_REAL, 0)
 
 
 class Asking(Protocol):
@@ -122,7 +147,7 @@ class Prompt:
             termios.tcsetattr(0, termios.TCSADRAIN, self._terminal)
 
     def _completion(self, _: str, at: int) -> Optional[str]:
-        """What may come, by number, in place of the last word of a file's name that is being typed."""
+        """The names that may come, by number, in place of the last word of a file's name that is being typed."""
         line = readline.get_line_buffer()[: readline.get_endidx()]
         command, blank, name = line.partition(' ')
         names = names_after(name) if blank and command.lower() in FILE_COMMANDS else []

@@ -10,13 +10,14 @@ import select
 import signal
 import sys
 import time
-from typing import Deque, Dict, List, Mapping, Optional, Tuple, Union
+from typing import Deque, Dict, List, Mapping, Optional, Sequence, Tuple, Union
 
 from collections import deque
 
 from board.keys import Key
 from board.picture import Piece, Style
 from board.sequences import Sequences
+from playing.kept_game import AGAIN, KeptGame
 from playing.printable import printable
 
 #: The keys that are no characters, by the names that `keys` knows.
@@ -44,6 +45,7 @@ COLOURS = {
     Style.SHOWN: (curses.COLOR_YELLOW, 178),
     Style.LEFT: (curses.COLOR_CYAN, 37),
     Style.STRUCK: (curses.COLOR_MAGENTA, 170),
+    Style.BLAMED: (curses.COLOR_MAGENTA, 141),
 }
 
 #: The ground of what a hint rests on, and dark colours to write on it.
@@ -53,7 +55,7 @@ ON_TINT = {
     Style.OWN: (curses.COLOR_BLACK, 22),
     Style.MARKS: (curses.COLOR_BLUE, 19),
     Style.LEFT: (curses.COLOR_BLUE, 24),
-    Style.STRUCK: (curses.COLOR_RED, 89),
+    Style.STRUCK: (curses.COLOR_MAGENTA, 90),
 }
 DARK = (curses.COLOR_BLACK, 16)
 
@@ -67,6 +69,7 @@ ATTRIBUTES = {
     Style.WRONG: curses.A_BOLD,
     Style.SHOWN: curses.A_BOLD,
     Style.STRUCK: curses.A_BOLD,
+    Style.BLAMED: curses.A_BOLD | curses.A_UNDERLINE,
 }
 
 ENDING = (signal.SIGHUP, signal.SIGTERM, signal.SIGINT)
@@ -74,6 +77,13 @@ ENDING = (signal.SIGHUP, signal.SIGTERM, signal.SIGINT)
 
 class Unfit(Exception):
     """The terminal can't show a board. The text says why."""
+
+
+def keep_again(games: List[KeptGame]) -> Key:
+    """Tries to keep these, and gives the key by which that is seen."""
+    for game in games:
+        game.keep_again()
+    return Key('resize')
 
 
 def has_lines(env: Mapping[str, str]) -> bool:
@@ -113,6 +123,8 @@ class Screen:
         self._pairs = 0
         self._keys: Deque[Key] = deque()
         self._sequences = Sequences()
+        #: The games that may not be kept, whatever is over their boards.
+        self.games: Sequence[KeptGame] = ()
         self._ended = 0
         self._wake = self._waker = -1
 
@@ -182,7 +194,7 @@ class Screen:
         return self._tinted.get(piece.style, plain) if piece.is_tinted else plain
 
     def redraw(self) -> None:
-        """What is shown next is written anew, whatever is there."""
+        """The next picture is written anew, whatever is there."""
         self._window.clearok(True)
 
     def suspend(self) -> None:
@@ -191,11 +203,17 @@ class Screen:
         self.redraw()
 
     def key(self) -> Key:
-        """The next key, or `resize`. Raises `SystemExit` where the program is to end, or the terminal is gone."""
-        empty = 0
+        """The next key; or `resize`, after which all is painted anew: each second that, too, where a game isn't kept. Raises `SystemExit` where the program is
+        to end, or the terminal is gone.
+        """
+        empty, end = 0, time.monotonic() + AGAIN
+        unkept = [game for game in self.games if not game.is_kept]
         while not self._keys:
+            rest = max(0, end - time.monotonic()) if unkept else None
+            if rest == 0:
+                return keep_again(unkept)
             # Where a terminal is gone there is always something to read, which is nothing.
-            empty = 0 if self._fill(None) else empty + 1
+            empty = 0 if self._fill(rest) else empty + 1
             if empty > 100:
                 time.sleep(0.01)
             if empty > 300:
@@ -223,7 +241,7 @@ class Screen:
     def _fill(self, seconds: Optional[float]) -> bool:
         """Waits for keys, or for a signal. False where there was something to read, and nothing came."""
         wait = self._sequences.wait(time.monotonic())
-        ready = select.select([0, self._wake], [], [], wait if seconds is None else seconds)[0]
+        ready = select.select([0, self._wake], [], [], seconds if wait is None else wait if seconds is None else min(wait, seconds))[0]
         if self._wake in ready:
             with contextlib.suppress(OSError):
                 os.read(self._wake, 512)

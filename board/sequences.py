@@ -6,10 +6,10 @@ from typing import Iterable, List, Optional
 
 from board.keys import Key
 
-#: What terminals send for some keys, after an Escape.
+#: The bytes that terminals send for some keys, after an Escape.
 SEQUENCES = {'[A': 'up', '[B': 'down', '[C': 'right', '[D': 'left', '[3~': 'delete', '[5~': 'page up', '[6~': 'page down', '[Z': 'shift tab'}
 
-#: What comes next after an Escape that isn't a key by itself.
+#: The byte that comes next after an Escape that isn't a key by itself.
 BEGINS = ('[', 'O')
 
 #: So many characters follow a click that an old terminal tells.
@@ -26,7 +26,7 @@ class Sequences:
     """Puts together what belongs together. A key of several characters that isn't known is one key, too: its digits are no numbers for the board."""
 
     def __init__(self) -> None:
-        #: What came of a key that has begun, without its Escape; nothing where none has.
+        #: The bytes that came of a key that has begun, without its Escape; nothing where none has.
         self._sent: Optional[str] = None
         #: Until when more of it may come.
         self._end = 0.0

@@ -34,12 +34,12 @@ def grade(board: Board, found: str) -> str:
 
 
 def square(board: Board, place: Place) -> str:
-    """What there is to say of a square."""
+    """The words for a square."""
     return f'{_content(board, place)}; {_lacks(board, "row", place)}; {_lacks(board, "column", place)}'
 
 
 def clue(board: Board, place: Place) -> str:
-    """What there is to say of a place at the edge."""
+    """The words for a place at the edge."""
     found = board.clues.get(place)
     if found is None:
         return 'There is no clue there.'
@@ -60,11 +60,12 @@ def item(board: Board, places: Sequence[Place]) -> str:
     return clue_name(place, clue.number, board.size) if clue else f'no clue {side(place, board.size)}'
 
 
-def verdict(board: Board, verdict: Verdict, why: str) -> List[str]:
-    """What is said of a puzzle, with the items that this speaks of, and the numbers of two solutions."""
+def verdict(board: Board, verdict: Verdict, told: str) -> List[str]:
+    """The sentences on a puzzle, with the items that this speaks of, and the numbers of two solutions."""
     marked = '; '.join(item(board, places) for places in verdict.marked)
+    pairs = (f'{item(board, one)}, and {item(board, other)}' for one, other in verdict.pairs)
     differ = (left(verdict.differ, board.row(y)) for y in range(board.size))
-    return [text for text in (verdict.told(why, 'below'), marked, *differ) if text]
+    return [text for text in (told, *(pairs if verdict.pairs else [marked]), *differ) if text]
 
 
 def items(board: Board) -> str:
@@ -92,12 +93,12 @@ def marks(board: Board) -> List[str]:
 
 
 def left(numbers: Mapping[Place, Sequence[int]], places: Sequence[Place]) -> str:
-    """What is left in some squares."""
+    """The numbers left in some squares."""
     return '; '.join(f'{name(place)} {listed(numbers[place], "or") or "nothing"}' for place in places if place in numbers)
 
 
 def faults(board: Board) -> str:
-    """What is red on the board; nothing where nothing is."""
+    """The red places of the board; nothing if there are none."""
     found = [name(place) for place in sorted(board.wrong, key=lambda place: place[::-1])]
     found += [clue_name(place, clue.number, board.size) for place, clue in board.clues.items() if clue.is_wrong]
     found += [f'the sign between {name(sign.greater)} and {name(sign.less)}' for sign in board.signs if sign.is_wrong]
@@ -105,7 +106,7 @@ def faults(board: Board) -> str:
 
 
 def change(before: Board, after: Board) -> str:
-    """What a move has changed, in one sentence."""
+    """The changes of a move, in one sentence."""
     numbers = [place for place in after.squares if before.numbers.get(place) != after.numbers.get(place)]
     marks = [place for place in after.squares if before.marks.get(place) != after.marks.get(place)]
     done = [place for place, clue in after.clues.items() if clue.is_done != before.clues[place].is_done]

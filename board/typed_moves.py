@@ -46,7 +46,7 @@ class TypedMove(NamedTuple):
 
 
 def typed_move(text: str, size: int) -> Optional[TypedMove]:
-    """What is meant on a board of this size; nothing where it is something else. Raises `OutOfGrid`."""
+    """The move that is meant on a board of this size; nothing if it is something else. Raises `OutOfGrid`."""
     found = NUMBER.fullmatch(text)
     if found:
         return TypedMove(Kind.MARK if found['mark'] else Kind.NUMBER, there(square_of(found['square'], size)), found['number'])

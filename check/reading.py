@@ -1,17 +1,16 @@
-"""Files and standard input, as they come: their game IDs, pictures and saves, each with its line. Little is kept, however long they are."""
+"""Files and standard input, as they come: their game IDs, drawings and saves, each with its line. Little is kept, however long they are."""
 
 from __future__ import annotations
 
 import contextlib
 import os
 import sys
-from typing import ContextManager, Iterator, List, NamedTuple, Optional, Union
+from typing import ContextManager, Generator, Iterator, List, NamedTuple, Optional, Sequence, Union
 
-from check.pictures import MOST_LINES, SYMBOLS
 from check.words import STANDARD_INPUT
-from playing import files, saves
+from playing import drawings, files, saves
 
-#: What a file may begin with that is no text, and how many bytes are read at once.
+#: The bytes with which a file may begin and that are no text, and how many bytes are read at once.
 BOM, PIECE = b'\xef\xbb\xbf', 1 << 16
 
 #: So many bytes a line has at most.
@@ -19,13 +18,17 @@ MOST_BYTES = 4096
 
 
 class Id(NamedTuple):
-    """A line that is to have an ID."""
+    """An ID, and the game that is named for it; '' where none is."""
 
+    game: str
     text: str
 
 
-class Picture(NamedTuple):
-    lines: List[str]
+class Drawn(NamedTuple):
+    """A puzzle that is drawn, and what could have been lost in it; '' where nothing could."""
+
+    puzzle: drawings.Puzzle
+    doubt: str
 
 
 class Save(NamedTuple):
@@ -33,9 +36,11 @@ class Save(NamedTuple):
 
 
 class Unread(NamedTuple):
-    """What can't be read. The text says why."""
+    """A text that can't be read, and why; with a drawing that could be read, of a game, where one is lacking."""
 
     why: str
+    game: str = ''
+    form: Sequence[str] = ()
 
 
 class Entry(NamedTuple):
@@ -43,11 +48,11 @@ class Entry(NamedTuple):
 
     file: str
     line: Optional[int]
-    written: Union[Id, Picture, Save, Unread]
+    written: Union[Id, Drawn, Save, Unread]
 
 
 def entries(file: str) -> Iterator[List[Entry]]:
-    """What a file has, as it comes: each time all that is there."""
+    """The pieces of a file as they come: each time all that is there."""
     reader = Reader(file)
     try:
         with _opened(file) as descriptor:
@@ -78,7 +83,7 @@ def _closing(descriptor: int) -> Iterator[int]:
 
 
 class Reader:
-    """What a file is so far."""
+    """The kind of a file, so far."""
 
     def __init__(self, file: str) -> None:
         #: Whether what comes now doesn't matter.
@@ -87,70 +92,89 @@ class Reader:
         #: The line that has begun, as far as it isn't too long, and its number.
         self._begun = b''
         self._number = 1
-        #: The picture that has begun.
-        self._picture: List[str] = []
-        self._picture_line = 0
-        #: All that came, as long as it may be a save; nothing once it is none.
-        self._save: Optional[bytearray] = bytearray()
+        self._drawings = drawings.Reader()
+        #: The save that has begun, which goes on up to the next one.
+        self._save: Optional[bytearray] = None
         self._is_empty = True
 
     def take(self, piece: bytes) -> Iterator[Entry]:
-        """What is whole with the next piece."""
-        if self._save is not None:
-            self._save += piece
-            if len(self._save) < len(saves.BEGINS):
-                return
-            if self._save.startswith(saves.BEGINS):
-                if len(self._save) > files.MOST_BYTES:
-                    self.is_over = True
-                    yield Entry(self._file, 1, Unread(f'the save has more than {files.MOST_BYTES:,} bytes'))
-                return
-            piece = self._no_save()
-        yield from self._lines(piece)
+        """The puzzles that are whole with the next piece."""
+        while piece:
+            piece = yield from (self._lines(piece) if self._save is None else self._saves(piece))
 
     def end(self) -> Iterator[Entry]:
-        """What is whole with the end."""
-        if self._save is not None:
-            if self._save.startswith(saves.BEGINS):
-                yield Entry(self._file, 1, Save(bytes(self._save)))
-                return
-            yield from self._lines(self._no_save())
+        """The puzzles that are whole with the end."""
+        while self._save is not None:
+            yield from self.take((yield from self._end_save(bytes(self._save))))
         yield from self._line(self._begun)
-        yield from self._end_picture()
+        yield from self._entries(self._drawings.end())
         if self._is_empty:
             yield Entry(self._file, None, Unread('it has no puzzles'))
 
-    def _no_save(self) -> bytes:
-        """What came, since it is no save."""
-        piece = bytes(self._save or b'')
-        self._save = None
-        return piece[len(BOM) :] if piece.startswith(BOM) else piece
+    # --- saves; each of these gives what is still to be read ---
 
-    def _lines(self, piece: bytes) -> Iterator[Entry]:
-        first, *others = piece.split(b'\n')
-        self._begun = (self._begun + first)[: MOST_BYTES + 1]
-        for line in others:
-            yield from self._line(self._begun)
+    def _saves(self, piece: bytes) -> Generator[Entry, None, bytes]:
+        """A save may come after another one."""
+        assert self._save is not None
+        begin = max(len(self._save) - len(saves.BEGINS), 0)
+        self._save += piece
+        at = self._save.find(b'\n' + saves.BEGINS, begin)
+        if at >= 0:
+            content = bytes(self._save)
+            return (yield from self._end_save(content[: at + 1])) + content[at + 1 :]
+        if len(self._save) > files.MOST_BYTES:
+            self.is_over = True
+            self._save, self._is_empty = None, False
+            yield Entry(self._file, self._number, Unread(f'the save has more than {files.MOST_BYTES:,} bytes'))
+        return b''
+
+    def _end_save(self, content: bytes) -> Generator[Entry, None, bytes]:
+        """A whole save, without the lines that come after its last state."""
+        self._save, self._is_empty = None, False
+        rest = saves.after(content)
+        yield Entry(self._file, self._number, Save(content[: len(content) - len(rest)]))
+        self._number += content[: len(content) - len(rest)].count(b'\n')
+        self._drawings = drawings.Reader(self._number - 1)
+        return rest
+
+    # --- lines ---
+
+    def _lines(self, piece: bytes) -> Generator[Entry, None, bytes]:
+        begun = self._begun + piece
+        while begun:
+            if self._number == 1 and begun.startswith(BOM):
+                begun = begun[len(BOM) :]
+            line, end, rest = begun.partition(b'\n')
+            before, begins, _ = line.partition(saves.BEGINS)
+            if begins:
+                # It is no title, wherever in its line it begins.
+                yield from self._line(before)
+                yield from self._entries(self._drawings.end())
+                self._begun, self._save = b'', bytearray()
+                return begun[len(before) :]
+            if not end:
+                break
+            yield from self._line(line)
             self._number += 1
-            self._begun = line[: MOST_BYTES + 1]
+            begun = rest
+        self._begun = begun[: MOST_BYTES + 1]
+        return b''
 
     def _line(self, content: bytes) -> Iterator[Entry]:
-        text = content.decode('utf-8', 'replace').rstrip()
-        if not text:
-            yield from self._end_picture()
-            return
-        self._is_empty = False
-        if self._picture:
-            if len(self._picture) <= MOST_LINES:
-                self._picture.append(text)
-        elif SYMBOLS.issuperset(text):
-            self._picture, self._picture_line = [text], self._number
-        elif len(content) > MOST_BYTES:
+        is_long = len(content) > MOST_BYTES
+        if is_long:
+            self._is_empty = False
             yield Entry(self._file, self._number, Unread(f'the line has more than {MOST_BYTES:,} bytes'))
-        else:
-            yield Entry(self._file, self._number, Id(text))
+        yield from self._entries(self._drawings.take('' if is_long else content.decode('utf-8', 'replace').rstrip('\r\n')))
 
-    def _end_picture(self) -> Iterator[Entry]:
-        if self._picture:
-            yield Entry(self._file, self._picture_line, Picture(self._picture))
-            self._picture = []
+    def _entries(self, found: Iterator[drawings.Read]) -> Iterator[Entry]:
+        for read in found:
+            self._is_empty = False
+            yield Entry(self._file, read.line, _written(read))
+
+
+def _written(read: drawings.Read) -> Union[Id, Drawn, Unread]:
+    if read.puzzle:
+        return Drawn(read.puzzle, read.doubt)
+    place = f'column {read.column}: ' if read.column else ''
+    return Id(read.game, read.id) if read.id else Unread(f'{place}{read.why}', read.game, read.form)

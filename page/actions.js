@@ -1,34 +1,36 @@
 // Whatever a player asks for by keys, mouse or finger, by name.
-import {bytesOf} from './bytes.js';
+import {bytesOf, textOf} from './bytes.js';
 import {Course} from './course.js';
 import {Daily} from './daily.js';
 import {Desk} from './desk.js';
+import {whyOfGame} from './desk_acts.js';
 import {closeDialogs, openDialog, showPage, typedLine} from './dialogs.js';
 import {inputOf, part} from './drawing.js';
 import {allGames, bringIn, give, saveIn} from './files.js';
 import {Fresh} from './fresh.js';
-import {gradeOf, kindOfName, named, nameOfKind, nearest, numberOfDay} from './games.js';
+import {gradeOf, kindOfName, nameOfKind, nearest, numberOfDay} from './games.js';
 import {Hints} from './hints.js';
-import {fileName, kindOf} from './kept.js';
+import {fileName, kindOf, moment} from './kept.js';
 import {Links} from './links.js';
 import {List} from './list.js';
 import {cellOf} from './objects.js';
+import {isSave, nameIn, toDesk} from './pasted.js';
 import {openRules} from './rules.js';
 import {openStatistics} from './statistics.js';
-import {BY_STEPS, COMMAND, KEPT, MARKING, NONE_HELD, NO_SUCH_LINK, PLACING, SET, heldText} from './texts.js';
+import {BY_STEPS, COMMAND, MARKING, NONE_HELD, NO_SUCH_LINK, PLACING, SET, heldText, keptText} from './texts.js';
 
 /** @typedef {import('./objects.js').Place} Place */
 /** @typedef {import('./games.js').Kind} Kind */
 /** @typedef {import('./keeping.js').Settings} Settings */
 /**
- * What the actions work on.
+ * The parts of the page that the actions work on.
  * @typedef {{present: import('./present.js').Present, moves: import('./moves.js').Moves, beginning: import('./beginning.js').Beginning,
  *   screen: import('./screen.js').Screen, walk: import('./walk.js').Walk, messages: import('./messages.js').Messages,
  *   keeping: import('./keeping.js').Keeping, turns: import('./turns.js').Turns}} Page
  */
 
 /** Settings that a button switches on or off. */
-const SWITCHES = /** @type {const} */ (['tidy', 'numberFirst', 'equal', 'lanes', 'time']);
+const SWITCHES = /** @type {const} */ (['tidy', 'fromMarks', 'numberFirst', 'equal', 'lanes', 'time']);
 
 export class Actions {
   /** @param {Page} page */
@@ -42,9 +44,13 @@ export class Actions {
       numbered: (fair) => this.refusal(() => beginning.numbered(fair)),
       named: (link) => this.refusal(() => beginning.named(link)),
       file: (file) => this.file(file),
+      save: (text) => beginning.save(textOf(new TextEncoder().encode(text))),
+      check: (puzzle) => toDesk(this.desk, puzzle),
     });
     this.links = new Links(page);
     this.desk = new Desk(page, this.links);
+    /** @type {import('./sheet.js').SheetDialog | null} */
+    this.sheet = null;
     this.daily = new Daily(keeping, (fair) => beginning.numbered(fair));
     this.list = new List(keeping, (key) => beginning.goOn(key), (keys) => this.leave(keys));
     const games = inputOf('games-file');
@@ -142,19 +148,22 @@ export class Actions {
     return why;
   }
 
-  // A link or an ID that is dropped, or in the address.
+  // A text that is dropped or in the address: a link or an ID, or what New can read.
   /** @param {string} text */
-  named(text) {
-    const {beginning, messages} = this.page, link = named(text);
+  async named(text) {
+    const {beginning, messages} = this.page, link = nameIn(text);
     if (link) beginning.named(link);
-    else messages.tell(NO_SUCH_LINK);
+    else if (!(await this.paste(text))) messages.tell(NO_SUCH_LINK);
   }
+
+  /** @param {string} text */
+  paste(text) { return this.fresh.paste(kindOfName(this.page.keeping.settings.kind) ?? nearest(kindOf(this.page.present.kept)), text); }
 
   /** A game that was solved for the first time is noted, if not with the program's help. */
   noteSolved() {
     const {present, keeping} = this.page, {kept, board, session} = present;
     if (kept.state !== 'solved' || kept.solved) return;
-    const when = Date.now(), seconds = keeping.settings.time ? kept.seconds : 0;
+    const when = moment(), seconds = keeping.settings.time ? kept.seconds : 0;
     keeping.addSolved([{kind: nameOfKind(kindOf(kept)), number: kept.fair?.number ?? '', when, seconds, hints: kept.hints}]);
     present.inTurn(() => present.advance({...present.kept, solved: when}, {board, session}));
   }
@@ -173,7 +182,7 @@ export class Actions {
   async file(file) {
     if (file.name.endsWith('.json')) return this.bringIn(file);
     const text = await saveIn(file, (text) => this.page.messages.tell(text, {bad: true}));
-    if (text !== null) await this.page.beginning.save(text);
+    if (text !== null && (isSave(text) || !(await this.paste(new TextDecoder().decode(bytesOf(text)))))) await this.page.beginning.save(text);
   }
 
   /** @param {File} file */
@@ -203,11 +212,12 @@ export class Actions {
 
   /** @param {string} name */
   set(name) {
-    const known = SWITCHES.find((one) => one === name), {keeping, screen, messages, present} = this.page;
+    const known = SWITCHES.find((one) => one === name), {keeping, screen, messages, present, walk} = this.page;
     if (!known) return;
-    keeping.set({[known]: !keeping.settings[known]});
+    keeping.set({[known]: !keeping.settings[known], ...(known === 'fromMarks' && {isFromChosen: true})});
     this.showSettings();
     if (known === 'numberFirst') screen.held = 0;
+    if (known === 'fromMarks') walk.forget();
     screen.paint();
     const said = SET[known]?.[Number(keeping.settings[known])];
     // After the moves that were asked for before, which would take the sentence away.
@@ -224,7 +234,7 @@ export class Actions {
 /** @type {Record<string, number>} */
 const IN_COURSE = {enter: 1, new: 1, back: -1, quit: 9};
 
-// What each name stands for.
+// The act of each name.
 /** @type {Record<string, (actions: Actions, page: Page) => unknown>} */
 const ACTIONS = {
   new: ({fresh, page}) => fresh.open(kindOfName(page.keeping.settings.kind) ?? nearest(kindOf(page.present.kept))),
@@ -232,15 +242,21 @@ const ACTIONS = {
   learn: ({course}) => course.go(0),
   menu(actions) {
     actions.showSettings();
-    part('about').textContent = KEPT;
+    part('about').textContent = keptText(actions.page.keeping);
     openDialog('menu');
   },
   desk: ({desk}) => desk.open(),
+  only: ({desk}) => whyOfGame(desk),
   games: ({list}) => list.open(),
+  async sheet(actions) {
+    const {SheetDialog} = await import('./sheet.js');
+    (actions.sheet ??= new SheetDialog()).open(actions.page.present.kept.game);
+  },
   daily: ({daily}) => daily.open(),
-  rules: (_, {present}) => openRules(present.kept.game, matchMedia('(any-hover: hover) and (any-pointer: fine)').matches),
+  rules: (_, {present, keeping}) => openRules(present.kept.game, keptText(keeping)),
   statistics: (_, {keeping}) => openStatistics(keeping.solved()),
   link: ({links}) => links.copyLink(),
+  text: ({links}, {present: {kept, board}}) => links.copyText(kept.game, board),
   share: ({links}) => links.copyResult(),
   id: ({links}) => links.showID(),
   save: (_, {present: {kept}}) => give(fileName(kept, gradeOf(kindOf(kept))), bytesOf(kept.save)),
@@ -248,7 +264,7 @@ const ACTIONS = {
   print: () => print(),
   pause: () => openDialog('pause'),
   command: (actions) => actions.command(),
-  quit: (_, {messages}) => messages.tell(KEPT),
+  quit: (_, {messages, keeping}) => messages.tell(keptText(keeping)),
   tidy: (actions) => actions.set('tidy'),
   marks(_, {screen, messages, present}) {
     screen.marking = !screen.marking;
@@ -258,9 +274,9 @@ const ACTIONS = {
   enter: (actions, {screen, present}) => actions.act(cellOf(screen.chosen, present.board.size) < 0 ? 'done' : 'marks'),
   clear: (_, {moves, screen}) => moves.clear(screen.chosen),
   all: (_, {moves}) => moves.line('move M'),
-  possible: (_, {moves}) => moves.possible(),
-  undo: (_, {moves}) => moves.undoOrRedo('undo'),
-  redo: (_, {moves}) => moves.undoOrRedo('redo'),
+  possible: ({hints}) => hints.possible(),
+  undo: (_, {moves}) => moves.line('undo'),
+  redo: (_, {moves}) => moves.line('redo'),
   done: (_, {moves, screen}) => moves.done(screen.chosen),
   restart: (_, {moves}) => moves.restart(),
   solve: (_, {moves}) => moves.solve(),
@@ -269,6 +285,7 @@ const ACTIONS = {
   hint: ({hints}) => hints.inOrder(() => hints.next()),
   why: ({hints}) => hints.inOrder(() => hints.open()),
   take: ({hints}) => hints.take(),
+  keep: ({hints}) => hints.inOrder(() => hints.keep()),
   earlier: ({hints}) => hints.along(-1),
   later: ({hints}) => hints.along(1),
   leave(_, {walk, screen}) {

@@ -12,10 +12,10 @@ import {Unanswered} from './turns.js';
 /** @typedef {import('./games.js').Kind} Kind */
 /** @typedef {import('./games.js').Fair} Fair */
 /** @typedef {import('./games.js').Named} Named */
-/** What came of it, and what there is to say of that. */
+/** The outcome, and the sentence that tells it. */
 /** @typedef {{how: 'begun' | 'goesOn' | 'refused', text: string, bad?: boolean}} Outcome */
 /**
- * What the module makes of a line: a game that can be shown, or nothing and why. With the game of the same ID that is kept, if there is one.
+ * The result of a line: a game that can be shown, or nothing and why. With the game of the same ID that is kept, if there is one.
  * @typedef {{save: ByteText, looked: Looked | null, why: string, before?: Kept}} Made
  */
 
@@ -105,7 +105,7 @@ export class Beginning {
     return this.ofMade(isSame ? made : {...made, before: undefined}, fair);
   }
 
-  // What a link or a typed text names: where it names no game, that is the present one or the other one.
+  // Begins the puzzle that a link or a typed text names: where it names no game, that is the present one or the other one.
   /** @param {Named} name @returns {Promise<Outcome>} */
   async ofName(name) {
     if (name.fair) return this.fair(name.fair);
@@ -133,7 +133,7 @@ export class Beginning {
     return {how: 'begun', text: ''};
   }
 
-  // What has been made goes on where it was begun before, and begins otherwise.
+  // A game that has been made goes on where it was begun before, and begins otherwise.
   /** @param {Made} made @param {Fair | null} fair @returns {Promise<Outcome>} */
   async ofMade({save, looked, why, before}, fair) {
     if (!looked) return {how: 'refused', text: why};
@@ -149,7 +149,7 @@ export class Beginning {
     return this.made(lineOf(fair), fair.game, fair.number);
   }
 
-  // What a line makes. Of the kept games with its ID that is the one of this number, if there is one.
+  // The result of a line. Of the kept games with its ID that is the one of this number, if there is one.
   /** @param {string} line @param {Game} game @param {string} [number] @returns {Promise<Made>} */
   async made(line, game, number) {
     const {answers, saved} = await this.present.askAll([line, 'board'], NO_BYTES, game);

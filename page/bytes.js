@@ -13,12 +13,18 @@ const LETTERS = 1 << 13;
 /** @param {Uint8Array} bytes @returns {ByteText} */
 export function textOf(bytes) {
   let text = '';
-  for (let at = 0; at < bytes.length; at += LETTERS) text += String.fromCharCode(...bytes.subarray(at, at + LETTERS));
+  // By `apply`: to spread the bytes takes ten times as long.
+  for (let at = 0; at < bytes.length; at += LETTERS) text += String.fromCharCode.apply(null, /** @type {any} */ (bytes.subarray(at, at + LETTERS)));
   return /** @type {ByteText} */ (text);
 }
 
+// By a loop: over the letters of a text `Uint8Array.from` takes up to a hundred times as long.
 /** @param {ByteText} text */
-export const bytesOf = (text) => Uint8Array.from(text, (letter) => letter.charCodeAt(0));
+export function bytesOf(text) {
+  const bytes = new Uint8Array(text.length);
+  for (let at = 0; at < text.length; at++) bytes[at] = text.charCodeAt(at);
+  return bytes;
+}
 
 /** @param {unknown} text @returns {text is ByteText} */
 export const isByteText = (text) => typeof text === 'string' && !/[^\0-\xff]/.test(text);

@@ -1,15 +1,15 @@
 // The setter's desk, in the place of the game: a puzzle is checked or set, item by item, and a verdict is sought after each change.
-import {NO_BYTES, bytesOf} from './bytes.js';
-import {DeskPicture, signName} from './desk_picture.js';
-import {LATE, MOVED_DRAFT, SIDES, TITLE, TOOLS, UNREAD_DRAFT, itemsText} from './desk_texts.js';
+import {NO_BYTES} from './bytes.js';
+import {ACTS, OTHERWISE, READ, addButtons, putSign} from './desk_acts.js';
+import {DeskPicture} from './desk_picture.js';
+import {AT_THINNING, LATE, MOVED_DRAFT, SIDES, TITLE, UNREAD_DRAFT, hindrance, itemsText, signText} from './desk_texts.js';
 import {Drafts, longer} from './drafts.js';
-import {button, choose, part, selectOf, set, show} from './drawing.js';
-import {give} from './files.js';
+import {choose, part, selectOf, set, show} from './drawing.js';
 import {NAMES, SIZES, isGame, nearest} from './games.js';
+import {numberLine, signLine} from './items.js';
 import {kindOf} from './kept.js';
 import {linkTo} from './links.js';
-import {cellOf, placeAt, placeOf} from './objects.js';
-import {FAULTS, refusal, titleText} from './texts.js';
+import {FAULTS, STOP, refusal, titleText} from './texts.js';
 import {Unanswered} from './turns.js';
 import {NOTHING, judge} from './verdict.js';
 
@@ -19,6 +19,8 @@ import {NOTHING, judge} from './verdict.js';
 /** @typedef {import('./drafts.js').Draft} Draft */
 // A line that makes another puzzle of the present one; where it goes back or forth, the place in the draft.
 /** @typedef {{line: string, at?: number}} Change */
+// A search for such a line, by questions on the present puzzle; nothing where there is none.
+/** @typedef {(ask: import('./verdict.js').Ask) => Promise<Change | null>} Work */
 
 /** After so many milliseconds it is said that solutions are sought, and the next change ends that; so long nothing changes before a verdict is said. */
 const PATIENCE = 300, REST = 500;
@@ -41,28 +43,28 @@ export class Desk {
     this.queue = Promise.resolve();
     /** How many changes were asked for, and whether the last one takes long. */
     this.asked = 0;
-    this.isLate = this.isSolved = false;
-    this.timer = 0;
+    this.isLate = this.isSolved = this.isAtWork = false;
+    [this.timer, this.why] = [0, ''];
+    this.pair = /** @type {number[] | null} */ (null);
     const {game, size} = this.lists = {game: selectOf('desk-game'), size: selectOf('desk-size')};
     game.onchange = () => isGame(game.value) && this.turnTo(game.value);
     size.onchange = () => { const line = `blank ${size.value}`; this.change(() => ({line})); };
-    part('tools').append(...Object.entries(TOOLS).map(([name, text]) => button(text, {'data-do': name, class: 'set'})));
-    part('signs').append(...SIDES.map(([side, , arrow]) => button(`${arrow} <>`, {'data-do': side, 'aria-label': side})));
+    addButtons();
   }
 
   get isOpen() { return this.page.screen.desk !== null; }
-  /** What a link names. */
+  /** The puzzle that a link names. */
   get puzzle() { return {game: this.game, id: this.draft?.ids[this.draft.at] ?? '', fair: null}; }
   get title() { return titleText(this.game, this.board?.size ?? 0); }
 
-  open() {
-    const {screen, walk, messages, present} = this.page;
-    document.body.className = 'setting';
-    screen.desk = this;
+  /** @param {Game} [game] */
+  open(game = this.page.present.kept.game) {
+    const {screen, walk, messages} = this.page;
+    [document.body.className, screen.desk] = ['setting', this];
     walk.forget();
     messages.stay('');
     messages.clear();
-    this.turnTo(present.kept.game);
+    this.turnTo(game);
   }
 
   // The draft of a game goes on; where there is none a board without items begins.
@@ -70,6 +72,7 @@ export class Desk {
   turnTo(game) {
     const {size} = this.board ?? this.page.present.board;
     [this.game, this.board, this.saved] = [game, null, NO_BYTES];
+    history.replaceState({desk: game}, '');
     if (this.drafts.setAside(game, false)) this.page.messages.tell(UNREAD_DRAFT, {lasting: true});
     this.draft = this.drafts.of(game);
     this.change(() => this.along(0) ?? {line: `blank ${size}`});
@@ -80,6 +83,7 @@ export class Desk {
     if (!this.isOpen) return;
     this.hurry();
     clearTimeout(this.timer);
+    history.replaceState(null, '');
     document.body.classList.remove('setting');
     this.page.screen.desk = this.board = null;
   }
@@ -91,7 +95,7 @@ export class Desk {
     if ((await beginning.goOn(keeping.now)) === 'refused') await beginning.byChance(nearest(kindOf(kept)));
   }
 
-  /** What is still sought ends, at once where it takes long. */
+  /** The search that still goes on ends, at once where it takes long. */
   hurry() {
     if (this.isLate) this.page.turns.stop();
     return ++this.asked;
@@ -103,22 +107,50 @@ export class Desk {
     return this.queue;
   }
 
-  // A change, when its turn has come.
-  /** @param {() => Change | null} ask */
-  change(ask) {
-    const own = this.hurry(), done = this.queue.then(() => this.changed(own, this.isOpen ? ask() : null));
+  // A change, when its turn has come; and between which squares a sign goes by it.
+  /** @param {() => Change | null} ask @param {number[] | null} [pair] */
+  change(ask, pair = null) {
+    return this.inTurn(async () => {
+      this.pair = pair;
+      return this.isOpen ? ask() : null;
+    });
+  }
+
+  // Begins a search that takes its time before it comes to a change: the next change ends it, and so does Stop.
+  /** @param {Work} work */
+  work(work) {
+    return this.inTurn(async (own) => {
+      const {messages} = this.page, timer = setTimeout(() => this.late(own), PATIENCE);
+      this.isAtWork = true;
+      try {
+        return await work(this.asking(own));
+      } catch (fault) {
+        if (!(fault instanceof Unanswered)) throw fault;
+        messages.tell(own === this.asked ? FAULTS[fault.fault] : '');
+        return null;
+      } finally {
+        clearTimeout(timer);
+        if (messages.text === AT_THINNING) messages.clear();
+        this.isLate = this.isAtWork = false;
+      }
+    });
+  }
+
+  /** @param {(own: number) => Promise<Change | null>} ask */
+  inTurn(ask) {
+    const {messages} = this.page, own = this.hurry(), done = this.queue.then(async () => this.changed(own, await ask(own)));
     this.queue = done.catch(() => null);
+    if (messages.text === this.why) messages.clear();
     return done;
   }
 
-  // What is put in is made whatever comes after it, however long that takes; thinning out, and the verdict, the next change ends.
+  // A change is made whatever comes after it, however long that takes; its verdict ends with the next change.
   /** @param {number} own @param {Change | null} change */
   async changed(own, change) {
-    const wait = () => setTimeout(() => this.late(own), PATIENCE);
-    let timer = change?.line.startsWith('thin') ? wait() : 0;
+    let timer = 0;
     try {
       if (change) await this.make(change);
-      timer ||= wait();
+      timer = setTimeout(() => this.late(own), PATIENCE);
       await this.judge(own);
     } catch (fault) {
       if (!(fault instanceof Unanswered)) throw fault;
@@ -131,12 +163,14 @@ export class Desk {
 
   /** @param {number} own */
   late(own) {
+    const {messages, turns} = this.page;
     this.isLate = true;
-    if (own !== this.asked && this.isOpen) this.page.turns.stop();
+    if (own !== this.asked && this.isOpen) turns.stop();
+    else if (this.isAtWork) messages.tell(AT_THINNING, {offer: {text: STOP, run: () => turns.stop()}});
     else if (!this.verdict.kind) this.tell({...NOTHING, text: LATE});
   }
 
-  // Makes another puzzle, keeps it and shows it. What is refused changes nothing.
+  // Makes another puzzle, keeps it and shows it. A refused line changes nothing.
   /** @param {Change} change @returns {Promise<void>} */
   async make({line, at}) {
     const {game, saved, drafts, page: {messages}} = this, turned = await this.ask([line, 'board'], saved);
@@ -171,14 +205,21 @@ export class Desk {
 
   /** @param {number} own */
   async judge(own) {
-    const {game, saved, board} = this, isAgain = () => { if (own !== this.asked) throw new Unanswered('stopped'); };
-    if (board) await judge(game, board, async (line) => {
+    const {game, board} = this;
+    if (board) await judge(game, board, this.asking(own), (verdict) => this.tell(verdict));
+  }
+
+  // Asks of the present puzzle, which stays, as long as nothing else was asked for.
+  /** @param {number} own @returns {import('./verdict.js').Ask} */
+  asking(own) {
+    const {saved} = this, isAgain = () => { if (own !== this.asked) throw new Unanswered('stopped'); };
+    return async (...lines) => {
       isAgain();
-      const {answers: [answer]} = await this.ask([line], saved);
+      const {answers} = await this.ask(lines, saved), answer = answers[answers.length - 1];
       isAgain();
       if (answer.lost) throw new Unanswered('memory');
       return answer;
-    }, (verdict) => this.tell(verdict));
+    };
   }
 
   // Back or forth along the draft; nothing where that has an end.
@@ -209,7 +250,7 @@ export class Desk {
     if (!kind) walk.forget();
     this.isSolved = this.isSolved && Boolean(kind);
     this.verdict = verdict;
-    part('verdict').className = `set ${kind}`;
+    part('verdict').className = `set is-${kind}`;
     part('ruling').textContent = text;
     part('grounds').textContent = more;
     clearTimeout(this.timer);
@@ -218,83 +259,42 @@ export class Desk {
   }
 
   paint() {
-    const {board, game, verdict, isSolved, draft, page: {screen, walk}} = this, {picture, chosen, isPrinted} = screen;
+    const {board, game, verdict, isSolved, page: {screen, walk}} = this, {picture, chosen, isPrinted} = screen;
     if (!board || !(picture instanceof DeskPicture)) return;
     const marked = walk.isOpen ? NOTHING.marked : verdict.marked, solution = isSolved ? verdict.solution : null;
     picture.paintDesk(board, {chosen, marking: false, shown: isPrinted ? null : walk.shown, lit: 0, lanes: false}, {...verdict, marked, solution});
     part('title').textContent = isPrinted ? this.title : TITLE;
-    part('count').textContent = itemsText(game, board, isPrinted ? linkTo(this.puzzle) : '');
-    const can = {undo: draft?.at, redo: this.along(1), why: verdict.hint, solve: verdict.solution, play: verdict.solution, thin: verdict.canThin};
-    for (const [name, is] of Object.entries(can)) set(part('tools').querySelector(`[data-do=${name}]`) ?? part('tools'), 'aria-disabled', !is);
+    part('count').textContent = itemsText(game, board, isPrinted ? linkTo(this.puzzle) : this.pair ? signText(board, this.pair) : '');
+    part('play').querySelectorAll('[data-do]').forEach((node) => set(node, 'aria-disabled', Boolean(this.hindrance(node.getAttribute('data-do') ?? ''))));
   }
+
+  // Why something can't be done now.
+  /** @param {string} name */
+  hindrance(name) { return name === 'why' && this.page.walk.isOpen ? '' : hindrance(this.verdict, {undo: this.draft?.at, redo: this.along(1)}, name); }
 
   // A number at the chosen place. The same one once more takes it out.
   /** @param {number} number */
   number(number) {
     const place = this.page.screen.chosen;
-    this.change(() => {
-      const {board} = this, size = board?.size ?? 0, clue = board?.clues.find(({x, y}) => placeAt(x, y) === place);
-      const before = board?.givens[cellOf(place, size)] ?? clue?.clue ?? 0;
-      return number <= size && (number || before) ? {line: `item ${place},${number === before ? 0 : number}`} : null;
-    });
+    this.change(() => this.board && numberLine(this.board, place, number));
   }
 
-  // The sign between two squares: none, the first is greater, the other is, and none again.
-  /** @param {number} first @param {number} second */
-  turn(first, second) {
-    this.change(() => {
-      const {size = 0, signs} = this.board ?? {}, [one, other] = [first, second].map((cell) => placeOf(cell, size));
-      const sign = signs?.find(({greater, less}) => signName(greater, less) === signName(first, second));
-      return {line: sign?.greater === first ? `item ${other},${one},1` : `item ${one},${other},${sign ? 0 : 1}`};
-    });
+  // The next sign between two squares, or the one by which the first is the greater one, or the lesser.
+  /** @param {number} first @param {number} second @param {boolean} [isGreater] */
+  turn(first, second, isGreater) {
+    this.change(() => this.board && {line: signLine(this.board, first, second, isGreater)}, [first, second].sort((one, other) => one - other));
   }
 
-  // The sign of the chosen square on a side.
   /** @param {number[]} by */
-  sign([dx, dy]) {
-    const [x, y] = this.page.screen.chosen.split(',').map(Number), size = this.board?.size ?? 0, other = cellOf(placeAt(x + dx, y + dy), size);
-    if (this.game === 'unequal' && other >= 0) this.turn(y * size + x, other);
-  }
+  sign(by) { putSign(this, by); }
 
   /** @param {string} name */
   act(name) {
-    const side = SIDES.find(([own]) => own === name);
-    if (side) this.sign(side[1]);
-    else ACTS[OTHERWISE[name] ?? name]?.(this, this.page);
+    const side = SIDES.find(([own]) => own === name), own = OTHERWISE[name] ?? name;
+    this.why = this.hindrance(own);
+    if (READ[name]) putSign(this, ...READ[name]);
+    else if (side) this.sign(side[1]);
+    else if (this.why) this.page.messages.tell(this.why);
+    else ACTS[own]?.(this, this.page);
   }
 }
-
-// What keys of the board stand for here.
-/** @type {Record<string, string>} */
-const OTHERWISE = {hint: 'why', leave: 'why', all: 'thin', marks: 'play', id: 'link', desk: 'quit'};
-
-// What each name stands for.
-/** @type {Record<string, (desk: Desk, page: Page) => unknown>} */
-const ACTS = {
-  undo: (desk) => desk.change(() => desk.along(-1)),
-  redo: (desk) => desk.change(() => desk.along(1)),
-  clear: (desk) => desk.number(0),
-  game(desk, {present: {kept}}) {
-    if (desk.game !== kept.game) desk.turnTo(kept.game);
-    desk.change(() => ({line: `new ${kept.id}`}));
-  },
-  why({verdict: {hint}, board}, {walk, screen}) {
-    if (walk.isOpen) walk.forget();
-    else if (hint && board) {
-      walk.begin(hint, board.size);
-      walk.open();
-    }
-    screen.paint();
-  },
-  solve(desk, {screen}) {
-    desk.isSolved = !desk.isSolved;
-    screen.paint();
-  },
-  thin: (desk) => { if (desk.verdict.canThin) desk.change(() => ({line: `thin ${desk.verdict.letter}`.trim()})); },
-  play: (desk, {beginning}) => desk.verdict.solution && desk.idle().then(() => beginning.named(desk.puzzle)),
-  link: ({links, puzzle, title}) => links.copyLink(puzzle, title),
-  save: ({game, board, saved}) => give(`${game}-${board?.size}.sav`, bytesOf(saved)),
-  print: () => print(),
-  quit: (desk) => desk.close(),
-  escape: (desk, {walk}) => desk.act(walk.isOpen ? 'why' : 'quit'),
-};

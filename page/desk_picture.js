@@ -1,8 +1,9 @@
 // The board of the setter's desk: each place is there where an item may stand, and what the verdict says is drawn over it.
 import {MARKS, SIDES} from './desk_texts.js';
 import {set, shape} from './drawing.js';
+import {signName} from './items.js';
 import {PEN} from './measures.js';
-import {cellOf, placeAt, placeOf} from './objects.js';
+import {cellOf} from './objects.js';
 import {Picture} from './picture.js';
 
 /** @typedef {import('./turns.js').Game} Game */
@@ -10,19 +11,9 @@ import {Picture} from './picture.js';
 /** @typedef {import('./objects.js').Sign & {isNone?: boolean}} Sign */
 /** @typedef {import('./picture.js').View} View */
 /**
- * What is drawn over the board: both numbers where two solutions differ, the items that are marked and how, and the solution.
+ * The marks that are drawn over the board: both numbers where two solutions differ, the items that are marked and how, and the solution.
  * @typedef {{differ: Map<number, number[]>, marked: Set<string>, mark: string, solution: number[] | null}} Over
  */
-
-// The name of a sign: its two cells, the lesser first.
-/** @param {number} one @param {number} other */
-export const signName = (one, other) => `${Math.min(one, other)}-${Math.max(one, other)}`;
-
-// The names of items that the module lists: a clue or a given has that of its place.
-/** @param {import('./objects.js').Items} items @param {number} size */
-export const namesOf = ({clues, signs, givens}, size) => new Set([
-  ...clues.map(({x, y}) => placeAt(x, y)), ...signs.map(({greater, less}) => signName(greater, less)), ...givens.map((cell) => placeOf(cell, size)),
-]);
 
 // The board with a clue 0 at each empty place of the edge, or a sign that says nothing between neighbours.
 /** @param {boolean} isTowers @param {Board} board @returns {Board & {signs: Sign[]}} */

@@ -1,7 +1,8 @@
-// What is over the board: questions, pages of text, and how all of them open and close.
+// The dialogs over the board: questions, pages of text, and how all of them open and close.
 import {button, dialogOf, inputOf, part} from './drawing.js';
 
-export const isDialogOpen = () => document.querySelector('dialog[open]') !== null;
+// Sheets for print stand in the place of the game, as a dialog does over it.
+export const isDialogOpen = () => document.querySelector('dialog[open], #made:not([hidden])') !== null;
 
 export const closeDialogs = () => document.querySelectorAll('dialog[open]').forEach((dialog) => /** @type {HTMLDialogElement} */ (dialog).close());
 

@@ -2,7 +2,7 @@
 import {textOf} from './bytes.js';
 import {element} from './drawing.js';
 import {isSolvedGame} from './keeping.js';
-import {importedIn, newKey, seenOf} from './kept.js';
+import {goesOn, importedIn, newKey, seenOf} from './kept.js';
 import {DROP_FILE, NOT_OUR_FILE, brought} from './texts.js';
 
 /** @typedef {import('./bytes.js').ByteText} ByteText */
@@ -32,7 +32,7 @@ export async function saveIn(file, tell) {
   return null;
 }
 
-// All games, and what was solved, as one file. What can't be read is in it as it is.
+// All games, and what was solved, as one file. A text that can't be read is in it as it is.
 /** @param {Keeping} keeping */
 export function allGames(keeping) {
   return new TextEncoder().encode(JSON.stringify({format: FORMAT, games: [...keeping.games(), ...keeping.unread()], solved: keeping.solved()}));
@@ -57,15 +57,11 @@ export async function bringIn(file, keeping, beginning) {
 function join(kept, keeping, saves) {
   const before = keeping.game(kept.key);
   if (before ? before.turn >= kept.turn : saves.has(kept.save)) return 'known';
-  if (before && !movesIn(kept.save).startsWith(movesIn(before.save))) keeping.replace({...before, key: newKey()});
-  // What can't be read stays as it is, too.
+  if (before && !goesOn(kept, before)) keeping.replace({...before, key: newKey()});
+  // A text that can't be read stays as it is, too.
   keeping.replace(before || !keeping.has(kept.key) ? kept : {...kept, key: newKey()});
   return 'taken';
 }
-
-// The moves of a save: all that stands below the record of its position.
-/** @param {ByteText} save */
-const movesIn = (save) => save.slice(save.lastIndexOf('\nSTATEPOS:') + 1).replace(/^.*\n/, '');
 
 /** @param {string} text @returns {{games: unknown[], solved: unknown[]} | null} */
 function parsed(text) {
@@ -77,7 +73,7 @@ function parsed(text) {
   }
 }
 
-// What a file says of a game is seen in its save once more.
+// A game of a file, with its state seen in its save once more.
 /** @param {Kept | null} kept @param {Beginning} beginning @returns {Promise<Kept | null>} */
 async function readAgain(kept, beginning) {
   if (!kept) return null;

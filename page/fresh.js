@@ -1,8 +1,9 @@
-// The dialog for a new game: by its kind and number, by a link or an ID, or from a save file.
+// The dialog for a new game: by its kind and number, by what is typed or pasted (a drawing, a link or an ID), or from a file.
 import {choose, inputOf, part, selectOf} from './drawing.js';
 import {closeDialogs, openDialog} from './dialogs.js';
-import {GRADES, NAMES, SIZES, isGame, letters, named, nearest, numberIn, numberOfDay} from './games.js';
-import {NO_NUMBER, NO_SUCH_LINK} from './texts.js';
+import {GRADES, NAMES, SIZES, isGame, letters, nearest, numberIn, numberOfDay} from './games.js';
+import {Pasted, isSave, nameIn, readIn} from './pasted.js';
+import {NO_NUMBER} from './texts.js';
 
 /** @typedef {import('./games.js').Kind} Kind */
 /** @typedef {import('./games.js').Fair} Fair */
@@ -38,8 +39,9 @@ export class KindLists {
 }
 
 /**
- * How a game begins. What is promised is why it doesn't: nothing where it does.
- * @typedef {{kind(kind: Kind): void, numbered(fair: Fair): Promise<string>, named(named: Named): Promise<string>, file(file: File): void}} Begin
+ * How a game begins. The promise gives the reason why it doesn't: nothing where it does.
+ * @typedef {{kind(kind: Kind): void, numbered(fair: Fair): Promise<string>, named(named: Named): Promise<string>, file(file: File): void,
+ *   save(text: string): void, check(puzzle: import('./drawings.js').Puzzle): void}} Begin
  */
 
 export class Fresh {
@@ -48,13 +50,20 @@ export class Fresh {
     this.begin = begin;
     this.lists = new KindLists('fresh', () => {});
     this.number = inputOf('fresh-number');
-    this.id = inputOf('fresh-id');
+    this.id = /** @type {HTMLTextAreaElement} */ (part('fresh-id'));
+    this.pasted = new Pasted(this.id, {check: begin.check, named: (named) => this.ask(this.id, begin.named(named))});
     const form = part('fresh').querySelector('form');
     form?.addEventListener('submit', (event) => {
       event.preventDefault();
       this.submit();
     });
     form?.addEventListener('input', () => this.forgive());
+    // A link or an ID is a line, which ends by this key.
+    this.id.addEventListener('keydown', (event) => {
+      if (event.key !== 'Enter' || event.shiftKey || !nameIn(this.id.value)) return;
+      event.preventDefault();
+      this.submit();
+    });
     part('fresh-today').addEventListener('click', () => {
       this.ask(this.number, begin.numbered({...this.lists.kind, number: numberOfDay(new Date())}));
     });
@@ -68,25 +77,38 @@ export class Fresh {
   }
 
   /** @param {Kind} kind */
-  open(kind) {
+  open(kind, text = '') {
     this.lists.show(kind);
-    this.number.value = this.id.value = '';
+    this.number.value = '';
+    this.id.value = text;
     this.forgive();
+    this.pasted.show();
     openDialog('fresh');
   }
 
-  /** Begins what the fields name. A link or an ID comes before a number. */
-  submit() {
+  // Opens with a text, where a puzzle can be read of it; whether one can.
+  /** @param {Kind} kind @param {string} text */
+  async paste(kind, text) {
+    const isRead = (await readIn(text)).some(({puzzle, id}) => puzzle || id);
+    if (isRead) this.open(kind, text);
+    return isRead;
+  }
+
+  /** Begins what the fields name. A typed or pasted text comes before a number. */
+  async submit() {
     const {number, id, begin, lists: {kind}} = this, text = id.value.trim(), digits = number.value.trim();
-    const link = named(text), seed = numberIn(digits);
-    if (text) return link ? this.ask(id, begin.named(link)) : this.refuse(id, NO_SUCH_LINK);
+    const link = nameIn(text), seed = numberIn(digits);
+    if (link) return this.ask(id, begin.named(link));
+    if (isSave(text)) return closeDialogs(), begin.save(`${text}\n`);
+    const why = text ? await this.pasted.submit() : '';
+    if (text) return why && this.refuse(id, why);
     if (digits) return seed ? this.ask(number, begin.numbered({...kind, number: seed})) : this.refuse(number, NO_NUMBER);
     closeDialogs();
     return begin.kind(kind);
   }
 
   // Where the game that is asked for doesn't begin, the dialog comes back with its choices, and with the reason at a field.
-  /** @param {HTMLInputElement} field @param {Promise<string>} refusal */
+  /** @param {HTMLInputElement | HTMLTextAreaElement} field @param {Promise<string>} refusal */
   async ask(field, refusal) {
     closeDialogs();
     const why = await refusal;
@@ -95,13 +117,13 @@ export class Fresh {
     this.refuse(field, why);
   }
 
-  /** @param {HTMLInputElement} field @param {string} why */
+  /** @param {HTMLInputElement | HTMLTextAreaElement} field @param {string} why */
   refuse(field, why) {
     field.setCustomValidity(why);
     field.reportValidity();
   }
 
-  /** What was wrong with a field is so no more. */
+  /** Takes back each complaint of a field. */
   forgive() {
     for (const field of [this.number, this.id]) field.setCustomValidity('');
   }

@@ -5,7 +5,7 @@
 /** @typedef {{game: Game, size: number, letter: string}} Kind */
 // A fair game, its number in decimal.
 /** @typedef {Kind & {number: string}} Fair */
-// What a link or a typed text names.
+// The puzzle that a link or a typed text names.
 /** @typedef {{fair: Fair, id?: undefined} | {fair?: null, id: string, game: Game | null}} Named */
 
 /** @type {Record<Game, string>} */
@@ -83,7 +83,7 @@ export function kindOfName(name) {
 /** @param {{game: Game, id: string, fair: Fair | null}} played */
 export const linkOf = ({game, id, fair}) => (fair ? `${nameOfKind(fair)}-${fair.number}` : `${game}:${encodeURI(id)}`);
 
-// What a text names: a whole link, its part after the #, or an ID.
+// The puzzle that a text names: a whole link, its part after the #, or an ID.
 /** @param {string} text @returns {Named | null} */
 export function named(text) {
   const own = plain(text.slice(text.indexOf('#') < 0 || /^[3-9](d[a-z])?#/.test(text) ? 0 : text.indexOf('#') + 1).trim());

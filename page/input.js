@@ -4,7 +4,7 @@ import {part} from './drawing.js';
 
 /** @typedef {import('./objects.js').Place} Place */
 /**
- * What a player asks for, whichever way.
+ * The wishes of a player, whichever way they come.
  * @typedef {{isReady(): boolean, act(name: string): void, move(dx: number, dy: number): void, number(number: number, isOther: boolean): void,
  *   pad(number: number, isOther: boolean): void, choose(place: Place): void, press(place: Place, isLong: boolean): void, step(at: number): void,
  *   along(by: number): boolean, set(name: string): void, turn(one: number, other: number): void, sign(by: number[]): boolean}} Asked
@@ -17,13 +17,17 @@ const STEPS = {
   l: [1, 0], k: [0, -1], j: [0, 1], L: [1, 0], K: [0, -1], J: [0, 1],
 };
 
-// What each key does, by the name of an action: the keys of the board in a terminal, and some more.
+// The action of each key, by its name: the keys of the board in a terminal, and some more.
 /** @type {Record<string, string>} */
 export const KEYS = {
   Enter: 'enter', p: 'marks', ' ': 'clear', 0: 'clear', Backspace: 'clear', Delete: 'clear', m: 'all', P: 'possible', M: 'tidy',
-  u: 'undo', r: 'redo', d: 'done', R: 'restart', h: 'hint', H: 'why', c: 'check', b: 'back', S: 'solve',
+  u: 'undo', r: 'redo', d: 'done', R: 'restart', h: 'hint', H: 'why', x: 'keep', c: 'check', b: 'back', S: 'solve',
   n: 'new', o: 'games', t: 'daily', E: 'desk', w: 'save', i: 'id', '?': 'rules', ':': 'command', q: 'quit', Escape: 'escape',
 };
+
+// On the setter's desk alone.
+/** @type {Record<string, string>} */
+const DESK_KEYS = {F: 'fill', '<': '<', '>': '>', '^': '^', v: 'v'};
 
 // The same with Control, or on a Mac with Command; the capital letter with Shift.
 /** @type {Record<string, string>} */
@@ -74,7 +78,7 @@ function key(event, asked) {
   const at = document.activeElement, isOnBoard = part('board').contains(at) || at === document.body;
   if (!asked.isReady() || isDialogOpen() || !isOnBoard || event.altKey) return;
   const isCommand = event.ctrlKey || event.metaKey, name = isCommand ? letterOf(event) : nameOf(event);
-  const action = isCommand ? COMMANDS[name] : KEYS[name], step = isCommand ? undefined : STEPS[name];
+  const action = isCommand ? COMMANDS[name] : KEYS[name] ?? DESK_KEYS[name], step = isCommand ? undefined : STEPS[name];
   const number = isCommand ? 0 : Number(/^[1-9]$/.exec(name));
   if (step && !asked.along(step[0] + step[1]) && !(event.shiftKey && asked.sign(step))) asked.move(...step);
   else if (number) asked.number(number, false);

@@ -1,31 +1,25 @@
-// What is kept in the browser: every game that was begun, until its player deletes it, which ones were solved, and the settings.
+// The things that are kept in the browser: every game that was begun, until its player deletes it, which ones were solved, and the settings.
 // It is `localStorage`, since what is put there is there when the call returns: no page can be closed in between. The other tabs hear of it.
 // Beside it is a database, since a browser that is killed may lose the last seconds of its store.
-import {kindOfName} from './games.js';
-import {LAST_MOMENT, isCount, isLater, keptIn, newKey} from './kept.js';
+import {LAST_MOMENT, deletionIn, goesOn, isCount, isLater, isUpTo, keptIn, moment, newKey, parsed} from './kept.js';
+import {FIRST, settingsIn} from './settings.js';
 
 /** @typedef {import('./kept.js').Kept} Kept */
-/** @typedef {Pick<import('./journal.js').Journal, 'put'>} Beside */
+/** @typedef {Pick<import('./journal.js').Journal, 'put' | 'isThere'>} Beside */
 /** @typedef {Pick<Storage, 'length' | 'key' | 'getItem' | 'setItem' | 'removeItem'>} Store */
-/** What the browser keeps for all tabs, and for this one alone; nothing where it refuses it. */
+/** The browser's stores for all tabs, and for this one alone; null where it refuses one. */
 /** @typedef {{all: Store | null, tab: Store | null}} Stores */
 /**
  * A game that was solved without the program's help: its class, when, in how many seconds (0 where that wasn't counted), with how many hints, and
  * its number if it has one.
  * @typedef {{kind: string, when: number, seconds: number, hints: number, number: string}} Solved
  */
-/**
- * `turn` counts the changes, and `now` is the key of the game that was shown last.
- * @typedef {{tidy: boolean, numberFirst: boolean, equal: boolean, lanes: boolean, time: boolean, kind: string, daily: string, now: string,
- *   turn: number}} Settings
- */
+/** @typedef {import('./settings.js').Settings} Settings */
 
 const GAME = 'puzzles:game:', NOW = 'puzzles:now', SETTINGS = 'puzzles:settings', SOLVED = 'puzzles:solved';
 
-/** @type {Settings} */
-const FIRST = {
-  tidy: false, numberFirst: false, equal: true, lanes: true, time: true, kind: 'towers-5-easy', daily: 'towers-5-easy', now: '', turn: 0,
-};
+// So long the journal says of a game that it was deleted: no store is so far behind.
+const DAY = 24 * 60 * 60 * 1000;
 
 // Why something isn't kept.
 /** @typedef {'refused' | 'full'} Trouble */
@@ -37,21 +31,33 @@ export class Keeping {
     this.journal = journal;
     /** @type {Stores | null} */
     this.opened = null;
-    // What the store doesn't have yet, and why, the last change last: it lasts as long as the page.
+    // The texts that the store doesn't have yet, and why, the last change last: they last as long as the page.
     /** @type {Map<string, {text: string, trouble: Trouble | ''}>} */
     this.unkept = new Map();
+    // Texts that were parsed last, and what they are: a long game takes a while.
+    /** @type {{text: string | null, kept: Kept | null}} */
+    this.read = {text: null, kept: null};
+    this.readSettings = {text: '', settings: FIRST};
+    // The names of the texts that this page has kept itself, until the journal is there.
+    /** @type {Set<string>} */
+    this.own = new Set();
   }
 
   get stores() { return this.opened ??= this.open(); }
 
-  /** Why the last of what isn't kept is not. */
-  get trouble() { return [...this.unkept.values()].pop()?.trouble ?? ''; }
+  /** Whether the journal has all of it, too. */
+  get isBeside() { return this.journal?.isThere ?? false; }
+
+  /** Why the last of what isn't kept is not: neither the store nor the journal has it. */
+  get trouble() { return this.isBeside ? '' : [...this.unkept.values()].pop()?.trouble ?? ''; }
 
   // --- games ---
 
   /** @param {string} key */
   game(key) {
-    return keptIn(this.get(GAME + key));
+    const text = this.get(GAME + key);
+    if (text !== this.read.text) this.read = {text, kept: keptIn(text)};
+    return this.read.kept;
   }
 
   // Whether there is a game of this key, be it that it can't be read.
@@ -78,20 +84,23 @@ export class Keeping {
     return this.texts().filter((text) => !keptIn(text));
   }
 
-  // Keeps a game, unless another tab has changed it since; whether it did. What has no key is kept nowhere.
+  // Keeps a game, unless another tab has changed it since; whether it did. A game without a key is kept nowhere.
   /** @param {Kept} kept */
   keep(kept) {
     if (!kept.key) return true;
     const before = this.game(kept.key);
     if (before && before.turn !== kept.turn - 1) return false;
-    this.put(GAME + kept.key, JSON.stringify(kept));
+    this.replace(kept);
     return true;
   }
 
   // Keeps a game in the place of what there is of it.
   /** @param {Kept} kept */
   replace(kept) {
-    this.put(GAME + kept.key, JSON.stringify(kept));
+    const text = JSON.stringify(kept);
+    // As it is now: its seconds are counted on.
+    this.read = {text, kept: {...kept}};
+    this.put(GAME + kept.key, text);
   }
 
   // Keeps for how long a game was played, where it is as it was.
@@ -102,9 +111,9 @@ export class Keeping {
 
   /** @param {string} key */
   delete(key) {
-    this.journal?.put(GAME + key, null);
-    this.unkept.delete(GAME + key);
-    this.stores.all?.removeItem(GAME + key);
+    // The store of a browser that is killed may have the game again: the journal says that it is gone.
+    this.journal?.put(GAME + key, JSON.stringify({turn: this.game(key)?.turn ?? 0, gone: Math.max(1, moment())}));
+    this.remove(GAME + key);
     this.flush();
   }
 
@@ -146,12 +155,9 @@ export class Keeping {
 
   /** @returns {Settings} */
   get settings() {
-    const kept = parsed(this.get(SETTINGS)) ?? {}, known = Object.entries(FIRST).filter(([name, first]) => typeof kept[name] === typeof first);
-    const settings = {...FIRST, ...Object.fromEntries(known.map(([name]) => [name, kept[name]]))};
-    for (const name of /** @type {const} */ (['kind', 'daily'])) {
-      if (!kindOfName(settings[name])) settings[name] = FIRST[name];
-    }
-    return settings;
+    const text = this.get(SETTINGS) ?? '';
+    if (text !== this.readSettings.text) this.readSettings = {text, settings: settingsIn(text)};
+    return this.readSettings.settings;
   }
 
   /** @param {Partial<Settings>} change */
@@ -175,10 +181,17 @@ export class Keeping {
   /** @param {string} name @param {string} text */
   put(name, text) {
     this.journal?.put(name, text);
+    this.own.add(name);
     // The last one is the last to be tried, and says why.
     this.unkept.delete(name);
     this.unkept.set(name, {text, trouble: ''});
     this.flush();
+  }
+
+  /** @param {string} name */
+  remove(name) {
+    this.unkept.delete(name);
+    this.stores.all?.removeItem(name);
   }
 
   /** Tries whatever the store doesn't have yet, and again as long as there is room for more. */
@@ -217,22 +230,40 @@ export class Keeping {
     return {name: GAME + key, text: JSON.stringify({...parsed(text), key})};
   }
 
-  // What the journal has and the store hasn't, or has of an earlier state: a browser that was killed may have lost it.
+  // Takes over the texts that the journal has and the store hasn't, or has of an earlier state: a browser that was killed may have lost them. Whether games
+  // came so late that this page has played on without them: then both are there.
   /** @param {Map<string, string>} journal */
   restore(journal) {
+    const {own} = this;
+    let isLate = false;
+    this.own = new Set();
     for (const [name, text] of journal) {
+      const here = this.get(name), deletion = deletionIn(text), isNew = isLater(text, here);
       if (name === SOLVED) this.addSolved(solvedIn(text));
-      else if (text !== this.get(name) && isLater(text, this.get(name))) this.put(name, text);
+      else if (deletion) this.forget(name, deletion);
+      else {
+        const copy = own.has(name) ? this.overtaken(text, here, isNew) : null;
+        if (copy) this.put(copy.name, copy.text);
+        if (isNew) this.put(name, text);
+        isLate ||= copy !== null;
+      }
     }
+    return isLate;
   }
-}
 
-/** @param {string | null} text @returns {any} */
-function parsed(text) {
-  try {
-    return JSON.parse(text ?? 'null');
-  } catch {
-    return null;
+  // Of two states of one game the earlier one, as a copy, where the later one doesn't go on from all its moves.
+  /** @param {string} text @param {string | null} here @param {boolean} isNew  whether the first one is the later one */
+  overtaken(text, here, isNew) {
+    const [one, other] = [text, here].map(keptIn);
+    if (!one || !other || (isNew ? goesOn(one, other) : goesOn(other, one))) return null;
+    return this.asCopy(isNew ? here ?? '' : text);
+  }
+
+  // A game that was deleted goes out of a store that is older, and the journal's word for that a day later.
+  /** @param {string} name @param {{turn: number, gone: number}} deletion */
+  forget(name, {turn, gone}) {
+    if (isUpTo(this.get(name), turn)) this.remove(name);
+    else if (gone < moment() - DAY) this.journal?.put(name, null);
   }
 }
 

@@ -21,18 +21,21 @@ import {gameOf, isSolved, letterOf, progress} from './objects.js';
 // A game that begins.
 /** @param {Session} session @param {Board} board @param {ByteText} save @param {Fair | null} fair @returns {Kept} */
 export function begunGame(session, board, save, fair) {
-  const now = Date.now(), game = gameOf(session), plain = {key: newKey(), turn: 1, game, fair, begun: now, seconds: 0, hints: 0, solved: 0};
+  const now = moment(), game = gameOf(session), plain = {key: newKey(), turn: 1, game, fair, begun: now, seconds: 0, hints: 0, solved: 0};
   return {...plain, ...seenOf(session, board, save), joined: []};
 }
+
+/** The time in milliseconds, of a clock before 1970, too: a negative one would make a game unreadable. */
+export const moment = () => Math.max(0, Date.now());
 
 /** A name for a game that no other one has. */
 export const newKey = () => `${Date.now().toString(36)}-${Math.floor(Math.random() * 1e9).toString(36)}`;
 
-// What is seen of a state of the game.
+// The members of a kept game that follow from its state.
 /** @param {Session} session @param {Board} board @param {ByteText} save */
 export function seenOf(session, board, save) {
   const {numbers, givens} = board;
-  return {save, id: session.id, when: Date.now(), numbers, givens, state: stateOf(session, board)};
+  return {save, id: session.id, when: moment(), numbers, givens, state: stateOf(session, board)};
 }
 
 /** @param {Session} session @param {Board} board @returns {State} */
@@ -47,6 +50,14 @@ export const sizeOf = ({id}) => Number(id.charAt(0));
 // The class of the game.
 /** @param {Kept} kept */
 export const kindOf = (kept) => ({game: kept.game, size: sizeOf(kept), letter: letterOf(kept.id)});
+
+// The moves of a save: all that stands below the record of its position.
+/** @param {ByteText} save */
+const movesIn = (save) => save.slice(save.lastIndexOf('\nSTATEPOS:') + 1).replace(/^.*\n/, '');
+
+// Whether a game goes on from all the moves of another one.
+/** @param {Kept} kept @param {Kept} before */
+export const goesOn = (kept, before) => movesIn(kept.save).startsWith(movesIn(before.save));
 
 /** @param {Kept} kept */
 export const farOf = ({numbers, givens}) => progress({size: 0, numbers, givens, marks: [], clues: [], signs: [], errors: [], cheated: false});
@@ -63,7 +74,9 @@ export function keptIn(text) {
 
 /** @param {any} value @returns {Kept | null} */
 function keptOf(value) {
-  const {key, game, save, id, state, turn, begun, when, seconds, hints, joined, solved, numbers, givens} = value;
+  const {key, game, save, id, state, turn, seconds, hints, joined, numbers, givens} = value;
+  // Earlier pages kept the times of such a clock.
+  const [begun, when, solved] = [value.begun, value.when, value.solved].map((time) => (time < 0 ? 0 : time));
   if (!key || ![key, id].every((text) => typeof text === 'string') || !isByteText(save) || !isGame(game) || !/^[3-9]/.test(id)) return null;
   if (![turn, seconds, hints].every(isCountedOn) || ![begun, when, solved].every((time) => isCount(time, LAST_MOMENT))) return null;
   if (!['playing', 'solved', 'filled'].includes(state) || !Array.isArray(joined) || !joined.every(isJoined)) return null;
@@ -98,13 +111,30 @@ export function isLater(text, other) {
   return one.turn > two.turn || (one.turn === two.turn && one.seconds > two.seconds);
 }
 
-/** @param {string | null} text @returns {{turn: number, seconds: number}} */
+// When a game was deleted, and after how many changes, where a text says so in its place.
+/** @param {string} text */
+export function deletionIn(text) {
+  const {turn, gone} = countsIn(text);
+  return gone ? {turn, gone} : null;
+}
+
+// Whether a text says of a game as many changes as that, or fewer.
+/** @param {string | null} text @param {number} turn */
+export const isUpTo = (text, turn) => text !== null && countsIn(text).turn <= turn;
+
+/** @param {string | null} text @returns {{turn: number, seconds: number, gone: number}} */
 function countsIn(text) {
+  const {turn = 0, seconds = 0, gone = 0} = parsed(text) ?? {turn: -1};
+  return {turn, seconds, gone};
+}
+
+// The value of a text in JSON; nothing where it is none.
+/** @param {string | null} text @returns {any} */
+export function parsed(text) {
   try {
-    const {turn = 0, seconds = 0} = JSON.parse(text ?? '');
-    return {turn, seconds};
+    return JSON.parse(text ?? 'null');
   } catch {
-    return {turn: -1, seconds: 0};
+    return null;
   }
 }
 

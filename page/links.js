@@ -1,10 +1,11 @@
-// What a player gives to others: the link and the ID of a game, and how it was solved. Nothing of the solution is in it.
+// The texts that a player gives to others: the link and the ID of a game, and how it was solved. Nothing of the solution is in it.
 import {dayOf, streakOf} from './daily.js';
 import {showPage} from './dialogs.js';
 import {linkOf} from './games.js';
 import {kindOf} from './kept.js';
 import {
-  ID_OF, LINK_COPIED, LINK_HERE, NAME_COPIED, NAME_HERE, RESULT_COPIED, RESULT_HERE, gameText, numberedText, resultText, solvedText,
+  ID_OF, LINK_COPIED, LINK_HERE, NAME_COPIED, NAME_HERE, RESULT_COPIED, RESULT_HERE, TABLE_COPIED, TEXT_COPIED, TEXT_HERE, gameText, numberedText,
+  resultText, solvedText,
 } from './texts.js';
 
 /** @typedef {Parameters<typeof linkOf>[0]} Linked */
@@ -41,6 +42,13 @@ export class Links {
     const {keeping, present: {kept}} = this, seconds = keeping.settings.time ? kept.seconds : 0;
     const solved = solvedText(kept.hints, seconds, streakOf(keeping, kept));
     return this.copy(resultText(this.name, solved, this.link), RESULT_COPIED, RESULT_HERE);
+  }
+
+  // The puzzle as the usual program copies it, or as a table for a spreadsheet.
+  /** @param {import('./turns.js').Game} game @param {import('./objects.js').Board} board @param {boolean} [isTable] */
+  async copyText(game, board, isTable) {
+    const {copied, puzzleOf, tabbed} = await import('./drawn_writing.js'), puzzle = puzzleOf(game, board);
+    return isTable ? this.copy(tabbed(puzzle), TABLE_COPIED, TEXT_HERE) : this.copy(copied(puzzle), TEXT_COPIED, TEXT_HERE);
   }
 
   showID() {

@@ -2,12 +2,13 @@
 import {button, element, focus, part, shape, show} from './drawing.js';
 import {closeDialogs, confirmed, openDialog, pictured} from './dialogs.js';
 import {farOf, kindOf, sizeOf} from './kept.js';
-import {clockText, dayAndTime, deleteFinishedText, deleteGameText, farText, kindText, NO_GAMES, unreadGames} from './texts.js';
+import {NO_GAME} from './shared_texts.js';
+import {clockText, dayAndTime, deleteFinishedText, deleteGameText, farText, kindText, unreadGames} from './texts.js';
 
 /** @typedef {import('./kept.js').Kept} Kept */
 /** @typedef {import('./keeping.js').Keeping} Keeping */
 
-// What there is to say of how far a game is.
+// The words for how far a game is.
 /** @type {Record<import('./kept.js').State, string>} */
 const STATES = {playing: '', solved: 'solved', filled: 'filled in'};
 
@@ -28,7 +29,7 @@ function digit(cell, size, number, kind) {
 }
 
 export class List {
-  // What is done with a chosen game, and after games were deleted: whether another one begins then.
+  // The calls for a chosen game, and after games were deleted: whether another one begins then.
   /** @param {Keeping} keeping @param {(key: string) => void} goOn @param {(keys: string[]) => Promise<boolean>} deleted */
   constructor(keeping, goOn, deleted) {
     this.keeping = keeping;
@@ -57,7 +58,7 @@ export class List {
   show() {
     const games = this.keeping.games(), finished = games.filter(({state}) => state !== 'playing');
     this.games = [...games.filter(({state}) => state === 'playing'), ...finished];
-    part('games-none').textContent = NO_GAMES;
+    part('games-none').textContent = NO_GAME;
     show(part('games-none'), games.length === 0);
     part('games-unread').textContent = unreadGames(this.keeping.unread().length);
     show(part('games-finished'), finished.length > 0);

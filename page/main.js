@@ -3,6 +3,7 @@ import {Actions} from './actions.js';
 import {Beginning} from './beginning.js';
 import {confirmed, isDialogOpen, listenToDialogs} from './dialogs.js';
 import {part} from './drawing.js';
+import {isGame} from './games.js';
 import {listenToPlayer} from './input.js';
 import {Journal, askToPersist} from './journal.js';
 import {keptIn} from './kept.js';
@@ -11,7 +12,7 @@ import {Moves} from './moves.js';
 import {Present} from './present.js';
 import {Screen} from './screen.js';
 import {Keeping, storesHere} from './keeping.js';
-import {AT_WORK, DELETED_ELSEWHERE, FAILED, LEARN, STOP, WELCOME, unableText} from './texts.js';
+import {AT_WORK, CAME_LATE, DELETED_ELSEWHERE, FAILED, LEARN, STOP, WELCOME, unableText} from './texts.js';
 import {Turns} from './turns.js';
 import {Walk} from './walk.js';
 
@@ -20,7 +21,7 @@ import {Walk} from './walk.js';
 /** How many milliseconds the page waits for its database. */
 const PATIENCE = 2000;
 
-const messages = new Messages(), journal = new Journal(), keeping = new Keeping(storesHere, journal);
+const messages = new Messages(), journal = new Journal((texts) => restore(texts)), keeping = new Keeping(storesHere, journal);
 const turns = new Turns(part('module').textContent ?? '', part('worker').textContent ?? '');
 const walk = new Walk((text) => messages.say(text));
 
@@ -38,7 +39,7 @@ const front = {
   /** @param {Board} before @param {boolean} isOwn  whether this tab has moved */
   changes(before, isOwn) {
     if (!screen.desk) {
-      if (before.numbers.join() !== present.board.numbers.join()) walk.forget();
+      if (walk.isPast(before, present.board)) walk.forget();
       messages.clear();
       screen.change(before);
     }
@@ -61,7 +62,7 @@ const present = new Present(turns, keeping, front), screen = new Screen(present,
 const beginning = new Beginning(present), moves = new Moves(present, confirmed);
 const actions = new Actions({present, moves, beginning, screen, walk, messages, keeping, turns});
 
-/** What lasts is seen, and a browser asks before it closes the page while something isn't kept. */
+/** The lasting line is seen, and a browser asks before it closes the page while something isn't kept. */
 function rest() {
   if (present.kept.key || screen.desk) screen.rest(() => actions.act('next'));
   else actions.course.rest();
@@ -81,16 +82,27 @@ async function begin() {
   try {
     await turns.ready();
     // The stores are asked for here first, after the worker has answered. A database that doesn't answer keeps nobody waiting for long.
-    const restored = journal.texts().then((texts) => keeping.restore(texts));
-    await Promise.race([restored, new Promise((settle) => setTimeout(settle, PATIENCE))]);
-    // Whoever comes for the first time is offered the course.
-    const {hash} = location, isFirst = !keeping.settings.turn;
+    await Promise.race([journal.open(), new Promise((settle) => setTimeout(settle, PATIENCE))]);
+    // A player who comes for the first time is offered the course.
+    const {hash} = location, {desk} = history.state ?? {}, isFirst = !keeping.settings.turn;
     forgetLink();
     await beginning.first(hash);
+    // A reload, and a browser that threw the page away.
+    if (isGame(desk) && !hash) actions.desk.open(desk);
     if (isFirst && !keeping.trouble) messages.tell(messages.text || WELCOME, {offer: {text: LEARN, run: () => actions.act('learn')}});
   } catch (fault) {
     messages.tell(unableText(fault instanceof Error ? fault.message : String(fault)), {bad: true, lasting: true});
   }
+}
+
+// The texts of the database come into the store, and moves that were made without it stay beside.
+/** @param {Map<string, string>} texts */
+function restore(texts) {
+  if (!keeping.restore(texts) || !present.there) return;
+  present.inTurn(async () => {
+    await present.catchUp();
+    messages.tell(CAME_LATE, {bad: true});
+  });
 }
 
 /** A link has begun its game once: with the address as it is without it a reload goes on with whatever game is played by then. */
@@ -98,7 +110,7 @@ function forgetLink() {
   if (location.hash) history.replaceState(null, '', location.href.split('#')[0]);
 }
 
-/** What other tabs do, and the time. */
+/** Attends to other tabs, and to the time. */
 function attend() {
   addEventListener('hashchange', () => {
     const {hash} = location;
@@ -113,6 +125,7 @@ function attend() {
     // Not as the store has it: WebKit may tell of a change before this tab can read it.
     else present.inTurn(() => present.catchUp(keptIn(newValue)));
   });
+  addEventListener('pageshow', ({persisted}) => { if (persisted) journal.comeBack(); });
   setInterval(() => {
     if (!present.there) return;
     rest();

@@ -36,7 +36,7 @@ export class Measures {
     this.margin = MARGIN * (this.full + 2 * this.out);
   }
 
-  /** What is seen: the board, and to its left and above it the numbers of rows and columns. */
+  /** The part that is seen: the board, and to its left and above it the numbers of rows and columns. */
   get view() {
     const begin = -this.out - this.margin, length = this.full + 2 * this.out + this.margin;
     return [begin, begin, length, length].join(' ');

@@ -1,7 +1,7 @@
-// What is said: a line that is seen, which fades, with an offer beside it; and one for readers of screens alone.
+// Messages: a line that is seen, which fades, with an offer beside it; and one for readers of screens alone.
 import {part, show} from './drawing.js';
 
-// What can be done at once.
+// An offer that can be taken at once.
 /** @typedef {{text: string, run: () => void}} Offer */
 /** @typedef {{bad?: boolean, lasting?: boolean, offer?: Offer | null}} How */
 
@@ -13,13 +13,13 @@ export class Messages {
     /** @type {Offer | null} */
     this.offered = null;
     this.timer = 0;
-    // What is to be seen where there is nothing else to say.
+    // The text that is seen where there is nothing else to say.
     /** @type {{text: string, how: How}} */
     this.rest = {text: '', how: {}};
     part('offer').addEventListener('click', () => this.offered?.run());
   }
 
-  /** What is to be seen now. */
+  /** The text that is seen now. */
   get text() { return part('told').textContent ?? ''; }
 
   /** @param {string} text @param {How} [how] */
@@ -40,7 +40,7 @@ export class Messages {
     this.write(this.rest.text, this.rest.how);
   }
 
-  // What is to be seen from here on where there is nothing else to say.
+  // Sets the text that is seen from here on where there is nothing else to say.
   /** @param {string} text @param {How} [how] */
   stay(text, how = {}) {
     const isNew = text !== this.rest.text;

@@ -4,13 +4,13 @@
 /** @typedef {'answered' | 'ended' | 'unread' | 'memory'} Outcome */
 
 /**
- * What came of a call: what is said, and the text of a save of the session after. Where the text before was no save, the program's line on it is
+ * The result of a call: the text that is said, and the text of a save of the session after. Where the text before was no save, the program's line on it is
  * said.
  * @typedef {{outcome: Outcome, said: Uint8Array, saved: Uint8Array}} Turned
  */
 
 /**
- * What the module hands to its host. Addresses and lengths are of 64 bits.
+ * The names that the module hands to its host. Addresses and lengths are of 64 bits.
  * @typedef {object} Exports
  * @property {WebAssembly.Memory} memory
  * @property {(length: bigint) => bigint} page_take   the address of a block of memory; 0 where there is none
@@ -53,7 +53,7 @@ class Room {
   }
 
   /**
-   * Makes room for so many bytes at least. What is in it may be lost.
+   * Makes room for so many bytes at least. The bytes in it may be lost.
    * @param {number} length
    */
   grow(length) {
@@ -168,44 +168,4 @@ export class Module {
     );
     return [...new BigUint64Array(this.exports.memory.buffer, Number(this.ending.address), ENDING_NUMBERS)].map(Number);
   }
-}
-
-/**
- * Five letters stand for four bytes. The letters are those of Python's base85, with a comma for the one that may begin an element.
- */
-const LETTERS_85 = '0123456789ABCDEFGHIJKLMNOPQRSTUVWXYZabcdefghijklmnopqrstuvwxyz!#$%&()*+-;,=>?@^_`{|}~';
-
-/**
- * The module that was packed: gzip, in base 85.
- * @param {string} packed
- * @returns {Promise<ArrayBuffer>}
- */
-export function unpacked(packed) {
-  // TypeScript's list of what browsers have lacks it.
-  const {DecompressionStream} = /** @type {any} */ (globalThis);
-  // Not the stream of a Blob: WebKit can't read one in a worker of a page from a disk.
-  const unzip = new DecompressionStream('gzip');
-  const writer = unzip.writable.getWriter();
-  writer.write(bytesOf85(packed.trim()));
-  writer.close();
-  return new Response(unzip.readable).arrayBuffer();
-}
-
-/**
- * @param {string} text
- * @returns {Uint8Array}
- */
-function bytesOf85(text) {
-  const values = new Map([...LETTERS_85].map((letter, value) => [letter.charCodeAt(0), value]));
-  const words = Math.ceil(text.length / 5);
-  const view = new DataView(new ArrayBuffer(4 * words));
-  for (let word = 0; word < words; word += 1) {
-    let value = 0;
-    for (let at = 5 * word; at < 5 * word + 5; at += 1) {
-      // The last word may lack letters: they count as the greatest.
-      value = 85 * value + (values.get(text.charCodeAt(at)) ?? 84);
-    }
-    view.setUint32(4 * word, value);
-  }
-  return new Uint8Array(view.buffer, 0, 4 * words - (5 * words - text.length));
 }

@@ -1,12 +1,13 @@
-// What a player does to the present game, as lines of the module.
-import {cellOf, crossing, isFull, isSolved, placeOf} from './objects.js';
-import {ALL_POSSIBLE, FULL, NEVER_RIGHT, NO_HINT, NOTHING_TO_CLEAR, SOLVED, STILL_RIGHT} from './shared_texts.js';
+// The changes that a player makes to the present game, as lines of the module.
+import {cellOf, crossing, isFull, isSolved, placeAt, placeOf} from './objects.js';
+import {ALL_POSSIBLE, FULL, NEVER_RIGHT, NO_HINT, NOTHING_CHANGES, NOTHING_TO_CLEAR, NOTHING_TO_KEEP, SOLVED, STILL_RIGHT} from './shared_texts.js';
 import {AT_START, COMPLETABLE, FILL_IN, NOT_A_CLUE, NOT_A_SQUARE, takenBackText} from './texts.js';
 
 /** @typedef {import('./present.js').Present} Present */
 /** @typedef {import('./objects.js').Board} Board */
 /** @typedef {import('./objects.js').Place} Place */
 /** @typedef {import('./objects.js').Hint} Hint */
+/** @typedef {import('./walked_hint.js').WalkedHint} WalkedHint */
 
 export class Moves {
   /** @param {Present} present @param {(question: string) => Promise<boolean>} confirm */
@@ -20,8 +21,8 @@ export class Moves {
   put(place, number, isMark, isFlipped = false) {
     return this.onSquare(place, (board, cell) => {
       if (isMark) return [`move P${place},${number}`];
-      if (board.numbers[cell] === number && !board.givens[cell]) return isFlipped ? [`move R${place},0`] : [];
-      return [...this.marksThatGo(board, cell, number), `move R${place},${number}`];
+      if (isFlipped && board.numbers[cell] === number && !board.givens[cell]) return [`move R${place},0`];
+      return this.linesOf(`move R${place},${number}`);
     });
   }
 
@@ -30,7 +31,7 @@ export class Moves {
     return this.onSquare(place, ({numbers, marks}, cell) => (numbers[cell] || marks[cell].length ? [`move R${place},0`] : NOTHING_TO_CLEAR));
   }
 
-  // What is done to a square depends on what is in it when its turn has come.
+  // A change of a square depends on its number and marks when its turn has come.
   /** @param {Place} place @param {(board: Board, cell: number) => string[] | string} made */
   onSquare(place, made) {
     return this.present.inTurn(async () => {
@@ -40,26 +41,27 @@ export class Moves {
     });
   }
 
-  // Where marks go with numbers: moves before the number that take its marks out of its row and column, so that it is the first to be undone.
-  /** @param {Board} board @param {number} cell @param {number} number */
-  marksThatGo(board, cell, number) {
-    if (!this.present.keeping.settings.tidy || board.givens[cell]) return [];
-    const cells = crossing(cell, board.size).filter((one) => one !== cell && board.marks[one].includes(number));
-    return cells.map((one) => `move P${placeOf(one, board.size)},${number}`);
+  // A line with those that are one move with it, by whatever it is asked for. Where marks go with numbers: moves before the number that take its marks
+  // out of its row and column, so that it is the first to be undone. None where the number is there; and back or forth of however many states.
+  /** @param {string} line */
+  linesOf(line) {
+    const {present} = this, {board, session} = present, [, x, y, number] = (/^move R([0-9]),([0-9]),([1-9])$/.exec(line) ?? []).map(Number);
+    if (line === 'undo' || line === 'redo') return Array(present.statesOf(line, session.position)).fill(line);
+    const cell = number ? cellOf(placeAt(x, y), board.size) : -1;
+    if (cell < 0 || board.givens[cell]) return [line];
+    if (board.numbers[cell] === number) return [];
+    const cells = present.keeping.settings.tidy ? crossing(cell, board.size).filter((one) => one !== cell && board.marks[one].includes(number)) : [];
+    return [...cells.map((one) => `move P${placeOf(one, board.size)},${number}`), line];
   }
 
-  // Plays a line as it is.
+  // Plays a line.
   /** @param {string} line */
   line(line) {
-    return this.present.inTurn(() => this.present.play([line]));
-  }
-
-  // One move back or forth, of however many states.
-  /** @param {'undo' | 'redo'} way */
-  undoOrRedo(way) {
-    return this.present.inTurn(() => {
-      const {present} = this, states = present.statesOf(way, present.session.position);
-      return present.play(Array(states).fill(way), true);
+    return this.present.inTurn(async () => {
+      const lines = this.linesOf(line);
+      if (lines.length) return this.present.play(lines, line === 'undo' || line === 'redo');
+      this.present.front.tell(NOTHING_CHANGES);
+      return null;
     });
   }
 
@@ -80,10 +82,24 @@ export class Moves {
   possible() {
     return this.present.inTurn(async () => {
       const {board} = this.present, {answer} = await this.present.ask('hint'), view = answer.hint?.view;
-      if (!view) return;
-      const lines = flips(board, view);
-      if (lines.length) await this.present.play(lines);
-      else this.present.front.tell(ALL_POSSIBLE);
+      if (!view) return false;
+      const lines = possibleLines(board, view);
+      if (!lines.length) this.present.front.tell(ALL_POSSIBLE);
+      return lines.length > 0 && Boolean(await this.present.play(lines));
+    });
+  }
+
+  // The numbers that a hint ruled out go from the marks of the empty squares, as one move.
+  /** @param {WalkedHint} walked  a hint of the numbers that are shown */
+  keep(walked) {
+    const {numbers} = this.present.board;
+    return this.present.inTurn(async () => {
+      const {present} = this, {board} = present;
+      // A number may have come in between.
+      if (board.numbers.join() !== numbers.join()) return false;
+      const lines = flips(board, keptMarks(board, walked));
+      if (!lines.length) present.front.tell(NOTHING_TO_KEEP);
+      return lines.length > 0 && Boolean(await present.play(lines));
     });
   }
 
@@ -103,10 +119,7 @@ export class Moves {
   // A line that the player has typed: what it says where it changes nothing.
   /** @param {string} line @returns {Promise<string[] | null>} */
   typed(line) {
-    return this.present.inTurn(async () => {
-      const answer = await this.present.play([line], line === 'undo' || line === 'redo');
-      return answer && answer.reply.join() !== 'ok' ? answer.reply : null;
-    });
+    return this.line(line).then((answer) => (answer && answer.reply.join() !== 'ok' ? answer.reply : null));
   }
 
   /** Whether these numbers can be completed, as a sentence; `none` where they can't, and nothing where that isn't known. */
@@ -162,17 +175,27 @@ export class Moves {
   /** @returns {Promise<Hint | 'none' | null>} */
   hint() {
     return this.present.inTurn(async () => {
-      const {board, front} = this.present, {answer} = await this.present.ask('hint');
-      if (this.present.isRefused('hint', answer) || !answer.hint) return null;
+      const {board, front, kept, keeping} = this.present, line = keeping.settings.fromMarks && kept.key ? 'hint marks' : 'hint';
+      const {answer} = await this.present.ask(line);
+      if (this.present.isRefused(line, answer) || !answer.hint) return null;
       const {kind} = answer.hint;
       if (kind === 'nothing' && isFull(board)) {
         front.tell(isSolved(board) ? SOLVED : FULL);
         return null;
       }
-      if (kind !== 'contradiction' && (await this.present.ask('completable')).answer.completable === 'none') return 'none';
+      // A wrong number is told before a missing mark.
+      const isShown = kind === 'contradiction' && answer.hint.from !== 'marks';
+      if (!isShown && (await this.present.ask('completable')).answer.completable === 'none') return 'none';
       if (kind === 'nothing') front.tell(NO_HINT);
       return kind === 'nothing' ? null : answer.hint;
     });
+  }
+
+  // The number of a square by the puzzle's only solution; 0 where there are several, or that isn't known.
+  /** @param {number} cell */
+  async numberOf(cell) {
+    const turned = await this.present.inTurn(() => this.present.ask('solutions')), solutions = turned?.answer.solutions ?? [];
+    return solutions.length === 1 ? solutions[0][cell] ?? 0 : 0;
   }
 
   /** One hint more is counted. */
@@ -186,12 +209,28 @@ export class Moves {
 
 // The moves by which the marks of all empty squares become these: one by one, or from all marks on, where that is shorter.
 /** @param {Board} board @param {number[][]} view */
-function flips({size, numbers, marks}, view) {
-  const empty = numbers.flatMap((number, cell) => (number ? [] : [cell])), all = Array.from({length: size}, (_, at) => at + 1);
-  const from = (/** @type {(cell: number) => number[]} */ there) => empty.flatMap((cell) => {
-    const other = all.filter((number) => there(cell).includes(number) !== view[cell].includes(number));
+function possibleLines(board, view) {
+  const all = Array.from({length: board.size}, (_, at) => at + 1), single = flips(board, view);
+  const whole = ['move M', ...flips({...board, marks: view.map(() => all)}, view)];
+  return whole.length < single.length ? whole : single;
+}
+
+// The moves by which the marks of the empty squares become these, one by one.
+/** @param {Board} board @param {number[][]} wanted */
+function flips({size, numbers, marks}, wanted) {
+  const all = Array.from({length: size}, (_, at) => at + 1);
+  return numbers.flatMap((filled, cell) => {
+    const other = filled ? [] : all.filter((number) => marks[cell].includes(number) !== wanted[cell].includes(number));
     return other.map((number) => `move P${placeOf(cell, size)},${number}`);
   });
-  const single = from((cell) => marks[cell]), whole = ['move M', ...from(() => all)];
-  return whole.length < single.length ? whole : single;
+}
+
+// The marks without what a hint ruled out. A square whose marks say nothing else gets what is left of its view.
+/** @param {Board} board @param {WalkedHint} walked */
+function keptMarks({marks}, walked) {
+  const {struck} = walked, view = walked.left(0) ?? marks;
+  return marks.map((own, cell) => {
+    const [left, possible] = [own, view[cell]].map((numbers) => numbers.filter((number) => !struck.get(cell)?.includes(number)));
+    return left.length || !struck.has(cell) ? left : possible;
+  });
 }

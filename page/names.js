@@ -9,7 +9,7 @@ import {clueAt} from './texts.js';
 /** @param {number} cell @param {number} size */
 const nameOf = (cell, size) => `row ${Math.floor(cell / size) + 1}, column ${(cell % size) + 1}`;
 
-// What stands in a square.
+// The words for the number and the marks in a square.
 /** @param {Board} board @param {number} cell */
 export function content({numbers, givens, marks, errors}, cell) {
   if (!numbers[cell]) return marks[cell].length ? `empty, marks ${marks[cell].join(' ')}` : 'empty';
@@ -37,7 +37,7 @@ export const square = (board, cell) => `${nameOf(cell, board.size)}, ${content(b
 /** @param {Clue} clue @param {number} size */
 export const clueName = ({clue, x, y, done, error}, size) => `${clueAt(clue, x, y, size)}${done ? ', done' : ''}${error ? ', wrong' : ''}`;
 
-// What is to be said of a change, in the shortest form.
+// The shortest words for a change.
 /** @param {Board} before @param {Board} after @param {Place} chosen */
 export function changeName(before, after, chosen) {
   const {size} = after, own = cellOf(chosen, size);

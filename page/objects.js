@@ -1,4 +1,4 @@
-// What the module tells of a game: the objects of puzzles-json, by the names of docs/JSON.md.
+// The objects by which the module tells of a game: those of puzzles-json, by the names of docs/JSON.md.
 
 /** @typedef {import('./turns.js').Game} Game */
 /** @typedef {{game: string, id: string, position: number, states: number, status: 'playing' | 'solved' | 'helped'}} Session */
@@ -12,7 +12,7 @@
  */
 /**
  * @typedef {{kind: 'follows' | 'nothing' | 'contradiction', cell: number | null, number: number | null, line: number | null, grade: string | null,
- *   view?: number[][], steps: Step[], groups: number[], text: string[]}} Hint
+ *   view?: number[][], steps: Step[], groups: number[], text: string[], from?: 'marks' | 'numbers', unmarked?: number | null}} Hint
  */
 /** @typedef {{clues: {x: number, y: number}[], signs: {greater: number, less: number}[], givens: number[]}} Items */
 /**

@@ -12,7 +12,7 @@ import {cellOf, crossing, placeAt, placeOf} from './objects.js';
 /** @typedef {import('./walked_hint.js').Shown} Shown */
 
 /**
- * What is seen beside the board itself: the chosen place, whether digits are marks, what a hint points at, the number that is lit wherever it
+ * The things that are seen beside the board itself: the chosen place, whether digits are marks, what a hint points at, the number that is lit wherever it
  * stands, 0 where none is, and whether the row and column of the chosen square are tinted.
  * @typedef {{chosen: Place, marking: boolean, shown: Shown | null, lit: number, lanes: boolean}} View
  */
@@ -138,7 +138,7 @@ export class Picture {
     mark?.before(shape('circle', {cx: x, cy: y, r: PEN.mark / 2, class: 'light'}));
   }
 
-  // What a step rests on has a corner, so that it is seen by a form and not by the colour alone.
+  // A place that a step rests on has a corner, so that it is seen by a form and not by the colour alone.
   /** @param {Place} place @param {boolean} rests */
   corner(place, rests) {
     const [column, row] = place.split(',').map(Number), box = this.measures.box(column, row);

@@ -15,10 +15,10 @@ import {Unanswered} from './turns.js';
 /** @typedef {import('./objects.js').Answer} Answer */
 /** @typedef {import('./objects.js').Board} Board */
 /** @typedef {import('./objects.js').Session} Session */
-// What can be shown: a board and the session that it is of.
+// A state that can be shown: a board and the session that it is of.
 /** @typedef {{board: Board, session: Session}} Looked */
 /**
- * Whoever shows the game: another one has begun; it has changed, by this tab or another one; there is something to say; the program takes long.
+ * The one that shows the game: another one has begun; it has changed, by this tab or another one; there is something to say; the program takes long.
  * @typedef {{begins(): void, changes(before: Board, isOwn: boolean): void, tell(text: string, how?: {bad?: boolean}): void,
  *   busy(isBusy: boolean): void}} Front
  */
@@ -103,7 +103,7 @@ export class Present {
     return {board, session};
   }
 
-  // Plays lines as one move, and keeps the game that comes of them; the last answer. What changes nothing is no move.
+  // Plays lines as one move, and keeps the game that comes of them; the last answer. Lines that change nothing are no move.
   /** @param {string[]} lines @param {boolean} isHistory  undo or redo */
   async play(lines, isHistory = false) {
     if (await this.isBehind()) return null;

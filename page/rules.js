@@ -4,7 +4,6 @@ import {openDialog} from './dialogs.js';
 import {Measures, PEN} from './measures.js';
 import {NAMES} from './games.js';
 import {ABOUT_BOARD, ABOUT_DESK, ABOUT_HINT, ABOUT_PRESSING, KEYS, RULES, WORKED} from './rules_texts.js';
-import {KEPT} from './texts.js';
 
 /** @typedef {import('./turns.js').Game} Game */
 
@@ -34,14 +33,15 @@ function unequal() {
 /** @param {number} x @param {number} y @param {string | number} content @param {string} kind */
 const text = (x, y, content, kind) => shape('text', {x, y: y + 14, 'font-size': 40, class: kind}, String(content));
 
-/** @param {Game} game @param {boolean} hasKeys */
-export function openRules(game, hasKeys) {
+/** @param {Game} game @param {string} kept  how games are kept */
+export function openRules(game, kept) {
+  const hasKeys = matchMedia('(any-hover: hover) and (any-pointer: fine)').matches;
   part('rules-title').textContent = `Rules of ${NAMES[game]}`;
   const keys = element('dl', '', {}, ...KEYS.flatMap(([key, does]) => [element('dt', key), element('dd', does)]));
   part('rules-text').replaceChildren(
     ...RULES[game].map((sentence) => element('p', sentence)),
     game === 'towers' ? towers() : unequal(),
-    ...[WORKED[game], ABOUT_BOARD, ABOUT_PRESSING, ABOUT_HINT, ABOUT_DESK, KEPT].map((sentence) => element('p', sentence)),
+    ...[WORKED[game], ABOUT_BOARD, ABOUT_PRESSING, ABOUT_HINT, ABOUT_DESK, kept].map((sentence) => element('p', sentence)),
     ...(hasKeys ? [element('h3', 'Keys'), keys] : []),
   );
   openDialog('rules');

@@ -1,4 +1,4 @@
-// What the dialog of the rules says: the rules of both games, the board, hints, and the keys.
+// The texts of the dialog of the rules: the rules of both games, the board, hints, and the keys.
 
 /** @typedef {import('./turns.js').Game} Game */
 
@@ -14,11 +14,12 @@ export const KEYS = [
   ['u, r', 'undo, redo; also Ctrl-Z, and Ctrl-Y or Ctrl-Shift-Z; on a Mac with Cmd'],
   ['d', 'a clue is done'],
   ['h, H', 'hint; all steps'],
+  ['x', 'after the last step: keep what it ruled out in the marks'],
   ['c, b, S', 'can it be completed; back until it can; solve'],
   ['R', 'back to the start'],
   ['n, o, t', 'new game; games to continue; the daily games'],
   ['w, i', 'save to a file; the link and the ID'],
-  ['E', 'check or set a puzzle, and back; there Shift-arrows set the sign on that side'],
+  ['E', 'check or set a puzzle, and back; there < > put a sign right of the square, ^ v below it, M thins out, F fills in'],
   [':', 'a command of the program'],
   ['?', 'rules and keys'],
 ];
@@ -27,11 +28,13 @@ export const KEYS = [
 /** @type {Record<Game, string[]>} */
 export const RULES = {
   towers: [
+    'Newspapers call this puzzle Skyscrapers.',
     'Each row and each column has each number from 1 to the size once.',
     'A number is a tower of that height. A clue at the edge says how many towers are seen from there along its row or column. '
       + 'A tower hides all lower ones behind it.',
   ],
   unequal: [
+    'Newspapers call this puzzle Futoshiki.',
     'Each row and each column has each number from 1 to the size once.',
     'A sign between two squares says which of them has the greater number: it opens to the greater one, and points at the lesser one.',
   ],
@@ -46,6 +49,7 @@ export const WORKED = {
 
 export const ABOUT_BOARD = 'Bold numbers were given with the puzzle. A red ! marks a contradiction. A full board without red is the solution.';
 export const ABOUT_HINT = 'Hint first frames where to look, then says why, then puts the number in. Why? walks through all steps. '
+  + 'After the last one Keep what it ruled out takes these numbers from your marks. '
   + 'By what is left means by the numbers that are not ruled out yet in that row or column.';
 
 export const ABOUT_DESK = 'Check or set a puzzle, in the menu, says whether a puzzle has just one solution. '

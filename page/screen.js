@@ -1,4 +1,4 @@
-// What is on the screen: the board, the head, the numbers and the buttons, as the present game is.
+// All that is on the screen: the board, the head, the numbers and the buttons, as the present game is.
 import {streakOf} from './daily.js';
 import {button, focus, part, set, show} from './drawing.js';
 import {GRADES, gradeOf} from './games.js';
@@ -8,7 +8,7 @@ import {changeName} from './names.js';
 import {cellOf, isFull, isSolved, placeAt, progress} from './objects.js';
 import {Picture} from './picture.js';
 import {FILLED_IN, FULL_AND_WRONG} from './shared_texts.js';
-import {begunText, clockText, farText, NEXT_GAME, NO_ROOM, NO_STORAGE, numberName, solvedText, titleText} from './texts.js';
+import {begunText, clockText, farText, keptText, NEXT_GAME, numberName, solvedText, titleText} from './texts.js';
 
 /** @typedef {import('./present.js').Present} Present */
 /** @typedef {import('./objects.js').Board} Board */
@@ -74,7 +74,7 @@ export class Screen {
     else this.paint();
   }
 
-  // What has changed is said.
+  // Each change is said.
   /** @param {Board} before */
   change(before) {
     this.messages.say(changeName(before, this.present.board, this.chosen));
@@ -165,13 +165,13 @@ export class Screen {
     this.paintCount();
   }
 
-  // What lasts: how the game has ended, or what hinders it from being kept.
+  // The lasting line: how the game has ended, or what hinders it from being kept.
   /** @param {() => void} next */
   rest(next) {
     const {board, kept, keeping} = this.present, {trouble} = keeping, offer = {text: NEXT_GAME, run: next};
     const seconds = keeping.settings.time ? kept.seconds : 0;
     if (!trouble && this.desk) return;
-    if (trouble) this.messages.stay(trouble === 'full' ? NO_ROOM : NO_STORAGE, {bad: true});
+    if (trouble) this.messages.stay(keptText(keeping), {bad: true});
     else if (kept.state === 'filled') this.messages.stay(FILLED_IN, {offer});
     else if (kept.state === 'solved') this.messages.stay(solvedText(kept.hints, seconds, streakOf(keeping, kept)), {offer});
     else this.messages.stay(isFull(board) ? FULL_AND_WRONG : '');

@@ -1,6 +1,6 @@
 // All sentences of the page but those of its rules. They speak of what is seen there, and not of keys, since a phone has none.
 import {GRADES, NAMES, gradeOf} from './games.js';
-import {MARKS_GO, MARKS_STAY, REFUSED_IDS, REFUSED_LINES, REFUSED_MOVES, REFUSED_SAVES, STILL_COMPLETABLE, STOPPED} from './shared_texts.js';
+import {HINTS_FROM_MARKS, HINTS_FROM_NUMBERS, MARKS_GO, MARKS_STAY, MARK_MISSING, REFUSED_IDS, REFUSED_LINES, REFUSED_MOVES, REFUSED_SAVES, STILL_COMPLETABLE, STOPPED} from './shared_texts.js';
 
 /** @typedef {import('./turns.js').Game} Game */
 /** @typedef {import('./turns.js').Fault} Fault */
@@ -32,7 +32,7 @@ export const GONE = 'That game is no longer kept.';
 export const CANNOT_BE_READ = 'That kept game can’t be read. It stays as it is.';
 export const NO_STORAGE = 'This browser keeps nothing for this page. Save the game to a file before you close it.';
 export const NO_ROOM = 'The browser has no room left, so this game is not kept. Delete other games, or save this one to a file.';
-export const KEPT = 'Each game is kept in this browser after each change. You can close this page at any time.';
+export const CAME_LATE = 'Moves that were kept before have come late. They and the moves since then are two games of the list now.';
 export const LINK_COPIED = 'The link to this game is copied.';
 export const LINK_HERE = 'Copy this link to the game:';
 export const NAME_COPIED = 'This page has no address for others, so the name of the game is copied. They put it in at New, under Link or ID.';
@@ -40,14 +40,28 @@ export const NAME_HERE = 'This page has no address for others. They put this in 
 export const RESULT_COPIED = 'The result is copied. It shows nothing of the solution.';
 export const RESULT_HERE = 'Copy this line:';
 export const NO_SUCH_LINK = 'This is not a game. Type a link, an ID or a number from 0 to 18446744073709551615.';
+export const CHECK_IT = 'Check it';
+export const BEGIN_IT = 'Play it';
+export const NOTHING_THERE = 'No puzzle can be read of this.';
+export const WHICH_ONE = 'There are several puzzles. Choose one of the list.';
+export const TEXT_COPIED = 'The puzzle is copied as text.';
+export const TABLE_COPIED = 'The puzzle is copied as a table for a spreadsheet.';
+export const TEXT_HERE = 'Copy this text:';
 export const NO_NUMBER = 'The number of a game goes from 0 to 18446744073709551615.';
 export const FAILED = 'Something failed on this page. The game is as it was kept last.';
-export const NO_GAMES = 'There is no game yet.';
 export const NO_STATISTICS = 'Solve a game to see its time here.';
 export const DROP_FILE = 'That file is too large. A save has at most 16,777,216 bytes.';
 export const NOT_OUR_FILE = 'This page did not write that file.';
 export const ID_OF = 'The ID of this puzzle';
 export const COMMAND = 'A command of the program:';
+
+// How games are kept: why they aren't, or whether the database has them beside the store.
+/** @param {import('./keeping.js').Keeping} keeping */
+export function keptText({trouble, isBeside}) {
+  if (trouble) return trouble === 'full' ? NO_ROOM : NO_STORAGE;
+  if (!isBeside) return 'Each game is kept in this browser after each change, but the last moves may be gone if the browser is killed.';
+  return 'Each game is kept in this browser after each change. You can close this page at any time. A private window forgets its games then.';
+}
 
 // Where the module can't run at all.
 /** @param {string} why */
@@ -73,7 +87,7 @@ export const COMPLETABLE = {
 // The sentences for a setting that is switched off, or on.
 /** @type {Partial<Record<string, [string, string]>>} */
 export const SET = {
-  tidy: [MARKS_STAY, MARKS_GO],
+  tidy: [MARKS_STAY, MARKS_GO], fromMarks: [HINTS_FROM_NUMBERS, HINTS_FROM_MARKS],
   numberFirst: ['From now on, choose a square, then its number.', 'From now on, press a number, then each square that gets it.'],
 };
 
@@ -131,6 +145,10 @@ export function unreadText(text, why) {
   const [, name, number] = /([A-Z]\w+)(?: ([0-9]+))?$/.exec(why) ?? ['', '', ''];
   return (SAVES[name] ?? `That save is damaged (${name}).`).replace('NUMBER', number);
 }
+
+// Where something is odd of what was typed.
+/** @param {import('./drawings.js').Read} read */
+export const oddText = ({line, column, why}) => `Line ${line}${column ? `, column ${column}` : ''}: ${why}.`;
 
 // `1, 2 and 3`.
 /** @param {(string | number)[]} words @param {string} last */
@@ -199,7 +217,7 @@ export const heldText = (number) => `Each square that you press gets ${number}. 
 // Where a step looks: a clue, a sign, or squares by their rows and columns.
 /** @param {Step} step @param {number} size */
 export function lookAt({clue, x, y, greater, less, line, cells}, size) {
-  const name = (/** @type {number} */ cell) => `r${Math.floor(cell / size) + 1}c${(cell % size) + 1}`;
+  const name = (/** @type {number} */ cell) => squareName(cell, size);
   if (clue !== null && x !== null && y !== null) return `Look at ${clueAt(clue, x, y, size)}.`;
   if (greater !== null && less !== null) return `Look at the sign between ${name(greater)} and ${name(less)}.`;
   if (line !== null) return `Look at ${lineName(line, size)}.`;
@@ -209,13 +227,26 @@ export function lookAt({clue, x, y, greater, less, line, cells}, size) {
 // A clue by its place.
 /** @param {number} clue @param {number} x @param {number} y @param {number} size */
 export function clueAt(clue, x, y, size) {
-  const name = clue ? `clue ${clue}` : 'no clue';
-  if (y < 0 || y === size) return `${name} ${y < 0 ? 'above' : 'below'} column ${x + 1}`;
-  return `${name} ${x < 0 ? 'left' : 'right'} of row ${y + 1}`;
+  return `${clue ? `clue ${clue}` : 'no clue'} ${sideOf(x, y, size)}`;
 }
+
+// Where a clue is.
+/** @param {number} x @param {number} y @param {number} size */
+export function sideOf(x, y, size) {
+  return y < 0 || y === size ? `${y < 0 ? 'above' : 'below'} column ${x + 1}` : `${x < 0 ? 'left' : 'right'} of row ${y + 1}`;
+}
+
+// A square by its row and its column, as hints call it.
+/** @param {number} cell @param {number} size */
+export const squareName = (cell, size) => `r${Math.floor(cell / size) + 1}c${(cell % size) + 1}`;
 
 /** @param {number} line @param {number} size */
 const lineName = (line, size) => (line < size ? `row ${line + 1}` : `column ${line - size + 1}`);
+
+// Of a mark that is missing: that it is, where, and which one, as far as a square and its number are known.
+/** @param {number} cell @param {number} number @param {number} size */
+export const missingTexts = (cell, number, size) => [MARK_MISSING, `The marks of ${squareName(cell, size)} leave out its number.`,
+  `${number} is missing among the marks of ${squareName(cell, size)}.`].slice(0, cell < 0 ? 1 : number ? 3 : 2);
 
 // Where to look where no step is needed.
 /** @param {number | null} line @param {number} size */

@@ -1,4 +1,5 @@
-// What the page asks of the module: lines to a session, which the page has as the text of a save. The module runs in a worker.
+// The page's questions to the module: lines to a session, which the page has as the text of a save. The module runs in a worker.
+import {addressOf} from './later.js';
 
 /** @typedef {import('./module.js').Game} Game */
 /** @typedef {import('./worker.js').Asked} Asked */
@@ -19,7 +20,10 @@ export class Unanswered extends Error {
  * The faults after which a worker is asked no more.
  * @type {Set<Fault>}
  */
-const LAST_FAULTS = new Set(['memory', 'trap']);
+const LAST_FAULTS = new Set(['memory', 'trap', 'unable']);
+
+/** The address of the worker's script: a browser with trusted types takes it once. */
+let address = '';
 
 /** A worker, which is asked one thing at a time. */
 class Helper {
@@ -31,7 +35,9 @@ class Helper {
     /** @type {(why: Unanswered) => void} */
     this.refuse = () => undefined;
     this.worker.onmessage = ({data}) => this.answer(data);
-    this.worker.onerror = ({message}) => this.refuse(new Unanswered('unable', message));
+    // Once it has answered, this browser can run it: another one may.
+    this.hasAnswered = false;
+    this.worker.onerror = ({message}) => this.refuse(new Unanswered(this.hasAnswered ? 'trap' : 'unable', message));
   }
 
   /** @param {import('./worker.js').Beginning | Asked} message @returns {Promise<Answered>} */
@@ -44,10 +50,11 @@ class Helper {
     if ('fault' in reply) {
       throw new Unanswered(reply.fault, reply.why);
     }
+    this.hasAnswered = true;
     return reply;
   }
 
-  /** What it was asked has no answer, then. */
+  /** The lines that it was asked have no answer, then. */
   end() {
     this.worker.terminate();
     this.refuse(new Unanswered('stopped'));
@@ -60,7 +67,6 @@ export class Turns {
   constructor(packed, script) {
     this.packed = packed;
     this.script = script;
-    this.address = '';
     /** How often turns were stopped. */
     this.stops = 0;
     /** @type {Promise<unknown>} */
@@ -76,8 +82,8 @@ export class Turns {
 
   async begun() {
     try {
-      this.address ||= ownScript(this.script);
-      this.begins = new Helper(this.address);
+      address ||= addressOf(this.script);
+      this.begins = new Helper(address);
     } catch (fault) {
       throw new Unanswered('unable', String(fault));
     }
@@ -104,6 +110,12 @@ export class Turns {
     this.anew();
   }
 
+  /** Ends it for good, with all that was asked. */
+  end() {
+    this.stops += 1;
+    this.begins?.end();
+  }
+
   anew() {
     this.begins?.end();
     this.helper = null;
@@ -113,11 +125,14 @@ export class Turns {
 
   /** @param {number} stops @param {Asked} asked @returns {Promise<Answered>} */
   async answered(stops, asked) {
-    const helper = await this.ready();
     if (stops !== this.stops) {
       throw new Unanswered('stopped');
     }
     try {
+      const helper = await this.ready();
+      if (stops !== this.stops) {
+        throw new Unanswered('stopped');
+      }
       return await helper.ask(asked);
     } catch (why) {
       if (why instanceof Unanswered && LAST_FAULTS.has(why.fault)) {
@@ -126,15 +141,4 @@ export class Turns {
       throw why;
     }
   }
-}
-
-/**
- * The address of a script that came with the page. A browser with trusted types takes it from this policy alone.
- * @param {string} script
- * @returns {string}
- */
-function ownScript(script) {
-  const address = URL.createObjectURL(new Blob([script], {type: 'text/javascript'}));
-  const {trustedTypes} = /** @type {any} */ (globalThis);
-  return trustedTypes ? trustedTypes.createPolicy('puzzles', {createScriptURL: () => address}).createScriptURL('') : address;
 }

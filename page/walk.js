@@ -4,6 +4,7 @@ import {WalkedHint} from './walked_hint.js';
 import {inSteps, lookAt, lookAtGoal, stepOf} from './texts.js';
 
 /** @typedef {import('./objects.js').Hint} Hint */
+/** @typedef {import('./objects.js').Board} Board */
 /** @typedef {import('./objects.js').Place} Place */
 /** @typedef {import('./walked_hint.js').Shown} Shown */
 // How far a hint is shown.
@@ -21,20 +22,49 @@ export class Walk {
     this.shown = null;
     /** Which sentence of the panel is shown; none where it is closed. */
     this.at = -1;
+    /** The parts of a missing mark that aren't said yet. */
+    this.missed = /** @type {{text: string, shown: Shown}[]} */ ([]);
   }
 
   /** Nothing is shown of a hint any more. */
   forget() {
-    [this.walked, this.stage, this.shown, this.at] = [null, 'nothing', null, -1];
+    this.close();
+    [this.walked, this.stage, this.missed] = [null, 'nothing', []];
+  }
+
+  /** The board is seen without the hint, of which the number comes next. */
+  close() {
+    [this.stage, this.shown, this.at] = ['reason', null, -1];
     show(part('play'), true);
     show(part('walk'), false);
   }
 
   get isOpen() { return this.at >= 0; }
 
-  /** @param {Hint} hint @param {number} size */
-  begin(hint, size) {
+  /** Whether the last sentence is shown, of a hint that shows a number. */
+  get isAtEnd() {
+    const {walked} = this;
+    return Boolean(walked?.move) && (this.isOpen ? this.at === walked?.groups.length : this.stage === 'reason');
+  }
+
+  /** @param {Hint} hint @param {{size: number}} board @param {number} [number]  that is missing among the marks of the square that the hint names */
+  begin(hint, {size}, number = 0) {
     this.walked = new WalkedHint(hint, size);
+    this.missed = this.walked.hasWrongMarks ? this.walked.missing(number) : [];
+  }
+
+  // Whether a hint is of another board: of other numbers, or of other marks, where it begins from these.
+  /** @param {Board} before @param {Board} after */
+  isPast(before, after) {
+    const parts = this.walked?.hint.from === 'marks' ? /** @type {const} */ (['numbers', 'marks']) : /** @type {const} */ (['numbers']);
+    return parts.some((part) => before[part].join(' ') !== after[part].join(' '));
+  }
+
+  /** Of wrong marks what is said next of the one that is missing; nothing where all is said. */
+  nextMissed() {
+    const missed = this.missed.shift();
+    if (missed) this.shown = missed.shown;
+    return missed?.text ?? '';
   }
 
   /** The next part of a hint: what is said then; nothing where the number is to be put in. */
@@ -71,8 +101,10 @@ export class Walk {
     if (!walked) return;
     this.at = Math.max(0, Math.min(at, walked.sentences.length - 1));
     this.shown = walked.shown(this.at);
+    show(part('keep'), this.isAtEnd && walked.steps.length > 0);
     part('steps').querySelectorAll('button').forEach((node, index) => node.setAttribute('aria-current', index === this.at ? 'step' : 'false'));
-    part('steps').children[this.at].scrollIntoView({block: 'nearest'});
-    this.say(`${stepOf(this.at, walked.sentences.length)}. ${walked.sentences[this.at]}`);
+    // The sentence is what has to be seen.
+    for (const node of [part('keep'), part('steps').children[this.at]]) node.scrollIntoView({block: 'nearest'});
+    this.say([this.at < walked.groups.length && stepOf(this.at, walked.groups.length), walked.sentences[this.at]].filter(Boolean).join('. '));
   }
 }

@@ -1,12 +1,13 @@
 // A hint, part by part: where to look, what a sentence rules out, and what is left before it. All of it stands in the hint's object.
 import {placeAt, placeOf, sentences} from './objects.js';
+import {missingTexts} from './texts.js';
 
 /** @typedef {import('./objects.js').Hint} Hint */
 /** @typedef {import('./objects.js').Step} Step */
 /** @typedef {import('./objects.js').Place} Place */
 
 /**
- * What is pointed at on the board: places in a frame or tinted, numbers that go, and what is left in each square, where that is to be seen.
+ * The parts of the board that are pointed at: places in a frame or tinted, numbers that go, and what is left in each square, where that is to be seen.
  * @typedef {{framed: Place[], rests: Place[], struck: Map<number, number[]>, left: number[][] | null}} Shown
  */
 
@@ -39,6 +40,16 @@ export class WalkedHint {
     this.groups = hint.groups.map((length) => rest.splice(0, length));
   }
 
+  /** Whether the numbers may be right, and the marks are not. */
+  get hasWrongMarks() { return this.hint.kind === 'contradiction' && this.hint.from === 'marks'; }
+
+  // Of wrong marks: that one is missing, where that is, and which one, as far as it is known.
+  /** @param {number} number  of the square that the hint names; 0 where it isn't known */
+  missing(number) {
+    const {hint: {unmarked}, size} = this, cell = unmarked ?? -1, place = {...NOTHING_SHOWN, framed: [placeOf(cell, size)]};
+    return missingTexts(cell, number, size).map((text, at) => ({text, shown: at ? place : NOTHING_SHOWN}));
+  }
+
   /** The move that the hint comes down to; nothing where there is none. */
   get move() {
     const {cell, number} = this.hint;
@@ -59,7 +70,7 @@ export class WalkedHint {
     return {...NOTHING_SHOWN, framed: first ? restsOn(first, this.size) : this.goalLine()};
   }
 
-  // What a sentence says.
+  // The parts that a sentence names.
   /** @param {number} at @returns {Shown} */
   shown(at) {
     const steps = this.groups[at];
@@ -68,7 +79,7 @@ export class WalkedHint {
     return {framed: [], rests: steps.flatMap((step) => restsOn(step, this.size)), struck, left: this.left(at)};
   }
 
-  // What is left in each square before a sentence: what is in view, without what the steps above strike.
+  // The numbers left in each square before a sentence: those in view, without those that the steps above strike.
   /** @param {number} before */
   left(before) {
     const {view} = this.hint;
@@ -78,6 +89,14 @@ export class WalkedHint {
       left[cell] = left[cell].filter((number) => !numbers.includes(number));
     }
     return left;
+  }
+
+  /** The numbers that all steps rule out in each square. */
+  get struck() {
+    /** @type {Map<number, number[]>} */
+    const struck = new Map();
+    for (const {cell, numbers} of this.steps.flatMap(({strikes}) => strikes)) struck.set(cell, [...struck.get(cell) ?? [], ...numbers]);
+    return struck;
   }
 
   /** The row or column in which the number has no other square, or its square alone. */

@@ -1,7 +1,8 @@
 // The worker in which the module runs, so that nothing that it works on stops the page: one answer for each message, in order.
 
 import {NO_BYTES, bytesOf, textOf} from './bytes.js';
-import {Module, unpacked} from './module.js';
+import {Module} from './module.js';
+import {unpacked} from './unpacked.js';
 
 /** @typedef {import('./bytes.js').ByteText} ByteText */
 /** @typedef {import('./module.js').Game} Game */

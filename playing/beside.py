@@ -1,4 +1,4 @@
-"""What is kept of a game in a file beside its save, with the ID of its puzzle: how many hints it had, its number, and which states are one move."""
+"""The facts of a game that are kept in a file beside its save, with the ID of its puzzle: how many hints it had, its number, and which states are one move."""
 
 from __future__ import annotations
 
@@ -26,7 +26,7 @@ def file_of(save: str) -> str:
 
 
 def content_of(beside: Beside, id: str) -> bytes:
-    """What is kept; nothing where there is nothing to keep."""
+    """The facts that are kept; nothing where there is nothing to keep."""
     if beside == Beside():
         return b''
     number = '' if beside.number is None else f'{NUMBER} {beside.number}\n'
@@ -35,7 +35,7 @@ def content_of(beside: Beside, id: str) -> bytes:
 
 
 def beside_in(content: bytes, id: str) -> Beside:
-    """What that says of the puzzle; nothing where it is of another one, or can't be read."""
+    """The facts of the puzzle that the file has; nothing where it is of another one, or can't be read."""
     first, *others = content.decode('latin-1').split('\n')
     count, _, of = first.strip().partition(' ')
     if of != id or not is_number(count):

@@ -1,4 +1,4 @@
-"""What the program tells of a game: the objects of puzzles-json as values with names."""
+"""The program's account of a game: the objects of puzzles-json as values with names."""
 
 from __future__ import annotations
 
@@ -101,7 +101,7 @@ class Board(NamedTuple):
 
 
 class Hint(NamedTuple):
-    """What follows: a number in a square (`follows`), nothing (`nothing`), or that the numbers are wrong (`contradiction`)."""
+    """The next step: a number in a square (`follows`), nothing (`nothing`), or that the numbers are wrong (`contradiction`)."""
 
     kind: str
     #: The square, counted in reading order from 0.
@@ -114,10 +114,13 @@ class Hint(NamedTuple):
     #: The steps as objects, and all of it in sentences, each cut into lines.
     told: List[Mapping[str, Any]] = []
     text: List[str] = []
-    #: What is in view of each square before the first step, in reading order: its number, or those that don't stand in its row or column.
+    #: The numbers in view of each square before the first step, in reading order: its number, or those that don't stand in its row or column.
     view: List[List[int]] = []
     #: How many steps each sentence is of, but for the last.
     groups: List[int] = []
+    #: From what the steps begin, `marks` or `numbers`; and where these marks can't be right, a square whose number isn't among them.
+    origin: str = 'numbers'
+    unmarked: Optional[int] = None
 
     def steps(self, size: int) -> List[Step]:
         """The steps, on a board of this size."""
@@ -127,8 +130,13 @@ class Hint(NamedTuple):
         """Of a board of this size."""
         return None if self.cell is None else (self.cell % size, self.cell // size)
 
+    @property
+    def has_wrong_marks(self) -> bool:
+        """Whether the numbers may be right, and the marks are not."""
+        return self.kind == 'contradiction' and self.origin == 'marks'
+
     def in_view(self, board: Board) -> Dict[Place, List[int]]:
-        """What is in view of each empty square."""
+        """The numbers in view of each empty square."""
         return {place: list(numbers) for place, numbers in zip(board.squares, self.view) if place not in board.numbers}
 
 
@@ -152,7 +160,7 @@ class Reply(NamedTuple):
 
 
 def reply_of(data: Mapping[str, Any]) -> Reply:
-    """The reply that an object is. What else is in it is passed over."""
+    """The reply that an object is. Other members are passed over."""
     if 'lost' in data:
         return Reply(str(data['lost']), [], None, is_lost=True)
     session = session_of(data['session']) if data['session'] else None
@@ -165,7 +173,8 @@ def hint_of(data: Mapping[str, Any]) -> Hint:
     """A hint; a program that tells no steps has none."""
     told = data.get('steps', [])
     groups = data.get('groups', [1] * len(told))
-    return Hint(data['kind'], data['cell'], data['number'], data.get('grade'), data.get('line'), told, data.get('text', []), data.get('view', []), groups)
+    hint = Hint(data['kind'], data['cell'], data['number'], data.get('grade'), data.get('line'), told, data.get('text', []), data.get('view', []), groups)
+    return hint._replace(origin=data.get('from', 'numbers'), unmarked=data.get('unmarked'))
 
 
 def session_of(data: Mapping[str, Any]) -> Session:

@@ -58,7 +58,7 @@ class Choice(NamedTuple):
 
     @property
     def lines(self) -> List[str]:
-        """What begins such a fair game: a line of the program, or some by chance, of which a later one is for a number that has no game."""
+        """The lines that may begin such a fair game: one of the program, or some by chance, of which a later one is for a number that has no game."""
         numbers = [fair.by_chance() for _ in range(TRIES)] if self.number is None else [self.number]
         return [fair.line(self.size, self.letter, number) for number in numbers]
 
@@ -91,7 +91,7 @@ def are_words(words: Sequence[str]) -> bool:
 
 
 def choice_of(words: Sequence[str], last: Choice) -> Choice:
-    """What words say: a size, a grade and a number in any order; what they don't say is as it was last. Raises `Unknown`."""
+    """The choice that words name: a size, a grade and a number in any order; the rest is as it was last. Raises `Unknown`."""
     others, text = without_number(words)
     grades = list(GRADES[last.game].values())
     size, grade, is_today = '', '', False
@@ -133,7 +133,7 @@ def checked(choice: Choice, is_said: bool) -> Choice:
 
 
 def remembered(state: State, game: str) -> Optional[Choice]:
-    """What was chosen last of a game."""
+    """The last choice of a game."""
     size, _, grade = state.chosen(game).partition(' ')
     is_known = is_number(size) and int(size) in SIZES and grade in GRADES[game].values()
     return Choice(game, int(size), grade) if is_known else None
@@ -145,13 +145,13 @@ def remember(state: State, choice: Choice) -> None:
 
 
 def of_line(game: str, line: str) -> Choice:
-    """What the line of a fair game chooses that has begun."""
+    """The choice that the line of a fair game names."""
     _, size, letter, number = line.split()
     return Choice(game, int(size), GRADES[game][letter], int(number))
 
 
 def of_number(session: Session, size: int, number: Optional[int]) -> Optional[Choice]:
-    """What a fair game of this number was chosen by; nothing where there is no number, or no grade."""
+    """The choice by which a fair game of this number was made; nothing where there is no number, or no grade."""
     grade = GRADES[session.game].get(session.letter)
     return Choice(session.game, size, grade, number) if grade and number is not None else None
 

@@ -55,7 +55,7 @@ def written(text: str) -> int:
 def unwritten(error: OSError) -> int:
     """A line on standard error, where standard output can't be written. The status."""
     complain(f'{me()}: standard output: {why(error)}')
-    # What is left to be written is not tried again at the end.
+    # The rest of the output is not tried again at the end.
     with contextlib.suppress(OSError):
         os.dup2(os.open(os.devnull, os.O_WRONLY), 1)
     return 1
@@ -101,7 +101,7 @@ def program(here: str) -> Optional[str]:
 
 
 def end_by_signals() -> None:
-    """What ends the command from outside lets it tidy up first."""
+    """A signal that ends the command lets it tidy up first."""
     for number in (signal.SIGTERM, signal.SIGHUP):
         signal.signal(number, _end)
 

@@ -3,7 +3,7 @@
 from __future__ import annotations
 
 import re
-from typing import Optional
+from typing import FrozenSet, Optional
 
 from playing import shared_texts
 from playing.board import Reply
@@ -16,7 +16,7 @@ from playing.state import Slot, State
 #: A line that puts a number in.
 NUMBER = re.compile(r'move R[0-9]+,[0-9]+,[1-9][0-9]*')
 
-#: What is said of the number that follows, by keys and by lines: Enter is an empty line there.
+#: The sentence on the number that follows, by keys and by lines: Enter is an empty line there.
 RIGHT = f'{shared_texts.RIGHT} Enter: the next card.'
 
 FIRST = 'This is the first card.'
@@ -34,6 +34,8 @@ class Course(Game):
         self._at = -1
         #: The card's hint.
         self._lesson: Optional[HintWalk] = None
+        #: The lines that put in the numbers of its only solution; none where it has none.
+        self._right: FrozenSet[str] = frozenset()
         #: Whether the last card was passed.
         self.is_over = False
 
@@ -53,6 +55,9 @@ class Course(Game):
         reply = self.ask('hint')
         if reply and reply.hint:
             self._lesson = self._hint_walk = HintWalk(reply.hint, self.board, 0)
+            ways = self.ask('solutions')
+            numbers = ways.solutions[0] if ways and ways.solutions else []
+            self._right = frozenset(f'move R{x},{y},{number}' for (x, y), number in zip(self.board.squares, numbers))
         return True
 
     @property
@@ -66,7 +71,7 @@ class Course(Game):
         return f'{self._at + 1}/{len(self._cards)}'
 
     def text(self, task: str) -> str:
-        """What to look for, and what there is to do; once that is done, that it is right."""
+        """Where to look, and what to do; once that is done, that it is right."""
         return RIGHT if self.has_number and self.is_done else f'{self._cards[self._at].text} {task}'
 
     @property
@@ -86,11 +91,13 @@ class Course(Game):
         return not self.has_number or self.goal in self.board.numbers
 
     def play(self, line: str) -> Optional[Reply]:
-        """As in a game; but of numbers only the one that follows is put in, and of another one it is said where to look."""
+        """As in a game; but only right numbers are put in, until that of the card is there, and of another one it is said where to look."""
         walk = self._lesson
         if walk and NUMBER.fullmatch(line) and line != walk.move:
-            self.message = RIGHT if self.has_number and self.is_done else f'{shared_texts.NOT_YET} {walk.look().text}'
-            return None
+            is_in = self.has_number and self.is_done
+            if is_in or line not in self._right:
+                self.message = RIGHT if is_in else f'{shared_texts.NOT_YET} {walk.look().text}'
+                return None
         reply = super().play(line)
         if reply and walk and line == walk.move:
             self.message = RIGHT

@@ -6,22 +6,30 @@ The page in a browser has it in page/desk.js, and its drafts in page/drafts.js.
 from __future__ import annotations
 
 import os
+import random
 import re
-from typing import Iterator, List, NamedTuple, Optional, Tuple
+import time
+from typing import Iterator, List, NamedTuple, Optional, Sequence, Tuple
 
-from playing import shared_texts, texts
-from playing.board import Board, Clue
+from playing import saves, shared_texts, texts
+from playing.board import Board, Clue, Reply
 from playing.choices import Choice
 from playing.game import Game
 from playing.hint_walk import HintWalk
 from playing.naming import Place
-from playing.program import Gone, Program, Refused, Stopped, begun_by
+from playing.program import FIRST_WAIT, Gone, Program, Refused, Stopped, begun_by
+from playing.setting import Wish, thinned
 from playing.state import Slot, State
-from playing.verdict import Item, Verdict, judged
+from playing.trial import Trial
+from playing.verdict import Item, Verdict, item_line, judged
 
 #: How the file of a draft begins, with the number of the puzzle that is shown; and what one of its IDs is.
 HEAD = re.compile(r'draft 1, puzzle ([0-9]{1,9})')
 ID = re.compile(r'[3-9]:[ -~]*')
+
+#: The sentences on a file of which the desk takes nothing.
+OF_GAME = 'That is a save, which is opened in a game: the desk reads drawings and IDs.'
+OF_NOTHING = 'That file has no save and no ID.'
 
 #: So many puzzles a draft has at most: then the first ones go.
 MOST = 500
@@ -55,6 +63,11 @@ def draft_in(content: bytes) -> Optional[Draft]:
     return Draft(tuple(ids), int(found[1]) - 1)
 
 
+def said_of(fault: Exception) -> str:
+    """The sentence on a program that ended, refused a line or was stopped."""
+    return f'The program says: {fault}.' if str(fault) else shared_texts.STOPPED
+
+
 class Desk(Game):
     """A puzzle in the place of the present game, which stays as it is. Of each game there is a draft, kept as games are."""
 
@@ -66,14 +79,14 @@ class Desk(Game):
         self.verdict = Verdict()
 
     def turn_to(self, game: str, size: int) -> bool:
-        """Has the draft of a game; where none is kept, a blank board of this size. What can't be read as a draft stays as it is, and is named."""
+        """Has the draft of a game; where none is kept, a blank board of this size. A file that can't be read as a draft stays as it is, and is named."""
         if self.has_game and (game == self.kind or not self.may_be_left()):
             return game == self.kind
         passed: List[str] = []
         try:
             slot, draft, program = self._found(game, size, passed)
         except (Refused, Stopped, Gone) as fault:
-            self.message = f'The program says: {fault}.' if str(fault) else shared_texts.STOPPED
+            self.message = said_of(fault)
             return False
         self.draft = draft
         self._take(program, slot)
@@ -115,7 +128,7 @@ class Desk(Game):
     # --- changes ---
 
     def change(self, line: str, by: int = 0) -> bool:
-        """Makes another puzzle of the one that is shown; one of the draft, where that line goes along it. What is refused changes nothing."""
+        """Makes another puzzle of the one that is shown; one of the draft, where that line goes along it. A refusal changes nothing."""
         self.message = ''
         reply = self.ask(line)
         if reply is None or (reply.refused and not reply.is_lost) or not self._look():
@@ -128,8 +141,7 @@ class Desk(Game):
 
     def put(self, item: Item, number: int) -> bool:
         """An item of the puzzle says this number; 1 is the sign by which the first square is the greater."""
-        places = ','.join(f'{x},{y}' for x, y in item)
-        return self.change(f'item {places},{min(number, 99)}')
+        return self.change(item_line(item, number))
 
     def along(self, by: int) -> bool:
         """Back along the draft, or forth."""
@@ -142,22 +154,98 @@ class Desk(Game):
         """Goes on with the puzzle of an ID, without its letter."""
         return self.change(f'new {id[0]}:{id.partition(":")[2]}')
 
-    def thin(self) -> bool:
-        """Takes out what isn't needed."""
-        self.message = ''
-        if self.judge().kind == 'one' and self.verdict.marked:
-            return self.change(f'thin {self.verdict.letter}'.strip())
-        self.message = self.message or texts.NO_THINNING
+    def open_save(self, game: str, content: bytes, kept_beside: bytes = b'') -> bool:
+        """A save is of a game."""
+        self.message = OF_GAME if content.startswith(saves.BEGINS) else OF_NOTHING
         return False
+
+    def begin(self, game: str, id: str) -> bool:
+        """Goes on with the puzzle of an ID, as one change of its game's draft."""
+        return self.turn_to(game, self.board.size) and (self.take_puzzle(id) if ':' in id else self.change(f'new {id}'))
+
+    def take_drawn(self) -> bool:
+        """Goes on with the puzzle that was read from a drawing, if one was, as one change of its game's draft, and tells what was read."""
+        drawn, self.drawn = self.drawn, None
+        if drawn is None or not self.turn_to(drawn.puzzle.game, drawn.puzzle.size):
+            return False
+        try:
+            with Trial(self.path, self.kind, self.waiting()) as trial:
+                session = trial.ask(self.board.session.id, drawn.puzzle.lines).session
+        except (Stopped, Gone) as fault:
+            self.message = said_of(fault)
+            return False
+        is_taken = session is not None and self.change(f'new {session.id}')
+        self.message = f'{drawn.told} {self.message}'.strip()
+        return is_taken
+
+    def thin(self, wish: Optional[Wish] = None) -> bool:
+        """Takes out what can go; by the puzzle's own grade, where nothing else is wished."""
+        if not self.has_one('thin'):
+            return False
+        wish, board, done = wish or Wish(self.verdict.letter), self.board, None
+        end = time.monotonic() + FIRST_WAIT
+        try:
+            with Trial(self.path, self.kind, self.waiting(is_long=True)) as trial:
+                for done in thinned(board, wish, trial.ask, random.shuffle):
+                    if time.monotonic() > end and self.front.waiting(True):
+                        raise Stopped
+        except (Stopped, Gone) as fault:
+            self.message = said_of(fault)
+        if done is None or self.message:
+            return False
+        told = '' if done.is_as_wished else shared_texts.OTHER_GRADE
+        if done.id == board.session.id:
+            self.message = told or shared_texts.NO_THINNING
+            return False
+        is_changed = self.change(f'new {done.id}')
+        self.message = f'{self.message} {told}'.strip()
+        return is_changed
+
+    def fill(self) -> bool:
+        """Puts in all clues, or all signs, of the only solution."""
+        id = self.board.session.id
+        if not self.has_one('fill'):
+            return False
+        verdict = self.verdict
+        if not self.change('fill'):
+            return False
+        if self.board.session.id == id:
+            self.verdict, self.message = verdict, shared_texts.NOTHING_TO_FILL
+        return self.board.session.id != id
+
+    def has_one(self, what: str) -> bool:
+        """Whether there is exactly one solution; otherwise a sentence says why what needs it can't be done."""
+        self.message = ''
+        kind = self.ruled().kind
+        if kind != 'one':
+            self.message = self.message or f'{shared_texts.NEEDS_ONE[what]}: {shared_texts.NOT_ONE[kind or "unknown"]}'
+        return kind == 'one'
 
     # --- the verdict ---
 
     def judging(self) -> Iterator[Verdict]:
-        """Seeks what isn't known of the verdict, and gives it each time that more of it is known."""
-        if not self.verdict.is_whole:
-            for verdict in judged(self.board, self.ask):
+        """Seeks what isn't known of the verdict, and gives it each time that more of it is known, or that somebody may have enough of that."""
+        if self.verdict.is_whole:
+            return
+        id = self.board.session.id
+        with Trial(self.path, self.kind, self.waiting(is_long=True)) as trial:
+
+            def tried(lines: Sequence[str]) -> Optional[Reply]:
+                try:
+                    return trial.ask(id, lines)
+                except (Stopped, Gone):
+                    return None
+
+            for verdict in judged(self.board, self.ask, tried):
                 self.verdict = verdict
                 yield verdict
+
+    def told(self, which: str) -> str:
+        """The sentence on the verdict: how the marked items are told from others. An empty board says how it is filled."""
+        if self.verdict.kind != 'blank':
+            return self.verdict.told(self.ways.why, which, self.board.size)
+        typing = texts.TYPING[self.kind]['keys' if self.ways is texts.BY_KEYS else 'lines']
+        return f'{shared_texts.TYPE_IN}. {typing} {shared_texts.SAID_AFTER_EACH}'
 
     def judge(self) -> Verdict:
         """The verdict, as far as the player waits for it."""
@@ -173,17 +261,13 @@ class Desk(Game):
 
     def playable(self) -> Optional[Choice]:
         """The puzzle as a game, where it has exactly one solution."""
-        self.message = ''
-        if self.ruled().kind == 'one':
-            return Choice(self.kind, self.board.size, id=self.board.session.id)
-        self.message = self.message or texts.NO_PLAY
-        return None
+        return Choice(self.kind, self.board.size, id=self.board.session.id) if self.has_one('play') else None
 
     def _new_hint_walk(self) -> Optional[HintWalk]:
         """The steps that show why there is no solution."""
         hint = self.ruled().hint
         if hint is None:
-            self.message = self.message or (shared_texts.TRIED if self.verdict.kind == 'none' else texts.WHY_NOT)
+            self.message = self.message or (shared_texts.TRIED if self.verdict.kind == 'none' else shared_texts.WHY_NOT)
         return HintWalk(hint, self.board, 0) if hint else None
 
     def end_hint(self) -> None:

@@ -33,7 +33,7 @@ def letters(game: str, size: int) -> List[str]:
 
 
 def line(size: int, letter: str, seed: int) -> str:
-    """What begins the game of this size, grade and seed."""
+    """The line that begins the game of this size, grade and seed."""
     return f'fair {size} {letter} {seed}'
 
 

@@ -23,7 +23,7 @@ READING = os.O_RDONLY | os.O_NONBLOCK | os.O_NOCTTY | os.O_CLOEXEC
 MAKING = os.O_WRONLY | os.O_CREAT | os.O_EXCL | os.O_NOFOLLOW | os.O_CLOEXEC
 LOCKING = os.O_RDWR | os.O_CREAT | os.O_NOFOLLOW | os.O_NONBLOCK | os.O_NOCTTY | os.O_CLOEXEC
 
-#: What isn't a regular file, by its type.
+#: Words for a thing that isn't a regular file, by its type.
 OTHERS = {
     stat.S_IFDIR: 'is a folder',
     stat.S_IFIFO: 'is a named pipe',
@@ -36,7 +36,7 @@ DANGLING = 'is a link to nothing'
 
 
 class Kind(Enum):
-    """What came of reading a file."""
+    """The outcome of reading a file."""
 
     READ = 'read'
     ABSENT = 'absent'
@@ -46,11 +46,11 @@ class Kind(Enum):
 
 
 class Found(NamedTuple):
-    """What was found under the name of a file."""
+    """The finding under the name of a file."""
 
     kind: Kind
     content: bytes = b''
-    #: What there is to say after its name, where something is there that wasn't read.
+    #: Words after its name, if something is there that wasn't read.
     why: str = ''
 
     @property
@@ -64,7 +64,7 @@ class NoFile(OSError):
 
 
 def read(path: str, most: int = MOST_BYTES) -> Found:
-    """What is in a regular file, of so many bytes at most."""
+    """The bytes of a regular file, of so many bytes at most."""
     try:
         with _opened(path) as descriptor:
             content = _content(descriptor, most + 1)
@@ -95,7 +95,7 @@ def expect_file(found: os.stat_result) -> None:
 
 
 def other_than_file(path: str) -> str:
-    """What is there in place of a file; nothing where it is one, or a new one may be made there. A link is followed."""
+    """Words for the thing in place of a file; nothing where it is one, or a new one may be made there. A link is followed."""
     try:
         expect_file(os.stat(path))
     except NoFile as other:
@@ -161,7 +161,7 @@ def lock(path: str) -> Optional[int]:
 
 
 def names_in(folder: str) -> Tuple[List[str], str]:
-    """What lies in a folder, where there is one; and what there is to say after its name, where that can't be told."""
+    """The names in a folder, if there is one; and words after its name, if they can't be told."""
     try:
         return os.listdir(folder), ''
     except OSError as error:
@@ -221,7 +221,7 @@ def _remove(path: str) -> None:
 
 
 def _instead_of_folder(path: str) -> str:
-    """What is there in place of a folder."""
+    """Words for the thing in place of a folder."""
     return other_than_file(path) or ('is a file' if os.path.exists(path) else DANGLING)
 
 

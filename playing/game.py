@@ -6,16 +6,18 @@ import os
 from functools import partial
 from typing import Callable, List, NamedTuple, Optional, Sequence, Tuple
 
-from playing import beside, choices, files, games, saves, shared_texts, texts
+from playing import beside, choices, files, games, printed, saves, shared_texts, texts
 from playing.board import GAMES
 from playing.choices import Choice
+from playing.drawings import Read
 from playing.present import PresentGame
+from playing.printed import Printed
 from playing.program import Gone, Program, Refused, Stopped, begun_by, started_with
 from playing.state import Home, NotKept, SavedGame, Slot, saves_in
 
 
 class Start(NamedTuple):
-    """What is played at first: the game that is kept; or what an ID, a file or a choice says."""
+    """The first game: the one that is kept; or that of an ID, a file or a choice."""
 
     game: str
     what: str = ''
@@ -27,14 +29,19 @@ class Game(PresentGame):
 
     #: The game whose draft has its place on the setter's desk, where another front goes on; nothing where none has.
     at_desk = ''
+    #: A puzzle that was read from a drawing, and is to be shown on the setter's desk before it counts.
+    drawn: Optional[Printed] = None
 
     def start(self, game: str, what: str) -> bool:
-        """Goes on with a game, or begins that of an ID or a file."""
+        """Goes on with a game, or begins that of an ID or a file. Behind a drawing is the game that is kept."""
         if not what:
             self.resume(game)
             return True
         if is_there(what):
-            return self.open(game, what)
+            has_begun = self.open(game, what)
+            if self.drawn:
+                self.resume(self.drawn.puzzle.game)
+            return has_begun or self.drawn is not None
         if may_be_id(what):
             return self.begin(game, what)
         self.message = f"There is no file '{what}', and no puzzle with that ID. {texts.of_id('NoDescription', game)}"
@@ -88,13 +95,32 @@ class Game(PresentGame):
         return self.chosen.told if self.chosen else ''
 
     def open(self, game: str, file: str, kept_beside: bytes = b'') -> bool:
-        """Goes on with a saved game; where it is the other game's, with that. What is kept beside it is given."""
+        """Goes on with a saved game; where it is the other game's, with that. The bytes beside it are given. A drawing is for the desk."""
         found = files.read(file)
         if found.kind is not files.Kind.READ:
             absent = f"There is no file '{file}'."
             self.message = {files.Kind.TOO_LARGE: texts.of_save('TooLarge', game), files.Kind.ABSENT: absent}.get(found.kind, f'{file} {found.why}.')
             return False
-        return self.open_save(game, found.content, kept_beside)
+        is_save = found.content.startswith(saves.BEGINS)
+        puzzles = [] if is_save else printed.found_in(found.content)
+        if puzzles:
+            return self._open_printed(game, file, puzzles)
+        has_begun = self.open_save(game, found.content, kept_beside)
+        self.message += '' if has_begun or is_save else f' {printed.nor(found.content)}'
+        return has_begun
+
+    def _open_printed(self, game: str, file: str, found: List[Read]) -> bool:
+        """Begins the puzzle of an ID in a file, or notes a drawing; of several the one that the player chooses."""
+        puzzles = printed.puzzles_of(found)
+        at = 0 if len(puzzles) < 2 else self.front.choose(printed.SEVERAL.format(file=file, count=len(puzzles)), list(map(printed.row, puzzles)))
+        if not puzzles or at is None:
+            self.message = printed.NONE_CHOSEN if puzzles else f'{printed.fault(file, found)} {printed.FORMS}'
+            return False
+        one = puzzles[at]
+        if one.puzzle:
+            self.drawn = printed.printed(one, one.puzzle, file, found)
+            return False
+        return self.begin(printed.game_of(one, game), one.id)
 
     def open_save(self, game: str, content: bytes, kept_beside: bytes = b'') -> bool:
         """Goes on with what a save has, wherever that is from."""
@@ -108,7 +134,7 @@ class Game(PresentGame):
         return False
 
     def saved_games(self, folder: str) -> List[SavedGame]:
-        """What can be continued: present games that no window has, those that were put away, and the saves in a folder."""
+        """Games that can be continued: present games that no window has, those that were put away, and the saves in a folder."""
         return [*self.state.left_games(GAMES), *self.state.old_games(), *saves_in(folder)]
 
     def told_of(self, saved: Sequence[SavedGame]) -> List[str]:
@@ -124,7 +150,7 @@ class Game(PresentGame):
             self.message = 'Nothing was deleted.'
             return False
         slot = self.state.slot_of(saved) if saved.home is Home.PRESENT else None
-        # What another window has taken meanwhile stays.
+        # A game that another window has taken meanwhile stays.
         is_taken = slot is not None and slot.kept is None
         if not is_taken:
             self.state.forget(saved)

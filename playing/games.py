@@ -91,7 +91,7 @@ def board_of(path: str, game: str, content: bytes, waiting: Waiting) -> Optional
 
 
 def summary(path: str, saved: SavedGame, waiting: Waiting) -> str:
-    """What there is to say of a game that can be continued: which it is, how far, and when it was played last."""
+    """A game that can be continued: which it is, how far, and when it was played last."""
     content = files.read(saved.path).content
     named = game_in(content)
     game = named.lower() if named else saved.game

@@ -4,8 +4,9 @@ from __future__ import annotations
 
 from enum import Enum
 from itertools import chain, islice
-from typing import Dict, FrozenSet, Iterator, List, NamedTuple, Optional
+from typing import Dict, FrozenSet, Iterator, List, Mapping, NamedTuple, Optional, Set
 
+from playing import shared_texts
 from playing.board import Board, Hint
 from playing.naming import Place, line_name, name
 from playing.steps import Shown, Step, line_squares, look_at, sentences
@@ -21,7 +22,7 @@ class HintPart(NamedTuple):
 
 
 class Press(Enum):
-    """What a player who asks for a hint gets, one after the other."""
+    """The answers that a player gets by asking for a hint again and again."""
 
     LOOK = 'where to look'
     STEPS = 'the steps'
@@ -31,8 +32,10 @@ class Press(Enum):
 class HintWalk:
     """The hint of a board's numbers: it shows a number, or that the numbers contradict one another."""
 
-    def __init__(self, hint: Hint, board: Board, moves: Optional[int] = None) -> None:
-        """Of numbers that contradict one another it is said how many moves are to be undone; 0 where that helps not, nothing where it isn't known."""
+    def __init__(self, hint: Hint, board: Board, moves: Optional[int] = None, missing: int = 0) -> None:
+        """Of numbers that contradict one another it is said how many moves are to be undone; 0 where that helps not, nothing where it isn't known. Of marks that
+        do, which number is missing in the square that the hint names; 0 where that isn't known.
+        """
         self.hint = hint
         self.moves = moves
         self.place = hint.square(board.size)
@@ -42,12 +45,27 @@ class HintWalk:
         self._size = board.size
         self._view = hint.in_view(board) if hint.view else None
         self._id, self._numbers, self._position = board.session.id, dict(board.numbers), board.session.position
+        self._marks = dict(board.marks)
         self._last: Optional[Press] = None
+        self._looks = list(self._missing(missing)) if hint.has_wrong_marks else [self._where_to_look()]
+        self._looked = 0
 
     def fits(self, board: Board) -> bool:
-        """Whether the board has the same numbers, from which alone a hint follows; and as many moves, where it says how many are wrong."""
+        """Whether the board has the same numbers, from which a hint follows; the same marks, where it begins from these; and as many moves, where it says how many
+        are wrong.
+        """
         is_at = not self.is_refutation or board.session.position == self._position
-        return is_at and board.session.id == self._id and dict(board.numbers) == self._numbers
+        has_marks = self.hint.origin != 'marks' or dict(board.marks) == self._marks
+        return is_at and has_marks and board.session.id == self._id and dict(board.numbers) == self._numbers
+
+    def stays_on(self, board: Board) -> None:
+        """It goes on where the marks are others."""
+        self._marks = dict(board.marks)
+
+    @property
+    def is_from_marks(self) -> bool:
+        """Whether it begins from marks that there were."""
+        return self.hint.origin == 'marks' and bool(self._marks)
 
     @property
     def is_refutation(self) -> bool:
@@ -59,15 +77,28 @@ class HintWalk:
         return f'move R{self.place[0]},{self.place[1]},{self.hint.number}' if self.place else None
 
     def press(self) -> Press:
-        """What is shown now that the player asks once more. Where there are no steps the end comes after the place to look."""
-        after_look = Press.STEPS if self.steps else Press.END
-        self._last = {None: Press.LOOK, Press.LOOK: after_look}.get(self._last, Press.END)
+        """The next answer. Where there are no steps the end comes after the place to look."""
+        if self._last in (None, Press.LOOK) and self._looked < len(self._looks):
+            self._looked, self._last = self._looked + 1, Press.LOOK
+        elif self._last is Press.LOOK:
+            self._last = Press.STEPS if self.steps or self.hint.has_wrong_marks else Press.END
+        elif self.hint.has_wrong_marks:
+            self._looked, self._last = 1, Press.LOOK
+        else:
+            self._last = Press.END
         return self._last
 
     @property
     def what_follows(self) -> str:
-        """What is shown after the place to look."""
+        """The answer after the place to look."""
+        if self.hint.has_wrong_marks:
+            return ('where', 'which number')[self._looked - 1] if self._looked < len(self._looks) else 'why'
         return 'the steps' if self.steps else 'the number'
+
+    @property
+    def has_told_number(self) -> bool:
+        """Whether all steps to a number were asked for."""
+        return self._last is Press.STEPS and not self.is_refutation
 
     def skip_to_steps(self) -> None:
         """The steps are shown without having been asked for one by one."""
@@ -78,10 +109,27 @@ class HintWalk:
     @property
     def length(self) -> int:
         """How many sentences there are: those of the steps, and the last."""
-        return len(self.groups) + 1
+        return self.count + 1
+
+    @property
+    def count(self) -> int:
+        """How many steps a player counts: those of one sentence are one, and the last sentence is none."""
+        return len(self.groups)
 
     def look(self) -> HintPart:
-        """Where to look first."""
+        """Where to look first; of wrong marks one part after the other."""
+        return self._looks[max(0, self._looked - 1)]
+
+    def _missing(self, number: int) -> Iterator[HintPart]:
+        """That a mark is missing, then where, and then which one, as far as that is known."""
+        yield HintPart(shared_texts.MARK_MISSING, Shown(), None)
+        if self.hint.unmarked is not None:
+            place = (self.hint.unmarked % self._size, self.hint.unmarked // self._size)
+            yield HintPart(f'The marks of {name(place)} leave out its number.', Shown(frozenset([place])), place)
+            if number:
+                yield HintPart(f'{number} is missing among the marks of {name(place)}.', Shown(frozenset([place])), place)
+
+    def _where_to_look(self) -> HintPart:
         if self.steps:
             return HintPart(look_at(self.steps[0], self._size), Shown(self.steps[0].rests_on(self._size)), self.place)
         return HintPart(self._look_at_square(), Shown(self._end_squares()), self.place)
@@ -109,12 +157,20 @@ class HintWalk:
                 left.get(strike.place, set()).difference_update(strike.numbers)
         return {place: sorted(numbers) for place, numbers in left.items()}
 
+    @property
+    def struck(self) -> Mapping[Place, Set[int]]:
+        """The numbers that all its steps rule out in each square."""
+        struck: Dict[Place, Set[int]] = {}
+        for strike in chain.from_iterable(step.strikes for step in self.steps):
+            struck.setdefault(strike.place, set()).update(strike.numbers)
+        return struck
+
     def _sentence(self, at: int) -> str:
         """That of steps, without its number."""
         return sentences(self.hint.text)[at].partition(' ')[2]
 
     def _end(self) -> str:
-        """What the steps show."""
+        """The answer with the steps."""
         return sentences(self.hint.text)[-1] if self.hint.text else f'It is a {self.hint.number}.'
 
     def _end_squares(self) -> FrozenSet[Place]:
@@ -132,7 +188,7 @@ class HintWalk:
             return f'Look at {line_name(self.hint.line, self._size)}: a number has one square left there.'
         if self.place is None:
             return 'Look for an empty square whose row and column have all numbers.'
-        return f'Look at {name(self.place)}: one number is left there, as the others stand in its row or column.'
+        return f'Look at {name(self.place)}: one number is left there{"" if self.is_from_marks else ", as the others stand in its row or column"}.'
 
 
 def _grouped(steps: List[Step], groups: List[int]) -> Iterator[List[Step]]:

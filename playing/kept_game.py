@@ -5,7 +5,7 @@ from __future__ import annotations
 import contextlib
 import os
 import time
-from typing import Optional, Protocol, Tuple
+from typing import Optional, Protocol, Sequence, Tuple
 
 from playing import beside, choices, files, shared_texts, texts
 from playing.beside import Beside, beside_in
@@ -18,15 +18,21 @@ from playing.state import NotKept, Slot, State
 from playing.texts import Ways
 
 #: Lines over which the program may take long; and how many seconds it may take over any other before a player can stop that, too.
-LONG = ('solve', 'completable', 'list ', 'solutions', 'spare', 'thin')
+LONG = ('solve', 'completable', 'list ', 'solutions', 'spare', 'fill', 'thin')
 PATIENCE = 3.0
+
+#: After so many seconds without a key or a line a game that isn't kept is tried to be kept once more.
+AGAIN = 1.0
 
 
 class Front(Protocol):
-    """Who plays: a front end, which asks the player and lets the player wait."""
+    """A front end, which asks the player and lets the player wait."""
 
     def confirm(self, question: str) -> bool:
-        """Whether something is to be done. Whoever doesn't know says no."""
+        """Whether something is to be done. A front end that doesn't know says no."""
+
+    def choose(self, title: str, rows: Sequence[str]) -> Optional[int]:
+        """Which of some rows the player wants, counted from 0; nothing if none."""
 
     def waiting(self, may_stop: bool) -> bool:
         """Called while the program is at work; True where it may be stopped and the player doesn't want to wait."""
@@ -37,7 +43,7 @@ class KeptGame:
 
     front: Front
     ways: Ways
-    #: What a player calls it.
+    #: The player's word for it.
     word = 'game'
 
     def __init__(self, path: str, state: State) -> None:
@@ -57,7 +63,7 @@ class KeptGame:
         self.grade = ''
         #: How many hints the present game had.
         self.hints = 0
-        #: What it was chosen by, where that is known.
+        #: The choice by which it was made, if that is known.
         self.chosen: Optional[Choice] = None
         self._joined = Joined()
 
@@ -146,7 +152,7 @@ class KeptGame:
         self._board = None
 
     def _beside(self) -> bytes:
-        """What is kept beside the save."""
+        """The bytes that are kept beside the save."""
         number = self.chosen.number if self.chosen else None
         return beside.content_of(Beside(self.hints, number, tuple(self._joined.pairs)), self.board.session.id)
 
@@ -169,7 +175,7 @@ class KeptGame:
         self.grade = self._told_grade()
 
     def _told_choice(self, program: Program, number: Optional[int]) -> Optional[Choice]:
-        """What a fair game was chosen by, where its number is known."""
+        """The choice by which a fair game was made, if its number is known."""
         session = self.board.session
         if program.line:
             return choices.of_line(session.game, program.line)
@@ -210,7 +216,7 @@ class KeptGame:
         self._write()
 
     def _to_keep(self) -> Tuple[str, bytes]:
-        """What is kept, and by which name."""
+        """The bytes that are kept, and by which name."""
         return self.kind, self._saved
 
     def _write(self) -> None:
@@ -222,9 +228,14 @@ class KeptGame:
             self.trouble = str(reason)
         self.state.keep_beside(self._beside())
 
+    @property
+    def is_kept(self) -> bool:
+        """Whether there is nothing that isn't kept."""
+        return self._is_kept or not self.has_game
+
     def keep_again(self) -> None:
         """Where the game isn't kept, that is tried once more."""
-        if self.has_game and not self._is_kept:
+        if not self.is_kept:
             if self._is_saved:
                 self._write()
             else:

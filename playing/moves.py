@@ -1,4 +1,4 @@
-"""What a player does to a game, as lines of the program that are one move; and where undo and redo lead.
+"""A player's acts on a game, as lines of the program that are one move; and where undo and redo lead.
 
 The page in a browser does the same in page/moves.js: docs/ARCHITECTURE.md, "One middle, written twice", says what both do.
 """
@@ -6,7 +6,7 @@ The page in a browser does the same in page/moves.js: docs/ARCHITECTURE.md, "One
 from __future__ import annotations
 
 import re
-from typing import Iterable, List, Mapping, Sequence, Tuple
+from typing import Collection, Iterable, List, Mapping, Sequence, Tuple
 
 from playing.board import Board
 from playing.naming import Place
@@ -78,6 +78,15 @@ def possible_lines(board: Board, view: Mapping[Place, Sequence[int]]) -> List[st
     single = flips(view, board.marks)
     whole = [ALL_MARKS, *flips(view, {place: everything for place in view})]
     return whole if len(whole) < len(single) else single
+
+
+def keeping_lines(board: Board, view: Mapping[Place, Sequence[int]], struck: Mapping[Place, Collection[int]]) -> List[str]:
+    """The moves after which the marks of empty squares lack the numbers that were struck there. A square whose marks say nothing else gets what is left of its view."""
+
+    def left(place: Place, numbers: Sequence[int]) -> List[int]:
+        return [number for number in numbers if number not in struck[place]]
+
+    return flips({place: left(place, board.marks.get(place, ())) or left(place, view[place]) for place in view if place in struck}, board.marks)
 
 
 def flips(wanted: Mapping[Place, Sequence[int]], there: Mapping[Place, Sequence[int]]) -> List[str]:

@@ -5,6 +5,16 @@ from __future__ import annotations
 import re
 from typing import Optional, Sequence, Tuple
 
+#: How the games are called: by the words of the programs, and as newspapers do.
+GAME_NAMES = {
+    'towers': 'towers',
+    'skyscrapers': 'towers',
+    'skyscraper': 'towers',
+    'unequal': 'unequal',
+    'futoshiki': 'unequal',
+    'hutosiki': 'unequal',
+}
+
 #: Column and row of a square, counted from 0; of a clue, with -1 or the size at the edge.
 Place = Tuple[int, int]
 
@@ -13,6 +23,15 @@ SQUARE = re.compile(r'[rR]?([0-9]+)(?:[cC]|[ ,]+)([0-9]+)')
 
 #: A clue by its edge and the number of its column or row.
 CLUE = re.compile(r'(above|below|left|right)(?: of)?(?: (?:column|row))? ([0-9]+)', re.IGNORECASE)
+
+
+#: As which puzzle newspapers print each.
+PRINTED_AS = {'towers': 'Skyscrapers', 'unequal': 'Futoshiki'}
+
+
+def game_called(word: str) -> Optional[str]:
+    """The game that is called so; nothing where none is."""
+    return GAME_NAMES.get(word.lower())
 
 
 def listed(words: Sequence[object], last: str = 'and') -> str:

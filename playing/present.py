@@ -1,18 +1,21 @@
-"""What can be done with the present game: moves, hints, and going back."""
+"""Acts on the present game: moves, hints, and going back."""
 
 from __future__ import annotations
 
 from typing import Optional, Sequence
 
 from playing import shared_texts, texts
-from playing.board import Board, Reply
+from playing.board import Board, Hint, Reply
 from playing.hint_walk import HintWalk
 from playing.kept_game import KeptGame
-from playing.moves import UNDO, WALKS, lines_of, possible_lines
+from playing.moves import UNDO, WALKS, keeping_lines, lines_of, possible_lines
 from playing.program import Gone, Program, Refused, Stopped, Waiting, started_with
 
 #: The name under which it is kept whether marks go with a number, and the words for that.
 MARKS, GO, STAY = 'marks', 'go', 'stay'
+
+#: The same for whether hints go on from the marks. A player who hasn't chosen has them so once marks are whole.
+HINTS, FROM_MARKS, FROM_NUMBERS = 'hints', 'marks', 'numbers'
 
 
 class PresentGame(KeptGame):
@@ -87,6 +90,31 @@ class PresentGame(KeptGame):
         self.state.choose(MARKS, word)
         self.message = shared_texts.MARKS_GO if word == GO else shared_texts.MARKS_STAY
 
+    @property
+    def do_hints_go_on(self) -> bool:
+        """Whether hints go on from the marks."""
+        return self.state.chosen(HINTS) == FROM_MARKS
+
+    def toggle_hints(self) -> None:
+        """From here on hints go on from the marks, or begin from the numbers."""
+        word = FROM_NUMBERS if self.do_hints_go_on else FROM_MARKS
+        self.state.choose(HINTS, word)
+        self._hint_walk = None
+        self.message = shared_texts.HINTS_FROM_MARKS if word == FROM_MARKS else shared_texts.HINTS_FROM_NUMBERS
+
+    def _marks_are_whole(self) -> None:
+        """Each number that is possible is marked where marks are: hints go on from them, unless the player has chosen."""
+        if not self.state.chosen(HINTS):
+            self.state.choose(HINTS, FROM_MARKS)
+            self._hint_walk = None
+            self.message = f'{self.message} {shared_texts.HINTS_FROM_MARKS}'.strip()
+
+    def origin_told(self, walk: HintWalk) -> str:
+        """From what a hint begins, where that isn't always the same."""
+        if not self.do_hints_go_on or walk.is_refutation:
+            return ''
+        return shared_texts.BY_MARKS if walk.is_from_marks else shared_texts.BY_NUMBERS
+
     def set_possible_marks(self) -> bool:
         """Marks in each empty square what is in view of it, which the program says; one undo takes that back."""
         self.message = ''
@@ -97,6 +125,8 @@ class PresentGame(KeptGame):
         lines = possible_lines(self.board, reply.hint.in_view(self.board))
         done = self._play(lines)
         self.message = self.message if lines else shared_texts.ALL_POSSIBLE
+        if done:
+            self._marks_are_whole()
         return done is not None
 
     def hint_walk(self) -> Optional[HintWalk]:
@@ -107,13 +137,16 @@ class PresentGame(KeptGame):
         return self._hint_walk
 
     def _new_hint_walk(self) -> Optional[HintWalk]:
-        reply = self.ask('hint')
+        reply = self.ask('hint marks' if self.do_hints_go_on else 'hint')
         if reply is None or reply.hint is None:
             return None
         hint = reply.hint
         if self.board.is_full and hint.kind == 'nothing':
             self.message = shared_texts.SOLVED if self.board.is_solved else shared_texts.FULL
             return None
+        if hint.has_wrong_marks:
+            # A wrong number is told first, though no steps from the numbers show it.
+            return None if self._is_wrong() else HintWalk(hint, self.board, missing=self._number_of(hint))
         if hint.kind == 'contradiction':
             return HintWalk(hint, self.board, self.since_right())
         if self._is_wrong():
@@ -124,6 +157,13 @@ class PresentGame(KeptGame):
         self.hints += 1
         self.state.keep_beside(self._beside())
         return HintWalk(hint, self.board)
+
+    def _number_of(self, hint: Hint) -> int:
+        """The number of the square that a hint names, by the puzzle's only solution; 0 where there are several, or nobody waits for it."""
+        reply = self.ask('solutions')
+        self.message = ''
+        solutions = reply.solutions if reply else None
+        return solutions[0][hint.unmarked] if solutions and len(solutions) == 1 and hint.unmarked is not None else 0
 
     def _is_wrong(self) -> bool:
         """Whether the numbers can't be completed, though no steps show it; a sentence says what to undo. Nobody has to wait for it."""
@@ -141,8 +181,28 @@ class PresentGame(KeptGame):
         walk, self._hint_walk = self._hint_walk, None
         if walk and walk.move:
             self.play(walk.move)
+        elif walk and walk.hint.has_wrong_marks:
+            self.message = shared_texts.MARK_MISSING
         elif walk:
             self.back()
+
+    @property
+    def told_walk(self) -> Optional[HintWalk]:
+        """The hint whose number was said with its steps, if there is one."""
+        walk = self._hint_walk
+        return walk if walk and walk.has_told_number and walk.fits(self.board) else None
+
+    def keep_ruled_out(self, walk: HintWalk) -> bool:
+        """Makes pencil marks of what a hint ruled out; one undo takes that back. Whether there were such."""
+        lines = keeping_lines(self.board, walk.left(0) or {}, walk.struck)
+        done = self._play(lines)
+        self.message = self.message if lines else shared_texts.NOTHING_TO_KEEP
+        if done:
+            self._marks_are_whole()
+            # The number of this hint comes next.
+            walk.stays_on(self.board)
+            self._hint_walk = walk
+        return done is not None
 
     def check(self) -> None:
         """Whether the numbers can still be completed."""

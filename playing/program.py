@@ -61,7 +61,7 @@ class Program:
         self._came = b''
         #: The line by which its game began, where one did it.
         self.line = ''
-        #: What it tells at the start of its game.
+        #: The reply at the start of its game.
         self.first: Reply = self._first(waiting)
 
     def __enter__(self) -> Program:
@@ -136,7 +136,7 @@ class Program:
 
 
 def next_of(descriptor: int, waiting: Optional[Waiting]) -> bytes:
-    """What comes next from a program; nothing at its end. Raises `Stopped` where nobody wants to wait for it."""
+    """The next bytes of a program; nothing at its end. Raises `Stopped` where nobody wants to wait for it."""
     seconds = FIRST_WAIT
     while waiting and not select.select([descriptor], [], [], seconds)[0]:
         if waiting():

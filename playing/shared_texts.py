@@ -12,6 +12,14 @@ FILLED_IN = 'Filled in by the program.'
 NOTHING_CHANGES = 'Nothing changes: the board has that already.'
 NOTHING_TO_CLEAR = 'There is nothing to clear.'
 ALL_POSSIBLE = 'The marks are the possible ones already.'
+KEPT = 'What the hint ruled out is kept in your marks.'
+NOTHING_TO_KEEP = "There is nothing to keep that your marks don't show already."
+KEEP_AT_END = 'Keep comes after the last step of a hint that shows a number.'
+HINTS_FROM_MARKS = 'From now on, hints go on from your marks.'
+HINTS_FROM_NUMBERS = 'From now on, hints begin from the numbers alone.'
+BY_MARKS = 'This hint goes on from your marks.'
+BY_NUMBERS = 'This hint begins from the numbers alone.'
+MARK_MISSING = 'A mark is missing.'
 MARKS_GO = 'From now on, marks go when their number is put into their row or column.'
 MARKS_STAY = 'From now on, marks stay when a number is put in.'
 NO_HINT = 'No number follows by steps alone. Try one, or mark the possible numbers.'
@@ -20,18 +28,51 @@ NEVER_RIGHT = 'Not even the board at the start can be completed.'
 RIGHT = 'Right.'
 NOT_YET = 'Not yet.'
 STOPPED = 'Stopped. Nothing has changed.'
+NO_GAME = 'There is no game yet.'
+SO_DRAWN = 'So it can be drawn:'
 
 #: On the setter's desk.
 SEEKING = 'Looking for solutions'
 TRIED = 'No chain of steps shows it; all ways were tried.'
 BEYOND = 'It is beyond our steps.'
 NONE_BLAMED = 'No single item is to blame.'
+NO_PAIR = 'No single item is to blame, and no two are.'
+NO_OTHER = 'No other number there gives exactly one.'
+TYPE_IN = 'Type in a printed puzzle'
+SAID_AFTER_EACH = 'How many solutions it has is said after each item.'
+WHY_NOT = 'The puzzle has a solution, so there is no contradiction to show.'
+NO_THINNING = 'Nothing went out: each item is needed.'
+OTHER_GRADE = 'None of the orders that were tried gives that grade.'
+NOTHING_TO_FILL = 'All of them are there already.'
+THINNING = 'Thinning out'
 
 #: The verdict, by how many solutions there are.
 SOLUTIONS = {
     'none': 'No solution',
     'one': 'Exactly one solution',
     'several': 'Several solutions',
+}
+
+#: The acts that need exactly one solution, and why there isn't one, by the kind of the verdict.
+NEEDS_ONE = {
+    'play': 'Play needs exactly one solution',
+    'solve': 'Solution needs exactly one',
+    'thin': 'Thin out needs exactly one solution',
+    'fill': 'Fill in needs exactly one solution',
+}
+NOT_ONE = {
+    'unknown': 'solutions are still sought.',
+    'blank': 'there is no item yet.',
+    'none': 'there is none.',
+    'several': 'add an item where two numbers stand.',
+}
+
+#: By which symmetry items go, together with those that stand for them.
+SYMMETRIES = {
+    'none': 'none',
+    'half': 'half turn',
+    'quarter': 'quarter turn',
+    'mirror': 'mirrored',
 }
 
 #: By the answers to `completable`.

@@ -1,6 +1,6 @@
 """Where games are kept: the present ones, those that were put away, and which stored puzzles were played.
 
-All lies in the folder $XDG_STATE_HOME/puzzles, or ~/.local/state/puzzles. A file there is whole or as it was. What is there and can't be read
+All lies in the folder $XDG_STATE_HOME/puzzles, or ~/.local/state/puzzles. A file there is whole or as it was. A file that can't be read
 is never replaced: it is told, and the present game gets a file beside it. A game that isn't solved is never deleted but by the player.
 """
 
@@ -18,7 +18,7 @@ from playing import beside, files, saves
 #: How many solved games that were put away are kept; and how many saves in a folder are listed, of so many files that are looked at.
 SOLVED_GAMES, LISTED, LOOKED_AT = 100, 20, 500
 
-#: What the files of games are called that were put away: when, the number of several at a time, the game, and whether it was solved.
+#: The names of the files of games that were put away: when, the number of several at a time, the game, and whether it was solved.
 OLD_NAME = re.compile(r'(\d{8}-\d{6})-(\d{3,})-([a-z]+)(-solved)?\.sav')
 
 #: How many windows may have a game of one kind at a time.
@@ -29,7 +29,7 @@ OTHER_WINDOW = 'Another window has the last {word}; this one is kept in {name}.'
 
 
 class NotKept(Exception):
-    """What should be kept can't be. The text says why."""
+    """A game or a draft can't be kept. The text says why."""
 
 
 class Home(Enum):
@@ -98,7 +98,7 @@ class Slot(NamedTuple):
     file: Optional[LockedFile]
     #: The game that is kept there, if one is.
     kept: Optional[bytes]
-    #: What is kept beside it.
+    #: The facts that are kept beside it.
     beside: bytes = b''
     #: A sentence for each file that was passed over, since it can't be read; and why no file can be had, where none can.
     told: str = ''
@@ -115,14 +115,14 @@ class State:
     """The folder. Where there is none, or nothing can be written to it, keeping raises `NotKept`, and nothing else does."""
 
     def __init__(self, env: Mapping[str, str], ending: str = '.sav', word: str = 'game') -> None:
-        """What is kept is a game, or is called by another word; the names of its files end so."""
+        """The files kept are games, or are called by another word; their names end so."""
         self._folder = folder_of(env)
         self._ending = ending
         self._word = word
         #: Where the present game is kept.
         self.slot = Slot(None, None)
         self._chosen: Dict[str, str] = {}
-        #: What was kept last beside a game, and where.
+        #: The facts that were kept last beside a game, and where.
         self._beside = '', b''
 
     # --- the present game ---
@@ -162,7 +162,7 @@ class State:
     def keep(self, game: str, content: bytes) -> str:
         """Keeps the present game; beside its file where something else has taken its place, and a sentence says so."""
         if self.slot.file is None:
-            # What kept it from having one may be over. It takes no other game's place.
+            # The hindrance may be over. It takes no other game's place.
             self.take(self.claim(game, self._there(game)))
         file, told = self.slot.file, ''
         if file is None:
@@ -263,7 +263,7 @@ class State:
     # --- what was chosen last ---
 
     def chosen(self, name: str) -> str:
-        """What the player chose under this name; nothing where nothing was, or it can't be read."""
+        """The player's choice under this name; nothing if there is none, or it can't be read."""
         return self._chosen.get(name, self._kept_choices().get(name, ''))
 
     def choose(self, name: str, value: str) -> None:

@@ -15,7 +15,7 @@ class Strike(NamedTuple):
 
 
 class Step(NamedTuple):
-    """What the program tells of a step; what says nothing of its kind is nothing here."""
+    """A step as the program tells it; a member that its kind lacks is nothing here."""
 
     reason: str
     #: The place of a clue, and the clue.
@@ -95,9 +95,9 @@ def steps_of(data: List[Mapping[str, Any]], size: int) -> List[Step]:
 
 
 class Shown(NamedTuple):
-    """What is pointed at on the board while a hint is told."""
+    """The squares and clues to which the board points while a hint is told."""
 
-    #: What a step rests on.
+    #: The numbers and clues on which a step rests.
     rests_on: FrozenSet[Place] = frozenset()
     #: The numbers that are left in each empty square before the step, and those of them that the step rules out; nothing where that isn't shown.
     left: Optional[Mapping[Place, List[int]]] = None

@@ -43,9 +43,18 @@ ITEMS: Mapping[str, str] = {
     'towers': 'Towers has no signs: it has clues at the edge.',
     'unequal': 'A sign stands between two neighbours, and Unequal has no clues at the edge.',
 }
-WHY_NOT = 'The puzzle has a solution, so there is no contradiction to show.'
-NO_THINNING = 'There is nothing to thin out: no item is marked as not needed.'
-NO_PLAY = 'Only a puzzle with exactly one solution can be played.'
+
+#: How an empty desk is filled, by keys and by lines.
+TYPING: Mapping[str, Dict[str, str]] = {
+    'towers': {
+        'keys': 'Go to the edge or to a square by arrows, then type its number.',
+        'lines': "'clue above 1 3' is a clue, 'given r1c2 4' a number.",
+    },
+    'unequal': {
+        'keys': 'Go to a square by arrows, then type its number; < > ^ v are signs to its right or below.',
+        'lines': "'sign r1c1 > r1c2' is a sign, 'given r1c2 4' a number.",
+    },
+}
 
 #: A clue's done mark.
 NO_CLUE = 'A done mark is for a clue at the edge, as in {done}.'
@@ -103,7 +112,7 @@ SAVES: Dict[str, str] = {
 LINES: Dict[str, str] = {
     **shared_texts.REFUSED_LINES,
     'BadCommand': 'There is no such command; {commands}.',
-    'NoGame': 'There is no game yet.',
+    'NoGame': shared_texts.NO_GAME,
 }
 
 WRONG = "These numbers can't be completed: undo some."

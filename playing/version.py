@@ -1,4 +1,4 @@
-"""What is told of the version: its number, the commit, whether the program is one that was proved, and where it is from."""
+"""The account of the version: its number, the commit, whether the program is one that was proved, and where it is from."""
 
 from __future__ import annotations
 
@@ -28,12 +28,12 @@ def about(program: Optional[str]) -> str:
 
 
 def note() -> str:
-    """What is told of the programs: in the repository a command tells it, and it lies beside the package where that is installed."""
+    """The account of the programs: in the repository a command gives it, and it lies beside the package where that is installed."""
     return told('note') or files.read(os.path.join(ABOVE, 'VERSION')).content.decode('utf-8', 'replace')
 
 
 def told(what: str) -> str:
-    """What the repository's command for its programs tells; nothing elsewhere."""
+    """The account that the repository's command for its programs gives; nothing elsewhere."""
     command = os.path.join(ABOVE, 'tools', 'programs')
     if not os.path.isfile(command):
         return ''

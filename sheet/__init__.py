@@ -10,6 +10,6 @@ layout, titles              how many puzzles a page can have, how large their sq
 measures, style, markup     lengths, the style sheet, and text that becomes HTML
 drawing                     a board as a picture, also one that is played
 
-What is right, and that a puzzle has one solution, the program says: no rule of play is here. The picture and the talk with the program need
+The program says which numbers are right, and that a puzzle has one solution: no rule of play is here. The picture and the talk with the program need
 nothing of the rest.
 """

@@ -13,8 +13,18 @@ from sheet.seeds import Kind, Seeds
 #: A sheet has no more puzzles, and of a list no more lines are told that are wrong.
 MOST = 200
 
+#: And all sheets of a class.
+MOST_OF_CLASS = 1000
+
 #: After so many puzzles of a kind in a row whose solution is on the sheet the first of them that isn't there itself is taken.
 ALIKE = 60
+
+#: The sentence if there aren't so many different puzzles.
+LIKE = '{alike} of the {count} puzzles have the solution of an earlier one, perhaps turned over: {tries} in a row had no new one'
+REPEATED = '{repeated} of the {count} puzzles stand on an earlier sheet, too: {tries} in a row were there already'
+FEWER = 'there are {count} puzzles, not {wanted}: {tries} in a row were there already'
+TOO_MANY = '{pupils} names with {count} puzzles each are {all} puzzles: a class has {most} at most.'
+
 
 class Progress(Protocol):
     """Called with the number of puzzles that there are, as one more is there."""
@@ -27,9 +37,14 @@ class Progress(Protocol):
 
 
 class Choice(NamedTuple):
-    puzzles: List[Puzzle]
-    #: What there is to say of those that have one solution, or are lacking.
+    #: Those of each pupil; or all of them.
+    sheets: List[List[Puzzle]]
+    #: The sentences on those that share a solution, or are lacking.
     told: List[str]
+
+    @property
+    def puzzles(self) -> List[Puzzle]:
+        return [puzzle for sheet in self.sheets for puzzle in sheet]
 
 
 class WrongLines(Exception):
@@ -47,22 +62,24 @@ class Seeded:
         self.puzzles: List[Puzzle] = []
         #: How many have the solution of an earlier one.
         self.alike = 0
+        #: How many stand on an earlier sheet.
+        self.repeated = 0
         self._seeds = seeds
         self._forms: Set[Form] = set()
         #: Sizes of which there is no new solution, and kinds of which there is no new puzzle.
         self._spent: Set[int] = set()
         self._exhausted: Set[Kind] = set()
 
-    def add(self, kind: Kind) -> None:
+    def add(self, kind: Kind) -> Optional[Puzzle]:
         """The next puzzle with a new solution; after many without one the first that is new at all, or none. Raises `Unfit`."""
         spare: Optional[Puzzle] = None
         if kind in self._exhausted:
-            return
+            return None
         for _, puzzle in zip(range(ALIKE), self._seeds.puzzles(kind)):
             if form(puzzle.answer) not in self._forms:
                 self._forms.add(form(puzzle.answer))
                 self.puzzles.append(puzzle)
-                return
+                return puzzle
             if spare is None and all(puzzle.id != other.id for other in self.puzzles):
                 spare = puzzle
             if spare and kind.size in self._spent:
@@ -73,22 +90,36 @@ class Seeded:
         else:
             self.puzzles.append(spare)
             self.alike += 1
+        return spare
+
+    def again(self, kind: Kind, sheet: Sequence[Puzzle]) -> Optional[Puzzle]:
+        """Another pupil's puzzle where there is none of a kind any more: one that isn't on this sheet, each in turn."""
+        own = {puzzle.id for puzzle in sheet}
+        others = [puzzle for puzzle in self.puzzles if (puzzle.size, puzzle.board.session.letter) == kind[1:] and puzzle.id not in own]
+        if not others:
+            return None
+        self.repeated += 1
+        return others[(self.repeated - 1) % len(others)]
 
 
-def of_seeds(seeds: Seeds, wanted: Sequence[Kind], progress: Progress) -> Choice:
-    """One of each kind, in this order. Raises `Unfit` where none of a kind are made, or none is found."""
+def of_seeds(seeds: Seeds, wanted: Sequence[Kind], pupils: int, progress: Progress) -> Choice:
+    """One of each kind, in this order, for each pupil: no two pupils have the same puzzle as long as there are others. Raises `Unfit` where there are too
+    many pupils, none of a kind are made, or none is found."""
+    if len(wanted) * pupils > MOST_OF_CLASS:
+        raise Unfit(TOO_MANY.format(pupils=pupils, count=len(wanted), all=len(wanted) * pupils, most=MOST_OF_CLASS))
     seeds.check(wanted)
     found = Seeded(seeds)
-    for kind in wanted:
-        found.add(kind)
-        progress(len(found.puzzles))
-    told: List[str] = []
-    count = len(found.puzzles)
-    if found.alike:
-        told.append(f'{found.alike} of the {count} puzzles have the solution of an earlier one, perhaps turned over: {ALIKE} in a row had no new one')
-    if count < len(wanted):
-        told.append(f'there are {count} puzzles, not {len(wanted)}: {ALIKE} in a row were there already')
-    return Choice(found.puzzles, told)
+    sheets: List[List[Puzzle]] = []
+    for _ in range(pupils):
+        sheets.append([])
+        for kind in wanted:
+            puzzle = found.add(kind) or found.again(kind, sheets[-1])
+            if puzzle:
+                sheets[-1].append(puzzle)
+            progress(sum(map(len, sheets)))
+    counts = {'alike': found.alike, 'repeated': found.repeated, 'count': sum(map(len, sheets)), 'wanted': len(wanted) * pupils, 'tries': ALIKE}
+    lacks = {LIKE: found.alike, REPEATED: found.repeated, FEWER: counts['wanted'] - counts['count']}
+    return Choice(sheets, [text.format(**counts) for text, lack in lacks.items() if lack])
 
 
 class Entry(NamedTuple):
@@ -124,7 +155,7 @@ def of_list(programs: Programs, lines: Iterator[Line], game: Optional[str], coun
     # Those that are alike fill up what is lacking.
     kept = alike[: count - len(new)]
     told = [f'line {entry.line}: it has the solution of line {entry.like}, perhaps turned over' for entry in kept]
-    return Choice([entry.puzzle for entry in sorted(new + kept, key=lambda entry: entry.line)], told)
+    return Choice([[entry.puzzle for entry in sorted(new + kept, key=lambda entry: entry.line)]], told)
 
 
 def _readable(programs: Programs, lines: Iterator[Line], game: Optional[str], wrong: List[str]) -> Iterator[Tuple[Line, Puzzle]]:

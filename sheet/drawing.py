@@ -1,6 +1,6 @@
 """A board as a picture in SVG: the puzzle, numbers, pencil marks, what contradicts, and squares of a hint.
 
-One unit is a hundredth of a millimetre, and all is in whole numbers, so that the picture is the same everywhere. It is black on white. What isn't
+One unit is a hundredth of a millimetre, and all is in whole numbers, so that the picture is the same everywhere. It is black on white. A part that isn't
 there on paper has a class, by which a page gives it a look: `wrong`, `done`, `hint`.
 """
 
@@ -12,6 +12,7 @@ from xml.etree.ElementTree import Element, SubElement
 
 from playing.board import GAMES, Board, Sign
 from playing.naming import Place
+from sheet.steps import Move
 
 #: In per cent of a square's side: the room for clues outside of Towers, and that between two squares of Unequal.
 OUTSIDE, BETWEEN = 52, 34
@@ -22,6 +23,9 @@ CLUE, DEPTH, HEIGHT = 35, 8, 17
 #: How far apart two pencil marks are, in the same measure; and the room for the names of rows and columns, with their font.
 APART = 30
 EDGE, EDGE_FONT = 52, 36
+
+#: The number of a move in the corner of its square: its font, and how far it is from the left, in the same measure.
+ORDER, ORDER_LEFT = 24, 7
 
 #: A digit's baseline is so far below its middle, in per cent of the font: half of a digit's height.
 BASELINE = 36
@@ -80,7 +84,7 @@ def extent(game: str, size: int, with_pen: Pen) -> int:
 
 
 def edge(side: int) -> int:
-    """What the names of rows and columns take, at the left and above."""
+    """The space that the names of rows and columns take, at the left and above."""
     return side * EDGE // 100
 
 
@@ -118,8 +122,11 @@ class Places:
         return f'M{x - height} {y + depth}l{height} {-2 * depth}l{height} {2 * depth}'
 
 
-def picture(board: Board, with_pen: Pen, name: str, hinted: Collection[Place] = (), has_edges: bool = False) -> Element:
-    """The element `svg`, with its name and the board in words for who doesn't see it; at its edges may stand the names of rows and columns."""
+def picture(
+    board: Board, with_pen: Pen, name: str, hinted: Collection[Place] = (), has_edges: bool = False, order: Optional[Mapping[Place, Move]] = None
+) -> Element:
+    """The element `svg`, with its name and the board in words for who doesn't see it; at its edges may stand the names of rows and columns, and in the
+    squares the numbers of the moves that put theirs."""
     places, outside = Places(board, with_pen), edge(with_pen.side) if has_edges else 0
     full = extent(board.session.game, board.size, with_pen) + outside
     length = f'{full // 100}.{full % 100:02}mm'
@@ -132,6 +139,8 @@ def picture(board: Board, with_pen: Pen, name: str, hinted: Collection[Place] = 
     _add_grid(svg, places, with_pen)
     _add_signs(svg, board, places, with_pen)
     _add_numbers(svg, board, places, with_pen)
+    if order:
+        _add_order(svg, places, order)
     if has_edges:
         _add_edges(svg, places, -outside // 2)
     return svg
@@ -196,6 +205,15 @@ def _add_edges(svg: Element, places: Places, at: int) -> None:
             SubElement(group, 'text', {'x': str(x), 'y': str(y + font * BASELINE // 100)}).text = text
 
 
+def _add_order(svg: Element, places: Places, order: Mapping[Place, Move]) -> None:
+    """The number of its move, small in the corner of each square. The hardest one is underlined."""
+    font = places.side * ORDER // 100
+    group = SubElement(svg, 'g', {**DIGITS, 'text-anchor': 'start', 'font-size': str(font), 'class': 'order'})
+    for (x, y), move in order.items():
+        hardest = {'font-weight': '700', 'text-decoration': 'underline'} if move.is_hardest else {}
+        SubElement(group, 'text', {'x': str(places.at[x] + places.side * ORDER_LEFT // 100), 'y': str(places.at[y] + font), **hardest}).text = str(move.number)
+
+
 def _marks(board: Board, places: Places) -> Iterator[Digit]:
     """Three in a row, each number at a place of its own."""
     for place, marks in board.marks.items():
@@ -240,5 +258,5 @@ def _named(place: Place) -> str:
 
 
 def title(kind: str, board: Board, grade: str) -> str:
-    """What a picture is called: `Puzzle 7: Towers, 6 by 6, Easy`."""
+    """The name of a picture: `Puzzle 7: Towers, 6 by 6, Easy`."""
     return ', '.join(filter(None, [f'{kind}: {GAMES[board.session.game]}', f'{board.size} by {board.size}', grade]))

@@ -10,11 +10,12 @@ from playing.cards import CARDS, Card
 from playing.naming import Place
 from playing.program import Gone
 from sheet import drawing, steps
-from sheet.layout import ANY_SIZE, RULES, Paper, lines
+from sheet.layout import ANY_SIZE, CALLED, RULES, Paper
 from sheet.listing import SQUARES
 from sheet.markup import Markup, fill, joined
 from sheet.measures import length
 from sheet.puzzles import Programs, Unfit
+from sheet.titles import text_lines
 
 #: From one side of the squares to the next one that is tried.
 STEP = 5
@@ -25,7 +26,7 @@ BESIDE, BELOW = 900, 350
 #: How the number that follows is shown, or the square that has none left.
 FRAMED = 'The number that follows stands in a thick frame.'
 
-BODY = Template('<p class="rules"><b>$game.</b> $rules</p>\n<div class="lessons">\n$rows</div>\n')
+BODY = Template('<p class="rules"><b>$called</b> $rules</p>\n<div class="lessons">\n$rows</div>\n')
 ROW = Template('<div class="example" style="height:$height">$picture<div style="width:$width">$texts</div></div>\n')
 HEAD = Template('<p><b>$text</b></p>')
 SENTENCE = Template('<p>$text</p>')
@@ -73,11 +74,11 @@ def _lesson(programs: Programs, game: str, card: Card) -> Lesson:
 
 
 def sections(paper: Paper, told: Example) -> Iterator[Markup]:
-    """What stands between head and foot, on as few sheets of paper as can be: with squares as large as there is room for."""
+    """The drawings between head and foot, on as few sheets of paper as can be: with squares as large as there is room for."""
     game, side = told.game, _side(paper, told)
     rules = RULES[game].format(last=ANY_SIZE)
     for rows in _sheets(paper, told, side):
-        yield fill(BODY, game=GAMES[game], rules=rules, rows=joined(_drawn(row, game, side, paper) for row in rows))
+        yield fill(BODY, called=CALLED[game], rules=rules, rows=joined(_drawn(row, game, side, paper) for row in rows))
 
 
 def _side(paper: Paper, told: Example) -> int:
@@ -105,7 +106,7 @@ def _row(paper: Paper, lesson: Lesson, game: str, side: int) -> Row:
     font = paper.print.lesson
     full = drawing.extent(game, lesson.board.size, _pen(paper, game, side)) + drawing.edge(side)
     width = paper.width - full - BESIDE
-    text = (1 + sum(lines(sentence, width, font) for sentence in lesson.sentences)) * font * 27 // 20
+    text = (1 + sum(text_lines(sentence, width, font) for sentence in lesson.sentences)) * font * 27 // 20
     return Row(lesson, max(full, text) + BELOW, width)
 
 

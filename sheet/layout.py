@@ -4,15 +4,18 @@ from __future__ import annotations
 
 import itertools
 import re
-import textwrap
 from functools import lru_cache
 from typing import Iterator, List, Mapping, NamedTuple, Optional, Sequence
 
 from playing.board import GAMES
+from playing.naming import PRINTED_AS
 from sheet import drawing, measures, titles
 from sheet.markup import shortened, width
 from sheet.measures import Density, Print
 from sheet.puzzles import Puzzle
+
+#: The name of each game ahead of its rules, beside the one that newspapers have.
+CALLED = {game: f'{title} ({PRINTED_AS[game]}).' for game, title in GAMES.items()}
 
 #: The rules, in two sentences each, with the numbers that a page's puzzles have.
 RULES = {
@@ -23,7 +26,7 @@ RULES = {
 }
 ANY_SIZE = 'the size of the grid'
 
-#: What a line of an ID ends with, where it can.
+#: The characters with which a line of an ID ends, if it can.
 ENDS = ',/:'
 
 #: A caption of the puzzle's own has so many lines at most.
@@ -31,10 +34,18 @@ MOST_NOTES = 2
 
 
 class Numbered(NamedTuple):
-    """A puzzle with its number on the sheet."""
+    """A puzzle with its number on the sheet, and the pupil whom it is for, where such are named."""
 
     number: int
     puzzle: Puzzle
+    #: Counted from 1; 0 where nobody is named.
+    pupil: int = 0
+    name: str = ''
+
+    @property
+    def label(self) -> str:
+        """A name that no other puzzle of the class has."""
+        return f'{self.pupil}.{self.number}' if self.pupil else str(self.number)
 
 
 class Figure(NamedTuple):
@@ -85,19 +96,15 @@ class Paper:
         title_lines = titles.lines(title, self.width - self.print.name_width, self.print.title)
         if title_lines > self.print.title_lines:
             raise NoRoom(f'--title: it is too long: it may take {title_lines} lines, and {self.print.title_lines} have room')
-        #: What the head takes.
+        #: The height of the head.
         self.head = self.print.head + (title_lines - 1) * self.print.title * 6 // 5
 
     def rules_height(self, games: Sequence[str]) -> int:
-        return sum(60 + lines(rules(game, ANY_SIZE), self.width, self.print.rules) * self.print.rules * 5 // 4 for game in games)
+        return sum(60 + titles.text_lines(RULES[game].format(last=ANY_SIZE), self.width, self.print.rules, CALLED[game]) * self.print.rules * 5 // 4 for game in games)
 
     def room(self, games: Sequence[str]) -> int:
         """The height that is left for puzzles, below the rules of these games."""
         return self.height - self.head - self.print.foot - self.rules_height(games) - measures.HEAD_GAP
-
-
-def rules(game: str, last: str) -> str:
-    return f'{GAMES[game]}. {RULES[game].format(last=last)}'
 
 
 def games_of(some: Sequence[Numbered]) -> List[str]:
@@ -113,11 +120,6 @@ def letters(room: int, font: int) -> int:
 def id_letters(room: int, font: int) -> int:
     """The same of an ID, or of a command, whose letters are all as wide."""
     return room * 100 // (font * measures.ID_LETTER)
-
-
-def lines(text: str, room: int, font: int) -> int:
-    """How many lines a text takes."""
-    return len(textwrap.wrap(text, letters(room, font)))
 
 
 def note(puzzle: Puzzle, room: int, font: int, notes: int) -> str:

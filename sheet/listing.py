@@ -5,10 +5,11 @@ from __future__ import annotations
 from string import Template
 from typing import Iterator, List, NamedTuple, Sequence
 
-from sheet.layout import Numbered, Paper, lines
+from sheet.layout import Numbered, Paper
 from sheet.markup import Markup, fill, joined
 from sheet.measures import length
 from sheet.steps import Move, explained_words
+from sheet.titles import text_lines
 
 #: Between two columns, and above a puzzle.
 COLUMN_GAP, GAP = 600, 150
@@ -21,7 +22,8 @@ LEFT_OUT = 'Each puzzle has here its first three moves and its hardest one. The 
 
 COLUMNS = Template('<div class="listing">\n$columns</div>\n')
 BLOCK = Template('<div class="steps" style="width:$width;height:$height">$content</div>\n')
-HEAD = Template('<p class="first"><b>$number</b> $grade</p>')
+HEAD = Template('<p class="first"><b>$number</b> $grade$name</p>')
+PUPIL = Template(' · <bdi>$name</bdi>')
 LABEL = Template('<p><b>$label</b></p>')
 LABELLED = Template('<p><b>$label.</b> $text</p>')
 SENTENCE = Template('<p>$text</p>')
@@ -45,24 +47,23 @@ class Part(NamedTuple):
     """Moves that stay together, as far as a column has room for them."""
 
     moves: List[List[Paragraph]]
-    #: What is free above.
+    #: The space above.
     gap: int
 
 
-def sections(paper: Paper, every: Sequence[Explained], has_grades: bool) -> Iterator[Markup]:
-    """What stands between head and foot, for each sheet of paper."""
+def sections(paper: Paper, every: Sequence[Explained], has_grades: bool, are_all: bool = False) -> Iterator[Markup]:
+    """The drawings between head and foot, for each sheet of paper."""
     columns, font = paper.print.steps_columns, paper.print.steps
     width = (paper.width - COLUMN_GAP * (columns - 1)) // columns
     room = paper.height - paper.head - paper.print.foot
-    blocks = [
-        fill(BLOCK, width=length(width), height=length(room), content=content) for content in _columns(_parts(every, width, font, has_grades), font, room)
-    ]
+    contents = _columns(_parts(every, width, font, has_grades, are_all), font, room)
+    blocks = [fill(BLOCK, width=length(width), height=length(room), content=content) for content in contents]
     for first in range(0, len(blocks), columns):
         yield fill(COLUMNS, columns=joined(blocks[first : first + columns]))
 
 
 def _columns(parts: Iterator[Part], font: int, room: int) -> Iterator[Markup]:
-    """Columns with one part below the other. What isn't longer than a column stands in one: a part, or at least a move."""
+    """Columns with one part below the other. A part, or at least a move, that isn't longer than a column stands in one."""
     column: List[Markup] = []
     used = 0
     for part in parts:
@@ -90,14 +91,16 @@ def _height(piece: Sequence[Paragraph], font: int) -> int:
     return sum(paragraph.lines for paragraph in piece) * font * 5 // 4
 
 
-def _parts(every: Sequence[Explained], width: int, font: int, has_grades: bool) -> Iterator[Part]:
+def _parts(every: Sequence[Explained], width: int, font: int, has_grades: bool, are_all: bool) -> Iterator[Part]:
     words = explained_words([move for explained in every for move in explained.moves])
-    yield Part([[Paragraph(fill(SENTENCE, text=text), lines(text, width, font)) for text in (SQUARES, *words, LEFT_OUT)]], 0)
+    first = [SQUARES, *words, *([] if are_all else [LEFT_OUT])]
+    yield Part([[Paragraph(fill(SENTENCE, text=text), text_lines(text, width, font)) for text in first]], 0)
     for explained in every:
-        puzzle = explained.numbered.puzzle
-        head = Paragraph(fill(HEAD, number=explained.numbered.number, grade=puzzle.grade if has_grades else ''), 1)
-        first, *others = [list(paragraphs(move, width, font)) for move in explained.moves]
-        yield Part([[head, *first], *others], GAP)
+        numbered = explained.numbered
+        name = fill(PUPIL, name=numbered.name) if numbered.pupil else Markup('')
+        head = Paragraph(fill(HEAD, number=numbered.label, grade=numbered.puzzle.grade if has_grades else '', name=name), 1)
+        begun, *others = [list(paragraphs(move, width, font)) for move in explained.moves]
+        yield Part([[head, *begun], *others], GAP)
 
 
 def paragraphs(move: Move, width: int, font: int) -> Iterator[Paragraph]:
@@ -108,5 +111,5 @@ def paragraphs(move: Move, width: int, font: int) -> Iterator[Paragraph]:
         yield Paragraph(fill(LABEL, label=label), 1)
     else:
         first = texts.pop(0)
-        yield Paragraph(fill(LABELLED, label=label, text=first), lines(f'{label}. {first}', width, font))
-    yield from (Paragraph(fill(SENTENCE, text=text), lines(text, width, font)) for text in texts)
+        yield Paragraph(fill(LABELLED, label=label, text=first), text_lines(first, width, font, f'{label}.'))
+    yield from (Paragraph(fill(SENTENCE, text=text), text_lines(text, width, font)) for text in texts)

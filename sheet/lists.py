@@ -10,16 +10,23 @@ from typing import BinaryIO, ContextManager, Iterable, Iterator, List, NamedTupl
 from playing import files, saves, texts
 from playing.board import GAMES
 from playing.game import is_there
+from playing.naming import game_called
 from playing.printable import printable
 from playing.program import Gone, Refused, started_with
 from sheet.markup import plain
 from sheet.puzzles import Programs, Puzzle, Unfit, proved
 
+#: A class has no more pupils.
+MOST_NAMES = 200
+
 #: The file that is standard input.
 STANDARD_INPUT = '-'
 
-#: What a list may begin with that is no text, and how many bytes are read at once.
+#: The bytes with which a list may begin and that are no text, and how many bytes are read at once.
 BOM, PIECE = b'\xef\xbb\xbf', 1 << 16
+
+#: The letter in the place of bytes that are none.
+NO_LETTER = '\ufffd'
 
 
 class Line(NamedTuple):
@@ -30,7 +37,7 @@ class Line(NamedTuple):
     save: bytes = b''
 
 
-def lines_of(file: str) -> Iterator[Line]:
+def lines_of(file: str, things: str = 'puzzles') -> Iterator[Line]:
     """The lines of a list that say something, as they come. Raises `Unfit` where it can't be read, or says nothing."""
     is_empty = True
     try:
@@ -47,7 +54,21 @@ def lines_of(file: str) -> Iterator[Line]:
     except (OSError, ValueError) as error:
         raise Unfit(f"{_called(file)} can't be read ({files.why(error)})") from error
     if is_empty:
-        raise Unfit(f'{_called(file)} has no puzzles')
+        raise Unfit(f'{_called(file)} has no {things}')
+
+
+def names_of(file: str) -> List[str]:
+    """The names of a file, one a line. Raises `Unfit`."""
+    lines = list(itertools.islice(lines_of(file, 'names'), MOST_NAMES + 1))
+    if len(lines) > MOST_NAMES:
+        raise Unfit(f'{_called(file)} has more than {MOST_NAMES} names')
+    if any(line.save for line in lines):
+        raise Unfit(f'{_called(file)} is a save, and no list of names')
+    # A caption may do without a letter; a name on a sheet may not.
+    unread = next((line.number for line in lines if NO_LETTER in line.text), None)
+    if unread:
+        raise Unfit(f"{_called(file)} can't be read (line {unread} isn't UTF-8)")
+    return [line.text for line in lines]
 
 
 def _opened(file: str) -> ContextManager[BinaryIO]:
@@ -57,7 +78,7 @@ def _opened(file: str) -> ContextManager[BinaryIO]:
 
 
 def _pieces(stream: BinaryIO, file: str) -> Iterator[bytes]:
-    """What comes, piece by piece. Raises `Unfit` where it is too much."""
+    """The bytes that come, piece by piece. Raises `Unfit` if they are too many."""
     left = files.MOST_BYTES
     while True:
         piece = stream.read(PIECE)
@@ -99,8 +120,9 @@ def puzzle_of(programs: Programs, line: Line, game: Optional[str]) -> Puzzle:
     if line.save:
         return _of_save(programs, line.save, '')
     first, _, rest = line.text.partition(' ')
-    if first in GAMES:
-        return _of_id(programs, [first], rest)
+    named = game_called(first)
+    if named:
+        return _of_id(programs, [named], rest)
     if is_there(line.text):
         return _of_file(programs, line.text, '')
     if is_there(first):

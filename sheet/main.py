@@ -13,7 +13,7 @@ from playing.command import SIGNALLED, complain, end_by_signals, me, refuse, tol
 from sheet import choice, examples, lists, pdf, seeds, steps
 from sheet.choice import Choice, WrongLines
 from sheet.layout import NoRoom
-from sheet.pages import Sheet, papers, title_of
+from sheet.pages import Content, Sheet, papers, title_of
 from sheet.pdf import NoPdf
 from sheet.puzzles import Programs, Unfit
 from sheet.words import USAGE, Asked, Wrong, read
@@ -43,22 +43,23 @@ def main(words: List[str], here: str) -> int:
 
 
 def make(path: str, asked: Asked) -> int:
-    """Raises `Gone`, `NoRoom` or `NoPdf`, or `OSError` where the page can't be written. What has been begun is taken away where a signal ends it."""
+    """Raises `Gone`, `NoRoom` or `NoPdf`, or `OSError` where the page can't be written. The file that was begun is taken away if a signal ends it."""
     end_by_signals()
-    # What is wrong with the words alone is told before puzzles are made.
+    # Mistakes in the words alone are told before puzzles are made.
     papers(asked.form, title_of(asked.form))
     browser = pdf.found(asked.browser) if asked.pdf else ''
     try:
         with Programs(path) as programs, Progress() as progress:
-            chosen = chosen_by(programs, asked, progress)
-            explained = [steps.told(programs, puzzle) for puzzle in chosen.puzzles] if asked.form.has_steps else []
+            names = lists.names_of(asked.names) if asked.names is not None else []
+            chosen = chosen_by(programs, asked, max(1, len(names)), progress)
+            moves = [steps.found(programs, puzzle) for puzzle in chosen.puzzles] if asked.form.has_steps else []
             games = dict.fromkeys(puzzle.game for puzzle in chosen.puzzles) if asked.form.has_example else {}
             example = [examples.example(programs, game) for game in games]
     except WrongLines as wrong:
         return unfit(wrong.told)
     except Unfit as reason:
         return unfit([str(reason)])
-    sheet = Sheet(chosen.puzzles, asked, explained, example)
+    sheet = Sheet(Content(chosen.sheets, names, moves, example), asked)
     page = sheet.html().encode()
     if asked.pdf:
         write(asked.pdf, pdf.printed(browser, page, os.path.dirname(asked.pdf)))
@@ -76,16 +77,16 @@ def unfit(told: Iterable[str]) -> int:
     return 3
 
 
-def chosen_by(programs: Programs, asked: Asked, progress: Progress) -> Choice:
+def chosen_by(programs: Programs, asked: Asked, pupils: int, progress: Progress) -> Choice:
     """Raises `Unfit` or `WrongLines`."""
     if asked.ids is not None:
         progress.count = asked.how_many
         return choice.of_list(programs, lists.lines_of(asked.ids), asked.game, asked.how_many, progress)
-    assert asked.game and asked.how_many and asked.seed is not None, 'without a list these are asked for'
-    progress.count = asked.how_many
+    assert asked.game and asked.how_many, 'without a list these are asked for'
+    progress.count = asked.how_many * pupils
     every = seeds.kinds(asked.game, asked.sizes, asked.letters)
     wanted = seeds.shared(every, asked.how_many)
-    found = choice.of_seeds(seeds.Seeds(programs, asked.seed), wanted, progress)
+    found = choice.of_seeds(seeds.Seeds(programs, asked.first, asked.stride), wanted, pupils, progress)
     return found._replace(told=[*seeds.uneven(every, wanted), *found.told])
 
 

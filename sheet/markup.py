@@ -8,6 +8,21 @@ from string import Template
 from typing import Iterable, Union
 
 
+#: Letters that are as wide as two, from the first to the last: those of East Asia, and small pictures. No version of Unicode decides it.
+WIDE = [
+    (0x1100, 0x115F),
+    (0x2600, 0x27BF),
+    (0x2E80, 0xA4CF),
+    (0xAC00, 0xD7A3),
+    (0xF900, 0xFAFF),
+    (0xFE30, 0xFE6F),
+    (0xFF01, 0xFF60),
+    (0xFFE0, 0xFFE6),
+    (0x1F000, 0x1FAFF),
+    (0x20000, 0x3FFFD),
+]
+
+
 class Markup(str):
     """HTML as it is. All other text is escaped before it comes among it."""
 
@@ -34,7 +49,7 @@ def plain(text: str) -> str:
 
 def width(text: str) -> int:
     """In letters: those of East Asia are as wide as two, and marks over another one have no width."""
-    return sum(0 if unicodedata.combining(letter) else 2 if unicodedata.east_asian_width(letter) in 'WF' else 1 for letter in text)
+    return sum(0 if unicodedata.category(letter) == 'Mn' else 1 + any(first <= ord(letter) <= last for first, last in WIDE) for letter in text)
 
 
 def shortened(text: str, most: int) -> str:

@@ -13,16 +13,19 @@ class Paper(NamedTuple):
 
 PAPERS: Dict[str, Paper] = {'a4': Paper(21000, 29700), 'letter': Paper(21590, 27940)}
 
-#: What stays free at the sides, and at the top and the bottom.
+#: The margins at the sides, and at the top and the bottom.
 SIDE, TOP = 1200, 1000
 
 #: A page is lower by so much than what is free on the paper: one that is higher by a hair makes an empty page after it.
 SPARE = 100
 
-#: Between two columns, between two rows at least and at most, and between the head and what is below.
-COLUMN_GAP, ROW_GAP, MOST_ROW_GAP, HEAD_GAP = 400, 200, 2000, 300
+#: Between two columns, so that scissors have room; between two rows at least and at most; and between the head and what is below.
+COLUMN_GAP, ROW_GAP, MOST_ROW_GAP, HEAD_GAP = 800, 200, 2000, 300
 
-#: How wide a letter of a text is on the whole, and one of an ID, in per cent of its font, rounded up over the fonts that a page may get.
+#: Between a title and the name beside it.
+NAME_GAP = 600
+
+#: How wide a letter of a caption is on the whole, and one of an ID, in per cent of its font, rounded up over the fonts that a page may get.
 LETTER, ID_LETTER = 56, 61
 
 #: The side of a square isn't less, by the size: there is to be room for pencil marks. Where it is asked how many come onto a page this is the least.
@@ -32,6 +35,9 @@ LEAST_ASKED = 700
 #: The squares of answers: no paper is saved by smaller ones, nor taken for larger ones, and what looks childish is larger still.
 LEAST_ANSWER_SIDE, MOST_ANSWER_SIDE = 440, 1200
 LEAST_LARGE_ANSWER_SIDE, MOST_LARGE_ANSWER_SIDE = 1000, 1600
+
+#: The least square of an answer whose squares have the numbers of moves.
+LEAST_ORDERED_SIDE = 800
 
 
 class Print(NamedTuple):
@@ -77,7 +83,7 @@ USUAL = Print(
     answer_number=300,
     most_answer_number=423,
     answer_free=490,
-    answer_gap=400,
+    answer_gap=800,
     lesson=423,
     lesson_sides=(1400, 650),
     steps=282,
@@ -99,7 +105,7 @@ LARGE = Print(
     answer_free=838,
     answer_gap=900,
     lesson=564,
-    lesson_sides=(1600, 800),
+    lesson_sides=(2000, 1300),
     steps=564,
     steps_columns=1,
     strength=120,
@@ -117,7 +123,7 @@ class Density(NamedTuple):
     number: int
     note: int
     id: int
-    #: What its lines take.
+    #: The height of its lines.
     number_line: int
     note_line: int
     id_line: int

@@ -7,22 +7,25 @@ from string import Template
 from typing import Dict, Iterator, List, NamedTuple, Sequence
 
 from playing.board import GAMES
-from sheet import answers, drawing, examples, layout, listing
+from sheet import answers, drawing, examples, layout, listing, steps, titles
+from sheet.answers import Key
 from sheet.examples import Example
 from sheet.layout import Figure, Numbered, Page, Paper
 from sheet.listing import Explained
 from sheet.markup import Markup, fill, joined, plain, safe, shortened
-from sheet.measures import BOLD_BELOW, CAPTION_TOP, Density, length
+from sheet.measures import BOLD_BELOW, CAPTION_TOP, NAME_GAP, Density, length
 from sheet.puzzles import Puzzle
 from sheet.steps import Move
 from sheet.style import style
 from sheet.words import Asked, Form
 
 #: Nothing is fetched from anywhere, and nothing is run.
+POLICY = "default-src 'none'; style-src 'unsafe-inline'"
+
 WHOLE = Template("""\
 <!DOCTYPE html>
 <html lang="en"><head><meta charset="utf-8"><title>$title</title>
-<meta http-equiv="Content-Security-Policy" content="default-src 'none'; style-src 'unsafe-inline'">
+<meta http-equiv="Content-Security-Policy" content="$policy">
 <meta name="viewport" content="width=device-width"><style>$style</style></head>
 <body>
 $sections</body></html>
@@ -30,17 +33,22 @@ $sections</body></html>
 
 SECTION = Template("""\
 <section>
-<header><h1 dir="auto">$kind<bdi>$title</bdi></h1><p class="name">$right</p></header>
+<header><h1 dir="auto">$kind<bdi>$title</bdi></h1>$right</header>
 $body<footer><span>$sheet</span><code>$again</code><span>$number</span></footer>
 </section>
 """)
-NAME = Markup('Name <u></u>')
+#: The back of a page on which nothing is printed.
+BLANK = Markup('<section></section>\n')
 
-RULES = Template('<p class="rules"><b>$game.</b> $text</p>\n')
+NAME = Markup('<p class="name">Name <u></u></p>')
+OWN_NAME = Template('<p class="name own" dir="auto"><b>$name</b></p>')
+RIGHT = Template('<p class="name">$text</p>')
+
+RULES = Template('<p class="rules"><b>$called</b> $text</p>\n')
 PUZZLES = Template('<div class="puzzles columns$columns" style="row-gap:$gap">\n$figures</div>\n')
 FIGURE = Template("""\
 <figure style="height:$height">$picture<figcaption style="width:$width;height:$caption">
-<p class="line" style="height:$line;font-size:$number_font"><b>$number</b><span>$grade</span><i style="font-size:$note_font">$game $size × $size · $code-$number</i></p>
+<p class="line" style="height:$line;font-size:$number_font"><b>$number</b><span>$grade</span><i style="font-size:$note_font">$game $size × $size · $code-$label</i></p>
 $note$id</figcaption></figure>
 """)
 ID = Template('<code$bold style="font-size:$font;line-height:$line">$id</code>')
@@ -48,21 +56,48 @@ NOTE = Template('<p class="note" dir="auto" style="font-size:$font;max-height:$h
 BREAK = Markup('<wbr>')
 BOLD = Markup(' class="small"')
 
-#: What stands before the title, by what a sheet of paper has; nothing above the puzzles.
+#: The sentences on captions and names for which there is no room.
+CUT_CAPTION = 'puzzle {label}: the end of its caption is cut off, since {lines} lines have room'
+LONG_NAME = 'name {number} is long: its end may be cut off'
+
+#: The word before the title, by the kind of a sheet of paper; nothing above the puzzles.
 EXAMPLE, PUZZLES_THEMSELVES, ANSWERS, STEPS = 'Example: ', '', 'Answers: ', 'Steps: '
 KINDS = [EXAMPLE, PUZZLES_THEMSELVES, ANSWERS, STEPS]
 
 
 class Section(NamedTuple):
-    """What is on one sheet of paper, between its head and its foot."""
+    """The drawing on one sheet of paper, between its head and its foot."""
 
     kind: str
     body: Markup
-    has_name: bool = False
+    #: The line with a name, or for one.
+    name: Markup = Markup('')
+
+
+class Content(NamedTuple):
+    """The parts of which a sheet is made: the puzzles of each pupil, or of nobody; and where they are asked for, the moves of each and the cards of games."""
+
+    sheets: Sequence[Sequence[Puzzle]]
+    names: Sequence[str] = ()
+    moves: Sequence[Sequence[Move]] = ()
+    examples: Sequence[Example] = ()
+
+    def numbered(self) -> List[List[Numbered]]:
+        found = []
+        for pupil, sheet in enumerate(self.sheets, 1):
+            whose = (pupil, self.names[pupil - 1]) if self.names else (0, '')
+            found.append([Numbered(number, puzzle, *whose) for number, puzzle in enumerate(sheet, 1)])
+        return found
+
+
+def _name(page: Page) -> Markup:
+    """The line with the pupil's name, or for one."""
+    name = page.figures[0].numbered.name
+    return fill(OWN_NAME, name=name) if name else NAME
 
 
 def papers(form: Form, title: str) -> Dict[str, Paper]:
-    """What each kind is printed on. Raises `NoRoom` where the title is too long."""
+    """The pages of each kind. Raises `NoRoom` where the title is too long."""
     return {kind: Paper(form.paper, form.is_large, kind + title, form.has_ids) for kind in KINDS}
 
 
@@ -74,69 +109,85 @@ def title_of(form: Form) -> str:
 class Sheet:
     """Some puzzles, and how they are printed."""
 
-    def __init__(self, puzzles: Sequence[Puzzle], asked: Asked, explained: Sequence[List[Move]] = (), example: Sequence[Example] = ()) -> None:
-        """With the moves of each puzzle, and solved puzzles to begin with, where such are asked for. Raises `NoRoom`."""
-        self._form = asked.form
-        self._puzzles = [Numbered(number, puzzle) for number, puzzle in enumerate(puzzles, 1)]
-        self._explained = [Explained(numbered, moves) for numbered, moves in zip(self._puzzles, explained)]
-        self._example = example
+    def __init__(self, content: Content, asked: Asked) -> None:
+        """Raises `NoRoom`."""
+        self._form, self._content = asked.form, content
+        self._sheets = content.numbered()
+        self._puzzles = [numbered for sheet in self._sheets for numbered in sheet]
         self._title = title_of(asked.form) or ' and '.join(GAMES[game] for game in layout.games_of(self._puzzles))
         self._papers = papers(asked.form, self._title)
         self._paper = self._papers[PUZZLES_THEMSELVES]
-        #: By this the answer of a puzzle that was cut out is found; by the number the same puzzles can be made again.
-        self._code = hashlib.sha256('\n'.join(puzzle.id for puzzle in puzzles).encode()).hexdigest()[:4].upper()
-        self._sheet = f'Sheet {self._code}' + ('' if asked.seed is None else f', number {asked.seed}')
+        #: By this the answer of a puzzle that was cut out is found; by the series the same puzzles can be made again. It is of the first pupil's puzzles: one
+        #: name more at the end doesn't change it.
+        self._code = hashlib.sha256('\n'.join(each.puzzle.id for each in self._sheets[0]).encode()).hexdigest()[:4].upper()
+        self._sheet = f'Sheet {self._code}{asked.source}'
         self._again = self._words(asked) if asked.form.has_words else ''
-        self._pages = [] if asked.form.answers == 'only' else self._planned()
+        self._pages = [] if asked.form.answers == 'only' else [self._planned(sheet) for sheet in self._sheets]
 
     def _words(self, asked: Asked) -> str:
         """The words that make the sheet again, with its title where there is room."""
         room = layout.id_letters(self._paper.width * 3 // 4, self._paper.print.command)
         return shortened(plain(asked.titled if len(asked.titled) <= room else asked.again), room)
 
-    def _planned(self) -> List[Page]:
+    def _planned(self, sheet: Sequence[Numbered]) -> List[Page]:
         """Raises `NoRoom`."""
         if self._form.per_page is None or self._form.is_large:
-            return layout.pages(self._paper, self._puzzles)
-        return layout.asked_pages(self._paper, self._puzzles, self._form.per_page)
+            return layout.pages(self._paper, sheet)
+        return layout.asked_pages(self._paper, sheet, self._form.per_page)
 
     def cut(self) -> Iterator[str]:
-        """What there is to say of captions that are too long."""
-        for page in self._pages:
+        """The sentences on names and captions that are too long."""
+        room = (self._paper.print.name_width - NAME_GAP) * 100 // self._paper.print.name
+        for number, name in enumerate(self._content.names, 1):
+            if sum(map(titles.bold_width, name)) > room:
+                yield LONG_NAME.format(number=number)
+        for page in (page for pages in self._pages for page in pages):
             for figure in page.figures:
-                number, puzzle = figure.numbered
+                label, puzzle = figure.numbered.label, figure.numbered.puzzle
                 if puzzle.caption and self._note_text(page, figure) != puzzle.caption:
-                    yield f'puzzle {number}: the end of its caption is cut off, since {layout.MOST_NOTES} lines have room'
+                    yield CUT_CAPTION.format(label=label, lines=layout.MOST_NOTES)
 
     def html(self) -> str:
-        sections = list(self._sections())
-        every = (self._section(section, f'{number} / {len(sections)}') for number, section in enumerate(sections, 1))
-        return fill(WHOLE, title=self._title, style=Markup(style(self._paper)), sections=joined(every))
+        # With names each pupil's pages are counted, and so are those of the answers.
+        groups = list(self._sections())
+        counts = [len(group) if self._content.names else sum(map(len, groups)) for group in groups]
+        every: List[Markup] = []
+        number = 0
+        for group, count in zip(groups, counts):
+            # Where both sides are printed each group begins on the front of a sheet of paper.
+            every += [BLANK] * (len(every) % 2 if self._form.is_duplex else 0)
+            number = 0 if self._content.names else number
+            every += [self._section(section, f'{number + at} / {count}') for at, section in enumerate(group, 1)]
+            number += len(group)
+        return fill(WHOLE, policy=Markup(POLICY), title=self._title, style=Markup(style(self._paper, bool(self._content.names))), sections=joined(every))
 
-    def _sections(self) -> Iterator[Section]:
-        has_grades = self._form.grades != 'none'
-        for told in self._example:
-            yield from (Section(EXAMPLE, body) for body in examples.sections(self._papers[EXAMPLE], told))
-        yield from (Section(PUZZLES_THEMSELVES, self._body(page), has_name=True) for page in self._pages)
-        if self._form.answers != 'none':
-            yield from (Section(ANSWERS, body) for body in answers.sections(self._papers[ANSWERS], self._puzzles, has_grades))
-        if self._explained:
-            yield from (Section(STEPS, body) for body in listing.sections(self._papers[STEPS], self._explained, has_grades))
+    def _sections(self) -> Iterator[List[Section]]:
+        form, has_grades, moves = self._form, self._form.grades != 'none', self._content.moves
+        for told in self._content.examples:
+            yield [Section(EXAMPLE, body) for body in examples.sections(self._papers[EXAMPLE], told)]
+        for pages in self._pages:
+            yield [Section(PUZZLES_THEMSELVES, self._body(page), _name(page)) for page in pages]
+        if form.answers != 'none':
+            key = Key(self._papers[ANSWERS], has_grades, {each.label: steps.order(some) for each, some in zip(self._puzzles, moves)})
+            yield [Section(ANSWERS, body) for body in answers.sections(key, self._puzzles)]
+        if moves:
+            told_moves = [Explained(each, steps.told(some, form.has_all_steps)) for each, some in zip(self._puzzles, moves)]
+            yield [Section(STEPS, body) for body in listing.sections(self._papers[STEPS], told_moves, has_grades, form.has_all_steps)]
 
     def _section(self, section: Section, number: str) -> Markup:
-        right = NAME if section.has_name else f'Sheet {self._code}'
+        right = section.name or fill(RIGHT, text=f'Sheet {self._code}')
         parts = {'kind': section.kind, 'title': self._title, 'right': right, 'body': section.body}
         return fill(SECTION, sheet=self._sheet, again=self._again, number=number, **parts)
 
     def _body(self, page: Page) -> Markup:
-        rules = (fill(RULES, game=GAMES[game], text=layout.RULES[game].format(last=page.last(game))) for game in page.games)
+        rules = (fill(RULES, called=layout.CALLED[game], text=layout.RULES[game].format(last=page.last(game))) for game in page.games)
         figures = joined(self._figure(page, figure) for figure in page.figures)
         return joined([*rules, fill(PUZZLES, columns=page.density.columns, gap=length(page.row_gap), figures=figures)])
 
     def _figure(self, page: Page, figure: Figure) -> Markup:
-        density, (number, puzzle) = page.density, figure.numbered
+        density, (number, puzzle, *_), label = page.density, figure.numbered, figure.numbered.label
         grade = puzzle.grade if self._form.grades == 'all' else ''
-        name = drawing.title(f'Puzzle {number}', puzzle.board, grade)
+        name = drawing.title(f'Puzzle {label}', puzzle.board, grade)
         svg = drawing.picture(puzzle.board, drawing.pen(puzzle.game, figure.side, self._paper.print.strength), name)
         line = density.number_line - CAPTION_TOP
         lengths = {'height': page.height, 'width': figure.caption_width, 'caption': page.caption_height, 'line': line}
@@ -145,6 +196,7 @@ class Sheet:
             FIGURE,
             picture=Markup(drawing.text_of(svg)),
             number=number,
+            label=label,
             grade=grade,
             game=GAMES[puzzle.game],
             size=puzzle.size,

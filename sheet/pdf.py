@@ -12,7 +12,7 @@ from typing import List, Optional
 BROWSERS = ['chromium', 'chromium-browser', 'google-chrome', 'google-chrome-stable', 'chrome', 'microsoft-edge', 'brave-browser']
 SECONDS = 120
 
-#: What a browser calls itself that prints nothing so, and how many seconds it has to say it.
+#: The name that a browser gives itself that prints nothing so, and how many seconds it has to say it.
 OTHERS, SOON = ('Mozilla', 'Firefox'), 10
 
 BEGINS = b'%PDF-'
@@ -70,7 +70,7 @@ def printed(browser: str, page: bytes, folder: str) -> bytes:
 
 
 def words(browser: str, here: str, source: str, target: str) -> List[str]:
-    """What runs it, with settings of its own. As root it runs only without the walls that it builds around pages of others; this page runs nothing."""
+    """The command that runs it, with settings of its own. As root it runs only without the walls that it builds around pages of others; this page runs nothing."""
     walls = ['--no-sandbox'] if os.geteuid() == 0 else []
     given = ['--headless', '--disable-gpu', '--no-first-run', '--no-pdf-header-footer', f'--user-data-dir={os.path.abspath(here)}/settings']
     return [browser, *given, *walls, f'--print-to-pdf={target}', f'file://{source}']

@@ -8,7 +8,7 @@ from playing.board import Board, Reply
 from playing.games import GRADES
 from playing.program import Gone, Program
 
-#: What there is to say of a puzzle that isn't printed, by how many solutions there are.
+#: The sentence on a puzzle that isn't printed, by how many solutions there are.
 NOT_ONE = {'none': 'no solution', 'several': 'several solutions'}
 
 

@@ -1,4 +1,4 @@
-"""Puzzles by size, grade and seed: fair games, of the seeds from one on, as the program makes them."""
+"""Puzzles by size, grade and series: fair games of the seeds of a series, as the program makes them."""
 
 from __future__ import annotations
 
@@ -9,18 +9,22 @@ from playing.board import GAMES, Reply
 from playing.games import GRADES
 from sheet.puzzles import Programs, Puzzle, Unfit, proved
 
+#: How far apart the seeds of a series are. A series has a number below this, so no two of them have a seed in common.
+STRIDE = 10**12
+
 #: After so many seeds in a row of which the program makes no game no more are tried.
 TRIES = 100
 
-#: What there is to say where the program makes no games of a kind, by the name of its refusal; and refusals of a seed alone.
+#: The sentence if the program makes no games of a kind, by the name of its refusal; and refusals of a seed alone.
 REFUSED = {'BadLetter': '{game} of size {size} has no {grade} puzzles: --ids prints the puzzles of a list.'}
 OTHERWISE = 'The program refuses that: {name}.'
 OF_THE_SEED = ('BadSeed', 'NoneFound')
-NONE_FOUND = 'No {grade} puzzle of {game} of size {size} was found with the {tries:,} seeds from {first} to {last}.'
+UNEVEN = '{count} puzzles of {kinds} kinds: {shares}'
+NONE_FOUND = 'No {grade} puzzle of {game} of size {size} was found with {tries:,} seeds, from {first} to {last}.'
 
 
 class Kind(NamedTuple):
-    """What puzzles there are to be."""
+    """The puzzles that there are to be."""
 
     game: str
     size: int
@@ -39,20 +43,21 @@ def shared(every: Sequence[Kind], count: int) -> List[Kind]:
 
 
 def uneven(every: Sequence[Kind], wanted: Sequence[Kind]) -> List[str]:
-    """What there is to say where there aren't as many puzzles of one kind as of another."""
+    """The sentence if there aren't as many puzzles of one kind as of another."""
     counts = [(wanted.count(kind), kind) for kind in every]
     if len({count for count, _ in counts}) == 1:
         return []
     shares = ', '.join(f'{count} of size {kind.size} {GRADES[kind.game][kind.letter]}' for count, kind in counts)
-    return [f'{len(wanted)} puzzles of {len(every)} kinds: {shares}']
+    return [UNEVEN.format(count=len(wanted), kinds=len(every), shares=shares)]
 
 
 class Seeds:
-    """The puzzles of some seeds, from the first one on. Each kind has each seed once: they are not the same games."""
+    """The puzzles of some seeds, from the first one on, with so much between two. Each kind has each seed once: they are not the same games."""
 
-    def __init__(self, programs: Programs, first: int) -> None:
+    def __init__(self, programs: Programs, first: int, stride: int) -> None:
         self._programs = programs
         self._first = first
+        self._stride = stride
         #: The seed that comes next, of each kind that was begun.
         self._next: Dict[Kind, int] = {}
 
@@ -66,12 +71,13 @@ class Seeds:
         seed, tries = self._first, 0
         while tries < TRIES:
             seed = self._next.get(kind, self._first)
-            self._next[kind] = (seed + 1) % fair.SEEDS
+            self._next[kind] = (seed + self._stride) % fair.SEEDS
             tries += 1
             if self._begin(kind, seed):
                 yield proved(self._programs, kind.game)
                 tries = 0
-        raise Unfit(NONE_FOUND.format(tries=tries, first=(seed - tries + 1) % fair.SEEDS, last=seed, **_words(kind)))
+        first = (seed - (tries - 1) * self._stride) % fair.SEEDS
+        raise Unfit(NONE_FOUND.format(tries=tries, first=first, last=seed, **_words(kind)))
 
     def _begin(self, kind: Kind, seed: int) -> bool:
         """Begins the game of a seed; false where that has none. Raises `Unfit` where no seed has one."""

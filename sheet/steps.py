@@ -3,7 +3,7 @@
 from __future__ import annotations
 
 import re
-from typing import Iterator, List, NamedTuple, Optional, Sequence
+from typing import Dict, Iterator, List, NamedTuple, Optional, Sequence
 
 from playing.games import GRADES
 from playing.naming import Place
@@ -15,7 +15,7 @@ FIRST = 3
 
 NO_MORE = 'After that no number follows by steps.'
 
-#: What begins a step of several.
+#: The words that begin a step of several.
 NUMBER = re.compile(r'[0-9]+\. ')
 
 #: Terms of the sentences, and what there is to say of them.
@@ -43,8 +43,8 @@ class Move(NamedTuple):
         return bool(NUMBER.match(self.sentences[0]))
 
 
-def told(programs: Programs, puzzle: Puzzle) -> List[Move]:
-    """The first moves of a puzzle, and the hardest one."""
+def found(programs: Programs, puzzle: Puzzle) -> List[Move]:
+    """The moves by which a puzzle follows, and where no number follows any more one that says so."""
     programs.ask(puzzle.game, f'new {puzzle.id}')
     letters = list(GRADES[puzzle.game])
     moves: List[Move] = []
@@ -57,23 +57,29 @@ def told(programs: Programs, puzzle: Puzzle) -> List[Move]:
         grade = letters.index(hint.grade) if hint.grade in letters else -1
         moves.append(Move(len(moves) + 1, told_in(hint.text), grade, len(hint.told), square, hint.number))
         programs.ask(puzzle.game, f'move R{square[0]},{square[1]},{hint.number}')
-    return _chosen(moves, programs.board(puzzle.game).is_solved)
+    hardest = max(moves, key=lambda move: (move.grade, move.steps, -move.number), default=None)
+    every = [move._replace(is_hardest=move is hardest) for move in moves]
+    return every if programs.board(puzzle.game).is_solved else [*every, Move(len(moves) + 1, [NO_MORE], -1, 0)]
+
+
+def told(moves: Sequence[Move], are_all: bool) -> List[Move]:
+    """The first ones and the hardest; or all of them."""
+    return [move for move in moves if are_all or move.number <= FIRST or move.is_hardest or move.square is None]
+
+
+def order(moves: Sequence[Move]) -> Dict[Place, Move]:
+    """By the square, the move that puts its number."""
+    return {move.square: move for move in moves if move.square}
 
 
 def told_in(text: List[str]) -> List[str]:
     """Those of a hint; a step that is the only one has no number."""
-    found = sentences(text)
-    numbered = [sentence for sentence in found if NUMBER.match(sentence)]
-    return [NUMBER.sub('', sentence, count=1) for sentence in found] if len(numbered) == 1 else found
+    every = sentences(text)
+    numbered = [sentence for sentence in every if NUMBER.match(sentence)]
+    return [NUMBER.sub('', sentence, count=1) for sentence in every] if len(numbered) == 1 else every
 
 
 def explained_words(moves: Sequence[Move]) -> Iterator[str]:
-    """What there is to say of the terms that some moves have."""
+    """The sentence on the terms that some moves have."""
     every = [sentence for move in moves for sentence in move.sentences]
     yield from (said for term, said in TERMS.items() if any(term in sentence for sentence in every))
-
-
-def _chosen(moves: List[Move], is_solved: bool) -> List[Move]:
-    hardest = max(moves, key=lambda move: (move.grade, move.steps, -move.number), default=None)
-    found = [move._replace(is_hardest=move is hardest) for move in moves if move.number <= FIRST or move is hardest]
-    return found if is_solved else [*found, Move(len(moves) + 1, [NO_MORE], -1, 0)]

@@ -6,22 +6,22 @@ from string import Template
 
 from sheet.layout import Paper
 from sheet.listing import GAP
-from sheet.measures import CAPTION_TOP, COLUMN_GAP, HEAD_GAP, SIDE, TOP, length
+from sheet.measures import CAPTION_TOP, COLUMN_GAP, HEAD_GAP, NAME_GAP, SIDE, SPARE, TOP, length
 
 #: The letters of texts and of IDs. In these the 1, the l and the 0 differ, which IDs need.
 FONTS = 'Arial,"Liberation Sans",Helvetica,"DejaVu Sans",sans-serif'
 ID_FONTS = '"DejaVu Sans Mono",Menlo,Consolas,"Liberation Mono","Courier New",monospace'
 
 STYLE = Template("""
-@page{size:$paper;margin:$top $side}
+@page{size:$paper;margin:0}
 *{box-sizing:border-box;margin:0;padding:0}
-html{color-scheme:light;background:#fff;color:#000;-webkit-print-color-adjust:exact;print-color-adjust:exact}
+html{color-scheme:light;forced-color-adjust:none;background:#fff;color:#000;-webkit-print-color-adjust:exact;print-color-adjust:exact}
 body{font:$rules/1.25 $fonts}
-section{width:$width;height:$height;position:relative;overflow:hidden;break-after:page;break-inside:avoid}
+section{width:$paper_width;height:$paper_height;padding:$top $side;position:relative;overflow:hidden;break-after:page;break-inside:avoid}
 section:last-child{break-after:auto}
 header{display:flex;justify-content:space-between;align-items:flex-end;border-bottom:.3mm solid #000;padding-bottom:1mm;margin-bottom:1.5mm}
 h1{font-size:$title;line-height:1.2;overflow-wrap:anywhere}
-.name{font-size:$name;white-space:nowrap;margin-left:6mm}
+.name{font-size:$name;white-space:nowrap;margin-left:$name_gap}
 .name u{display:inline-block;width:45mm;border-bottom:.2mm solid #000}
 .rules{margin-bottom:.6mm}
 .puzzles{display:grid;column-gap:$gap;margin-top:$below}
@@ -31,7 +31,7 @@ h1{font-size:$title;line-height:1.2;overflow-wrap:anywhere}
 figure{break-inside:avoid}
 .puzzles figure{position:relative;display:flex;flex-direction:column;align-items:center;justify-content:flex-end}
 .columns2 figure:nth-child(2n)::before,.columns3 figure:not(:nth-child(3n+1))::before
-{content:"";position:absolute;left:-2mm;top:0;bottom:0;border-left:.15mm dashed #000}
+{content:"";position:absolute;left:-$half_gap;top:0;bottom:0;border-left:.15mm dashed #000}
 svg{display:block;flex:none}
 figcaption{flex:none;padding-top:$above;overflow:hidden}
 .line{display:flex;align-items:baseline;white-space:nowrap;line-height:1.2}
@@ -47,28 +47,38 @@ code{display:block;font-family:$id_fonts;font-variant-ligatures:none;overflow-wr
 .steps .first:not(:first-child){margin-top:$steps_gap}
 .lessons{margin-top:$below}
 .example{display:flex;justify-content:space-between;font-size:$lesson;line-height:1.35}
-footer{position:absolute;left:0;right:0;bottom:0;display:flex;justify-content:space-between;align-items:baseline;font-size:$footer;white-space:nowrap}
+footer{position:absolute;left:$side;right:$side;bottom:$top;display:flex;justify-content:space-between;align-items:baseline;font-size:$footer;white-space:nowrap}
 footer code{font-size:$command}
-@media screen{html{background:#ddd}section{box-sizing:content-box;background:#fff;border:10mm solid #fff;margin:6mm auto}}
+@media screen{html{background:#ddd}section{background:#fff;margin:6mm auto}}
+""")
+
+#: The rules that sheets with names have besides.
+NAMES = Template("""\
+.own{flex:none;max-width:$name_width;overflow:hidden;text-overflow:ellipsis}
+.pupil,.first{white-space:nowrap;overflow:hidden;text-overflow:ellipsis}
 """)
 
 
-def style(paper: Paper) -> str:
+def style(paper: Paper, has_names: bool = False) -> str:
     """For this paper."""
     fonts = paper.print
-    return STYLE.substitute(
+    names = NAMES.substitute(name_width=length(fonts.name_width - NAME_GAP)) if has_names else ''
+    return names + STYLE.substitute(
         paper=f'{length(paper.size.width)} {length(paper.size.height)}',
         top=length(TOP),
         side=length(SIDE),
-        width=length(paper.width),
-        height=length(paper.height),
+        # The margins are those of the sections: a browser that ignores the rule for the page makes all smaller, and its own margins come besides.
+        paper_width=length(paper.size.width),
+        paper_height=length(paper.size.height - SPARE),
         gap=length(COLUMN_GAP),
+        half_gap=length(COLUMN_GAP // 2),
         below=length(HEAD_GAP),
         above=length(CAPTION_TOP),
         fonts=FONTS,
         id_fonts=ID_FONTS,
         title=length(fonts.title),
         name=length(fonts.name),
+        name_gap=length(NAME_GAP),
         rules=length(fonts.rules),
         answer_gap=length(fonts.answer_gap),
         lesson=length(fonts.lesson),

@@ -1,4 +1,4 @@
-"""A title takes as many lines as it needs, whatever letters it has: nothing of it is cut."""
+"""How many lines titles and texts take at most, whatever font a page gets: nothing of them is cut."""
 
 from __future__ import annotations
 
@@ -12,6 +12,24 @@ WIDE_LETTERS = 'mMwW%@–—…ÆæŒœŴŵŉĦħµ©®¼½¾'
 #: Letters below this are those of European languages in Latin letters.
 LATIN = '\u0180'
 
+#: The same of letters of texts, which are English, by how wide they are at most; and of any others.
+TEXT_WIDTHS = {
+    28: "'ijl",
+    32: ' I',
+    34: ',.·:;/|’',
+    37: 'f-',
+    42: 'rt()[]!',
+    56: 'czsLJ"“”*?',
+    60: 'kvxy',
+    62: 'aeoF',
+    64: 'bdghnpqu0123456789',
+    69: 'ABEKPSTVXYZ',
+    79: 'CDGHNOQRU&',
+    84: 'w+<=>×#',
+}
+TEXT_ANY = 103
+TEXT_WIDTH = {letter: each for each, some in TEXT_WIDTHS.items() for letter in some}
+
 
 def bold_width(letter: str) -> int:
     """At most, in per cent of the font."""
@@ -21,7 +39,7 @@ def bold_width(letter: str) -> int:
         return NARROW
     if letter in WIDE_LETTERS:
         return WIDE
-    if unicodedata.combining(letter) or unicodedata.category(letter) in ('Mn', 'Cf'):
+    if unicodedata.category(letter) in ('Mn', 'Cf'):
         return 0
     if letter >= LATIN:
         return ANY
@@ -41,4 +59,23 @@ def lines(title: str, room: int, font: int) -> int:
             if used + each > most:
                 count, used = count + 1, 0
             used += each
+    return count
+
+
+def text_width(text: str) -> int:
+    """At most, in per cent of the font."""
+    return sum(TEXT_WIDTH.get(letter, TEXT_ANY) for letter in text)
+
+
+def text_lines(text: str, room: int, font: int, label: str = '') -> int:
+    """How many lines a text takes at most, behind a label in bold. It is broken between words alone."""
+    most, count = room * 100 // font, 1
+    used = sum(map(bold_width, label))
+    for word in text.split():
+        own = text_width(word)
+        blank = TEXT_WIDTH[' '] if used else 0
+        if used and used + blank + own > most:
+            count, used = count + 1, own
+        else:
+            used += blank + own
     return count

@@ -1,32 +1,38 @@
-"""What the words of the command line ask for."""
+"""The wishes of the words of the command line."""
 
 from __future__ import annotations
 
 import argparse
 import re
 import shlex
-from typing import Callable, List, NamedTuple, NoReturn, Optional, Sequence
+from typing import Callable, List, NamedTuple, NoReturn, Optional, Sequence, Tuple
 
 from playing.board import GAMES
 from playing.fair import OFFERED, SEEDS, SIZES
 from playing.games import GRADES
+from playing.naming import game_called
 from sheet.choice import MOST
 from sheet.measures import PAPERS
+from sheet.seeds import STRIDE
 
 USAGE = """\
-usage: {me} GAME [--size W] [--grade GRADE] [--seed N] [--count N] [FORM]
+usage: {me} GAME [--size W] [--grade GRADE] [--series N] [--count N] [FORM]
        {me} [GAME] --ids FILE [--count N] [FORM]
        {me} --help | --version
 
 Makes a page in HTML with puzzles for print, and their answers. A browser shows
-and prints it. GAME is towers or unequal.
+and prints it. GAME is towers, which is also called skyscrapers, or unequal,
+also called futoshiki.
 
 Which puzzles:
   --size W         3 to 9; several as 5-7 or 3,5; by default 5
   --grade GRADE    of towers easy or hard; of unequal trivial, easy or tricky;
                    several as easy,hard; by default easy
-  --seed N         each number has other puzzles; by default 1
+  --series N       each number has other puzzles; by default 1
+  --seed N         those of an older sheet, whose foot says 'number N'
   --count N        how many, up to 200; by default 12, or all of FILE
+  --names FILE     a sheet for each name of a file, one a line, each with other
+                   puzzles; --count is that of each
   --ids FILE       the puzzles of a file, or of standard input if it is -. Each
                    line has an ID or the name of a save, and then a caption
 
@@ -36,13 +42,16 @@ FORM, how they are printed:
   --show-grades WHERE
                    answers, with the answers alone; all, also below the puzzles;
                    or none; by default answers
-  --steps          print the first steps to each answer, and the hardest
+  --steps          print the order of the answers, and their first steps and
+                   the hardest
+  --all-steps      print the order of the answers, and all their steps
   --example        begin with the cards of the course, board by board
   --title TEXT     print a title above the puzzles, on as many lines as it takes
   --ids-below      print below each puzzle its ID
   --words          print in the foot the command that makes the sheet again
   --paper PAPER    a4 or letter; by default a4
   --large          print one puzzle on a page, in large print
+  --duplex         begin each name, and the answers, on a new sheet of paper
   --output FILE    write the page to this file, not to standard output
   --pdf FILE       print the sheet to this file, with an installed Chromium
   --browser NAME   the Chromium to use for that
@@ -54,8 +63,8 @@ Exit status:
   3  a puzzle or the list of them is refused; nothing was written
 """
 
-#: What is asked for where nothing is said.
-SIZE, GRADE, SEED, COUNT, PAPER = [5], 'easy', 1, 12, 'a4'
+#: The wishes if nothing is said.
+SIZE, GRADE, SERIES, COUNT, PAPER = [5], 'easy', 1, 12, 'a4'
 MOST_PER_PAGE = 12
 
 #: Where answers are.
@@ -80,12 +89,14 @@ class Form(NamedTuple):
     answers: str
     grades: str
     has_steps: bool
+    has_all_steps: bool
     has_example: bool
     title: Optional[str]
     has_ids: bool
     has_words: bool
     paper: str
     is_large: bool
+    is_duplex: bool
 
 
 class Asked(NamedTuple):
@@ -93,12 +104,15 @@ class Asked(NamedTuple):
     sizes: List[int]
     #: The letters of grades.
     letters: List[str]
-    #: Nothing where the puzzles are those of a list.
-    seed: Optional[int]
+    #: The first seed, and how far the next one is: those of the series, or of the old rule. And what the foot says of it, nothing of a list.
+    first: int
+    stride: int
+    source: str
     #: Nothing where all of a list are meant.
     how_many: Optional[int]
-    #: The list of IDs.
+    #: The list of IDs, and that of names.
     ids: Optional[str]
+    names: Optional[str]
     form: Form
     output: Optional[str]
     pdf: Optional[str]
@@ -118,24 +132,28 @@ class Parser(argparse.ArgumentParser):
 def read(words: Sequence[str]) -> Asked:
     """Raises `Wrong`."""
     found = _parser().parse_args(words)
+    found.games = [game_called(word) or word for word in found.games]
     if len(found.games) > 1 or not set(found.games) <= set(GAMES) or not (found.games or found.ids is not None):
         raise Wrong(f'GAME is {" or ".join(GAMES)}')
     found.game = found.games[0] if found.games else None
-    if found.ids is not None and any(value is not None for value in (found.size, found.grade, found.seed)):
-        raise Wrong('--ids takes no --size, --grade or --seed, since the list has the puzzles')
-    for name in ('ids', 'output', 'pdf', 'browser'):
+    if found.ids is not None and any(value is not None for value in (found.size, found.grade, found.series, found.seed, found.names)):
+        raise Wrong('--ids takes no --size, --grade, --series, --seed or --names, since the list has the puzzles')
+    if found.series is not None and found.seed is not None:
+        raise Wrong('--series and --seed: the foot of a sheet has one of them')
+    for name in ('ids', 'names', 'output', 'pdf', 'browser'):
         if getattr(found, name) == '':
             raise Wrong(f'argument --{name}: the name of a file')
     if found.large and (found.per_page or 1) > 1:
         raise Wrong('--large has one puzzle on a page')
     if found.browser and not found.pdf:
         raise Wrong('--browser goes with --pdf')
+    found.steps = found.steps or found.all_steps
     if found.steps and found.answers == 'none':
         raise Wrong('--steps goes with answers')
     letters: List[str] = []
     if found.ids is None:
         found.size, found.grade = found.size or SIZE, found.grade or GRADE
-        found.seed = SEED if found.seed is None else found.seed
+        found.series = SERIES if found.series is None and found.seed is None else found.series
         found.count = found.count or COUNT
         letters = _letters(found.games[0], found.grade)
     form = Form(
@@ -143,17 +161,19 @@ def read(words: Sequence[str]) -> Asked:
         found.answers,
         found.show_grades,
         found.steps,
+        found.all_steps,
         found.example,
         found.title,
         found.ids_below,
         found.words,
         found.paper,
         found.large,
+        found.duplex,
     )
     again = _again(found)
     titled = f'{again} --title {shlex.quote(found.title)}' if found.title else again
     files = (found.output, found.pdf, found.browser)
-    return Asked(found.game, found.size or [], letters, found.seed, found.count, found.ids, form, *files, again, titled)
+    return Asked(found.game, found.size or [], letters, *_seeds(found), found.count, found.ids, found.names, form, *files, again, titled)
 
 
 def _parser() -> Parser:
@@ -161,23 +181,34 @@ def _parser() -> Parser:
     parser.add_argument('games', nargs='*')
     parser.add_argument('--size', type=_sizes)
     parser.add_argument('--grade')
+    parser.add_argument('--series', type=_number(0, STRIDE - 1))
     parser.add_argument('--seed', type=_number(0, SEEDS - 1))
     parser.add_argument('--count', type=_number(1, MOST))
     parser.add_argument('--ids')
+    parser.add_argument('--names')
     parser.add_argument('--per-page', type=_number(1, MOST_PER_PAGE))
     parser.add_argument('--answers', choices=ANSWERS, default=ANSWERS[0])
     parser.add_argument('--show-grades', choices=GRADES_STAND, default=GRADES_STAND[0])
     parser.add_argument('--steps', action='store_true')
+    parser.add_argument('--all-steps', action='store_true')
     parser.add_argument('--example', action='store_true')
     parser.add_argument('--ids-below', action='store_true')
     parser.add_argument('--words', action='store_true')
     parser.add_argument('--title')
     parser.add_argument('--paper', choices=list(PAPERS), default=PAPER)
     parser.add_argument('--large', action='store_true')
+    parser.add_argument('--duplex', action='store_true')
     parser.add_argument('--output')
     parser.add_argument('--pdf')
     parser.add_argument('--browser')
     return parser
+
+
+def _seeds(found: argparse.Namespace) -> Tuple[int, int, str]:
+    """The first seed, how far the next one is, and what the foot says."""
+    if found.seed is not None:
+        return found.seed, 1, f', number {found.seed}'
+    return found.series or 0, STRIDE, '' if found.series is None else f', series {found.series}'
 
 
 def _number(least: int, most: int) -> Callable[[str], int]:
@@ -214,12 +245,13 @@ def _letters(game: str, text: str) -> List[str]:
 def _again(found: argparse.Namespace) -> str:
     """The words that make the same sheet, but for its title."""
     given = [found.game] if found.game else []
-    for name in ('size', 'grade', 'seed', 'ids', 'count'):
+    for name in ('size', 'grade', 'series', 'seed', 'ids', 'count', 'names'):
         value = getattr(found, name)
         given += [f'--{name}', ','.join(map(str, value)) if isinstance(value, list) else str(value)] if value is not None else []
     given += ['--per-page', str(found.per_page)] if found.per_page else []
     given += ['--answers', found.answers] if found.answers != ANSWERS[0] else []
     given += ['--show-grades', found.show_grades] if found.show_grades != GRADES_STAND[0] else []
     given += ['--paper', found.paper] if found.paper != PAPER else []
-    given += [f'--{name}' for name in ('steps', 'example', 'ids-below', 'words', 'large') if getattr(found, name.replace('-', '_'))]
+    switches = ('all-steps' if found.all_steps else 'steps', 'example', 'ids-below', 'words', 'large', 'duplex')
+    given += [f'--{name}' for name in switches if getattr(found, name.replace('-', '_'))]
     return ' '.join(['puzzles-sheet', *map(shlex.quote, given)])

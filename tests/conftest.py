@@ -1,4 +1,4 @@
-"""What the tests have in common: the programs, a room for each case, the library by which calls fail, and the last line, which counts."""
+"""The common part of the tests: the programs, a room for each case, the library by which calls fail, and the last line, which counts."""
 
 import os
 import signal
@@ -6,7 +6,7 @@ from typing import Any, Dict, Iterator, List, NamedTuple
 
 import pytest
 
-#: What the cases of a folder share, the fixtures there too; and more that says of an assertion what pytest says.
+#: The parts that the cases of a folder share, the fixtures there too; and more that says of an assertion what pytest says.
 SHARED = ['scripts.place', 'installing.site', 'lines.runs', 'objects.agreement', 'saving.game', 'exchange.sides']
 pytest_plugins = [f'tests.{name}' for name in SHARED]
 for name in ('board', 'check', 'faults', 'harness', 'objects', 'page', 'sheet'):
@@ -35,10 +35,16 @@ class Programs(NamedTuple):
 def pytest_addoption(parser: pytest.Parser) -> None:
     for name, what in (('puzzles', 'the program'), ('puzzles-json', 'the one that writes objects'), ('calls', 'that of crates/trial_runs')):
         parser.addoption(f'--{name}', metavar='PATH', help=f'{what}, if not the one that is ready')
+    parser.addoption('--long', action='store_true', help='also the cases that take a second or more, and are like those that run without this')
+    parser.addoption('--all-certificates', action='store_true', help='certify all puzzles that are stored, and not some of each kind')
     parser.addoption('--kills', type=int, metavar='N', help='how often the board, or a browser in each case of the page, is killed while a game is played')
 
 
-def pytest_collection_modifyitems(items: List[pytest.Item]) -> None:
+def pytest_collection_modifyitems(config: pytest.Config, items: List[pytest.Item]) -> None:
+    if not config.getoption('--long'):
+        later = [item for item in items if item.get_closest_marker('long')]
+        items[:] = [item for item in items if item not in later]
+        config.hook.pytest_deselected(items=later)
     items.sort(key=lambda item: turn(item.nodeid))
 
 
@@ -47,10 +53,11 @@ def pytest_xdist_make_scheduler(config: pytest.Config, log: Any) -> InTurn:
 
 
 def pytest_configure(config: pytest.Config) -> None:
+    config.addinivalue_line('markers', 'long: a case that runs with --long alone, as in the gate')
     own_mounts()
     if not hasattr(config, 'workerinput'):
         config.add_cleanup(compile_scripts())
-    # What has been made is taken away where the tests are ended, too.
+    # The files that were made are taken away if the tests are ended, too.
     signal.signal(signal.SIGTERM, signal.default_int_handler)
 
 
@@ -65,7 +72,7 @@ def pytest_unconfigure(config: pytest.Config) -> None:
         if skipped:
             print("What can't be tried here, and how many cases:", *told(skipped), sep='\n')
         if skipped and skips_fail(by_itself=False):
-            print(f'What is skipped is not tried, so this has failed; {SKIPS_FAIL}=0 lets it pass.')
+            print(f'A skipped case is not tried, so this has failed; {SKIPS_FAIL}=0 lets it pass.')
         print(f'{len(passed)} passed, {len(failed)} failed, {len(skipped)} skipped', flush=True)
 
 
@@ -105,7 +112,7 @@ def room() -> Iterator[Room]:
 
 @pytest.fixture
 def stream(request: pytest.FixtureRequest, room: Room) -> Iterator[Dict[str, Any]]:
-    """What `run` is given so that a stream fails: the input is a folder, which can't be read; the output is full, or closed, or its reader has gone."""
+    """The words for `run` that make a stream fail: the input is a folder, which can't be read; the output is full, or closed, or its reader has gone."""
     with open('/dev/full', 'wb') as full, room.make_folder('no input') as folder:
         reading, writing = os.pipe()
         os.close(reading)

@@ -10,7 +10,7 @@ from tests.second_implementation.towers import TowersPuzzle, edge_line, seen
 
 
 def clues_of(size: int, square: Sequence[int]) -> List[int]:
-    """What is seen from each edge place."""
+    """The clue of each edge place."""
     return [seen(edge_line(size, square, place)) for place in range(4 * size)]
 
 

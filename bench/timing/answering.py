@@ -19,7 +19,7 @@ class Unread(Exception):
 
 
 class Timed(NamedTuple):
-    """How long a puzzle took, in nanoseconds, and how many solutions were found. What the processor did for others doesn't count."""
+    """How long a puzzle took, in nanoseconds, and how many solutions were found. The processor's work for others doesn't count."""
 
     nanoseconds: int
     solutions: int

@@ -88,7 +88,7 @@ class Maker:
 
 
 def used_by(words: Sequence[str], **more: Any) -> Tuple[bytes, int]:
-    """What a command answers, and the nanoseconds of a processor that all of it took."""
+    """The answer of a command, and the nanoseconds of a processor that all of it took."""
     with subprocess.Popen(words, stdout=subprocess.PIPE, **more) as process:
         assert process.stdout
         answer = process.stdout.read()
@@ -106,7 +106,7 @@ def at_once(kind: Kind, count: int) -> int:
 
 
 class Usual(NamedTuple):
-    """What the usual program made at once, and the nanoseconds that all of it took."""
+    """The puzzles that the usual program made at once, and the nanoseconds that all of it took."""
 
     ids: List[str]
     nanoseconds: int

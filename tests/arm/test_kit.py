@@ -1,4 +1,4 @@
-"""What kit.c does, beside what the kit's own C does, which is there for PCs alone: so both are built for a PC."""
+"""The work of kit.c, compared with that of the kit's own C, which is there for PCs alone: so both are built for a PC."""
 
 import ctypes
 import os
@@ -13,7 +13,7 @@ from arm_build.program import KIT_C
 from building.kit import command
 from tests.harness import TOP, Room, Skip, run
 
-#: What is wrong, the right code, and the code that does so.
+#: The mistake, the right code, and the code that does so.
 ROWS = [
     ('nothing', 'malloc', 'malloc'),
     ('a block of no bytes has none', 'malloc(bytes ? bytes : align)', 'malloc(bytes)'),
@@ -59,7 +59,7 @@ def folders(kit: ctypes.CDLL, room: Room) -> Iterator[object]:
 
 
 def told(room: Room, *linked: str) -> List[object]:
-    """What comes of all calls, by a library that is made of this."""
+    """The results of all calls, by a library that is made of this."""
     library = os.path.join(room.path, f'{len(room.names())}.so')
     assert run(['cc', '-shared', '-fPIC', '-o', library, '-Wl,--whole-archive', *linked, '-Wl,--no-whole-archive'], room).status == 0
     kit = ctypes.CDLL(library, use_errno=True)

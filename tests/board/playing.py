@@ -76,7 +76,7 @@ class BoardFront:
             window.leave(leave, status)
 
     def play(self, lines: Sequence[Line]) -> None:
-        """A transcript. Ahead of the words of a run stands what differs of the environment, and the SIZE of the window. What is seen has `¦` between its
+        """A transcript. Ahead of the words of a run stands what differs of the environment, and the SIZE of the window. The text seen has `¦` between its
         texts: `¬` ahead of one that isn't seen, and behind one its attributes, and those that it hasn't, as in `{1 91 -31}`. Where the program ends its
         status stands in brackets; a run that doesn't end so is ended well by `q`. The folder `.saves` has the saves of the small game by their moves.
         """

@@ -1,4 +1,4 @@
-"""What lies in the place of a kept file and can't be read: it stays as it is, it is told, and the game is kept beside it. And files and folders that other
+"""A thing in the place of a kept file that can't be read: it stays as it is, it is told, and the game is kept beside it. And files and folders that other
 users have."""
 
 import os
@@ -53,7 +53,7 @@ def put_long(path: str) -> None:
         file.truncate(TOO_LARGE)
 
 
-#: What isn't a file that can be read: how it is made, and what is said of it.
+#: Things that aren't a file that can be read: how they are made, and the sentence on them.
 THINGS: List[Tuple[Callable[[str], None], str]] = [
     (os.mkdir, 'is a folder'),
     (os.mkfifo, 'is a named pipe'),
@@ -87,7 +87,7 @@ def beside(front: BoardFront, room: Room, face: Face, why: str) -> None:
 
 
 def known(room: Room, path: str) -> Optional[Tuple[int, ...]]:
-    """What tells a file from any other, and from itself after a change."""
+    """The facts that tell a file from any other, and from itself after a change."""
     try:
         found = os.lstat(path, dir_fd=room.fd)
     except FileNotFoundError:

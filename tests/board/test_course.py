@@ -1,11 +1,13 @@
 """The course in a terminal: each card is still of its kind, and is played by keys and by lines; nothing that is kept is changed by it."""
 
 import os
-from typing import Dict, Optional, Tuple
+from typing import Dict, Optional, Sequence, Tuple
 
 import pytest
 
+from playing import texts
 from playing.cards import CARDS, Card
+from playing.course import Course
 from playing.program import Program
 from tests.board.playing import BoardFront
 from tests.harness import Room
@@ -29,7 +31,7 @@ def test_kind(objects: str, game: str, card: Card, shows: Shows) -> None:
 
 
 def test_all() -> None:
-    assert [(game, len(cards)) for game, cards in CARDS.items()] == [('towers', 6), ('unequal', 7)] == [(game, len(shows)) for game, shows in SHOWS.items()]
+    assert [(game, len(cards)) for game, cards in CARDS.items()] == [('towers', 9), ('unequal', 9)] == [(game, len(shows)) for game, shows in SHOWS.items()]
     assert len({card.id for _, card, _ in ALL}) == len(ALL)
 
 
@@ -46,6 +48,38 @@ def test_keys(front: BoardFront, room: Room, game: str) -> None:
         assert window.status() == 0
         assert b'That was the course.' in window.came
     assert os.listdir(room.path) == []
+
+
+class Patient:
+    """A player who waits."""
+
+    def confirm(self, _: str) -> bool:
+        return True
+
+    def choose(self, _: str, __: Sequence[str]) -> Optional[int]:
+        return None
+
+    def waiting(self, _: bool) -> bool:
+        return False
+
+
+@pytest.mark.parametrize(('game', 'at'), [(game, at) for game, cards in CARDS.items() for at in range(len(cards))])
+def test_right_numbers(objects: str, game: str, at: int) -> None:
+    """Each number of the card's only solution is taken, and no other one: by the board with that number the program says which. The card's own is the last."""
+    course, shows = Course(objects, game), SHOWS[game][at]
+    course.played_by(Patient(), texts.BY_KEYS)
+    assert all(course.turn(1) for _ in range(at + 1))
+    places = [place for place in course.board.squares if place not in course.board.numbers]
+    for x, y in sorted(places, key=lambda place: (place[1] + 1, place[0] + 1) == shows.square):
+        for number in range(1, course.board.size + 1):
+            line = f'move R{x},{y},{number}'
+            with Program(objects, game, ['--id', CARDS[game][at].id]) as program:
+                program.ask(line)
+                is_right = program.ask('completable').completable == 'one'
+            assert (course.play(line) is not None, course.message.startswith('Not yet.')) == (is_right, not is_right), line
+            if is_right:
+                break
+    assert course.board.is_solved == bool(shows.square)
 
 
 def files_in(room: Room) -> Dict[str, Tuple[Optional[bytes], float]]:

@@ -10,7 +10,7 @@ from playing.program import Program
 from tests.board.playing import BoardFront, to_and_fro
 from tests.harness import ID, Room
 
-#: The sign on a side.
+#: A sign by where the lesser square is, seen from the greater one. It stands right of a square, or below it: where it is read.
 SIGNS: Dict[Place, str] = {(1, 0): '>', (-1, 0): '<', (0, 1): 'v', (0, -1): '^'}
 
 #: So many keys somebody types in a minute.
@@ -40,7 +40,8 @@ def typed(objects: str, game: str, id: str) -> List[str]:
     items = [(place, str(board.clues[place].number)) for place in edge if place in board.clues]
     for x, y in to_and_fro(size):
         items += [((x, y), str(board.numbers[x, y]))] if (x, y) in board.givens else []
-        items += [((x, y), SIGNS[sign.less[0] - x, sign.less[1] - y]) for sign in board.signs if sign.greater == (x, y)]
+        signs = [sign for sign in board.signs if (x, y) == min(sign.greater, sign.less)]
+        items += [((x, y), SIGNS[sign.less[0] - sign.greater[0], sign.less[1] - sign.greater[1]]) for sign in signs]
     return [key for at, (to, press) in zip([(0, 0), *(place for place, _ in items)], items) for key in [*way(size, at, to), press]]
 
 

@@ -16,7 +16,7 @@ DRAFT = 'state/puzzles/towers-draft.ids'
 PUZZLES = ('3:///////////', '3:1///////////', '3:1///////////,1h')
 KEPT = Draft(PUZZLES, 2)
 
-#: What is no draft, or another version's, and why.
+#: Texts that are no draft, or another version's, and why.
 UNREAD: List[bytes] = [
     b'',
     b'\n',
@@ -36,7 +36,7 @@ def test_unread(content: bytes) -> None:
 
 
 def test_draft() -> None:
-    """It reads as it was written. What is undone goes with the next change, and the first puzzles where there are too many."""
+    """It reads as it was written. A change that is undone goes with the next change, and the first puzzles where there are too many."""
     assert draft_in(KEPT.content) == KEPT
     assert Draft(PUZZLES, 1).with_puzzle(PUZZLES[1]) == Draft(PUZZLES, 1)
     assert Draft(PUZZLES, 0).with_puzzle(PUZZLES[2]) == Draft((PUZZLES[0], PUZZLES[2]), 1)
@@ -77,7 +77,7 @@ def test_windows(front: BoardFront, room: Room) -> None:
 
 
 def test_full_disk(front: BoardFront, room: Room) -> None:
-    """What can't be kept is told, and each key tries again; leaving asks."""
+    """A draft that can't be kept is told, and each key tries again; leaving asks."""
     with small_disk(room.lay('state'), 1 << 16), Folder('state', room) as disk:
         with front.window(['towers', ID], leave='qq') as window:
             window.look('E<enter>1', ['change 1/1'])
@@ -97,6 +97,6 @@ def test_sizes(front: BoardFront, room: Room, game: str, size: int) -> None:
     lines = f'set {game} {size}\nr{size}c{size} {size}\ncheck\nback\nstatus\n'
     said = run([front.path, '--lines', 'towers', ID], room, input=lines.encode(), env=front.env()).expect().output.decode()
     thing = 'clues' if game == 'towers' else 'signs'
-    assert f'0 {thing}, 0 given; several solutions\ngiven {size} in r{size}c{size}; several solutions\n' in said
+    assert re.search(rf'^0 {thing}, 0 given[.] Type in a printed puzzle[.].*\ngiven {size} in r{size}c{size}; several solutions\n', said, re.MULTILINE)
     assert re.search(rf'^Several solutions. Two of them differ in [0-9]+ of {size * size} squares.\n(r[1-9]c[1-9] [1-9] or [1-9](; |\n))+', said, re.MULTILINE)
     assert said.endswith('playing 1/1\n')

@@ -1,6 +1,7 @@
 """A disk that is full, and has room again: nothing is lost, whatever ends the board then."""
 
 import contextlib
+import os
 from typing import Callable, Iterator, List, NamedTuple, Sequence, Tuple
 
 import pytest
@@ -8,6 +9,7 @@ import pytest
 from tests.board.playing import BoardFront
 from tests.board.test_lives import ENDS as ENDS_OF_ALL
 from tests.harness import ID, Folder, Room, Terminal, by_name, fill, left_files, save_text, small_disk
+from tests.harness.program import eventually
 
 KEPT = 'puzzles/towers.sav'
 NOT_KEPT = 'The game is not kept: No space left on device'
@@ -62,6 +64,47 @@ def test_key(front: BoardFront, room: Room, face: Face) -> None:
         assert disk.read(KEPT) == save_text(2), 'what is kept'
 
 
+def test_no_key(front: BoardFront, room: Room) -> None:
+    """With room again the board keeps the game, though no key comes."""
+    with full_disk(front, room, FACES[0]) as (window, disk):
+        disk.remove('filler')
+        window.look('', ['2 of 9'], ['not kept'])
+        assert disk.read(KEPT) == save_text(2), 'what is kept'
+
+
+@pytest.mark.parametrize(('typed', 'leave'), [('1 3', ' 3<enter>q<enter>'), ('solve<enter>', 'n<enter>q<enter>'), ('desk<enter>', 'back<enter>q<enter>')])
+def test_no_line(front: BoardFront, room: Room, typed: str, leave: str) -> None:
+    """Nor does a line: while one is typed, at a question, and at the desk."""
+    with full_disk(front, room, FACES[1]) as (window, disk):
+        window.press(typed)
+        disk.remove('filler')
+        assert eventually(lambda: disk.read(KEPT) == save_text(2)), 'what is kept'
+        window.leave(leave)
+
+
+#: The key for each thing that may be over the board: a page, a question, a list, a typed line, the choice of a new game, the desk; a text seen then, and the keys that leave.
+OVER = [
+    ('?', 'any key goes back', '<escape>q'),
+    ('S', 'y/N', '<escape>q'),
+    ('o', 'arrows and Enter, or a number, choose', '<escape>q'),
+    (':undo', ': undo', '<escape>q'),
+    ('n', 'A new game', '<escape>q'),
+    ('E', 'A board without items', '<escape>qq'),
+    ('E<enter>', 'E back', 'qq'),
+]
+
+
+@pytest.mark.parametrize(('pressed', 'shows', 'leave'), OVER)
+def test_no_key_beyond(front: BoardFront, room: Room, pressed: str, shows: str, leave: str) -> None:
+    """The same, whatever is over the board meanwhile."""
+    with full_disk(front, room, FACES[0]) as (window, disk):
+        window.look(pressed, [shows])
+        disk.remove('filler')
+        assert eventually(lambda: disk.read(KEPT) == save_text(2)), 'what is kept'
+        window.look('', [shows])
+        window.leave(leave)
+
+
 @pytest.mark.parametrize(('face', 'end', 'status'), ENDS)
 def test_end(front: BoardFront, room: Room, face: Face, end: Callable[[Terminal], None], status: int) -> None:
     """With room again all that ends it keeps the game, without a question."""
@@ -99,8 +142,10 @@ def test_late_folder(front: BoardFront, room: Room, face: Face) -> None:
     room.link('state', 'later')
     with front.window([*face.words, 'towers', ID], leave='q' if face is FACES[0] else 'q<enter>') as window:
         window.look('', ['The game is not kept: nothing can be written to'])
-        room.lay('later/puzzles')
-        room.put(f'later/{KEPT}', save_text(3))
+        room.lay('soon/puzzles')
+        room.put(f'soon/{KEPT}', save_text(3))
+        # At once, since that is tried again each second.
+        os.rename(os.path.join(room.path, 'soon'), os.path.join(room.path, 'later'))
         window.look(face.one, [face.shows[0]], ['not kept'] if face is FACES[0] else [])
     assert room.read(f'later/{KEPT}') == save_text(3), 'the other game'
     assert room.read('later/puzzles/towers-2.sav') == save_text(1), 'this one'

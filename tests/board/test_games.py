@@ -1,4 +1,4 @@
-"""What is pressed on the board, and what has to be seen then, as transcripts in the folder `played`; and whole games."""
+"""Keys on the board, and the pictures that have to be seen then, as transcripts in the folder `played`; and whole games."""
 
 import re
 from pathlib import Path
@@ -40,7 +40,7 @@ def test_kept_choice(front: BoardFront, room: Room) -> None:
         window.look('tidy<enter>', ['From now on, marks stay'])
         window.look('redo<enter>', ['towers 7/7>'])
     with front.window([], leave='q') as window:
-        # What goes together is kept, too.
+        # States that go together are kept, too.
         window.look('u', ['0 of 9', 'move 1/6', '│ 1   2   3 │ 1   2   3 │'])
         window.look('r', ['1 of 9', 'move 6/6'])
     moves = [b'M', b'P1,0,1', b'P2,0,1', b'P0,1,1', b'P0,2,1', b'R0,0,1']

@@ -45,7 +45,7 @@ class Player:
         self.now = Played()
 
     def keys(self) -> str:
-        """What is pressed next."""
+        """The key that is pressed next."""
         moves, done = self.now
         way = self._chance.random()
         if way < 0.1 and done:
@@ -62,7 +62,7 @@ class Player:
 
 
 def kept(room: Room) -> Played:
-    """What a save has."""
+    """The bytes of a save."""
     save = room.read(lives.KEPT) or b''
     position = re.search(rb'^STATEPOS:.:(.*)$', save, re.MULTILINE)
     assert position, save

@@ -1,6 +1,6 @@
 """The line mode: games as transcripts in the folder `lines`, each line beside its answer.
 
-`…` is any text, and on a line of its own any lines. What is said at the beginning, up to the line that tells of help, may be left out.
+`…` is any text, and on a line of its own any lines. The words at the beginning, up to the line that tells of help, may be left out.
 """
 
 from typing import List, Tuple

@@ -53,7 +53,7 @@ echo OVER
 
 @pytest.mark.parametrize(('end', 'status'), [end[1:] for end in ENDS], ids=[end[0] for end in ENDS])
 def test_ended(front: BoardFront, room: Room, end: Callable[[Terminal], None], status: int) -> None:
-    """What was played is kept, and nothing lies elsewhere; the next start goes on."""
+    """The played game is kept, and nothing lies elsewhere; the next start goes on."""
     with front.window(['towers', ID]) as window:
         window.look('1<right>2u', ['1 of 9', 'move 1/2'])
         programs = window.programs()

@@ -1,4 +1,4 @@
-"""What the commands in Python do where nothing can be written to standard output, or where the program isn't there or ends: a line on standard error. And
+"""The commands in Python if nothing can be written to standard output, or if the program isn't there or ends: a line on standard error. And
 their help."""
 
 import os
@@ -13,7 +13,7 @@ from tests.harness import ID, TOP, run
 #: The commands, by their folders and the status that says so.
 COMMANDS: Dict[str, Tuple[str, int]] = {'puzzles-play': ('board', 1), 'puzzles-sheet': ('sheet', 1), 'puzzles-check': ('check', 3)}
 
-#: What a command writes: its name, and the words. There is a list of puzzles.
+#: A command that writes: its name, and the words. There is a list of puzzles.
 WRITTEN: List[Tuple[str, Sequence[str]]] = [
     ('puzzles-play', ['--help']),
     ('puzzles-play', ['--version']),
@@ -26,14 +26,14 @@ WRITTEN: List[Tuple[str, Sequence[str]]] = [
     ('puzzles-check', ['--quick', 'list']),
 ]
 
-#: A shell that runs the command with such an output, and the reason that is told. One that reads nothing is gone once there is something to be read.
+#: A shell that runs the command with such an output, and the reason that is told. One that reads nothing is gone once nothing more can be written to it.
 OUTPUTS = [
     ('"$0" "$@" > /dev/full', 'No space left on device'),
     ('"$0" "$@" >&-', 'Bad file descriptor'),
-    ('trap "" PIPE; (sleep 0.1; "$0" "$@"; echo $? > status) | true; exit $(cat status)', 'Broken pipe'),
+    ('trap "" PIPE; (while printf x; do :; done 2> /dev/null; "$0" "$@"; echo $? > status) | true; exit $(cat status)', 'Broken pipe'),
 ]
 
-#: What stands for the program, and how what is told begins then.
+#: A stand-in for the program, and the beginning of the sentence on it.
 PROGRAMS = [
     ('/no program', 'the program is not built yet: run make\n'),
     ('/bin/cat', 'the program has ended: '),

@@ -32,7 +32,7 @@ class Picture(NamedTuple):
     term: str = 'xterm-256color'
     locale: str = 'C.UTF-8'
 
-    #: What is set or checked at the desk, in place of what is pressed in the game of the usual puzzle: what it is called, the puzzle, and the keys.
+    #: A puzzle that is set or checked at the desk, in place of keys in the game of the usual puzzle: its name, the puzzle, and the keys.
     desk: Tuple[str, str, str] = ('', '', '')
 
     @property
@@ -60,7 +60,7 @@ def text_of(screen: Screen) -> str:
 
 
 def seen(front: BoardFront, picture: Picture, wanted: str) -> str:
-    """What stands on the screen at the end, as soon as that is what is wanted, or when it stays otherwise."""
+    """The text of the screen at the end, as soon as that is the wanted one, or when it stays otherwise."""
     env = front.env(TERM=picture.term, LC_ALL=picture.locale)
     id = picture.desk[1] or made(picture.game, picture.size, 'e')[0]
     keys = f'E<left><enter>{picture.desk[2]}' if picture.desk[1] else KEYS + LAST

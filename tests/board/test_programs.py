@@ -2,7 +2,6 @@
 
 import os
 import signal
-import time
 from pathlib import Path
 from typing import Dict
 
@@ -30,6 +29,13 @@ BETWEEN = """\
         reply = dict(lost='OutOfMemory')
     if line == b'move R2,0,3\\n':
         reply.update(refused='OutOfMemory', reply=['refused: OutOfMemory'])
+"""
+
+#: Takes long to fill in all clues.
+SLOW_FILL = """\
+    if line == b'fill\\n':
+        time.sleep(100)
+    reply = answer(line)
 """
 
 #: Has no game of the number 7, nor of the first three numbers that it is asked for at a start.
@@ -88,6 +94,19 @@ def test_long_work(front: BoardFront, room: Room) -> None:
         assert window.shown.partition('check')[2].count('is at work') == 1
 
 
+def test_long_filling(front: BoardFront, room: Room) -> None:
+    """At the desk the next key ends it from the first moment on, and the puzzle is as it was."""
+    os.makedirs(os.path.join(room.path, 'state/puzzles'))
+    room.put('state/puzzles/towers-draft.ids', f'draft 1, puzzle 1\n{ID}\n'.encode())
+    with front.window(['towers', ID], env=between(front, room, SLOW_FILL), leave='qq') as window:
+        window.look('', ['move 0/0'])
+        window.look('E', ['2 clues, 0 given', 'Exactly one solution'])
+        before = len(window.shown)
+        window.look('F', ['The next key ends that.'])
+        assert 'is at work' not in window.shown[before:]
+        window.look('u', ['2 clues, 0 given', 'Exactly one solution'])
+
+
 def test_no_game(front: BoardFront, room: Room) -> None:
     """Where a number by chance has no game the next one is taken; where it was typed that is told, and the game before stays."""
     env = between(front, room, WITHOUT_GAMES)
@@ -116,8 +135,7 @@ def test_no_answer(front: BoardFront, room: Room) -> None:
         window.look('x', ['1 of 9', 'move 1/2'])
         window.look('r', ['2 of 9', 'move 2/2'])
         programs = window.programs()
-        window.press('3')
-        time.sleep(0.2)
+        window.look('3', ['The program is at work'])
         window.signal(signal.SIGHUP)
         assert window.status() == 129, 'the status'
         assert all(is_gone(pid) for pid in programs), programs
@@ -165,7 +183,7 @@ def test_first_save(front: BoardFront, room: Room) -> None:
     env = front.env(PUZZLES_JSON=os.path.join(room.path, 'between'))
     with front.window(['learn', 'towers'], env=env, leave='q') as window:
         window.look('', ['The program is at work ..'])
-        window.look('', ['Card 1/6.'])
+        window.look('', ['Card 1/9.'])
     with front.window(['towers', ID], env=env, leave='q') as window:
         window.look('', ['move 0/0', 'The program is at work ..'])
         window.look('1', ['1 of 9', 'move 1/1'])
@@ -173,7 +191,7 @@ def test_first_save(front: BoardFront, room: Room) -> None:
 
 
 def test_no_memory(front: BoardFront, room: Room) -> None:
-    """What was done is shown, whether its reply was lost or not, and is kept."""
+    """A move is shown, whether its reply was lost or not, and is kept."""
     with front.window(['towers', ID], env=between(front, room), leave='q') as window:
         window.look('', ['move 0/0'])
         window.look('1', ['1 of 9'])

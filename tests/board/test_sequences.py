@@ -1,5 +1,6 @@
 """Keys that a terminal sends as several characters, as they come over a slow line."""
 
+import os
 from typing import List, Tuple
 
 import pytest
@@ -7,11 +8,13 @@ import pytest
 from board.keys import Key
 from board.sequences import ESCAPE_LASTS, KEY_LASTS, Sequences
 from tests.board.playing import BoardFront
+from tests.harness import TOP, Room
+from tests.harness.program import eventually
 
 #: So many seconds between two characters, as over a bad line.
 APART = 0.3
 
-#: What comes, all at once or a character each time, and the keys that these are.
+#: Bytes that come, all at once or a character each time, and the keys that these are.
 WHOLE: List[Tuple[str, List[str]]] = [
     ('m', ['m']),
     ('\x1b[A', ['up']),
@@ -56,16 +59,32 @@ def test_late(came: str, lasts: float, wanted: str) -> None:
     assert sequences.keys([Key('m')], 9.0) == [Key('m')]
 
 
+#: The board, for which a key that has begun may go on as long as it likes: a busy machine may take its time between two characters.
+PATIENT = f"""#!/usr/bin/env python3
+import sys
+sys.path.insert(0, '{TOP}')
+from board import main, sequences
+sequences.ESCAPE_LASTS = sequences.KEY_LASTS = 3600.0
+sys.exit(main.main(sys.argv[1:], '{TOP}/board'))
+"""
+
+
 @pytest.mark.parametrize('term', ['xterm-256color', 'vt100'])
-def test_slow_line(front: BoardFront, term: str) -> None:
-    """Home isn't H, which counts a hint, and F3 isn't R, which goes back to the start; arrows move, and an Escape by itself leaves a question."""
-    with front.begun('q', env=front.env(TERM=term)) as window:
+def test_slow_line(front: BoardFront, room: Room, term: str) -> None:
+    """Home isn't H, which counts a hint, and F3 isn't R, which goes back to the start; arrows move."""
+    room.put('patient', PATIENT.encode(), 0o755)
+    patient = BoardFront(os.path.join(room.path, 'patient'), front.program, room)
+    with patient.begun('q', env=front.env(TERM=term)) as window:
         for sent, shows in (('\x1b[H', 'That key does nothing'), ('\x1bOR', 'That key does nothing'), ('\x1b[C', 'move 1/1'), ('\x1bOB', 'move 1/1')):
             for character in sent:
                 window.send(character)
-                window.wait_until(lambda screen: False, APART)
+                assert eventually(lambda: window.unread() == 0), 'each character is read by itself'
             window.look('', [shows, 'move 1/1'], ['1 hint', 'Back at the start'])
         window.look('3', ['2 of 9', 'move 2/2'])
-        window.look('<left>', [])
+
+
+def test_escape(front: BoardFront) -> None:
+    """An Escape by itself leaves a question."""
+    with front.begun('q') as window:
         window.look('S', ['y/N'])
-        window.look('<escape>', ['2 of 9'], ['y/N'])
+        window.look('<escape>', ['1 of 9'], ['y/N'])

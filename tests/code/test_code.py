@@ -10,7 +10,7 @@ from tests.harness import TOP, need
 
 SETTINGS = TOP / 'tests' / 'code'
 
-#: The folders with Python and shell.
+#: The folders with Python and shell. certificate/ is to be read without knowing types, and tests/certificates tries it.
 FOLDERS = ['.ci', 'bench', 'board', 'check', 'docs', 'page', 'playing', 'sheet', 'tests', 'tools']
 
 
@@ -25,7 +25,7 @@ def scripts(*commands: str) -> List[str]:
 
 
 def first_line(path: Path) -> str:
-    """What stands after `#!` in the first line, without options."""
+    """The command after `#!` in the first line, without options."""
     with open(path, 'rb') as file:
         line = file.readline().decode(errors='replace')
     return ' '.join(word for word in line[2:].split() if not word.startswith('-')) if line.startswith('#!') else ''
@@ -36,7 +36,7 @@ def modules() -> List[str]:
 
 
 def said(words: Sequence[str]) -> str:
-    """What a command complains of."""
+    """The complaints of a command."""
     need(words[0])
     path = os.pathsep.join(str(TOP / folder) for folder in ('', 'tools', 'bench'))
     env = {**os.environ, 'MYPYPATH': path, 'PYTHONPATH': path, 'PYTHONDONTWRITEBYTECODE': '1'}

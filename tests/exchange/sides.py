@@ -31,7 +31,7 @@ class Sides:
         return run([self._program, game, *options], self.room, input=script.encode(), seconds=SECONDS)
 
     def said(self, game: str, options: Sequence[str], *commands: str) -> str:
-        """What our program answers, in good order or not, without the last end of a line."""
+        """The answers of our program, in good order or not, without the last end of a line."""
         return self.ours(game, options, commands).said.rstrip('\n')
 
     def solution(self, game: str, option: str) -> str:
@@ -62,7 +62,7 @@ class Sides:
         assert self.room.read(picture), ended
 
     def makes(self, game: str, *words: str) -> List[str]:
-        """What the usual program prints, line by line."""
+        """The output of the usual program, line by line."""
         ended = self.theirs(game, *words)
         assert ended.status == 0, ended
         return ended.output.decode().splitlines()

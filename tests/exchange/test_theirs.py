@@ -7,7 +7,7 @@ import pytest
 
 from tests.exchange.sides import Sides
 
-#: What the usual program makes puzzles of: sizes and difficulties.
+#: The kinds of puzzles that the usual program makes: sizes and difficulties.
 GENERATED = {
     'towers': ['3de', '4dh', '5dx', '6du', '7de', '8de', '9de'],
     'unequal': ['3dt', '4de', '5dk', '6dx', '7de', '8de', '9de'],

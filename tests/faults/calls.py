@@ -1,6 +1,6 @@
 """Memory is refused to the calls of crates/trial_runs, one call a run.
 
-What a run writes begins with the answer and with how the session is after it.
+The output of a run begins with the answer and with how the session is after it.
 """
 
 from typing import Iterator, List, NamedTuple, Tuple
@@ -72,7 +72,7 @@ class Calls:
 
 
 def wrong_answer(found: Answer, ample: Answer) -> List[str]:
-    """What is wrong with an answer: it has to be OutOfMemory, in an unchanged session, or that with ample memory."""
+    """The mistakes of an answer: it has to be OutOfMemory, in an unchanged session, or that with ample memory."""
     wrong = []
     if found.lines[0] != b'OutOfMemory':
         if found.output != ample.output:

@@ -32,7 +32,7 @@ def whole_run(rounds: Rounds) -> Round:
 
 
 def wrong_after(found: Round) -> List[str]:
-    """What is wrong where a fault had to end the run before the save."""
+    """The mistakes if a fault had to end the run before the save."""
     wrong = found.wrong_left()
     if found.met.later:
         wrong.append(f'{found.met.later} reads and writes come after')
@@ -42,7 +42,7 @@ def wrong_after(found: Round) -> List[str]:
 
 
 def wrong_result(found: Round, whole: Round) -> List[str]:
-    """What is wrong where all had to be as in the run in which nothing fails."""
+    """The mistakes if all had to be as in the run in which nothing fails."""
     wrong = found.wrong_end(0, '') + found.wrong_left()
     if found.output != whole.output:
         wrong.append('the replies are others')
@@ -73,7 +73,7 @@ def input_fails(rounds: Rounds, whole: Round, piece: int) -> None:
 
 
 def output_fails(rounds: Rounds, whole: Round, piece: int) -> None:
-    """Each write fails in turn. What was written before stands, and nothing follows."""
+    """Each write fails in turn. The bytes written before stand, and nothing follows."""
     found = rounds.run('output', piece=piece)
     assert found.wrong_end(0, '') + found.wrong_left() == []
     assert wrong_result(found, whole) == [], 'the replies'

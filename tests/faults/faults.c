@@ -96,7 +96,7 @@ __attribute__((destructor)) static void end(void) {
     syscall(SYS_close, file);
 }
 
-/* What somebody may do who owns the folder: the new file's name is given to a link. */
+/* The owner of a folder may do so: the new file's name is given to a link. */
 static void swap(void) {
     DIR *folder = opendir(".");
     struct dirent *entry;
@@ -125,7 +125,7 @@ static int fails(const char *name) {
     return fails_with(error_number);
 }
 
-/* What a read or write that fails answers. */
+/* The answer of a read or write that fails. */
 #define FAULT (errno ? -1 : 0)
 
 static size_t short_count(size_t count) { return piece && count > piece ? piece : count; }

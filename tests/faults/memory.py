@@ -1,4 +1,4 @@
-"""Memory is refused, request by request. What is answered is compared with runs in which nothing fails."""
+"""Memory is refused, request by request. The answers are compared with those of runs in which nothing fails."""
 
 import re
 from pathlib import Path
@@ -99,7 +99,7 @@ class Refusing:
         assert [word for word in self.owed if word.encode() not in self.met] == []
 
     def wrong(self, found: Round, is_on: bool) -> List[str]:
-        """What is wrong with a round."""
+        """The mistakes of a round."""
         if not found.output and found.status == 1:
             return ended_for_want(found)
         try:

@@ -12,13 +12,13 @@ from tests.harness.users import ANNA, GAMES
 #: The file that is saved to, and where it lies when that name is a link.
 SAVE, FAR = 'new.sav', 'far/real.sav'
 
-#: What stands there mostly, and its mode.
+#: The content that stands there mostly, and its mode.
 OLD_SAVE = b'an old file\n'
 OLD_MODE = 0o640
 
 
 class Target(NamedTuple):
-    """What the save file is before each run: some bytes or nothing, and whether its name is a link to them."""
+    """The save file before each run: some bytes or nothing, and whether its name is a link to them."""
 
     old: Optional[bytes] = None
     is_link: bool = False
@@ -54,7 +54,7 @@ class Round(NamedTuple):
         return self.before == self.after
 
     def wrong_end(self, status: int, line: str) -> List[str]:
-        """What is wrong where it had to end with this status and this line on standard error, and tell where it left the save."""
+        """The mistakes if it had to end with this status and this line on standard error, and tell where it left the save."""
         wrong = []
         wanted = line and line + '\n' + told_left(self.left_names)
         if self.status != status:

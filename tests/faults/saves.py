@@ -6,7 +6,7 @@ from tests.faults.rounds import OLD_SAVE, Round, Rounds, State, Target
 
 
 class Save(NamedTuple):
-    """What is saved to, and whether a rename is refused all the time, so that an old file is written in place."""
+    """The file to which a session is saved, and whether a rename is refused all the time, so that an old file is written in place."""
 
     name: str
     target: Target
@@ -22,10 +22,10 @@ SAVES = [
     Save('a save through a link to a file that keeps its place', Target(OLD_SAVE, is_link=True), refuses=True),
 ]
 
-#: What rename answers where the old file can't be replaced, and may be written.
+#: The answers of rename if the old file can't be replaced, and may be written.
 REFUSALS = ['EBUSY', 'EPERM', 'EACCES', 'EXDEV']
 
-#: What each call fails with, beside EIO, EINTR, ENOSPC and a kill; and whether each save makes the call: a folder is flushed
+#: The errors of each call, beside EIO, EINTR, ENOSPC and a kill; and whether each save makes the call: a folder is flushed
 #: for a name that is new in it.
 CALLS: List[Tuple[str, List[str], bool]] = [
     ('open', ['EACCES', 'EMFILE'], True),
@@ -87,7 +87,7 @@ def is_no_wider(found: State, whole: Round) -> bool:
 
 
 def wrong_round(failed: Round, whole: Round, save: Save, call: str, error: str) -> List[str]:
-    """What is wrong with a round."""
+    """The mistakes of a round."""
     wrong = [] if failed.output == whole.output else ['the replies are others']
     if not all(is_no_wider(found, whole) for found in [*failed.left, failed.after]):
         wrong.append(f'more is allowed: {[oct(found.mode) for found in [*failed.left, failed.after]]}')
@@ -130,7 +130,7 @@ def wrong_where_saved(failed: Round, whole: Round, call: str, error: str) -> Lis
 
 
 def wrong_where_told(failed: Round, whole: Round, call: str, in_place: bool) -> List[str]:
-    """What may stand where the program says that it can't write: nothing is lost in any case."""
+    """The bytes that may stand if the program says that it can't write: nothing is lost in any case."""
     is_old = failed.stands and not failed.left
     is_beside = has_save(failed.left, whole)
     is_new = is_whole(failed.after, whole) and not failed.left

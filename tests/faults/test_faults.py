@@ -1,5 +1,5 @@
-"""The built program under fire: each request for memory, each read, write, open, flush, rename and close fails in turn. What it
-answers then is compared with runs in which nothing fails.
+"""The built program under fire: each request for memory, each read, write, open, flush, rename and close fails in turn. Its answer then
+is compared with runs in which nothing fails.
 
 --calls names the program of crates/trial_runs, which makes one call a run. The calls fail by a library that is preloaded, faults.c. Where there is
 no C compiler for it, or the program can't be made to load it, all is skipped.

@@ -17,7 +17,7 @@ users     whom a program can be run as
 """
 
 from operator import attrgetter
-from typing import Any, Iterable, List
+from typing import Any, Callable, Iterable, List
 
 import pytest
 
@@ -36,17 +36,22 @@ from tests.harness.users import ANNA, CARL, User, is_root, need_root
 
 __all__ = [
     'ANNA', 'BLANK', 'Browser', 'CARL', 'Driver', 'Ended', 'FaultLibrary', 'Folder', 'HEAD', 'ID', 'Met', 'PICTURE', 'RIGHT', 'Room', 'SLOWNESS',
-    'Skip', 'TOP', 'Terminal', 'User', 'by_name', 'by_words', 'bytecode', 'fill', 'is_root', 'left_files', 'made', 'moves_of', 'named', 'need', 'need_root', 'run',
+    'Skip', 'TOP', 'Terminal', 'User', 'by_name', 'by_words', 'bytecode', 'fill', 'in_the_gate', 'is_root', 'left_files', 'made', 'moves_of', 'named', 'need', 'need_root', 'run',
     'save_text', 'small_disk',
 ]
 
-#: What pytest calls the case of a row that has a name.
+#: The name that pytest gives the case of a row that has one.
 by_name = attrgetter('name')
 
 
 def named(rows: Iterable[Any]) -> List[Any]:
     """Rows as cases of pytest, each called by its first member, which it isn't given."""
     return [pytest.param(*row[1:], id=row[0]) for row in rows]
+
+
+def in_the_gate(rows: Iterable[Any], is_long: Callable[[Any], object]) -> List[Any]:
+    """Rows as cases, the long ones for the gate alone."""
+    return [pytest.param(*row, marks=[pytest.mark.long] if is_long(row) else []) for row in rows]
 
 
 def by_words(rows: Iterable[Any]) -> List[Any]:

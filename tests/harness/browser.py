@@ -23,7 +23,7 @@ CONTROL = 2
 #: So wide is no phone.
 PHONES = 500
 
-#: What the buttons of a mouse are called.
+#: The names of the buttons of a mouse.
 BUTTONS = {LEFT: 'left', RIGHT: 'right'}
 
 
@@ -32,9 +32,9 @@ class Browser(Told):
 
     def __init__(self, room: Room, seconds: float = 60) -> None:
         need('chromium')
-        #: What the pages have complained of: errors of scripts, and what their policies have refused.
+        #: The complaints of the pages: errors of scripts, and refusals of their policies.
         self.complaints: List[str] = []
-        #: What the browser has asked for a page, as `beforeunload`. The answer is yes.
+        #: The questions of the browser for a page, as `beforeunload`. The answer is yes.
         self.questions: List[str] = []
         self._session: Mapping[str, str] = {}
         #: Each window, and how it is asked.
@@ -113,11 +113,11 @@ class Browser(Told):
         self.ask('Emulation.setTouchEmulationEnabled', enabled=width < PHONES)
 
     def media(self, kind: str = '', features: Optional[Mapping[str, str]] = None) -> None:
-        """What the page is shown on, as `print`, and what the user prefers."""
+        """The medium of the page, as `print`, and the user's preferences."""
         self.ask('Emulation.setEmulatedMedia', media=kind, features=[{'name': name, 'value': value} for name, value in (features or {}).items()])
 
     def picture(self) -> bytes:
-        """What is seen, in PNG."""
+        """A picture of the page, in PNG."""
         return base64.b64decode(self.ask('Page.captureScreenshot', format='png')['data'])
 
     def printed(self) -> bytes:

@@ -1,4 +1,4 @@
-"""What Python compiles of scripts that are started hundreds of times: kept for one run, outside of the tree."""
+"""Python's compiled form of scripts that are started hundreds of times: kept for one run, outside of the tree."""
 
 import compileall
 import os
@@ -24,5 +24,5 @@ def compile_scripts() -> Callable[[], None]:
 
 
 def bytecode() -> Dict[str, str]:
-    """What the environment of a script has of it."""
+    """The part of a script's environment that names it."""
     return {PREFIX: os.environ[PREFIX]} if PREFIX in os.environ else {}

@@ -25,7 +25,7 @@ KEYS = {
 #: The page before any other.
 BLANK = 'about:blank'
 
-#: What each button of the mouse is called by its number.
+#: The name of each button of the mouse by its number.
 LEFT, RIGHT = 0, 2
 
 #: A long press lasts so many milliseconds: three times as long as it must, since a busy machine begins to count late.
@@ -58,7 +58,7 @@ class Driver:
         raise NotImplementedError
 
     def value(self, expression: str) -> Any:
-        """What an expression is worth in the page; where it is a promise, what it promises."""
+        """The value of an expression in the page; of a promise, the value that it promises."""
         raise NotImplementedError
 
     def perform(self, actions: Sequence[Dict[str, Any]]) -> None:
@@ -66,7 +66,7 @@ class Driver:
         raise AssertionError(f'{actions} are not for this browser')
 
     def size(self, width: int, height: int) -> None:
-        """What is seen of the page, as far as the browser can be so small."""
+        """The visible part of the page, as far as the browser can be so small."""
         raise NotImplementedError
 
     def open(self) -> str:
@@ -110,6 +110,10 @@ class Driver:
         """
         self.value('location.reload()')
         self.wait_for(f'performance.getEntriesByType("navigation")[0].type === "reload" && {condition}')
+
+    def back(self) -> None:
+        """Goes back to the page before."""
+        self.value('(history.back(), true)')
 
     def text(self) -> str:
         """All that can be read on the page."""
@@ -179,7 +183,8 @@ class Told(Driver):
         self._number = 0
         said = Path(room.path, 'said')
         with open(said, 'wb') as file:
-            whole = {**os.environ, 'HOME': room.path, **env}
+            # A file that it leaves for a while goes with the room, also where it is killed.
+            whole = {**os.environ, 'HOME': room.path, 'TMPDIR': room.path, **env}
             self._process = subprocess.Popen(words, env=whole, stdout=subprocess.DEVNULL, stderr=file, start_new_session=True)
         try:
             self._socket = websocket.create_connection(self._address(said) + self.way, BEGINS, suppress_origin=True)

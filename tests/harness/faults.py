@@ -12,32 +12,34 @@ SOURCE = Path(__file__).resolve().parent.parent / 'faults' / 'faults.c'
 
 
 class Met(NamedTuple):
-    """What a run met: how many of the calls that were asked for, and how many calls that matter after the first failure."""
+    """The calls that a run met: how many of the calls that were asked for, and how many calls that matter after the first failure."""
 
     calls: int
     later: int
 
 
+def preloaded(room: Room, source: Path) -> str:
+    """A library for LD_PRELOAD, built in a room. Raises `Skip` where that can't be. For another processor CC_OF_TESTS names a compiler."""
+    compiler = os.environ.get('CC_OF_TESTS', 'cc')
+    need(compiler)
+    if not can_preload(room.path):
+        raise Skip('nothing below TMPDIR can be preloaded', 'a TMPDIR without blanks and colons in its path')
+    library = os.path.join(room.path, f'{source.stem}.so')
+    words = [compiler, '-O1', '-shared', '-fPIC', '-o', library, str(source)]
+    built = subprocess.run(words, stdin=subprocess.DEVNULL, stderr=subprocess.PIPE, check=False)
+    if built.returncode != 0:
+        first = built.stderr.decode(errors='replace').partition('\n')[0]
+        raise Skip(f"cc doesn't take {source.name}: {first}", 'a compiler of C with its headers, as of gcc and libc6-dev')
+    return library
+
+
 class FaultLibrary:
-    """The library, built in a room. What the names and errors are, the source says."""
+    """The library, built in a room. The source says which names and errors there are."""
 
     def __init__(self, room: Room) -> None:
-        """Raises `Skip` where it can't be built. For another processor CC_OF_TESTS names a compiler."""
-        compiler = os.environ.get('CC_OF_TESTS', 'cc')
-        need(compiler)
-        if not can_preload(room.path):
-            raise Skip('nothing below TMPDIR can be preloaded', 'a TMPDIR without blanks and colons in its path')
-        self._library = os.path.join(room.path, 'faults.so')
+        """Raises `Skip` where it can't be built."""
+        self._library = preloaded(room, SOURCE)
         self._count = os.path.join(room.path, 'count')
-        built = subprocess.run(
-            [compiler, '-O1', '-shared', '-fPIC', '-o', self._library, str(SOURCE)],
-            stdin=subprocess.DEVNULL,
-            stderr=subprocess.PIPE,
-            check=False,
-        )
-        if built.returncode != 0:
-            first = built.stderr.decode(errors='replace').partition('\n')[0]
-            raise Skip(f"cc doesn't take tests/faults/faults.c: {first}", 'a compiler of C with its headers, as of gcc and libc6-dev')
 
     def env(
         self,
@@ -67,7 +69,7 @@ class FaultLibrary:
         }
 
     def met(self) -> Met:
-        """What the last run met; nothing where it was killed."""
+        """The calls that the last run met; nothing where it was killed."""
         with open(self._count, encoding='ascii') as file:
             numbers = file.read().split()
         return Met(int(numbers[0]), int(numbers[1])) if numbers else Met(0, 0)

@@ -1,5 +1,6 @@
 """Firefox, told what to do by WebDriver BiDi over its own port: Debian has no geckodriver."""
 
+import base64
 import json
 import os
 import shutil
@@ -61,6 +62,11 @@ class Firefox(Told):
 
     def close_tab(self) -> None:
         self._ask('browsingContext.close', context=self._tab)
+
+    def printed(self) -> bytes:
+        """The page in PDF, on A4 without margins."""
+        margins = dict.fromkeys(('top', 'bottom', 'left', 'right'), 0)
+        return base64.b64decode(self._ask('browsingContext.print', context=self._tab, margin=margins, page={'width': 21.0, 'height': 29.7})['data'])
 
     @property
     def tab(self) -> str:

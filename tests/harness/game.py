@@ -20,7 +20,7 @@ HEAD = (
     b'PARAMS  :1:3\nCPARAMS :1:3\nDESC    :13:3//////3/////\n'
 )
 
-#: What a new file is called that stands for a moment beside the one that it replaces.
+#: The name of a new file that stands for a moment beside the one that it replaces.
 NEW_NAME = re.compile(r'\.puzzles\.[0-9a-f]{16}\.tmp')
 
 
@@ -37,7 +37,7 @@ def moves_of(save: Optional[bytes]) -> List[bytes]:
 
 
 def told_left(paths: Iterable[str]) -> str:
-    """What is told on standard error of new files that were left at these paths, seen from where the program runs."""
+    """The lines on standard error about new files that were left at these paths, seen from where the program runs."""
     return ''.join(f'the save is in ./{path}\n' for path in paths)
 
 

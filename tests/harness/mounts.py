@@ -19,7 +19,7 @@ _no_mounts = 'the test has not begun'
 
 
 def own_mounts() -> None:
-    """What this process mounts from here on nobody else sees, and it is gone when the process has ended."""
+    """Nobody else sees the mounts of this process from here on, and they are gone when the process has ended."""
     global _no_mounts
     try:
         answer(libc.unshare(CLONE_NEWNS))

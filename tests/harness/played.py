@@ -1,7 +1,7 @@
 """Games as transcripts, files for people to read: what is done, beside what is seen then.
 
 `= NAME` begins a case, in a room of its own, and `$ WORDS` a run in it. `> ACT  → SEEN` is what is done there, with what comes of it, and `! COMMAND` what a
-shell does in the room. What is seen may also stand on the lines below. `# ` begins what is said to the reader.
+shell does in the room. The text seen may also stand on the lines below. `# ` begins what is said to the reader.
 """
 
 import re

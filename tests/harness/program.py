@@ -16,7 +16,7 @@ from tests.harness.users import User
 
 Word = Union[str, bytes]
 
-#: What may be ignored around the tests, as in a job in the background or after nohup: no program that they start is to begin so.
+#: The signals that may be ignored around the tests, as in a job in the background or after nohup: no program that they start is to begin so.
 USUAL = (signal.SIGINT, signal.SIGQUIT, signal.SIGHUP, signal.SIGTERM)
 
 #: So many times as long as on a PC everything may take, as by qemu.
@@ -80,7 +80,7 @@ def run(  # pylint: disable=too-many-arguments
 ) -> Ended:
     """Runs a program in a folder until it ends. The first word is where it lies.
 
-    The input comes from a file, or from the descriptor `stdin`. What goes to a descriptor `stdout` or `stderr` is not among what
+    The input comes from a file, or from the descriptor `stdin`. Output to a descriptor `stdout` or `stderr` is not among what
     it wrote. It has the open descriptors `kept` under their own numbers, and no descriptors `closed`. Each of `limits` is the
     most of a resource of the module of that name.
     """

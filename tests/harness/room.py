@@ -23,7 +23,7 @@ class Skip(Skipped):
 
 
 class Folder:
-    """An open folder. What lies in it is reached from there, however long or closed the way to it is."""
+    """An open folder. Its files are reached from there, however long or closed the way to it is."""
 
     def __init__(self, place: Name, above: Optional[Folder] = None) -> None:
         above_fd: Optional[int] = above.fd if above else None
@@ -73,7 +73,7 @@ class Folder:
         os.unlink(name, dir_fd=self.fd)
 
     def names(self) -> List[str]:
-        """What lies here, in order."""
+        """The names that lie here, in order."""
         return sorted(os.listdir(self.fd))
 
     def paths(self) -> List[str]:
@@ -94,7 +94,7 @@ class Folder:
         return os.fdopen(os.open(name, os.O_RDONLY, dir_fd=self.fd), 'rb', buffering=0)
 
     def status(self, name: Name) -> Optional[os.stat_result]:
-        """What is known of a file, or nothing where there is none. A link is followed."""
+        """The facts known of a file, or nothing if there is none. A link is followed."""
         try:
             return os.stat(name, dir_fd=self.fd)
         except (FileNotFoundError, NotADirectoryError):

@@ -1,4 +1,4 @@
-"""What would make it possible to try what can't be tried here, and how it is told at the end of a run."""
+"""Means by which cases could be tried that can't be tried here, and how they are told at the end of a run."""
 
 import re
 import shutil

@@ -4,9 +4,12 @@ from __future__ import annotations
 
 import codecs
 import contextlib
+import fcntl
 import os
 import re
 import signal
+import sys
+import termios
 import time
 from typing import Callable, Dict, List, Mapping, Optional, Pattern, Sequence, Tuple
 
@@ -117,6 +120,11 @@ class Terminal:
         self.screen.resize(*size)
         self._child.setwinsize(*size)
 
+    def unread(self) -> int:
+        """How many bytes were typed that the program hasn't read yet, where it reads each by itself."""
+        with open(f'/proc/{self.pid}/fd/0', 'rb', buffering=0, opener=lambda path, flags: os.open(path, flags | os.O_NOCTTY)) as terminal:
+            return int.from_bytes(fcntl.ioctl(terminal, termios.FIONREAD, bytes(4)), sys.byteorder)
+
     def signal(self, number: signal.Signals) -> None:
         self._child.kill(number)
 
@@ -154,7 +162,7 @@ class Terminal:
         return self.wait_until(lambda screen: screen.text()[start : start + len(text)] == text)
 
     def wait_for(self, prompt: Pattern[str], start: int = 0) -> str:
-        """What is shown from a place on, up to a prompt ahead of the cursor, or to the end of the program."""
+        """The text shown from a place on, up to a prompt ahead of the cursor, or to the end of the program."""
 
         def is_there(screen: Screen) -> bool:
             while len(self.shown) > start and prompt.fullmatch(screen.display[screen.cursor.y][: screen.cursor.x]):
@@ -214,7 +222,7 @@ def stands(screen: Screen, text: str) -> bool:
 
 
 def sides(lines: Sequence[str]) -> List[str]:
-    """What stands right of each column that is blank from top to bottom, after the board's own lines."""
+    """The text right of each column that is blank from top to bottom, after the board's own lines."""
     edge = max(line.rfind(sign) for line in lines for sign in '│|') + 1
     columns = [column for column in range(edge, max(map(len, lines))) if all(line[column : column + 1] in ('', ' ') for line in lines)]
     return [''.join(line[column:] for line in lines) for column in columns]

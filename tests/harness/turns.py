@@ -20,7 +20,7 @@ def turn(name: str) -> int:
 class InTurn(LoadScheduling):  # pylint: disable=abstract-method
     """A process has one case more than the one that it is at, since it has to know what it need not take away. By itself xdist deals out many.
 
-    What later versions of xdist leave abstract is never called for this kind of scheduling.
+    Methods that later versions of xdist leave abstract are never called for this kind of scheduling.
     """
 
     def _send_tests(self, node: Any, num: int) -> None:

@@ -9,7 +9,7 @@ import signal
 import socket
 import subprocess
 import time
-from typing import Any, Dict, Mapping, Sequence
+from typing import Any, Dict, Mapping, Sequence, Tuple
 
 from tests.harness.driver import LEFT, RIGHT, Driver
 from tests.harness.room import Room, Skip
@@ -19,7 +19,7 @@ MINI_BROWSERS = [f'/usr/lib/x86_64-linux-gnu/webkit2gtk-{version}/MiniBrowser' f
 
 SCREEN = ['-screen', '0', '1400x1000x24', '-nolisten', 'tcp']
 
-#: What of our own environment would lead it elsewhere than to its room and its screen.
+#: The names in our own environment that would lead it elsewhere than to its room and its screen.
 OURS = ('XDG_DATA_HOME', 'XDG_CACHE_HOME', 'XDG_CONFIG_HOME', 'XDG_RUNTIME_DIR', 'WAYLAND_DISPLAY')
 
 #: So many seconds it may take to begin, on a machine that has much else to do.
@@ -36,6 +36,22 @@ def free_port() -> int:
     return port
 
 
+def started(words: Sequence[str], **how: Any) -> subprocess.Popen[bytes]:
+    return subprocess.Popen(words, stdout=subprocess.DEVNULL, stderr=subprocess.DEVNULL, start_new_session=True, **how)
+
+
+def on_screen(room: Room) -> Tuple[subprocess.Popen[bytes], Dict[str, str]]:
+    """A screen of its own that has begun, and the environment for what runs on it."""
+    reading, writing = os.pipe()
+    screen = started(['Xvfb', '-displayfd', str(writing), *SCREEN], pass_fds=[writing])
+    os.close(writing)
+    with os.fdopen(reading) as number:
+        display = f':{number.readline().strip()}'
+    folders = {name: room.path for name in ('HOME', 'TMPDIR')}
+    own = {**folders, 'DISPLAY': display, 'GDK_BACKEND': 'x11', 'WEBKIT_DISABLE_COMPOSITING_MODE': '1', 'LIBGL_ALWAYS_SOFTWARE': '1'}
+    return screen, {**{name: text for name, text in os.environ.items() if name not in OURS}, **own}
+
+
 class WebKit(Driver):
     """A session, on a screen of its own, which nobody sees."""
 
@@ -47,18 +63,13 @@ class WebKit(Driver):
 
     def __init__(self, room: Room, browser: str, seconds: float = 60) -> None:
         super().__init__(seconds)
-        reading, writing = os.pipe()
-        self._processes = [self._started(['Xvfb', '-displayfd', str(writing), *SCREEN], pass_fds=[writing])]
-        os.close(writing)
-        with os.fdopen(reading) as number:
-            display = f':{number.readline().strip()}'
-        own = {'HOME': room.path, 'DISPLAY': display, 'GDK_BACKEND': 'x11', 'WEBKIT_DISABLE_COMPOSITING_MODE': '1', 'LIBGL_ALWAYS_SOFTWARE': '1'}
-        env = {**{name: text for name, text in os.environ.items() if name not in OURS}, **own}
+        screen, env = on_screen(room)
+        self._processes = [screen]
         self._port = free_port()
         self._browser = browser
         self._session = ''
         try:
-            self._processes.append(self._started(['WebKitWebDriver', f'--port={self._port}'], env=env))
+            self._processes.append(started(['WebKitWebDriver', f'--port={self._port}'], env=env))
             end = time.monotonic() + BEGINS
             while not self._is_up():
                 assert time.monotonic() < end, 'the driver does not begin'
@@ -70,6 +81,10 @@ class WebKit(Driver):
 
     def go(self, url: str) -> None:
         self._do('url', url=url)
+
+    def back(self) -> None:
+        # A question to a page that is about to go may never be answered.
+        self._do('back')
 
     def value(self, expression: str) -> Any:
         return self._do('execute/sync', script=f'return ({expression})', args=[])
@@ -116,10 +131,6 @@ class WebKit(Driver):
             with contextlib.suppress(ProcessLookupError):
                 os.killpg(process.pid, signal.SIGKILL)
             process.wait()
-
-    @staticmethod
-    def _started(words: Sequence[str], **how: Any) -> subprocess.Popen[bytes]:
-        return subprocess.Popen(words, stdout=subprocess.DEVNULL, stderr=subprocess.DEVNULL, start_new_session=True, **how)
 
     def _begin(self) -> None:
         options = {'webkitgtk:browserOptions': {'binary': self._browser, 'args': ['--automation']}}

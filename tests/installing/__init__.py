@@ -1,1 +1,1 @@
-"""What `make install` puts in a folder that stands for the system, and on a system that has something already, and what `make dist` packs; in a `site`."""
+"""The files that `make install` puts in a folder that stands for the system, and on a system that has something already, and those that `make dist` packs; in a `site`."""

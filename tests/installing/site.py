@@ -45,7 +45,7 @@ def words_of(variables: Mapping[str, str]) -> List[str]:
     return [f'{name}={value}' for name, value in variables.items()]
 
 
-#: What the programs have to answer, wherever they lie: the words, what is typed, and what is written.
+#: The answers that the programs have to give, wherever they lie: the words, the input, and the output.
 ANSWERS: Dict[str, Tuple[Sequence[str], bytes, bytes]] = {
     'puzzles': (['towers'], b'new 3:3//////3/////\nmove R0,0,1\nstatus\n', b'ok\nok\nplaying 2/2\n'),
     'puzzles-json': (['towers'], b'undo\n', b'{"refused":"NoGame","reply":["refused: NoGame"],"session":null}\n'),

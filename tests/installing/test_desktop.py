@@ -1,4 +1,4 @@
-"""What desktops read of us: what stands in their menu, and what a centre for software tells. The desktop's own tools find nothing wrong with it."""
+"""The files that desktops read of us: the entry in their menu, and the text of a centre for software. The desktop's own tools find nothing wrong with it."""
 
 import os
 import re

@@ -1,4 +1,4 @@
-"""What `make dist` packs: the same bytes each time, sources that know their commit, and programs that another user plays from where they
+"""The files that `make dist` packs: the same bytes each time, sources that know their commit, and programs that another user plays from where they
 were unpacked."""
 
 import os
@@ -6,7 +6,7 @@ import os
 from tests.harness import ID, Ended, need, run
 from tests.installing.site import Site, expect_plays, files
 
-#: Who commits, and when, in the copy.
+#: The author of commits in the copy, and their time.
 ANNA = {'NAME': 'Anna', 'EMAIL': 'anna@example.org', 'DATE': '2026-01-02T03:04:05Z'}
 WHO = {'GIT_CONFIG_NOSYSTEM': '1', **{f'GIT_{who}_{what}': text for who in ('AUTHOR', 'COMMITTER') for what, text in ANNA.items()}}
 
@@ -42,7 +42,7 @@ def test_packed(site: Site) -> None:
 
 
 def expect_origin(site: Site, origin: str) -> None:
-    """What the programs' tarball says of where they are from."""
+    """The words of the programs' tarball on where they are from."""
     tarball = f'build/{name(site)}-linux-amd64'
     told = site.run(['tar', '-xzOf', f'{tarball}.tar.gz', f'{name(site)}-linux-amd64/VERSION']).output.decode().splitlines()
     assert told[3:4] == [f'taken from {origin}'], f'dist: programs of {origin}'

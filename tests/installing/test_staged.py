@@ -1,4 +1,4 @@
-"""What `make install` puts below a DESTDIR, for a package."""
+"""The files that `make install` puts below a DESTDIR, for a package."""
 
 import os
 from typing import List
@@ -9,7 +9,7 @@ from tests.installing.site import Site, expect_plays, files, snapshot, words_of
 OURS = 'share/verified-puzzles'
 DOCUMENTS = 'share/doc/verified-puzzles'
 
-#: What desktops look for: the page and the board in the menu, their picture, and what is told of them.
+#: The files for which desktops look: the page and the board in the menu, their picture, and the text about them.
 DESKTOP = [
     'share/applications/verified-puzzles.desktop',
     'share/applications/verified-puzzles-terminal.desktop',
@@ -17,12 +17,12 @@ DESKTOP = [
     'share/metainfo/verified-puzzles.metainfo.xml',
 ]
 
-#: What is told of the version, after its number.
+#: The words on the version, after its number.
 OF_A_BUILD = 'commit unknown\nproved by a kit that proves nothing\ntaken from a build\n'
 
 
 def wanted() -> List[str]:
-    """What is installed, below PREFIX."""
+    """The installed files, below PREFIX."""
     names = ('puzzles', 'puzzles-json', 'puzzles-play', 'puzzles-page', 'puzzles-sheet', 'puzzles-check')
     listed = [
         *(f'games/{name}' for name in names),
@@ -32,11 +32,13 @@ def wanted() -> List[str]:
         *(f'share/man/man{page.name[-1]}/{page.name}' for page in (TOP / 'man').iterdir()),
         f'{OURS}/VERSION',
         *(f'{OURS}/playing/bank/{game}.txt' for game in ('towers', 'unequal')),
+        *(f'{OURS}/playing/drawings/{path.name}' for path in (TOP / 'playing' / 'drawings').glob('*.py')),
         *(f'{OURS}/{package}/{path.name}' for package in ('board', 'check', 'playing', 'sheet') for path in (TOP / package).glob('*.py')),
         f'{OURS}/puzzles.html',
         *DESKTOP,
         *(f'{DOCUMENTS}/{name}' for name in ('VERSION', 'README.md', 'CHANGELOG.md', 'LICENSE')),
         *(f'{DOCUMENTS}/docs/{path.name}' for pattern in ('*.md', '*.png') for path in (TOP / 'docs').glob(pattern)),
+        *(f'{DOCUMENTS}/certificate/{name}' for name in ('verify.py', 'verify.mjs')),
         *(f'{DOCUMENTS}/docs/clients/{path.name}' for path in (TOP / 'docs' / 'clients').iterdir() if path.is_file()),
     ]
     return sorted(listed)

@@ -1,4 +1,4 @@
-"""What `make install` does on a system, without a DESTDIR, where something lies already."""
+"""The work of `make install` on a system, without a DESTDIR, where something lies already."""
 
 import contextlib
 import os
@@ -49,7 +49,7 @@ def by_another(site: Site, folder: str) -> None:
 
 
 def test_again(site: Site) -> None:
-    """What is installed twice goes at once, though a folder, a file and a page of the first time are no more in the repository."""
+    """A system on which we were installed twice is free of us at once, though a folder, a file and a page of the first time are no more in the repository."""
     prefix = ready(site, 'twice', [])
     below = os.path.join(prefix, 'not', 'yet')
     old = site.put('docs/OLD.md', b'old\n', 0o644)

@@ -10,7 +10,7 @@ from tests.harness.program import Word
 
 
 class Run(NamedTuple):
-    """One run in a folder of its own. What is None is not looked at. A run that says no more ends well, and writes nothing."""
+    """One run in a folder of its own. A part that is None is not looked at. A run that says no more ends well, and writes nothing."""
 
     name: str
     words: Sequence[Word]
@@ -27,7 +27,7 @@ class Run(NamedTuple):
     absent: Sequence[str] = ()
     #: Files that may be new, with any content.
     made: Sequence[str] = ()
-    #: What the one new file has that is left beside, of which standard error tells; nothing where none may be left.
+    #: The content of the one new file that is left beside, of which standard error tells; nothing where none may be left.
     left: Optional[bytes] = None
 
 
@@ -41,7 +41,7 @@ class Player:
     def play(self, row: Run, folder: Optional[Folder] = None, **how: Any) -> bytes:
         """Makes what is given, runs the program, and looks at what has come of it; gives the output.
 
-        It runs in the room, if no other folder is named. What else there is goes to `run`; a stream that is given there
+        It runs in the room, if no other folder is named. Other words go to `run`; a stream that is given there
         has no text to be compared.
         """
         where = folder or self.room

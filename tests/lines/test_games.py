@@ -32,7 +32,7 @@ FAILS = Run('a stream fails', ['towers', '--id', ID, '--save', 'old.sav'], ONE_M
 OUTPUT = b'cannot write the output\n'
 NO_ERROR = Run('standard error is closed', ['towers', '--id', ''], status=3)
 
-#: What is told once, before the first line, where lines are typed.
+#: The lines that are told once, before the first line, where lines are typed.
 TOLD = 'puzzles --help has the lines that can be typed; puzzles-play is the board'
 
 ENV = {'PATH': os.defpath, 'TERM': 'xterm', 'LC_ALL': 'C'}

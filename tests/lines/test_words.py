@@ -12,10 +12,10 @@ from tests.lines.runs import Player, Run
 #: The version and LF, as they are written once.
 VERSION = (TOP / 'VERSION').read_bytes()
 
-#: What stands below a refusal of words.
+#: The lines below a refusal of words.
 MORE = b"\n\nFor more information, try '--help'.\n"
 
-#: What is said of a word that is none, without a tip.
+#: The sentence on a word that is none, without a tip.
 UNEXPECTED = b"error: unexpected argument '%s' found\n\nUsage: puzzles [OPTIONS] <GAME>" + MORE
 
 NO_GAME = b"""error: the following required arguments were not provided:
@@ -64,7 +64,7 @@ REFUSED = [
     ),
 ]
 
-#: What the help has to name.
+#: The words that the help has to name.
 HELP = [
     b'Usage: puzzles [OPTIONS] <GAME>', b'--id', b'--load', b'--save', b'5!7', ID.encode(), b'new ID', b'move TEXT', b'undo', b'redo',
     b'restart', b'solve', b'list N', b'show', b'marks', b'done', b'status', b'id', b'save', b'quit', b'Examples:', b'Exit status:',

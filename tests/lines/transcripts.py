@@ -1,7 +1,7 @@
 """Games as transcripts, a file for each subject in the folder `played`: each line of a run, with the reply to it.
 
 `$ GAME: NAME` begins a run. `> LINE  → REPLY` is a line that is typed, with its reply; a reply of several lines stands below. `9 > LINE` is typed
-nine times. `␣` is a blank at the end of a line. What begins with `# ` is said to the reader.
+nine times. `␣` is a blank at the end of a line. A line that begins with `# ` is said to the reader.
 """
 
 import re
@@ -14,7 +14,7 @@ FOLDER = Path(__file__).resolve().parent / 'played'
 
 
 class Line(NamedTuple):
-    """What is typed, so many times, and the reply to each."""
+    """The typed line, so many times, and the reply to each."""
 
     typed: str
     times: int

@@ -11,7 +11,7 @@ from tests.harness import Room
 from web_build.kept import MODULE_FILE, PAGE_FILE, read
 from web_build.page import MOST_BYTES, page_of, packed_in, unpacked
 from web_build.retarget import GIVEN_LAYOUT, retargeted
-from web_build.scripts import Unfit, script
+from web_build.scripts import Unfit, script, scripts
 from web_build.sections import MAGIC, without_idle
 
 #: A module that is exported from, and one that is refused with why: a page of it would begin, and fail later or hide a part of itself.
@@ -33,14 +33,26 @@ def test_refused_script(room: Room, name: str) -> None:
         script(room.path, 'main.js')
 
 
+def test_later_script(room: Room) -> None:
+    """Modules that are imported while the page runs come into a second script, without those that the first one has already."""
+    room.put('later.js', b"import {first} from './numbers.js';\nexport const later = () => first;\n")
+    room.put('numbers.js', NUMBERS.encode())
+    room.put('large.js', b"import {first} from './numbers.js';\nexport const large = first;\n")
+    room.put('main.js', b"export async function go() {\n  const {large} = await import('./large.js');\n  return large;\n}\n")
+    first, second = scripts(room.path, 'main.js')
+    assert '  return large;' not in second and second.count('const large = first;') == 1 and 'large = first' not in first
+    assert 'const {large} = (await m2.later(),m3);' in first and 'const {first}=m1;' in second and 'const first = 1;' not in second
+    assert script(room.path, 'numbers.js') + scripts(room.path, 'numbers.js')[1] == script(room.path, 'numbers.js')
+
+
 def test_page() -> None:
     """The page in the tree has the module of the tree, lets nothing run but its scripts, which its policy names by their sums, and leads nowhere."""
     page = read(PAGE_FILE)
     assert len(page) <= MOST_BYTES
     assert unpacked(packed_in(page)) == read(MODULE_FILE)
-    assert page_of(packed_in(page)) == page
-    policy = rules_of(page.decode())
-    assert policy['script-src'] == [*map(named, re.findall(r'<script>(.*?)</script>', page.decode(), re.DOTALL)), "'wasm-unsafe-eval'"]
+    assert page_of(packed_in(page), packed_in(page, 'later')) == page
+    policy, later = rules_of(page.decode()), unpacked(packed_in(page, 'later')).decode()
+    assert policy['script-src'] == [*map(named, [*re.findall(r'<script>(.*?)</script>', page.decode(), re.DOTALL), later]), "'wasm-unsafe-eval'"]
     assert policy['default-src'] == policy['form-action'] == policy['base-uri'] == ["'none'"]
     assert re.findall(r'(?:src|href)="(?!data:|#)([^"]*)"', page.decode()) == []
 
@@ -55,7 +67,7 @@ def named(text: str) -> str:
     return f"'sha256-{base64.b64encode(hashlib.sha256(text.encode()).digest()).decode()}'"
 
 
-#: What LLVM's text can't have, by why it is refused.
+#: The words that LLVM's text can't have, by why it is refused.
 FOREIGN = {
     'a call of one processor': '  %a = call <16 x i8> @llvm.x86.ssse3.pshuf.b.128(<16 x i8> %b, <16 x i8> %c)',
     'assembler': '  call void asm sideeffect "nop", ""()',

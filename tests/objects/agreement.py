@@ -8,6 +8,7 @@ import pytest
 from tests.conftest import Programs
 from tests.harness import Ended, Room, run
 from tests.objects.boards import Texts, board_of, numbers_of, puzzle_of
+from tests.objects.marked import expect_marks_hint
 from tests.objects.reading import Answered, as_plain, lines_with_reply, read_answers, shortened
 from tests.objects.solutions import expect_completable, expect_hint, expect_solutions
 from tests.objects.steps import expect_steps
@@ -97,6 +98,8 @@ def expect_group(game: str, group: Sequence[Answered]) -> None:
         if answer.line == b'hint':
             expect_hint(puzzle, numbers, answer.found['hint'])
             expect_steps(puzzle, numbers, answer.found['hint'])
+        if answer.line == b'hint marks':
+            expect_marks_hint(puzzle, numbers, told[b'board'].found['board']['marks'], answer.found['hint'])
         if answer.line == b'solutions':
             expect_solutions(puzzle, numbers, answer.found['solutions'])
         if answer.line.startswith(b'spare') and answer.found['refused'] is None:

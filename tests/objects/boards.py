@@ -10,7 +10,7 @@ from tests.second_implementation.unequal import UnequalPuzzle
 
 
 class Texts(NamedTuple):
-    """What the plain program says of one state."""
+    """The plain program's answers on one state."""
 
     id: str
     #: `playing`, `solved` or `helped`.

@@ -1,6 +1,6 @@
 """The sentence of a clue: which numbers in which squares would show too few or too many towers, and what has to be known for that (docs/HINTS.md)."""
 
-from typing import AbstractSet, Dict, FrozenSet, List, NamedTuple, Optional, Sequence, Tuple
+from typing import Collection, Dict, FrozenSet, List, NamedTuple, Optional, Sequence, Set, Tuple
 
 from tests.objects.words import joined, line_name, losses, square, squares
 from tests.second_implementation.steps import Left, Step, each, looked_at, seen_squares
@@ -9,18 +9,18 @@ from tests.second_implementation.towers import TowersPuzzle, counts_in_fillings
 #: How many squares are named at most of those that have to be known, and how many numbers those of them have that have several.
 MOST_SQUARES, MOST_NUMBERS = 3, 8
 
-#: What is told of the line where more has to be known.
+#: The words on the line if more has to be known.
 OF_THE_LINE = {'stand': ', with the numbers in ', 'clue': ', by what is left in '}
 
 #: Where a clue stands, by its side of the edge.
 SIDES = ('above column', 'below column', 'left of row', 'right of row')
 
-#: What may stand in each square of a clue's line.
+#: The numbers that may stand in each square of a clue's line.
 Line = Dict[int, FrozenSet[int]]
 
 
 class Seen(NamedTuple):
-    """What is seen beside what the clue says: `more`, `fewer`, `never`, or `both`; then by where the tallest tower is that stands nowhere yet, or these counts."""
+    """The count seen, compared with the clue: `more`, `fewer`, `never`, or `both`; then by where the tallest tower is that stands nowhere yet, or these counts."""
 
     word: str
     counts: FrozenSet[int] = frozenset()
@@ -37,13 +37,15 @@ def clue_sentence(puzzle: TowersPuzzle, left: Left, step: Step, names_squares: b
         return f'{named}: {plain[clue]}, so {losses(size, step)}.'
     line = {cell: looked_at(kind, size, left[cell]) for cell in seen_squares(size, step.reason.place)}
     seen = all_seen(clue, line, step)
-    known = '' if kind == 'bound' else known_words(size, clue, line, step, seen) if names_squares else None
+    known = [] if kind == 'bound' else known_squares(size, clue, line, step, seen) if names_squares else None
+    seen, facts = settled(size, left, line, seen)
+    words = f', where {joined([*known, *facts], "and")}' if known or (known is not None and facts) else ''
     if known is None:
-        known = OF_THE_LINE[kind] + line_name(size, at if side > 1 else size + at)
+        words = OF_THE_LINE['clue' if facts else kind] + line_name(size, at if side > 1 else size + at)
     shown: Dict[Seen, Dict[int, List[int]]] = {}
     for (cell, number), what in seen.items():
         shown.setdefault(what, {}).setdefault(cell, []).append(number)
-    return f"{named}{known}: {'; '.join(seen_with(size, clue, what, where) for what, where in shown.items())}."
+    return f"{named}{words}: {'; '.join(seen_with(size, clue, what, where) for what, where in shown.items())}."
 
 
 # ---- what would be seen
@@ -77,7 +79,7 @@ def seen_beside(clue: int, line: Line, fixed: Dict[int, int]) -> Seen:
 # ---- what has to be known
 
 
-def known_words(size: int, clue: int, line: Line, step: Step, seen: Dict[Tuple[int, int], Seen]) -> Optional[str]:
+def known_squares(size: int, clue: int, line: Line, step: Step, seen: Dict[Tuple[int, int], Seen]) -> Optional[List[str]]:
     """The squares that are enough, if they are few; with anything in each other one the same is seen."""
     if any(what.word in ('never', 'both') for what in seen.values()):
         return None
@@ -89,14 +91,55 @@ def known_words(size: int, clue: int, line: Line, step: Step, seen: Dict[Tuple[i
             needed.remove(cell)
     if len(needed) > MOST_SQUARES or sum(len(line[cell]) for cell in needed if len(line[cell]) > 1) > MOST_NUMBERS:
         return None
-    return f", where {named_squares(size, line, needed)}" if needed else ''
-
-
-def named_squares(size: int, line: Line, needed: AbstractSet[int]) -> str:
     alike: Dict[FrozenSet[int], List[int]] = {}
     for cell in sorted((cell for cell in line if cell in needed), key=lambda cell: len(line[cell]) > 1):
         alike.setdefault(line[cell], []).append(cell)
-    return joined([f"{squares(size, sorted(those))} {'is' if len(those) == 1 else 'are'} {joined(sorted(may), 'or')}" for may, those in alike.items()], 'and')
+    return [f"{squares(size, sorted(those))} {is_or_are(those)} {joined(sorted(may), 'or')}" for may, those in alike.items()]
+
+
+# ---- where the tallest tower is
+
+
+class Place(NamedTuple):
+    """The places of a number by the numbers left in the line: the square where it stands, squares where it isn't, and the only ones where it can be."""
+
+    stands: Set[int]
+    lacks: Set[int]
+    only: Set[int]
+
+
+def settled(size: int, left: Left, line: Line, seen: Dict[Tuple[int, int], Seen]) -> Tuple[Dict[Tuple[int, int], Seen], List[str]]:
+    """Of two cases the ones that are possible by what is left of the line, and what says so."""
+    places: Dict[int, Place] = {}
+    possible = {
+        (cell, number): settled_at(left, line, cell, what, places.setdefault(what.tallest, Place(set(), set(), set()))) if what.word == 'split' else what
+        for (cell, number), what in seen.items()
+    }
+    facts = []
+    for number, place in places.items():
+        facts += [f'{squares(size, sorted(place.stands))} is {number}'] if place.stands else []
+        facts += [f'{squares(size, sorted(place.lacks))} {is_or_are(place.lacks)} not {number}'] if place.lacks else []
+        facts += [f"only {squares(size, sorted(place.only), 'or')} can be {number}"] if place.only else []
+    return possible, facts
+
+
+def settled_at(left: Left, line: Line, cell: int, what: Seen, place: Place) -> Seen:
+    others = {other for other in line if other != cell and what.tallest in left[other]}
+    stands = {other for other in others if len(left[other]) == 1}
+    fewer = others.intersection(what.fewer_in)
+    if stands:
+        place.stands.update(stands)
+        return Seen('fewer' if stands.intersection(fewer) else 'more')
+    if not fewer:
+        place.lacks.update(what.fewer_in)
+        return Seen('more')
+    if fewer != others:
+        return what._replace(fewer_in=tuple(sorted(fewer)))
+    if what.tallest in left[cell]:
+        place.lacks.update(set(line) - {cell, *what.fewer_in})
+    else:
+        place.only.update(others)
+    return Seen('fewer')
 
 
 # ---- words
@@ -118,6 +161,10 @@ def seen_with(size: int, clue: int, what: Seen, where: Dict[int, List[int]]) -> 
         where_fewer = joined([square(size, cell) for cell in what.fewer_in], 'or')
         return f'{with_them} fewer {towers} if {what.tallest} is in {where_fewer}, and more if it is elsewhere'
     return f'{with_them} {what.word} {towers}'
+
+
+def is_or_are(cells: Collection[int]) -> str:
+    return 'is' if len(cells) == 1 else 'are'
 
 
 def numbers_in_words(numbers: Sequence[int]) -> str:

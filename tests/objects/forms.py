@@ -6,7 +6,7 @@ from typing import Iterator, List, NamedTuple, Sequence, Set
 from tests.harness.builds import TOP
 from tests.objects.reading import Object
 
-#: What differs between sentences of one form, and what stands for it: one after the other.
+#: The parts that differ between sentences of one form, and their stand-ins: one after the other.
 SAME = [
     (r'\b[Rr]\dc\d\b', 'S'),
     (r'(?:S, )*S (?:and|or) S\b', 'S'),
@@ -17,7 +17,9 @@ SAME = [
     (r'(?:N beside L, )*N beside L and N beside L', 'N beside L'),
     (r'\bare\b', 'is'),
     (r'\bstand\b', 'stands'),
+    (r"\baren't\b", "isn't"),
     (r'(?:, | and )S is N\b', ''),
+    (r'(?:, | and )S is not N\b', ''),
     (r'(?: or with|, nor) N in S\b', ''),
 ]
 
@@ -52,7 +54,7 @@ def told_by(hint: Object) -> List[str]:
 
 
 def parts_of(sentence: str) -> Set[str]:
-    """What stands before the colon, and each of the parts after it, without what differs from board to board."""
+    """The part before the colon, and each of the parts after it, without what differs from board to board."""
     for differs, same in SAME:
         sentence = re.sub(differs, same, sentence)
     before, _, after = sentence.rstrip('.').partition(': ')

@@ -4,6 +4,7 @@ same number."""
 from typing import Iterator, List, NamedTuple, Optional, Sequence
 
 from tests.objects.clue_sentences import SIDES, all_seen, numbers_in_words
+from tests.objects.ends import Told, weakest
 from tests.objects.words import capital, joined, squares
 from tests.second_implementation.puzzles import Puzzle
 from tests.second_implementation.steps import Left, Step, each, held, seen_squares
@@ -11,28 +12,20 @@ from tests.second_implementation.towers import TowersPuzzle
 
 
 class Common(NamedTuple):
-    """What steps of one sentence have in common: `greater` or `less` of signs, `fewer` or `more` of clues; and the number that is struck."""
+    """The common part of the steps of one sentence: `greater` or `less` of signs, `fewer` or `more` of clues; and the number that is struck."""
 
     word: str
     number: int
 
 
-class Told(NamedTuple):
-    """A step, what is left before it, and its own sentence."""
-
-    step: Step
-    left: Left
-    sentence: str
-
-
-def grouped(puzzle: Puzzle, chain: Sequence[Told]) -> Iterator[List[Told]]:
+def grouped(puzzle: Puzzle, chain: Sequence[Step]) -> Iterator[List[Step]]:
     """The steps of each sentence."""
-    group: List[Told] = []
-    for told in chain:
-        if group and (common_of(puzzle, told.step) is None or common_of(puzzle, told.step) != common_of(puzzle, group[0].step)):
+    group: List[Step] = []
+    for step in chain:
+        if group and (common_of(puzzle, step) is None or common_of(puzzle, step) != common_of(puzzle, group[0])):
             yield group
             group = []
-        group.append(told)
+        group.append(step)
     if group:
         yield group
 
@@ -50,8 +43,8 @@ def sentence_of_group(puzzle: Puzzle, group: Sequence[Told]) -> str:
     if isinstance(puzzle, TowersPuzzle):
         clues = joined([clue_name(puzzle, told.step.reason.place) for told in group], 'and')
         return f"Clues {clues}: with {numbers_in_words([common.number])} in {squares(puzzle.size, cells, 'or')} {common.word} towers would be seen."
-    is_least = common.number == (1 if common.word == 'greater' else puzzle.size)
-    most = '' if is_least else f" that is at {'least' if common.word == 'greater' else 'most'} {common.number}"
+    end = weakest(group)
+    most = f' that is {end.words} {end.number}' if end else ''
     return f'{capital(squares(puzzle.size, cells))} are each {common.word} than a neighbour{most}: they are not {common.number}.'
 
 
@@ -71,7 +64,7 @@ def common_of(puzzle: Puzzle, step: Step) -> Optional[Common]:
 
 
 def expect_held_at_once(puzzle: Puzzle, first: Left, step: Step, common: Common) -> None:
-    """What the sentence says is so before the first of its steps: each follows then, and so it is of the neighbour."""
+    """The sentence is true before the first of its steps: each follows then, and so it is of the neighbour."""
     for cell, numbers in step.strikes.items():
         assert numbers <= held(puzzle, first, step.reason, cell)
     if step.reason.kind == 'sign':

@@ -21,16 +21,16 @@ MOST_BYTES = 1024
 FAIR = b'fair'
 
 #: The lines that the plain program doesn't know.
-OWN_LINES = (b'board', b'completable', b'hint', b'grade', b'solutions', b'spare')
+OWN_LINES = (b'board', b'completable', b'hint', b'hint marks', b'grade', b'solutions', b'spare')
 
 #: Those of a setter that begin a game.
-DESK_LINES = (b'blank', b'item', b'thin')
+DESK_LINES = (b'blank', b'item', b'thin', b'fill')
 
 ALL_OWN = (*OWN_LINES, FAIR, *DESK_LINES)
 
 
 class Unread(Exception):
-    """What was written is not an object for each line. The text says why."""
+    """The output is not an object for each line. The text says why."""
 
 
 def read_object(line: bytes) -> Object:

@@ -25,6 +25,7 @@ PLACE = range(-1, 10)
 STATUSES = ('playing', 'solved', 'helped')
 COUNTS = ('none', 'one', 'several')
 KINDS = ('follows', 'nothing', 'contradiction')
+STARTS = ('numbers', 'marks')
 REASONS = ('given', 'peer', 'place', 'bound', 'stand', 'clue', 'sign', 'set')
 GRADES = ('t', 'e', 'h', 'k')
 
@@ -66,6 +67,7 @@ STEP: Dict[str, Any] = {
 HINT: Dict[str, Any] = {
     'by': (None, 'value', 'line'),
     'cell': (None, CELL),
+    'from': STARTS,
     'grade': (None, *GRADES),
     'groups': [range(1, 730)],
     'kind': KINDS,
@@ -73,10 +75,11 @@ HINT: Dict[str, Any] = {
     'number': (None, NUMBER),
     'steps': [STEP],
     'text': [short],
+    'unmarked': (None, CELL),
     'view': [[NUMBER]],
 }
 
-#: What each object has that answers a line, and what besides, by the line that it answers.
+#: The members of each object that answers a line, and more, by the line that it answers.
 COMMON: Dict[str, Any] = {'refused': (None, text), 'reply': [text], 'session': (None, SESSION)}
 SPARE: Dict[str, Any] = {'clues': [{'x': PLACE, 'y': PLACE}], 'givens': [CELL], 'signs': [{'greater': CELL, 'less': CELL}]}
 ANSWERS: Dict[str, Any] = {
@@ -96,7 +99,7 @@ def names() -> Set[str]:
 
 
 def unfit(place: str, value: object, shape: Any) -> Iterator[str]:
-    """What of a value, which stands at a place of an object, is not of a shape: one of several, a list of one, an object with exactly these keys, a
+    """The parts of a value, which stands at a place of an object, that aren't of a shape: one of several, a list of one, an object with exactly these keys, a
     whole number of a range, what a function says, or this very value."""
     if isinstance(shape, list) and isinstance(value, list):
         for at, item in enumerate(value):
@@ -118,9 +121,9 @@ def is_one(value: object, shape: Any) -> bool:
 
 
 def wrong_object(found: Dict[str, Any], line: bytes) -> Iterator[str]:
-    """What is wrong with the object that answers a line. A refusal is named where the reply is its line, and nowhere else; the own lines have no other reply."""
+    """The faults of the object that answers a line. A refusal is named where the reply is its line, and nowhere else; the own lines have no other reply."""
     key = line.decode('latin-1')
-    key = 'spare' if re.fullmatch('spare [^ ]+', key) else key
+    key = 'spare' if re.fullmatch('spare [^ ]+', key) else 'hint' if key == 'hint marks' else key
     refused, reply = found.get('refused'), found.get('reply')
     yield from unfit('it', found, {**COMMON, key: ANSWERS[key]} if key in ANSWERS and refused is None else COMMON)
     if refused is not None and reply != [f'refused: {refused}']:

@@ -2,10 +2,11 @@
 
 import re
 import textwrap
-from typing import FrozenSet, List, Sequence
+from typing import FrozenSet, List, Optional, Sequence
 
 from tests.objects.clue_sentences import clue_sentence
-from tests.objects.groups import Told, grouped, sentence_of_group
+from tests.objects.ends import End, Told, end_of, said_after
+from tests.objects.groups import grouped, sentence_of_group
 from tests.objects.reading import Object
 from tests.objects.words import capital, joined, line_name, losses, square, squares
 from tests.second_implementation.puzzles import Numbers, Puzzle, cells_of
@@ -19,20 +20,24 @@ WIDTH = 100
 NAMED_AMONG = 60
 
 
-def expect_text(puzzle: Puzzle, numbers: Numbers, hint: Object, chain: Sequence[Step]) -> None:
-    before = left = view = in_view(puzzle.size, numbers)
+def expect_text(puzzle: Puzzle, numbers: Numbers, view: Left, hint: Object, chain: Sequence[Step]) -> None:
+    before = left = said = view
     names_squares = sum(len(step.strikes) for step in chain) <= NAMED_AMONG
-    each_step: List[Told] = []
-    for step, told in zip(chain, hint['steps']):
-        each_step.append(Told(step, left, sentence_of(puzzle, left, step, names_squares)))
-        assert told['text'] == cut(each_step[-1].sentence)
-        before = left
-        left = after(puzzle, left, [step]) or left
-    groups = list(grouped(puzzle, each_step))
+    groups: List[List[Told]] = []
+    for steps in grouped(puzzle, chain):
+        group: List[Told] = []
+        for step in steps:
+            end = end_of(puzzle.size, said, step)
+            group.append(Told(step, left, end, sentence_of(puzzle, left, step, end, names_squares)))
+            before = left
+            left = after(puzzle, left, [step]) or left
+        said = said_after(puzzle.size, said, group)
+        groups.append(group)
+    assert [told['text'] for told in hint['steps']] == [cut(told.sentence) for group in groups for told in group]
     assert hint['groups'] == [len(group) for group in groups]
     whole = [line for at, group in enumerate(groups) for line in cut(f'{at + 1}. {sentence_of_group(puzzle, group)}')]
-    end = contradiction(puzzle.size, numbers, view, before, chain[-1:], hint) if hint['kind'] == 'contradiction' else conclusion(puzzle, numbers, view, hint)
-    assert hint['text'] == [*whole, *cut(end)]
+    end_line = contradiction(puzzle.size, numbers, view, before, chain[-1:], hint) if hint['kind'] == 'contradiction' else conclusion(puzzle, numbers, view, hint)
+    assert hint['text'] == [*whole, *cut(end_line)]
 
 
 def emptied(size: int, hint: Object) -> int:
@@ -51,16 +56,19 @@ def cut(sentence: str) -> List[str]:
 # ---- a step
 
 
-def sentence_of(puzzle: Puzzle, left: Left, step: Step, names_squares: bool) -> str:
-    if isinstance(puzzle, TowersPuzzle) and step.reason.kind in ('bound', 'stand', 'clue'):
+def sentence_of(puzzle: Puzzle, left: Left, step: Step, end: Optional[End], names_squares: bool) -> str:
+    size, reason = puzzle.size, step.reason
+    if isinstance(puzzle, TowersPuzzle) and reason.kind in ('bound', 'stand', 'clue'):
         return clue_sentence(puzzle, left, step, names_squares)
-    return f'{capital(why_of(puzzle.size, left, step))}: {losses(puzzle.size, step)}.'
+    if reason.kind == 'place' and min(reason.numbers) not in left[reason.cells[0]] == step.strikes[reason.cells[0]]:
+        return f'No other square of {line_name(size, reason.line)} can be {min(reason.numbers)}, nor can {squares(size, reason.cells)}.'
+    return f'{capital(why_of(size, left, step, end))}: {losses(size, step)}.'
 
 
-def why_of(size: int, left: Left, step: Step) -> str:
+def why_of(size: int, left: Left, step: Step, end: Optional[End]) -> str:
     reason = step.reason
     if reason.kind == 'sign':
-        return sign_why(size, left, step)
+        return sign_why(size, step, end)
     at = squares(size, reason.cells)
     if reason.kind == 'set' and len(reason.cells) > 1:
         return set_why(size, left, step)
@@ -86,18 +94,13 @@ def set_why(size: int, left: Left, step: Step) -> str:
     return f"in {line_name(size, reason.line)} {squares(size, reason.cells)} take {joined(sorted(reason.numbers), 'and')} among them"
 
 
-def sign_why(size: int, left: Left, step: Step) -> str:
+def sign_why(size: int, step: Step, end: Optional[End]) -> str:
     greater, less = step.reason.sign
     to = next(iter(step.strikes))
-    other = less if to == greater else greater
-    word = 'greater' if to == greater else 'less'
-    end = min(left[other]) if to == greater else max(left[other])
-    said = f'{square(size, to)} is {word} than {square(size, other)}'
-    last = 1 if to == greater else size
-    if end == last or set(step.strikes[to]) == {last}:
+    said = f"{square(size, to)} is {'greater' if to == greater else 'less'} than {square(size, less if to == greater else greater)}"
+    if end is None:
         return said
-    most = '' if len(left[other]) == 1 else 'at least ' if to == greater else 'at most '
-    return f'{said}, which is {most}{end}'
+    return f"{said}, which is {'' if end.is_alone else end.words + ' '}{end.number}"
 
 
 # ---- what they show
@@ -110,11 +113,11 @@ def conclusion(puzzle: Puzzle, numbers: Numbers, view: Left, hint: Object) -> st
     for of_cell in (cell // size, size + cell % size):
         if each(size) - {numbers[other] for other in cells_of(size, of_cell)} == {number}:
             return f'So {square(size, cell)} is {number}: it is the last free square of {line_name(size, of_cell)}.'
-    return f'So {square(size, cell)} is {number}: {where_gone(size, view[cell], view[cell] - {number})}.'
+    return f'So {square(size, cell)} is {number}: {where_gone(size, numbers, cell, view[cell], view[cell] - {number})}.'
 
 
 def contradiction(size: int, numbers: Numbers, view: Left, before: Left, last: Sequence[Step], hint: Object) -> str:
-    """What the steps to a contradiction come to: a number that has no square in a line, if the last one leaves it none, or a square without numbers."""
+    """The end of the steps to a contradiction: a number that has no square in a line, if the last one leaves it none, or a square without numbers."""
     for reason in (step.reason for step in last):
         if reason.kind == 'place' and reason.numbers.isdisjoint(before[reason.cells[0]]):
             return f'So {line_name(size, reason.line)} has no square left for {min(reason.numbers)}.'
@@ -122,15 +125,18 @@ def contradiction(size: int, numbers: Numbers, view: Left, before: Left, last: S
 
 
 def empty_conclusion(size: int, numbers: Numbers, view: Left, cell: int) -> str:
-    """What the steps to a contradiction come to, of a filled square or of an empty one."""
-    why = f'its {numbers[cell]} is ruled out above' if numbers[cell] else where_gone(size, view[cell], view[cell])
+    """The end of the steps to a contradiction, of a filled square or of an empty one."""
+    why = f'its {numbers[cell]} is ruled out above' if numbers[cell] else where_gone(size, numbers, cell, view[cell], view[cell])
     return f'So {square(size, cell)} has no number left: {why}.'
 
 
-def where_gone(size: int, view: FrozenSet[int], struck: FrozenSet[int]) -> str:
-    """Which numbers stand in the lines of a square with these in view, and which of those were struck."""
-    stood, gone = sorted(each(size) - view), sorted(struck)
-    parts = [f"{joined(stood, 'and')} {'stands' if len(stood) == 1 else 'stand'} in its row or column"] if stood else []
-    if gone:
-        parts.append(f"{joined(gone, 'and')} {'is' if len(gone) == 1 else 'are'} ruled out above")
-    return ', and '.join(parts)
+def where_gone(size: int, numbers: Numbers, cell: int, view: FrozenSet[int], struck: FrozenSet[int]) -> str:
+    """Which numbers stand in the lines of an empty square with these in view, which of those were struck, and which aren't marked."""
+    bare = in_view(size, numbers)[cell]
+    parts = [
+        (each(size) - bare, 'stands in its row or column', 'stand in its row or column'),
+        (struck, 'is ruled out above', 'are ruled out above'),
+        (bare - view, "isn't among its marks", "aren't among its marks"),
+    ]
+    told = [f"{joined(sorted(gone), 'and')} {one if len(gone) == 1 else several}" for gone, one, several in parts if gone]
+    return ', '.join([*told[:-1], f"{'and ' if len(told) > 1 else ''}{told[-1]}"])

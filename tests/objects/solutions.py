@@ -1,4 +1,4 @@
-"""What completes a board: by trying all Latin squares at sizes 3 and 4, and by the second implementation's count above."""
+"""The numbers that complete a board: by trying all Latin squares at sizes 3 and 4, and by the second implementation's count above."""
 
 from dataclasses import replace
 from functools import lru_cache
@@ -47,7 +47,7 @@ def expect_completable(puzzle: Puzzle, numbers: Numbers, told: object) -> None:
 
 
 def expect_hint(puzzle: Puzzle, numbers: Numbers, hint: Object) -> None:
-    """What a hint says is so. That one is found is promised nowhere."""
+    """A hint is true. That one is found is promised nowhere."""
     cell, number = hint['cell'], hint['number']
     if hint['kind'] == 'follows':
         assert cell < len(numbers) and not numbers[cell] and number, 'it is for an empty square'

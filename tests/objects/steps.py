@@ -17,9 +17,14 @@ MEMBERS = {
 
 
 def expect_steps(puzzle: Puzzle, numbers: Numbers, hint: Object) -> None:
-    """What a hint says of its steps is so."""
-    expect_grade(puzzle, numbers, hint)
-    view = in_view(puzzle.size, numbers)
+    """The account that a hint of the line `hint` gives of its steps is true."""
+    assert (hint['from'], hint['unmarked']) == ('numbers', None)
+    expect_steps_from(puzzle, numbers, in_view(puzzle.size, numbers), hint)
+
+
+def expect_steps_from(puzzle: Puzzle, numbers: Numbers, view: Left, hint: Object) -> None:
+    """The account that a hint gives of its steps from some numbers in view is true."""
+    expect_grade(puzzle, numbers, view, hint)
     assert hint['view'] == [sorted(left) for left in view]
     if hint['kind'] == 'nothing':
         assert (hint['by'], hint['line'], hint['steps'], hint['text']) == (None, None, [], [])
@@ -33,13 +38,13 @@ def expect_steps(puzzle: Puzzle, numbers: Numbers, hint: Object) -> None:
     chain = [step_of(puzzle, step) for step in hint['steps']]
     expect_held(puzzle, view, chain, hint['steps'])
     expect_needed(puzzle, view, hint, chain)
-    expect_text(puzzle, numbers, hint, chain)
+    expect_text(puzzle, numbers, view, hint, chain)
 
 
-def expect_grade(puzzle: Puzzle, numbers: Numbers, hint: Object) -> None:
+def expect_grade(puzzle: Puzzle, numbers: Numbers, view: Left, hint: Object) -> None:
     """It is the least that leads on. Where all steps leave a square nothing, that is a contradiction, and the grade is the least whose steps do."""
     letters = letters_of(puzzle)
-    found = {letter: leads_on(puzzle, numbers, grade) for letter, grade in letters.items()}
+    found = {letter: leads_on(puzzle, numbers, tuple(view), grade) for letter, grade in letters.items()}
     refuting = [letter for letter, leads in found.items() if leads is None]
     leading = [letter for letter, leads in found.items() if leads]
     kind = 'contradiction' if refuting else 'follows' if leading else 'nothing'
@@ -78,7 +83,7 @@ def step_of(puzzle: Puzzle, told: Object) -> Step:
 
 
 def expect_held(puzzle: Puzzle, view: Left, chain: Sequence[Step], told: Sequence[Object]) -> None:
-    """All that a step strikes is left before it, and follows by its reason from what is left there. A clue tells what its line would show. What could be told
+    """All that a step strikes is left before it, and follows by its reason from what is left there. A clue tells what its line would show. A fact that could be told
     with the step before is told with it."""
     left = view
     for at, (step, one) in enumerate(zip(chain, told)):

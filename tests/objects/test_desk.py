@@ -11,11 +11,11 @@ from typing import Any, Dict, Iterator, List, Optional, Tuple
 
 import pytest
 
-from tests.harness import Room
+from tests.harness import Room, in_the_gate
 from tests.objects.boards import puzzle_of
 from tests.objects.reading import Object, told
 from tests.objects.solutions import expect_solutions
-from tests.second_implementation.desk import begun, puzzle_after, spare
+from tests.second_implementation.desk import begun, filled, puzzle_after, spare
 from tests.second_implementation.grades import LETTERS
 from tests.second_implementation.puzzles import Puzzle
 from tests.second_implementation.seeded import full_puzzle, square
@@ -90,12 +90,13 @@ def runs() -> Iterator[Tuple[str, int, int]]:
         yield (*classes[3 * at % len(classes)], at)
 
 
-@pytest.mark.parametrize(('game', 'size', 'seed'), runs())
+@pytest.mark.parametrize(('game', 'size', 'seed'), in_the_gate(runs(), lambda row: row[1] > 6))
 def test_half_set(objects: str, room: Room, game: str, size: int, seed: int) -> None:
     random = Random(seed)
     for _ in range(EACH):
         letter = random.choice(list(LETTERS[game]))
-        graded = [f'spare {letter}', f'thin {letter}', f'spare {letter}'] if size < LARGE or size < DENSE and random.random() < .2 else []
+        first = random.choice(['', ' givens', ' clues', ' signs'])
+        graded = [f'spare {letter}', f'thin {letter}{first}', f'spare {letter}'] if size < LARGE or size < DENSE and random.random() < .2 else []
         cell = random.randrange(size * size)
         moved = f'move R{cell % size},{cell // size},{random.randint(1, size)}'
         lines = [f'blank {size}', *half_set(random, game, size), 'board', 'solutions', moved, 'board', 'solutions', 'spare', *graded]
@@ -120,3 +121,20 @@ def expect_desk(game: str, lines: List[str], found: List[Object]) -> None:
         if line == 'solutions':
             expect_solutions(puzzle, numbers, answer['solutions'])
             assert len(answer['solutions']) == solution_count(replace(puzzle, givens=numbers)), id_of(puzzle)
+
+
+@pytest.mark.parametrize(('game', 'size', 'seed'), runs())
+def test_filled_in(objects: str, room: Room, game: str, size: int, seed: int) -> None:
+    """A puzzle with one solution gets each clue or sign of it, whatever the board shows; any other is refused for what it has."""
+    random = Random(seed)
+    for _ in range(EACH if size < DENSE else 1):
+        lines = [f'blank {size}', *half_set(random, game, size), 'move R0,0,1', 'status', 'fill', 'solutions']
+        found = told(objects, room, game, lines)
+        before = found[-3]['session']
+        puzzle = puzzle_of(game.title(), before['id'])
+        name = {0: 'NoSolution', 1: '', 2: 'SeveralSolutions'}[solution_count(puzzle)]
+        if name:
+            assert found[-2] == {'refused': name, 'reply': [f'refused: {name}'], 'session': before}
+        else:
+            assert found[-2] == {'refused': None, 'reply': ['ok'], 'session': session(game, filled(game, puzzle))}
+            assert len(found[-1]['solutions']) == 1

@@ -122,8 +122,8 @@ def test_refusals() -> None:
     told = {
         row[1] for name in ('IdFault', 'GenFault', 'FairFault', 'PlayFault', 'LineFault') for row in rows_of(parts[name]) if row[0].isdigit()
     }
-    # Of these two `solve` says a sentence, and sizes and letters of fair games are refused before.
-    told -= {'NoSolution', 'SeveralSolutions', 'NotOffered'}
+    # Sizes and letters of fair games are refused before.
+    told -= {'NotOffered'}
     section = (TOP / 'docs' / 'JSON.md').read_text(encoding='utf-8').partition('### refused\n')[2].partition('\n### ')[0]
     names = [name for row in rows_of(section)[1:] for name in row[0].split(', ')]
     assert sorted(names) == sorted(told)
@@ -131,6 +131,7 @@ def test_refusals() -> None:
 
 @pytest.mark.parametrize('sentence', sentences(), ids=lambda sentence: f'{sentence.text}')
 def test_sentence(pair: Pair, room: Room, sentence: Sentence) -> None:
-    script = ''.join(f'{line}\n' for line in [*sentence.lines, 'hint']).encode()
+    asked = 'hint marks' if any(line.startswith('move P') for line in sentence.lines) else 'hint'
+    script = ''.join(f'{line}\n' for line in [*sentence.lines, asked]).encode()
     ended = run([pair.objects, sentence.game], room, input=script)
     assert sentence.text in told([json.loads(ended.output.splitlines()[-1])['hint']['text']])

@@ -15,7 +15,8 @@ OTHER = [
     'blank', 'blank ', 'blank  4', 'blank 4 ', 'blank 4 5', 'Blank 4', 'blank\t4', 'item', 'item ', 'item 0', 'item 0,0', 'item 0,0,', 'item 0,0,x', 'item 0,0,-1',
     'item 0,0,256', 'item 00,0,1', 'item 0,0,01', 'item -2,0,1', 'item 128,0,1', 'item +1,0,1', 'item 0,0,1 ', 'item  0,0,1', 'item 0, 0,1', 'item 0,0,1,0',
     'item 0,0,1,0,', 'item 0,0,1,0,1,1', 'item 0,0,1,0,-1', 'item 0 0 1', 'solutions ', 'solutions 2', 'Solutions', 'spare ', 'spare  e', 'spare e ', 'spare e k',
-    'Spare', 'thin ', 'thin  e', 'thin e ', 'thin e k', 'Thin', 'thinner',
+    'Spare', 'thin ', 'thin  e', 'thin e ', 'thin e k', 'Thin', 'thinner', 'thin  givens', 'thin e  givens', 'thin e givens ', 'thin e Clues', 'thin e clue',
+    'thin e givens clues', 'thin e clues,givens', 'fill ', 'fill e', 'Fill', 'fills', 'filled',
 ]
 
 #: Lines by which games would begin, with their refusals: those of both games, and of one of them.
@@ -36,6 +37,7 @@ IN_A_GAME = [
     )),
     *((game, line, 'OffRange') for game in LETTERS for line in ('item 0,0,5', 'item 3,3,255')),
     *((game, f'{word} {letter}', 'BadLetter') for game in LETTERS for word in ('spare', 'thin') for letter in ('x', 'E', 'ee', '4', '-', 'u', '\xe9')),
+    *((game, f'thin {letter} {first}', 'BadLetter') for game in LETTERS for letter in ('x', 'clues', 'givens') for first in ('givens', 'clues', 'signs')),
     ('towers', 'item 0,-1,5', 'OffRange'), ('towers', 'item 4,0,9', 'OffRange'), ('towers', 'item 0,0,1,0,1', 'OffGrid'),
     ('towers', 'spare t', 'BadLetter'), ('towers', 'thin k', 'BadLetter'),
     ('unequal', 'item 0,-1,1', 'OffGrid'), ('unequal', 'item 4,0,0', 'OffGrid'), ('unequal', 'item 0,0,1,0,2', 'OffRange'), ('unequal', 'item 1,1,1,0,255', 'OffRange'),
@@ -50,7 +52,7 @@ ROWS = [
 ]
 
 #: Lines that have an answer in a game, and only there.
-NEED_A_GAME = ['board', 'completable', 'hint', 'grade', 'solutions', 'spare', 'spare e', 'thin', 'thin e', 'item 0,0,1']
+NEED_A_GAME = ['board', 'completable', 'hint', 'hint marks', 'grade', 'solutions', 'spare', 'spare e', 'thin', 'thin e', 'thin e clues', 'fill', 'item 0,0,1']
 
 
 def refusal(name: str, session: Optional[Object]) -> Object:

@@ -47,7 +47,7 @@ FAIR: Dict[str, List[str]] = {
 #: The numbers of the only solution of `3:3//////3/////`.
 SOLVED = [b'move R%d,%d,%s' % (at % 3, at // 3, b'123231312'[at:at + 1]) for at in range(9)]
 
-#: What a text has to be careful with, and what looks like a reply.
+#: Characters with which a text has to be careful, and texts that look like a reply.
 CAREFUL = [b'playing 1/1\n', b'\nok\n', b'"', b'\\', b'\\n', b'\x00', b'\x1f', b'\x7f', b'\x80', b'\xff', b'\r', b'\n', b'\xe2\x82\xac']
 
 #: Scripts in so many parts, which can be tried side by side.
@@ -68,7 +68,7 @@ def clue_move(place: Tuple[int, int]) -> bytes:
     return b'move D%d,%d' % place
 
 
-#: Most are good at some size. What strategies are mapped by has a name here: hypothesis would read the source of each lambda each time.
+#: Most are good at some size. The functions that map strategies have names here: hypothesis would read the source of each lambda each time.
 NUMBER = st.sampled_from([0, 0, 1, 1, 2, 2, 3, *range(10)])
 NUMBERS = st.tuples(st.sampled_from([b'R', b'R', b'P']), NUMBER, NUMBER, NUMBER).map(number_move)
 MOVE = st.one_of(
@@ -82,7 +82,7 @@ MOVE = st.one_of(
 )
 SETTING = [b'solutions', b'spare', b'spare e', b'spare h', b'spare k']
 CALL = st.sampled_from([
-    *[b'undo', b'undo', b'redo', b'redo', b'restart', b'solve', b'save', *BOARD, b'completable', b'hint', b'grade', *SETTING],
+    *[b'undo', b'undo', b'redo', b'redo', b'restart', b'solve', b'save', *BOARD, b'completable', b'hint', b'hint marks', b'grade', *SETTING],
     *(b'list %d' % most for most in range(7)),
 ])
 BYTES = st.lists(st.one_of(st.sampled_from(CAREFUL), st.binary(min_size=1, max_size=1)), max_size=12).map(b''.join)
@@ -129,7 +129,7 @@ def scripts(draw: st.DrawFn) -> Script:
     typed = draw(st.lists(lines(game), min_size=4, max_size=14))
     if draw(st.integers(0, 9)) == 0:
         typed[:0] = [b'new 3:3//////3/////' if game == 'towers' else b'solve', *SOLVED]
-    some: List[List[bytes]] = [[], [], BOARD, [*BOARD, b'completable'], [*BOARD, b'hint'], [*BOARD, b'completable', b'hint', b'grade']]
+    some: List[List[bytes]] = [[], [], BOARD, [*BOARD, b'completable'], [*BOARD, b'hint'], [*BOARD, b'completable', b'hint', b'hint marks', b'grade']]
     groups = [[line, *SESSION, *draw(st.sampled_from(some))] for line in typed]
     return Script(game, words, save, groups, draw(st.sampled_from([[], [b''], [b'quit'], [b'quit', b'undo', b'board']])))
 

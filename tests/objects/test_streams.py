@@ -28,7 +28,7 @@ BEHIND = b'move P0,0,1\nrestart\nsolve\nundo\n'
 
 @pytest.mark.parametrize('row', [*test_words.REFUSED, *test_words.ASKED, *test_games.REFUSED], ids=by_name)
 def test_words_alike(pair: Pair, room: Room, row: Run) -> None:
-    """What it says of its words is what the plain program says, but for the name."""
+    """Its help is the plain program's, but for the name."""
     for name, content in row.given.items():
         room.put(name, content)
     found, wanted = (run([program, *row.words], room) for program in (pair.objects, pair.plain))
@@ -81,7 +81,7 @@ def test_line_by_line(pair: Pair) -> None:
 
 
 def first_line(fd: int) -> bytes:
-    """What has come up to the end of a line, or within twenty seconds."""
+    """The text that has come up to the end of a line, or within twenty seconds."""
     came = b''
     while not came.endswith(b'\n') and select.select([fd], [], [], 20)[0]:
         more = os.read(fd, 1 << 16)

@@ -27,7 +27,7 @@ def capital(text: str) -> str:
 
 
 def losses(size: int, step: Step) -> str:
-    """What is struck: squares that lose the same numbers together."""
+    """The struck numbers: squares that lose the same ones together."""
     lost: Dict[FrozenSet[int], List[int]] = {}
     for cell, numbers in step.strikes.items():
         lost.setdefault(numbers, []).append(cell)

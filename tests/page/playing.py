@@ -22,8 +22,8 @@ TOWERS = f'towers:{ID}'
 #: A game of Unequal whose first square is the least of three.
 UNEQUAL = 'unequal:3:0,0L,0L,0U,0,0,0U,0,0,'
 
-#: What is done, as `Player.look` has it: keys; or what is clicked, and how, if not by the left button. And keys with Control, or others.
-ACTS = re.compile(r'([^{]+)|\{(?:(tap|hold|right|enter|menu|switch|load|forget)\b ?)?([^}]*)\}')
+#: The acts, as `Player.look` has them: keys; or the place of a click, and how, if not by the left button. And keys with Control, or others.
+ACTS = re.compile(r'([^{]+)|\{(?:(tap|hold|right|enter|menu|switch|load|reload|forget)\b ?)?([^}]*)\}')
 KEYS = re.compile(r'<ctrl-(.)>|((?:<(?!ctrl-)[a-z]+>|[^<])+)')
 KEY = re.compile(r'<(up|down|left|right)>|<([a-z]+)>|(.)')
 
@@ -38,7 +38,7 @@ NOTHING_MORE = 'Storage.prototype.setItem = IDBObjectStore.prototype.put = () =>
 
 #: Clears the database that has each change, too. The page writes nothing into it any more. Deleting it would wait for pages that WebKit hasn't left yet.
 NO_JOURNAL = """new Promise((done) => {
-  const request = indexedDB.open("puzzles");
+  const request = indexedDB.open("verified-puzzles");
   IDBObjectStore.prototype.put = () => undefined;
   request.onupgradeneeded = () => request.result.createObjectStore("texts");
   request.onerror = () => done(true);
@@ -65,12 +65,12 @@ class Player(Seen):
             return f'[data-place="{what}"]'
         return f'[data-number="{what}"]' if what.isdigit() else what if what[0] in '#.[' else self._button(what)
 
-    def _button(self, text: str) -> str:
+    def _button(self, text: str, among: str = 'button') -> str:
         """The selector of a button with that text, among those that are seen."""
         found = self.value(
-            f'((nodes) => {{ const node = nodes.find((one) => one.textContent.trim() === {json.dumps(text)} && one.getClientRects().length);'
-            ' if (node) { nodes.forEach((one) => one.removeAttribute("data-test")); node.dataset.test = "it"; } return Boolean(node); })'
-            '([...document.querySelectorAll("button")])'
+            f'((all, node = all("{among}").find((one) => one.textContent.trim() === {json.dumps(text)} && one.getClientRects().length)) => {{'
+            ' if (node) { all("[data-test]").forEach((one) => one.removeAttribute("data-test")); node.dataset.test = "it"; } return Boolean(node); })'
+            '((selector) => [...document.querySelectorAll(selector)])'
         )
         assert found, f'no button {text}'
         return '[data-test=it]'
@@ -106,15 +106,18 @@ class Player(Seen):
     def look(self, does: str, *names: str, **waits: str) -> None:
         """Does something, and waits until squares have these names, and for more by `waits`, as `told='Right.'`.
 
-        Keys are those of `press`. What is clicked stands in braces: a square or clue by its place `{1,0}`, a number of the pad `{2}`, a button by its text
+        Keys are those of `press`. The place of a click stands in braces: a square or clue by its place `{1,0}`, a number of the pad `{2}`, a button by its text
         `{Hint}`, or anything by its selector `{#offer}`; touched or held with `tap` or `hold` ahead, or clicked by the other button with `right`.
-        `{enter ..}`, `{menu Pause}`, `{switch Show equal numbers}`, `{load}` and `{forget}` do what these methods do, and `{#desk-size = 5}` writes.
+        `{enter ..}`, `{menu Pause}`, `{switch Show equal numbers}`, `{load}` and `{forget}` do what these methods do, `{reload}` what the
+        driver's does, and `{#desk-size = 5}` writes.
         """
         for keys, how, what in ACTS.findall(does):
             if keys:
                 self.press(keys)
             elif how in ('enter', 'menu', 'switch', 'load', 'forget'):
                 getattr(self, how)(what)
+            elif how == 'reload':
+                self.driver.reload(THERE)
             elif ' = ' in what:
                 self.write(*what.split(' = '))
             elif how == 'right':
@@ -127,7 +130,7 @@ class Player(Seen):
             self.waits(what, text)
 
     def play(self, lines: Sequence[Line]) -> None:
-        """A transcript. A run has a link and a window's name as its words, and `!` stands before a script. What is seen has `¦` between its parts: names of
+        """A transcript. A run has a link and a window's name as its words, and `!` stands before a script. The expected sight has `¦` between its parts: names of
         squares and clues, or what is waited for, as `told: Right.`
         """
         for kind, does, seen in lines:
@@ -168,9 +171,10 @@ class Player(Seen):
         self.driver.wait_for('localStorage.length + sessionStorage.length === 0 || (localStorage.clear(), sessionStorage.clear())')
 
     def menu(self, text: str) -> None:
-        """A button of the menu."""
+        """A button of the menu, as Enter presses it: what lies behind has the same text sometimes, as the offer of a first visit, which goes with the first move."""
         self.look('{Menu}', is_shown='#menu')
-        self.look(f'{{{text}}}')
+        self._button(text, '#menu button')
+        self.enter('[data-test=it]')
 
     def switch(self, text: str) -> None:
         """A setting of the menu, which is left then."""

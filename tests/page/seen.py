@@ -1,4 +1,4 @@
-"""What is seen of the page, and what the browser keeps of it."""
+"""The page as it is seen, and the texts that the browser keeps of it."""
 
 import json
 import re
@@ -6,11 +6,15 @@ from typing import Any, Dict, List, Sequence, Tuple
 
 from tests.harness import Driver
 
-#: What is kept in the browser begins so.
+#: The name of each text that is kept in the browser begins so.
 OURS = 'puzzles:'
 
 #: Until what was asked for so far is done and seen: the clock of the frames goes on twice.
 PAINTED = 'new Promise((done) => requestAnimationFrame(() => requestAnimationFrame(() => done(true))))'
+
+
+#: The database that has each change beside the browser's store.
+JOURNAL = 'verified-puzzles'
 
 
 def at(x: int, y: int) -> str:
@@ -23,8 +27,8 @@ def place_of(name: str) -> str:
     return at(int(found.get('column', 0)) - 1, int(found.get('row', 0)) - 1)
 
 
-#: What is waited for: that a text is told, stands below the title, is the title, stands on a page of text, is the desk's verdict, is among its grounds, or
-#: is said to readers of screens.
+#: The conditions that are waited for: that a text is told, stands below the title, is the title, stands on a page of text, is the desk's verdict, is among
+#: its grounds, or is said to readers of screens.
 WAITS = {
     'told': ('#told', '.includes({})'),
     'counts': ('#count', '.includes({})'),
@@ -37,7 +41,7 @@ WAITS = {
 
 
 class Seen:
-    """What is seen of one page in one browser, and what that browser keeps."""
+    """One page as it is seen in one browser, and the texts that that browser keeps."""
 
     def __init__(self, driver: Driver, address: str) -> None:
         self.driver = driver
@@ -50,7 +54,7 @@ class Seen:
         return str(self.value(f'document.querySelector({json.dumps(selector)}).textContent'))
 
     def name(self, name: str) -> str:
-        """What the square or clue of a name is called now."""
+        """The present name of the square or clue of a name."""
         return str(self.value(f'document.querySelector({json.dumps(place_of(name))}).getAttribute("aria-label")'))
 
     def chosen(self) -> Tuple[int, int]:

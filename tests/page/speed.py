@@ -7,7 +7,7 @@ import time
 from pathlib import Path
 from typing import Callable, Iterator, List
 
-from tests.harness import TOP, Browser, Room
+from tests.harness import HEAD, TOP, Browser, Room
 from tests.page.playing import PHONE, Player
 from tests.page.seen import at
 
@@ -47,7 +47,18 @@ HINT = """new Promise((done) => {
   document.querySelector('[data-do=hint]').click();
 })"""
 
+#: From a key, which puts another number into the first square, to its paint.
+KEY = """new Promise((done) => {
+  const begin = performance.now(), node = document.querySelector('[data-place="0,0"]'), key = node.getAttribute('aria-label').includes(', 1') ? '2' : '1';
+  const watch = new MutationObserver(() => { watch.disconnect(); painted(() => done(performance.now() - begin)); });
+  watch.observe(node, {attributes: true, attributeFilter: ['aria-label']});
+  node.dispatchEvent(new KeyboardEvent('keydown', {key, bubbles: true}));
+})"""
+
 RUNS = 20
+
+#: How many states a long game has.
+STATES = (100, 10_000)
 
 #: Setters' sessions, as bench/time_answers has them, and so many changes of them at most.
 CHANGES, MOST_CHANGES = TOP / 'bench' / 'changes.txt', 1000
@@ -95,6 +106,15 @@ def taps(player: Player, size: int, words: List[int]) -> Iterator[float]:
         yield float(player.value('window.ruled'))
 
 
+def keys(player: Player, states: int) -> List[float]:
+    """Each in a game of so many states."""
+    player.load('towers-4-easy-7')
+    moves = b''.join(b'MOVE    :6:R0,0,%d\n' % (1 + number % 2) for number in range(states))
+    player.drop(HEAD + b'NSTATES :%d:%d\nSTATEPOS:%d:%d\n' % (*[len(str(states + 1)), states + 1] * 2,) + moves, called='Towers 3×3')
+    player.driver.click(at(0, 0))
+    return times(RUNS, lambda _: float(player.value(f'new Promise((done) => setTimeout(done, 100)).then(() => {KEY})')))
+
+
 def main(page: str) -> None:
     with Room() as room, Browser(room) as browser:
         browser.ask('Page.addScriptToEvaluateOnNewDocument', source=WATCH)
@@ -128,6 +148,8 @@ def main(page: str) -> None:
         told('tap to painted square', [found for found in times(5 * RUNS, tap) if found])
         player.load('towers-9-hard-7')
         told('hint', times(RUNS, hint))
+        for states in STATES:
+            told(f'key to painted square, {states} states', keys(player, states))
         told('verdict', list(itertools.islice(verdicts(player), MOST_CHANGES)))
 
 

@@ -81,7 +81,7 @@ def test_refused_links(player: Player) -> None:
         player.look(f'{{load {link}}}', counts='0 of', games='1')
         player.settles()
         assert player.text('#told').startswith(said), link
-        assert player.value('document.images.length + document.scripts.length') == 3, link
+        assert player.value('document.images.length + document.scripts.length') == 4, link
     player.forget()
     player.look('{load}', told='Choose a square, then a number.')
 
@@ -123,7 +123,7 @@ def test_no_worker(scripted: Scripted, browser: Browser, script: str) -> None:
 
 
 def test_fault_of_the_page(piped: Player, browser: Browser) -> None:
-    """What nobody expected is said."""
+    """A fault that nobody expected is said."""
     piped.sit(TOWERS)
     piped.value('(Promise.reject(new Error("unexpected")), true)')
     piped.look('', told='Something failed on this page.')

@@ -15,7 +15,7 @@ NEXT, BACK, END = (f'[data-do={name}].card' for name in ('new', 'back', 'quit'))
 
 
 def learn(player: Player) -> List[Dict[str, Any]]:
-    """Makes a move in the game, and begins the course. What is kept then."""
+    """Makes a move in the game, and begins the course. The games that are kept then."""
     # With that what is offered at first is gone.
     player.look('2', 'row 1, column 1, 2..')
     kept = player.kept()

@@ -12,19 +12,19 @@ from tests.page.playing import LAPTOP, PHONE, SMALL, TOWERS, UNEQUAL, Player
 from tests.page.seen import at
 from tests.page.test_keyboard import send
 
-NONE, ONE, SEVERAL = '✗ No solution', '✓ Exactly one solution', '≥2 Several solutions'
+NONE, ONE, SEVERAL, BLANK = '✗ No solution', '✓ Exactly one solution', '≥2 Several solutions', 'Type in a printed puzzle'
 
 #: The neighbours of a square: the key that goes there, and the button of the sign.
 WAYS = {(-1, 0): ('ArrowLeft', 'left'), (0, -1): ('ArrowUp', 'above'), (0, 1): ('ArrowDown', 'below'), (1, 0): ('ArrowRight', 'right')}
 
-#: What another version may have kept.
+#: A draft that another version may have kept.
 UNREAD = '{"turn":9,"format":2}'
 
 
 def sit(player: Player, link: str, window: Tuple[int, int] = LAPTOP, size: int = 3) -> None:
     """At the desk, with a board without items."""
     player.sit(link, window)
-    player.look('{menu Check or set a puzzle}', ruled=SEVERAL)
+    player.look('{menu Check or set a puzzle}', ruled=BLANK)
     if size != 3:
         player.write('#desk-size', str(size))
         player.has(size**2, '.square')
@@ -37,7 +37,7 @@ def items(programs: Programs, game: str, id: str) -> Dict[str, Any]:
 
 
 def draft(player: Player, game: str) -> Dict[str, Any]:
-    """What is kept of a draft."""
+    """The kept members of a draft."""
     return dict(json.loads(player.value(f'localStorage["puzzles:draft:{game}"]')))
 
 
@@ -86,3 +86,47 @@ def test_sign_beside_its_middle(piped: Player) -> None:
     sit(piped, UNEQUAL, PHONE, 4)
     piped.look('{tap 1,3}{tap 4}{tap [data-sign="9-13"]}', 'row 3, column 2, empty, greater than below, wrong..', ruled=NONE)
     piped.look('{tap [data-sign="9-13"]}', 'row 3, column 2, empty, less than below..', ruled=SEVERAL)
+
+
+#: Keys at the chosen square, what this is called then, and where it is said that the sign stands.
+READ = [
+    ('<', 'less than right', 'r1c3 < r1c4'),
+    ('>', 'greater than right', 'r1c3 > r1c4'),
+    ('v', 'greater than right, greater than below', 'r1c3 > r2c3'),
+    ('^', 'greater than right, less than below', 'r1c3 < r2c3'),
+    ('^', 'greater than right', 'no sign between r1c3 and r2c3'),
+]
+
+
+def test_sign_where_it_is_read(player: Player) -> None:
+    """Typed from left to right it stands right of the square, or below it; where no square is there that is said."""
+    sit(player, UNEQUAL, size=4)
+    player.go_to(2, 0)
+    for key, name, said in READ:
+        send(player, {'key': key})
+        player.look('', f'row 1, column 3, empty, {name}', counts=said)
+    player.go_to(3, 0)
+    send(player, {'key': '<'})
+    player.look('', told='No square is there: < and > stand right of the chosen square, ^ and v below it.')
+    player.look('{[data-sign="2-3"]}', counts='r1c3 < r1c4')
+
+
+def test_reload(player: Player) -> None:
+    """It stays at the desk, with the other game's draft; once that is left it stays at the game."""
+    sit(player, TOWERS)
+    player.look('{#desk-game = unequal}', counts='0 signs')
+    player.look('{0,0}2', ruled=SEVERAL)
+    player.driver.reload('document.querySelector("[data-place]")')
+    player.look('', counts='0 signs · 1 given', ruled=SEVERAL)
+    player.look('{Close}', called='Towers 3×3')
+    player.driver.reload('document.querySelector("[data-place]")')
+    player.look('', called='Towers 3×3', is_gone='#verdict')
+
+
+def test_first_screen(piped: Player) -> None:
+    """On a small phone one needn't scroll to what the verdict leads to."""
+    for link in (TOWERS, 'unequal-9-easy-7'):
+        piped.sit(link, (360, 640))
+        piped.look('{menu Check or set a puzzle}', ruled=BLANK)
+        piped.look('{More}{My game}', ruled=ONE, grounds='grade')
+        piped.driver.wait_for('[...document.querySelectorAll("#by-verdict button")].every((node) => node.getBoundingClientRect().bottom <= innerHeight)')

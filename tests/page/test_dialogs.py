@@ -6,7 +6,7 @@ import pytest
 
 from tests.page.playing import PHONE, TOWERS, Player, Scripted
 
-#: What is written under New, and how it is refused, at which field.
+#: The texts that are written under New, and how it is refused, at which field.
 REFUSED: List[Tuple[Dict[str, str], str, str]] = [
     ({'number': '12a'}, 'number', 'The number of a game goes from 0 to'),
     ({'number': '12 34'}, 'number', 'The number of a game goes from 0 to'),
@@ -25,7 +25,7 @@ FIELDS = ['game', 'size', 'grade', 'number', 'id']
 
 @pytest.mark.parametrize('written, field, said', REFUSED, ids=[' '.join(written.values()) for written, _, _ in REFUSED])
 def test_new_stays(player: Player, written: Dict[str, str], field: str, said: str) -> None:
-    """What is wrong is said at its field, and all that was chosen stays; once it is right, the game begins."""
+    """A mistake is said at its field, and all that was chosen stays; once it is right, the game begins."""
     player.sit(TOWERS, PHONE)
     player.look('n', is_shown='#fresh')
     chosen = {'game': 'unequal', 'size': '4', 'grade': 'k', 'number': '', 'id': '', **written}
@@ -42,7 +42,7 @@ def test_new_stays(player: Player, written: Dict[str, str], field: str, said: st
     assert player.value('[...document.querySelectorAll("#fresh input")].map((node) => [node.value, node.validity.valid])')[:2] == [['', True], ['', True]]
 
 
-#: What the page does once a second is done by us.
+#: The page's work of each second is done by us.
 CLOCK = """
 const plain = window.setInterval;
 window.setInterval = (act, time) => (time === 1000 ? (window.second = act, 0) : plain(act, time));

@@ -1,4 +1,4 @@
-"""What may go wrong: the module ends in a trap, works for too long, or has no memory; and saves and names from people who mean ill."""
+"""The faults that may come: the module ends in a trap, works for too long, or has no memory; and saves and names from people who mean ill."""
 
 import json
 from pathlib import Path
@@ -9,7 +9,8 @@ import pytest
 from tests.harness import Browser, Driver, Room, save_text
 from tests.page.playing import PHONE, TOWERS, UNEQUAL, Player
 
-#: Before and after the text of the worker: some lines fail as the engine fails, one takes forever, and what is put in at the desk takes a while.
+#: Before and after the text of the worker: some lines fail as the engine fails, one in the worker itself, one takes forever, and what is put in at the
+#: desk takes a while.
 BEFORE = """
 const make = WebAssembly.instantiate;
 let line = '';
@@ -24,6 +25,7 @@ const answer = self.onmessage;
 self.onmessage = (event) => {
   const end = Date.now() + 700;
   [line = ''] = event.data.lines ?? [];
+  if (line === 'move R2,0,2') throw new Error('the worker fails');
   while (line === 'completable' || line.startsWith('item') && Date.now() < end) Math.random();
   return answer(event);
 };
@@ -50,6 +52,13 @@ def test_trap(failing: Player) -> None:
     failing.look('3<down>1', 'row 1, column 2, 3', 'row 2, column 2, 1', moved='R0,0,1 R1,0,3 R1,1,1')
 
 
+def test_worker_fails(failing: Player) -> None:
+    """The same, where it isn't the module that fails."""
+    failing.sit(TOWERS)
+    failing.look('1<right><right>2', told='The program failed at that. It has begun anew, and the game is as it was.')
+    failing.look('3<left>3', 'row 1, column 3, 3..', 'row 1, column 2, 3..', moved='R0,0,1 R2,0,3 R1,0,3')
+
+
 def test_stopped(failing: Player) -> None:
     """A search that takes long is said to, the page isn't stopped by it, and its player ends it."""
     failing.sit(TOWERS, PHONE)
@@ -60,7 +69,7 @@ def test_stopped(failing: Player) -> None:
 
 
 def test_slow_desk(failing: Player) -> None:
-    """What is put in is there, however long that takes and whatever is pressed meanwhile."""
+    """A text that is put in is there, however long that takes and whatever is pressed meanwhile."""
     failing.sit(TOWERS)
     failing.look('{menu Check or set a puzzle}', counts='0 given')
     failing.go_to(0, 0)
@@ -84,7 +93,7 @@ def test_names_are_text(player: Player) -> None:
     assert player.value('document.images.length') == 0 and player.value('document.title') == 'Towers 3×3'
 
 
-#: What another page from the same disk may have written where ours keeps its games.
+#: The texts that another page from the same disk may have written where ours keeps its games.
 SPOILED: List[Tuple[str, str]] = [
     ('puzzles:now', '<img src=x>'),
     ('puzzles:game:a', 'no object'),

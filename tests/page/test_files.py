@@ -54,7 +54,7 @@ def test_broken_text(player: Player) -> None:
     assert player.value('localStorage["puzzles:game:b"]') == text
 
 
-#: What a file may say of a game, and what comes of that.
+#: The words that a file may have of a game, and the words that the page makes of them.
 BOUNDS: List[Tuple[Dict[str, Any], str]] = [
     ({'turn': 2**53}, '1 can’t be read'),
     ({'turn': 2**40}, '1 can’t be read'),
@@ -105,7 +105,7 @@ def test_import_joins(player: Player) -> None:
     player.keeps([0, 1, 2])
 
 
-#: What is dropped that is no save of these games, and what is said.
+#: Dropped files that are no saves of these games, and the sentences on them.
 BAD_FILES: List[Tuple[Union[bytes, int], str]] = [
     (b'', 'This is not a save file of the collection'),
     (b'no save', 'This is not a save file of the collection'),

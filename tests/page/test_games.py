@@ -45,7 +45,7 @@ def test_whole_game(  # pylint: disable=too-many-arguments
 
 #: Transcripts of which `make test` has enough.
 ALWAYS = [
-    'course: whoever comes for the first time is offered the course in a line that goes away with the first move; it is offered to nobody again',
+    'course: a player who comes for the first time is offered the course in a line that goes away with the first move; it is offered to nobody again',
     'desk: several, none and one, with their grounds; the steps on the board; and each change is undone',
     'games: a hint in three presses: where to look, the step and what it shows, the number',
     'games: keys are those of the board in a terminal',

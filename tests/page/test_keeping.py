@@ -1,4 +1,4 @@
-"""What the browser keeps: every game that was begun, the settings, and what was solved; in several tabs, as files, and where it keeps nothing."""
+"""The things that the browser keeps: every game that was begun, the settings, and what was solved; in several tabs, as files, and where it keeps nothing."""
 
 import datetime
 import json
@@ -74,6 +74,26 @@ def test_behind(player: Player) -> None:
     player.look('', 'row 1, column 3, 3', told='Another tab has made a move in between', moved='R0,0,1 R1,0,2 R2,0,3')
 
 
+#: Counts how often games are read and written as texts.
+COUNTED = """
+window.counts = {parse: 0, stringify: 0};
+const {parse, stringify} = JSON, count = (kind, text) => { if (String(text).includes('SAVEFILE')) window.counts[kind]++; };
+JSON.parse = (text, ...words) => { count('parse', text); return parse(text, ...words); };
+JSON.stringify = (...words) => { const text = stringify(...words); count('stringify', text); return text; };
+"""
+
+
+def test_reads(scripted: Scripted) -> None:
+    """A move reads its game once at most, and writes it once, since a long one takes a while."""
+    player = scripted(COUNTED)
+    player.load(TOWERS)
+    player.look('1', 'row 1, column 1, 1')
+    for number in '212':
+        player.value('(window.counts.parse = window.counts.stringify = 0, true)')
+        player.look(number, f'row 1, column 1, {number}')
+        assert player.value('[window.counts.parse < 2, window.counts.stringify]') == [True, 1]
+
+
 #: Notes whether the page asks for its store first, or its worker answers.
 ORDERED = """
 window.order = [];
@@ -96,13 +116,19 @@ def test_worker_comes_first(scripted: Scripted) -> None:
 REFUSED = 'Object.defineProperty(window, "localStorage", {get() { throw new DOMException("", "SecurityError"); }});'
 FULL = 'Storage.prototype.setItem = () => { throw new DOMException("", "QuotaExceededError"); };'
 
+#: And it has no database for the page.
+NO_DATABASE = 'IDBFactory.prototype.open = () => { throw new DOMException("", "UnknownError"); };'
+
 
 @pytest.mark.parametrize('script, said', [(REFUSED, 'keeps nothing for this page'), (FULL, 'has no room left')], ids=['refused', 'full'])
 def test_nothing_is_kept(scripted: Scripted, script: str, said: str) -> None:
-    """It is said, and play goes on."""
-    player = scripted(script)
+    """It is said, and in the menu, too, and play goes on."""
+    player = scripted(script + NO_DATABASE)
     player.load(TOWERS)
     player.look('', told=said)
+    player.look('{Menu}', is_shown='#menu')
+    assert said in player.text('#about')
+    player.leaves('#menu')
     player.look('1<right>2u', 'row 1, column 1, 1', 'row 1, column 2, empty', told=said)
     player.begin('Unequal 3×3', id=UNEQUAL)
     player.press('o')

@@ -34,6 +34,7 @@ PRESSED: List[Pressed] = [
     Pressed('2 where another layout has it', '2', 'Digit7', TWO),
     Pressed('u in Greek', 'υ', 'KeyU', EMPTY),
     Pressed('u where French has it', 'u', 'KeyU', EMPTY),
+    Pressed('x in Russian, after the steps of a hint', 'ч', 'KeyX', f'{EMPTY}, marks 1', '1uhh'),
     Pressed('Ctrl-Z', 'z', 'KeyZ', EMPTY, more=CONTROL),
     Pressed('Ctrl-Z with capitals locked', 'Z', 'KeyZ', EMPTY, more=CONTROL),
     Pressed('Ctrl-Z in Russian', 'я', 'KeyZ', EMPTY, more=CONTROL),

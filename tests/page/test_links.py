@@ -1,4 +1,4 @@
-"""What a player gives to others: the link to a game, the ID, and how it was solved, which shows nothing of the solution."""
+"""The texts that a player gives to others: the link to a game, the ID, and how it was solved, which shows nothing of the solution."""
 
 import datetime
 import json

@@ -15,13 +15,14 @@ import pytest
 
 from playing.cards import CARDS
 from playing.games import SIZES, stored
-from tests.harness import BLANK, Browser, by_name
+from tests.harness import BLANK, TOP, Browser, by_name
+from tests.harness.noted import expect_noted
 from tests.page.conftest import ALL
 from tests.page.playing import LAPTOP, PHONE, SMALL, TOWERS, UNEQUAL, Player
 
 PICTURES = Path(__file__).resolve().parent / 'pictures'
 
-#: What is seen of the page, and of what kind.
+#: The parts of the page that are seen, by their kind.
 SEEN = '[...document.querySelectorAll("{}")].filter(node => node.getClientRects().length)'
 
 #: Scripts by what they check: each gives a list of what is wrong.
@@ -37,7 +38,8 @@ CHECKS: Dict[str, str] = {
     'squares in rows in a board': '[...document.querySelectorAll("[role=gridcell]")].filter(node => node.parentNode.getAttribute("role") !== "row"'
     ' || node.parentNode.parentNode.getAttribute("role") !== "grid").map(node => node.outerHTML)',
     'digits are not read twice': '[...document.querySelectorAll("#board text")].filter(node => node.getAttribute("aria-hidden") !== "true").map(node => node.outerHTML)',
-    'two places where things are announced': '[document.querySelectorAll("[role=status]").length].filter(count => count !== 2)',
+    'two places where things are announced':
+    '[[...document.querySelectorAll("[role=status]")].filter(one => !one.closest("dialog, [hidden]")).length].filter(count => count !== 2)',
     'names of dialogs': '[...document.querySelectorAll("dialog")].filter(node => !document.getElementById(node.getAttribute("aria-labelledby"))).map(node => node.id)',
     'groups with names': '[...document.querySelectorAll("[role=group], section")].filter(node => !node.ariaLabel).map(node => node.outerHTML)',
     'no width to scroll': '[document.documentElement.scrollWidth - innerWidth].filter(more => more > 0)',
@@ -67,6 +69,8 @@ def test_checks(piped: Player, game: str, window: Tuple[int, int]) -> None:
         assert wrong(piped) == [], size
     piped.look('mH', is_shown='#walk')
     assert wrong(piped) == []
+    piped.look('{#steps li:last-child button}', is_shown='#keep')
+    assert wrong(piped) == []
     piped.press('<escape>')
     for key, dialog in [('n', '#fresh'), ('o', '#games'), ('t', '#daily'), ('?', '#rules'), ('i', '#page'), (':', '#ask'), ('S', '#ask')]:
         piped.look(key, is_shown=dialog)
@@ -74,6 +78,12 @@ def test_checks(piped: Player, game: str, window: Tuple[int, int]) -> None:
         piped.leaves(dialog)
     piped.look('{menu Check or set a puzzle}', counts='0 given')
     assert wrong(piped) == []
+    piped.look('{More}', is_shown='#desk-menu')
+    assert wrong(piped) == []
+    piped.look('{My game}', ruled='✓ Exactly one solution')
+    piped.look('{Thin out}', is_shown='#thin')
+    assert wrong(piped) == []
+    piped.leaves('#thin')
     piped.look('E', is_gone='#verdict')
     piped.look('{Menu}', is_shown='#menu')
     assert wrong(piped) == []
@@ -91,7 +101,7 @@ def wrong(player: Player) -> List[Any]:
 
 @pytest.mark.always
 def test_tree(piped: Player, browser: Browser) -> None:
-    """What the browser tells a reader of screens."""
+    """The names that the browser tells a reader of screens."""
     piped.sit(TOWERS)
     piped.look('p13<up>d', 'clue 3 above column 1, done')
     browser.ask('Accessibility.enable')
@@ -142,8 +152,30 @@ def test_messages_cover_nothing(piped: Player) -> None:
     piped.driver.wait_for('document.querySelector("#message").classList.contains("fading")')
 
 
+#: How well a line is told from what is behind it, as WCAG counts it: 3 at least.
+CONTRAST = """((selector, behind) => {
+  const bright = (colour) => {
+    const [r, g, b] = colour.match(/[0-9.]+/g).slice(0, 3).map((part) => part / 255).map((part) => (part <= 0.04045 ? part / 12.92 : ((part + 0.055) / 1.055) ** 2.4));
+    return 0.2126 * r + 0.7152 * g + 0.0722 * b + 0.05;
+  };
+  const nodes = [...document.querySelectorAll(selector)], line = bright(getComputedStyle(nodes[0]).stroke), ground = bright(behind(nodes[0]));
+  return Math.max(line, ground) / Math.min(line, ground);
+})"""
+
+
+@pytest.mark.parametrize('features', [{}, {'prefers-color-scheme': 'dark'}, {'forced-colors': 'active'}], ids=['light', 'dark', 'forced'])
+def test_contrast(piped: Player, browser: Browser, features: Dict[str, str]) -> None:
+    """A number that a step strikes, and a possible mistake, are seen well, in whatever colours. It isn't red: that unit/red.test.mjs tries."""
+    piped.sit('towers:5!7', LAPTOP)
+    browser.media('', features)
+    piped.look('hh', told='Clue 4 left of row 2')
+    assert piped.value(f'{CONTRAST}(".cross", (node) => getComputedStyle(node.parentNode.querySelector("rect")).fill)') >= 3
+    setting(piped)
+    assert piped.value(f'{CONTRAST}(".blamed", () => getComputedStyle(document.documentElement).backgroundColor)') >= 3
+
+
 class Picture(NamedTuple):
-    """A state of the page: its link, the window, what is done, and what the page is shown on."""
+    """A state of the page: its link, the window, what is done, and what the page is shown on; and the folder, if it is a document's."""
 
     name: str
     link: str
@@ -151,6 +183,7 @@ class Picture(NamedTuple):
     act: Callable[[Player], object] = lambda player: None
     features: Dict[str, str] = {}
     kind: str = ''
+    folder: Path = PICTURES
 
 
 def play(keys: str) -> Callable[[Player], object]:
@@ -206,8 +239,8 @@ ALL_PICTURES: List[Picture] = [
     Picture('unequal-9-phone-dark', puzzle('unequal', 9), PHONE, play('m3<down>'), DARK),
     Picture('towers-4-small', puzzle('towers', 4), SMALL, play('4<down>4')),
     Picture('forced-colours', UNEQUAL, (800, 480), play('3<right>3p'), FORCED_COLOURS),
-    Picture('hint-look', 'towers:5!7', PHONE, play('h')),
-    Picture('hint-reason', 'towers:5!7', LAPTOP, play('hh')),
+    Picture('hint-look', 'towers:5!7', PHONE, lambda player: player.look('h', told='Look at clue 4')),
+    Picture('page', 'towers:5!7', LAPTOP, lambda player: player.look('hh', told='So r2c1 is 1'), folder=TOP / 'docs'),
     Picture('why-phone', 'unequal:5!7', PHONE, play('H<down>')),
     Picture('new-game', TOWERS, SMALL, lambda player: player.look('n', is_shown='#fresh')),
     Picture('menu', UNEQUAL, PHONE, lambda player: player.look('{Menu}')),
@@ -224,7 +257,12 @@ ALL_PICTURES: List[Picture] = [
 #: The part of its points in which a picture may be otherwise, since fonts are.
 MOST_OTHER = 0.06
 
-#: What part of the points of two pictures differs; nothing less than all where their sizes do.
+#: All that is to be read, and the colours of the board.
+TO_BE_SEEN = """
+[document.body.innerText, ...new Set([...document.querySelectorAll('#board svg *')].map(node => getComputedStyle(node)).map(({fill, stroke}) => fill + stroke).sort())]
+"""
+
+#: The part of the points in which two pictures differ: all where their sizes do.
 COMPARE = """
 (async () => {
   const points = async (data) => {
@@ -252,8 +290,10 @@ def test_picture(piped: Player, browser: Browser, picture: Picture) -> None:
     picture.act(piped)
     piped.settles()
     shown = browser.picture()
-    path = PICTURES / f'{picture.name}.png'
-    if os.environ.get('PICTURES') == 'new':
+    path = picture.folder / f'{picture.name}.png'
+    if picture.folder is not PICTURES:
+        expect_noted(path, ' '.join(' '.join(piped.value(TO_BE_SEEN)).split()), lambda: shown)
+    elif os.environ.get('PICTURES') == 'new':
         path.write_bytes(shown)
     browser.go(BLANK)
     data = [json.dumps(base64.b64encode(content).decode()) for content in (shown, path.read_bytes())]

@@ -51,7 +51,7 @@ def test_types(room: Room) -> None:
 @pytest.mark.always
 def test_units() -> None:
     """By node's own runner."""
-    names = sorted(str(path) for path in UNITS.glob('*.mjs'))
+    names = sorted(str(path) for path in UNITS.glob('*.test.mjs'))
     ended = subprocess.run([found('node', 'nodejs'), '--test', *names], capture_output=True, check=False, timeout=120)
     told = ended.stdout.decode()
     assert ended.returncode == 0, told[-3000:]
@@ -84,6 +84,8 @@ def test_all_keys() -> None:
     names = {'enter': 'Enter', 'backspace': 'Backspace', 'delete': 'Delete'}
     wanted = {names.get(key, key): OTHERWISE.get(action, action) for key, action in keys.ACTIONS.items() if key >= ' '}
     assert {key: own.get(key) for key in wanted} == wanted
+    # The board's key for this goes up on the page.
+    assert own['x'] == keys.TERMINAL[keys.KEEP]
     acted = words_of('ACTIONS', 'actions.js', r'^  (?:async )?(\w+)(?:\(|:)()')
     assert set(own.values()) <= set(acted)
 
@@ -98,7 +100,8 @@ def words_of(name: str, module: str, entry: str = r"(?:'([^']+)'|\b(\w+)): '(\w+
 @pytest.mark.always
 def test_sentences_stand_together() -> None:
     """A sentence has a capital letter, some words, and an end. Faults of the page itself, which no player sees, stand where they are."""
-    others = [path for path in modules() if path.name not in ('texts.js', 'desk_texts.js', 'shared_texts.js', 'rules_texts.js', 'module.js', 'worker.js', 'turns.js')]
+    texts = ('texts.js', 'desk_texts.js', 'shared_texts.js', 'rules_texts.js', 'sheet_texts.js', 'sheet_tables.js')
+    others = [path for path in modules() if path.name not in (*texts, 'module.js', 'worker.js', 'turns.js')]
     code = {path.name: re.sub(r'^\s*(//|/\*|\*).*$', '', path.read_text(encoding='utf-8'), flags=re.MULTILINE) for path in others}
     sentence = re.compile(r"['`][A-Z][^'`\n]* [^'`\n]* [^'`\n]*[.?!:]['`]")
     assert not [(name, text) for name, content in code.items() for text in sentence.findall(content)]

@@ -7,7 +7,7 @@ from tests.page.conftest import serving
 from tests.page.playing import Player
 from web_build.site import files
 
-#: What the script has kept, once it is at work.
+#: The files that the script has kept, once it is at work.
 KEPT = 'navigator.serviceWorker.ready.then(() => caches.keys()).then((names) => caches.open(names[0])).then((kept) => kept.keys()).then((all) => all.length)'
 
 

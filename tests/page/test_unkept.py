@@ -7,8 +7,8 @@ import pytest
 
 from tests.harness import HEAD, Browser
 from tests.page.playing import PHONE, TOWERS, UNEQUAL, Player, Scripted
-from tests.page.seen import at
-from tests.page.test_keeping import FULL, REFUSED
+from tests.page.seen import JOURNAL, at
+from tests.page.test_keeping import FULL, NO_DATABASE, REFUSED
 
 #: A game that takes much room.
 MOVES = 4_000
@@ -25,6 +25,9 @@ FILL = """((left) => {
 })"""
 
 NO_ROOM = 'has no room left'
+
+#: Nor has the database any.
+NO_MORE = 'IDBObjectStore.prototype.put = () => { throw new DOMException("", "QuotaExceededError"); }'
 
 
 def from_list(player: Player, title: str) -> None:
@@ -46,6 +49,7 @@ def test_room_again(player: Player) -> None:
     player.drop(LARGE)
     player.look('', called='Towers 3×3')
     player.value(f'{FILL}(0)')
+    player.value(f'({NO_MORE}, true)')
     from_list(player, 'Towers 4×4')
     player.driver.click(at(*player.value('document.querySelector("[aria-label$=empty]").dataset.place').split(',')))
     player.look('123', told=NO_ROOM)
@@ -58,7 +62,9 @@ def test_room_again(player: Player) -> None:
     assert found == [3]
 
 
-@pytest.mark.parametrize('script, asked', [('', []), (REFUSED, ['beforeunload']), (FULL, ['beforeunload'])], ids=['kept', 'refused', 'full'])
+@pytest.mark.parametrize(
+    'script, asked', [('', []), (REFUSED + NO_DATABASE, ['beforeunload']), (FULL + NO_DATABASE, ['beforeunload'])], ids=['kept', 'refused', 'full']
+)
 def test_asks_before_it_closes(scripted: Scripted, browser: Browser, script: str, asked: List[str]) -> None:
     """While something isn't kept, and never otherwise."""
     player = scripted(script)
@@ -70,26 +76,26 @@ def test_asks_before_it_closes(scripted: Scripted, browser: Browser, script: str
 
 
 #: The texts of the database.
-JOURNAL = """new Promise((done) => {
-  indexedDB.open('puzzles').onsuccess = ({target: {result}}) => {
+TEXTS = """new Promise((done) => {
+  indexedDB.open('NAME').onsuccess = ({target: {result}}) => {
     const all = result.transaction('texts').objectStore('texts').getAll();
     all.onsuccess = () => { result.close(); done(all.result); };
   };
-})"""
+})""".replace('NAME', JOURNAL)
 
 
 def test_lost_by_the_store(player: Player) -> None:
-    """What the store has lost, as after a kill, is in the database: moves, a game, what was shown last, and settings."""
+    """The texts that the store has lost, as after a kill, are in the database: moves, a game, what was shown last, and settings."""
     player.sit(TOWERS, PHONE)
     player.value('(window.before = {...localStorage}, true)')
     player.look('1<right>2M', told='From now on, marks go')
     player.begin('Unequal 3×3', id=UNEQUAL)
     player.look('1', 'row 1, column 1, 1..')
-    player.driver.wait_for(f'{JOURNAL}.then((texts) => texts.some((text) => text.includes("Unequal") && text.includes("R0,0,1")))')
+    player.driver.wait_for(f'{TEXTS}.then((texts) => texts.some((text) => text.includes("Unequal") && text.includes("R0,0,1")))')
     player.value('(localStorage.clear(), sessionStorage.clear(), Object.assign(localStorage, window.before), Storage.prototype.setItem = () => undefined, true)')
     player.load()
     if player.text('#title') != 'Unequal 3×3' or player.name('row 1, column 1') == 'row 1, column 1, empty, less than right, less than below':
-        # The page waits two seconds for its database, and begins without it where that is late, as on a busy machine. What the database has comes into the
+        # The page waits two seconds for its database, and begins without it where that is late, as on a busy machine. The texts of the database come into the
         # store then, and is there when the page is opened in another tab.
         player.driver.wait_for('Object.values(localStorage).some((text) => text.includes("Unequal") && text.includes("R0,0,1"))')
         player.value('(sessionStorage.clear(), true)')

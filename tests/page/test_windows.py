@@ -33,6 +33,18 @@ def test_room(piped: Player, window: Tuple[int, int]) -> None:
     assert min(piped.value(ROOM)) >= 3 and piped.value('document.documentElement.scrollWidth') <= window[0]
 
 
+@pytest.mark.parametrize('window', [(280, 568), (320, 200), (360, 640), (640, 360)], ids=str)
+def test_room_for_keep(piped: Player, window: Tuple[int, int]) -> None:
+    """After the last step the button is seen whole, below its sentence, and nothing is wider than the window."""
+    piped.sit('towers-9-hard-5', window)
+    piped.look('H', is_shown='#walk')
+    piped.look('{#steps li:last-child button}', is_shown='#keep')
+    piped.settles()
+    sentence, keep = piped.value('["#steps li:last-child", "#keep"].map((name) => document.querySelector(name).getBoundingClientRect().toJSON())')
+    assert 0 <= sentence['top'] < sentence['bottom'] <= keep['top'] and keep['bottom'] < window[1] + 1
+    assert 0 <= keep['left'] and keep['right'] <= window[0] and piped.value('document.documentElement.scrollWidth') <= window[0]
+
+
 def test_paper(piped: Player, browser: Browser, room: Room) -> None:
     """The link stands where the time was, and nothing of a hint that is open; afterwards it is as it was."""
     piped.sit('towers-5-easy-7', PHONE)
@@ -96,7 +108,7 @@ FORCED = [
 
 @pytest.mark.parametrize('scheme', ['light', 'dark'])
 def test_forced_colours(piped: Player, browser: Browser, scheme: str) -> None:
-    """What is wrong is read on its mark, and a pressed button is another than the others. Equal numbers have a line, the light of a mark a ring, and row and
+    """A mistake is read on its mark, and a pressed button is another than the others. Equal numbers have a line, the light of a mark a ring, and row and
     column a ground.
     """
     piped.sit(TOWERS)

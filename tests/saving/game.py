@@ -10,7 +10,7 @@ import pytest
 from tests.harness import Ended, FaultLibrary, Folder, Room, User, run
 from tests.harness.game import ID, MOVES, left_files, save_text
 
-#: What a line on standard error says before the name of a new file that was left.
+#: The words of a line on standard error before the name of a new file that was left.
 TOLD = re.compile('^the save is in (.*/)?')
 
 

@@ -1,4 +1,4 @@
-"""4. A link stays. What it names is replaced, or made, as if it had been named itself."""
+"""4. A link stays. The file that it names is replaced, or made, as if it had been named itself."""
 
 import resource
 import signal
@@ -61,7 +61,7 @@ LOST_WAYS: List[Tuple[str, Links, str]] = [
 #: How many bytes a file may have, and what is done about the signal that says so.
 LIMITS: List[Tuple[int, List[signal.Signals]]] = [(0, [signal.SIGXFSZ]), (100, [signal.SIGXFSZ]), (0, []), (100, [])]
 
-#: What stands there before.
+#: The things that stand there before.
 OLD = [None, b'an old file']
 
 

@@ -1,4 +1,4 @@
-"""2. Who may read and write a file is as it was: its group, its owner, its mode. Never may more."""
+"""2. The right to read and write a file is as it was: its group, its owner, its mode. Never may more."""
 
 import os
 from typing import NamedTuple, Optional

@@ -1,4 +1,4 @@
-"""3. What is done to the new file is done to it alone, whatever stands at its name meanwhile, and nobody knows that name."""
+"""3. Each act on the new file is done to it alone, whatever stands at its name meanwhile, and nobody knows that name."""
 
 import os
 import re

@@ -14,11 +14,11 @@ from tests.harness.mounts import disk_in_memory
 from tests.harness.terminal import Terminal
 from tests.harness.users import plain_user
 
-#: What of the repository is copied: folders and files.
-PARTS = ['.ci', 'board', 'check', 'page', 'playing', 'sheet', 'desktop', 'tests', 'tools', 'man', 'docs', 'bench', 'programs/web']
+#: The parts of the repository that are copied: folders and files.
+PARTS = ['.ci', 'board', 'certificate', 'check', 'page', 'playing', 'sheet', 'desktop', 'tests', 'tools', 'man', 'docs', 'bench', 'programs/web']
 PARTS += ['Makefile', 'README.md', 'CHANGELOG.md', 'LICENSE', 'VERSION', 'COMMIT', '.gitattributes', '.gitignore']
 
-#: What stands for commands that the scripts call.
+#: The stand-ins for commands that the scripts call.
 STAND_INS = TOP / 'tests' / 'scripts' / 'stand_ins'
 
 
@@ -99,7 +99,7 @@ class Place:
         return Terminal(words, self.env({'TERM': 'dumb', **env}), cwd=self.path, user=self.user)
 
     def file(self, path: str) -> bytes:
-        """What is in a file of the copy; nothing where it isn't there."""
+        """The text of a file of the copy; nothing if it isn't there."""
         try:
             with open(os.path.join(self.path, path), 'rb') as file:
                 return file.read()

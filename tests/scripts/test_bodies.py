@@ -1,4 +1,4 @@
-"""What is said of wrong bodies and twins that a prover refuses here or there, or not at all."""
+"""The words on wrong bodies and twins that a prover refuses here or there, or not at all."""
 
 import os
 from typing import Dict, NamedTuple, Sequence
@@ -13,7 +13,7 @@ SOURCE = ''.join(f'// The word {n}.\nfn f{n}() {{\n    "right {n}", "just {n}"\n
 
 
 class Bodies(NamedTuple):
-    """What is in place of the right words in the wrong bodies and in their twins, by the number of the word, or 10 more for a second one of a word, or 20 more for
+    """The words in place of the right ones in the wrong bodies and in their twins, by the number of the word, or 10 more for a second one of a word, or 20 more for
     the just word beside it; the numbers of those that are marked for the gate; and what has to be said."""
 
     name: str
@@ -88,7 +88,7 @@ class Words:
         self.place.put('crates/words/wrong-bodies.edits', edits(row).encode(), 0o644)
 
     def asked(self) -> str:
-        """What the prover was asked for so far, a line for each time."""
+        """The prover's tasks so far, a line for each time."""
         return self.place.file('../words kit/asked').decode()
 
     def expect(self, says: Sequence[str], status: int = 0, words: Sequence[str] = ('words',), **env: str) -> None:
@@ -134,7 +134,7 @@ def test_libraries(words: Words) -> None:
 
 
 def test_what_is_kept(words: Words) -> None:
-    """What passed is not tried again, where nothing has changed."""
+    """An edit that passed is not tried again, if nothing has changed."""
     words.write(ROUNDS[0])
     place = words.place
     cache = os.path.join(os.path.dirname(place.path), 'kept results')

@@ -1,4 +1,4 @@
-"""What the gate says of parts that pass, fail, skip, or say nothing."""
+"""The words of the gate on parts that pass, fail, skip, or say nothing."""
 
 import os
 import re
@@ -18,7 +18,7 @@ PART = 'tools/test_bodies'
 
 
 class Gate(NamedTuple):
-    """What `rt ci` and one part of the others say and end with, and what the gate has to say of those two."""
+    """The last words and statuses of `rt ci` and one part of the others, and the words that the gate has to say of those two."""
 
     name: str
     proofs: Tuple[str, int] = (PROVED, 0)
@@ -108,10 +108,17 @@ def expect_last(ended: Ended, line: str, status: int) -> None:
 
 
 def test_both_fail(place: Place, scripts: List[str]) -> None:
-    """What fails in the tests is counted, and so is the gate after them."""
+    """A case that fails is counted, and so is the gate after them."""
     put_part(place, 'tests/run', ('1 passed, 2 failed', 1))
-    # The gate runs the tests five times more.
-    expect(place, Gate('the tests fail, and then the gate', counts=(6, 12, 0), status=1), len(scripts), ['.ci/run'])
+    # The gate runs the tests six times more.
+    expect(place, Gate('the tests fail, and then the gate', counts=(6, 14, 0), status=1), len(scripts), ['.ci/run'])
+
+
+def test_ci(place: Place, scripts: List[str]) -> None:
+    """Proofs and results that earlier runs have kept are taken there, as its first lines say, whatever the environment wants."""
+    said = place.run(['.ci/run'], env={'RT_SAYS': PROVED, **ANEW}).output.decode()
+    assert re.match(r'This gate takes from earlier runs on this machine .*make gate ANEW=1.*\n== make .* test\n', said, re.DOTALL)
+    assert re.findall('asked for (ci.*) in', said) == ['ci']
 
 
 @pytest.mark.parametrize(('help_text', 'asked'), [('rt ci [--anew]', 'ci --anew'), ('rt ci', 'ci')], ids=['a kit with the word', 'one without'])
@@ -122,3 +129,15 @@ def test_logged(place: Place, scripts: List[str], help_text: str, asked: str) ->
     for text in (r'\Acommit unknown\nprover a kit that proves nothing\n== ', rf'^asked for {asked} in checkout$',
                  r'^[0-9a-f]{64}  crates/puzzles/out/puzzles$', r'^[0-9]+ passed, 0 failed, 0 skipped\n\Z'):
         assert re.search(text, log, re.MULTILINE), log
+
+
+@pytest.mark.parametrize(('name', 'status'), [('INT', 130), ('TERM', 143)])
+def test_stopped(place: Place, scripts: List[str], name: str, status: int) -> None:
+    """A gate that is ended in a part says so in a line, in its log, too, and counts nothing."""
+    script = f'#!/bin/sh\necho begun\nuntil grep -q ^begun build/gate.log; do :; done\nkill -s {name} $PPID\nexec sleep 600\n'
+    place.put(PART, script.encode())
+    ended = place.run(['env', '--default-signal=INT', 'tools/gate'], env={'RT_SAYS': PROVED})
+    assert ended.error.decode() == f'stopped by SIG{name}\n'
+    assert not re.search('[0-9]+ passed, .* skipped$', ended.output.decode())
+    assert place.file('build/gate.log').endswith(b'\nstopped\n')
+    assert ended.status == status

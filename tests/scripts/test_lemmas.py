@@ -1,4 +1,4 @@
-"""What is said of lemmas and definitions that nothing uses, or of which no line above tells."""
+"""The words on lemmas and definitions that nothing uses, or of which no line above tells."""
 
 from typing import Dict, NamedTuple, Sequence
 

@@ -1,4 +1,4 @@
-"""What `make` and the scripts do in a copy elsewhere, where the gate itself has no use for them: programs of the tree, and where there are none."""
+"""The work of `make` and the scripts in a copy elsewhere, where the gate itself has no use for them: programs of the tree, and where there are none."""
 
 import os
 import shutil
@@ -22,13 +22,13 @@ class Make(NamedTuple):
     input: bytes = b''
 
 
-#: What `show` prints of the game.
+#: The picture that `show` prints of the game.
 SHOWN = PICTURE.decode()
 
 #: A save of Unequal.
 UNEQUAL_SAVE = save_text(0).replace(b':6:Towers', b':7:Unequal').replace(b':13:3//////3/////', b':22:0,0L,0L,0U,0,0,0U,0,0,')
 
-#: What is said where no programs are there, and no page, by each command that needs some.
+#: The words if no programs are there, and no page, by each command that needs some.
 NOT_BUILT = 'there is no programs/RECORD: run make, which proves and builds them'
 NO_PAGE = 'programs/RECORD says nothing of the page: run make web, which proves and builds it'
 
@@ -53,6 +53,7 @@ OF_THE_TREE = [
     Make('make play, a save of the other game', ['make', 'play', 'ID=../b.sav'], says=['3:0,0L,0L,0U,'], input=b'id\n'),
     Make('make play, a save of another game than is named', ['make', 'play', 'GAME=towers', 'ID=../b.sav'], 2, ['refused: WrongGame']),
     Make('make play, the other game', ['make', 'play', 'GAME=unequal', 'ID=4!7'], says=['playing 1/1\n'], input=b'status\n'),
+    Make("make play, by a newspaper's name", ['make', 'play', 'GAME=futoshiki', 'ID=4!7'], says=['playing 1/1\n'], input=b'status\n'),
     Make('make play, a game with an apostrophe', ['make', 'play', "GAME=it's"], 2, ['GAME is towers or unequal']),
     Make('make play, an ID with an apostrophe', ['make', 'play', "ID=it's"], 2, ['refused: BadSize']),
     Make('make install', ['sh', '-c', 'make install DESTDIR="$PWD/.." && make installcheck DESTDIR="$PWD/.."'], says=['is there and plays']),

@@ -1,4 +1,4 @@
-"""What tests/run says of cases that can't be tried, and of one that fails."""
+"""The words of tests/run on cases that can't be tried, and of one that fails."""
 
 import pytest
 

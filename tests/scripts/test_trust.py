@@ -1,6 +1,6 @@
-"""What a list has of a function's contract, and that a word that nothing declares is a failure.
+"""A list has the parts of a function's contract, and a word that nothing declares is a failure.
 
-That the lists of the promises lack nothing is shown by their lines in docs/TRUST.md, which the gate counts again (tests/texts).
+That the lists of the promises lack nothing is shown by their lines in docs/PROMISES.md, which the gate counts again (tests/texts).
 """
 
 from typing import NamedTuple

@@ -1,4 +1,4 @@
-"""What `crates/trial_runs` answers to each request of its input.
+"""The answers of `crates/trial_runs` to each request of its input.
 
     python3 -Bm tests.second_implementation.answers < crates/trial_runs/stdin     prints crates/trial_runs/stdout, but for its last two lines
 """
@@ -61,7 +61,7 @@ def save_file(name: str, data: Path) -> Tuple[Game, bytes]:
 
 
 def loaded(name: str, data: Path) -> str:
-    """What became of a save file."""
+    """The fate of a save file."""
     game, text = save_file(name, data)
     try:
         session = load(game, text)

@@ -1,7 +1,7 @@
 """The damaged texts that `crates/trial_runs` makes of a save, kind by kind, in the order of their places.
 
 A record goes from the end of the one before it to the end of its value, so the end of a line stands at the front of the next one.
-What stands after the last record is left out where records are put together again.
+The bytes after the last record are left out where records are put together again.
 """
 
 from itertools import combinations

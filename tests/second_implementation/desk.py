@@ -8,8 +8,8 @@ from typing import Any, Callable, Dict, List, NamedTuple, Optional
 
 from tests.second_implementation.grades import LETTERS, follows
 from tests.second_implementation.puzzles import Puzzle
-from tests.second_implementation.seeded import first_given, put, without_item
-from tests.second_implementation.solving import solution_count
+from tests.second_implementation.seeded import first_given, full_puzzle, put, without_item
+from tests.second_implementation.solving import only_solution, solution_count
 from tests.second_implementation.towers import TowersPuzzle, edge_place, edge_xy
 from tests.second_implementation.unequal import UnequalPuzzle, all_neighbours
 
@@ -29,9 +29,9 @@ class Begun(NamedTuple):
 
 
 def begun(line: bytes) -> Optional[Begun]:
-    found = re.fullmatch(rb'(?:(blank|thin) ([^ ]+)|(thin))', line)
+    found = re.fullmatch(rb'(blank) ([^ ]+)|(thin)(?: ([^ ]+(?: (?:givens|clues|signs))?))?|(fill)', line)
     if found:
-        return Begun((found[1] or found[3]).decode(), found[2] or b'')
+        return Begun((found[1] or found[3] or found[5]).decode(), found[2] or found[4] or b'')
     return Begun('item', line) if PLACE.fullmatch(line) or SIGN.fullmatch(line) else None
 
 
@@ -40,7 +40,9 @@ def puzzle_after(game: str, puzzle: Optional[Puzzle], asked: Begun) -> Puzzle:
     if asked.word == 'blank':
         return blank(game, int(asked.rest))
     assert puzzle
-    return changed(puzzle, asked.rest) if asked.word == 'item' else thinned(game, puzzle, asked.rest)
+    if asked.word == 'fill':
+        return filled(game, puzzle)
+    return changed(puzzle, asked.rest) if asked.word == 'item' else thinned(game, puzzle, *asked.rest.split(b' '))
 
 
 def blank(game: str, size: int) -> Puzzle:
@@ -76,7 +78,7 @@ Test = Callable[[Puzzle], bool]
 
 
 def test_of(game: str, puzzle: Puzzle, word: bytes) -> Optional[Test]:
-    """What a puzzle without a spare item passes; nothing where none is spare. The word is a letter, or empty."""
+    """The test that a puzzle without a spare item passes; nothing if there is no such test. The word is a letter, or empty."""
     if word:
         grade = LETTERS[game][word.decode()]
         return lambda less: follows(less, grade)
@@ -98,11 +100,17 @@ def spare(game: str, puzzle: Puzzle, word: bytes) -> Object:
     return told
 
 
-def thinned(game: str, puzzle: Puzzle, word: bytes) -> Puzzle:
-    """The puzzle without items that it can do without, which are tried from the last to the first."""
+def filled(game: str, puzzle: Puzzle) -> Puzzle:
+    """The puzzle with its givens, and each clue or sign of its only solution."""
+    whole, _ = full_puzzle(game, puzzle.size, only_solution(puzzle))
+    return replace(whole, givens=puzzle.givens)
+
+
+def thinned(game: str, puzzle: Puzzle, word: bytes, first: bytes = b'givens') -> Puzzle:
+    """The puzzle without items that it can do without: givens are tried first, or clues and signs, and these and those from the last to the first."""
     passes = test_of(game, puzzle, word)
     if passes and passes(puzzle):
-        for item in reversed(items(puzzle)):
+        for item in sorted(items(puzzle), key=lambda item: ((item >= first_given(puzzle)) == (first == b'givens'), item), reverse=True):
             less = without_item(puzzle, item)
             if passes(less):
                 puzzle = less

@@ -26,7 +26,7 @@ def fair_id(game: str, size: int, letter: str, seed: int) -> str:
 
 
 def plain_lines(game: str, line: bytes) -> List[bytes]:
-    """What a line is to the plain program: one that begins a fair game is `new` and its ID, and none where it is refused."""
+    """The line of the plain program for a line: one that begins a fair game is `new` and its ID, and none where it is refused."""
     words = fair_words(line)
     if words is None:
         return [line]

@@ -4,7 +4,7 @@ from __future__ import annotations
 
 from functools import lru_cache
 from itertools import combinations
-from typing import Dict, FrozenSet, Iterable, Iterator, List, Optional
+from typing import Dict, FrozenSet, Iterable, Iterator, List, Optional, Tuple
 
 from tests.second_implementation.puzzles import Numbers, Puzzle, cells_of
 from tests.second_implementation.steps import NONE, Left, Reason, each, in_view, struck
@@ -29,7 +29,7 @@ def letters_of(puzzle: Puzzle) -> Dict[str, int]:
 
 
 def latin_reasons(puzzle: Puzzle, left: Left) -> Iterator[Reason]:
-    """Those that strike. What is in view has the givens."""
+    """Those that strike. The numbers in view have the givens."""
     size = puzzle.size
     for line in range(2 * size):
         squares = cells_of(size, line)
@@ -85,8 +85,13 @@ def strike(puzzle: Puzzle, left: List[FrozenSet[int]], reasons: Iterable[Reason]
 
 
 def left_by(puzzle: Puzzle, numbers: Numbers, grade: int) -> Left:
-    """What a grade leaves of a board. Where it leaves a square nothing, that is all that counts."""
-    left = list(in_view(puzzle.size, numbers))
+    """The numbers that a grade leaves of a board. Where it leaves a square nothing, that is all that counts."""
+    return left_from(puzzle, in_view(puzzle.size, numbers), grade)
+
+
+def left_from(puzzle: Puzzle, view: Left, grade: int) -> Left:
+    """The same, of some numbers in view."""
+    left = list(view)
     while all(left) and any(strike(puzzle, left, reasons(puzzle, left)) for reasons in REASONS[:grade + 1]):
         pass
     return left
@@ -105,7 +110,7 @@ def grade_of(puzzle: Puzzle) -> Optional[str]:
 
 
 @lru_cache(maxsize=4096)
-def leads_on(puzzle: Puzzle, numbers: Numbers, grade: int) -> Optional[bool]:
-    """Whether a grade leaves one number of an empty square; nothing where it leaves a square nothing."""
-    left = left_by(puzzle, numbers, grade)
+def leads_on(puzzle: Puzzle, numbers: Numbers, view: Tuple[FrozenSet[int], ...], grade: int) -> Optional[bool]:
+    """Whether a grade leaves one number of an empty square of those in view; nothing where it leaves a square nothing."""
+    left = left_from(puzzle, view, grade)
     return any(len(values) == 1 and not number for values, number in zip(left, numbers)) if all(left) else None

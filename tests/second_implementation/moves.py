@@ -51,7 +51,7 @@ def read_move(text: bytes) -> Move:
 
 @dataclass(frozen=True)
 class Board:
-    """What a board holds. Marks are kept by cell, where there are any."""
+    """The content of a board. Marks are kept by cell, where there are any."""
 
     numbers: Numbers
     marks: Dict[int, FrozenSet[int]] = field(default_factory=dict)

@@ -1,4 +1,4 @@
-"""What both games have in common: squares, and the rule of a Latin square (docs/RULES.md, sections 1 and 4)."""
+"""The common part of both games: squares, and the rule of a Latin square (docs/RULES.md, sections 1 and 4)."""
 
 from dataclasses import dataclass
 from functools import lru_cache

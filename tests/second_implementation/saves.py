@@ -13,7 +13,7 @@ COLLECTION = b"Simon Tatham's Portable Puzzle Collection"
 MOST_BYTES = 16_777_216
 MOST_STATES = 100_000
 
-#: What may stand once, whatever its value says.
+#: The keys that may stand once, whatever their values.
 SINGLE = {'VERSION', 'GAME', 'PARAMS', 'CPARAMS', 'SEED', 'DESC', 'AUXINFO', 'UI', 'TIME', 'NSTATES', 'STATEPOS'}
 NEEDED = ['VERSION', 'GAME', 'PARAMS', 'CPARAMS', 'DESC']
 KEPT = ['SEED', 'AUXINFO', 'UI', 'TIME']
@@ -47,7 +47,7 @@ def next_record(text: bytes, start: int) -> Optional[Record]:
 
 @dataclass
 class Met:
-    """What the records said so far."""
+    """The content of the records so far."""
 
     values: Dict[str, bytes] = field(default_factory=dict)
     states: List[Tuple[str, bytes]] = field(default_factory=list)

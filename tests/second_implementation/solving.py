@@ -1,4 +1,6 @@
-"""How many solutions a puzzle has, up to two: by what the hardest grade leaves of it, and by trying what that leaves."""
+"""How many solutions a puzzle has, up to two, and which is the only one: by what the hardest grade leaves, and by trying what that leaves."""
+
+from dataclasses import replace
 
 from tests.second_implementation.grades import HARD, left_by
 from tests.second_implementation.puzzles import Numbers, Puzzle
@@ -24,3 +26,12 @@ def count(puzzle: Puzzle, numbers: Numbers) -> int:
         if found > 1:
             return 2
     return found
+
+
+def only_solution(puzzle: Puzzle) -> Numbers:
+    """That of a puzzle with one: in each square the number with which there still is one."""
+    numbers = puzzle.givens
+    for cell in (cell for cell, number in enumerate(puzzle.givens) if not number):
+        tried = (numbers[:cell] + (number,) + numbers[cell + 1:] for number in range(1, puzzle.size + 1))
+        numbers = next(more for more in tried if solution_count(replace(puzzle, givens=more)))
+    return numbers

@@ -9,7 +9,7 @@ from tests.second_implementation.puzzles import Numbers, Puzzle, cells_of
 from tests.second_implementation.towers import TowersPuzzle, counts_in_fillings, edge_line, in_fillings
 from tests.second_implementation.unequal import Sign, UnequalPuzzle
 
-#: What is left of each square, in reading order.
+#: The numbers left in each square, in reading order.
 Left = Sequence[FrozenSet[int]]
 
 NONE: FrozenSet[int] = frozenset()
@@ -55,6 +55,12 @@ def in_view(size: int, numbers: Numbers) -> Left:
     ]
 
 
+def view_by_marks(size: int, numbers: Numbers, marks: Sequence[Sequence[int]]) -> Left:
+    """The same, but of an empty square with pencil marks those that are marked."""
+    view = in_view(size, numbers)
+    return [left & frozenset(marked) if marked and not number else left for left, marked, number in zip(view, marks, numbers)]
+
+
 @lru_cache(maxsize=None)
 def seen_squares(size: int, place: int) -> Sequence[int]:
     """The squares of the line that a clue sees, the nearest first."""
@@ -88,7 +94,7 @@ def struck_by_clue(puzzle: Puzzle, left: Left, reason: Reason) -> Dict[int, Froz
 
 
 def looked_at(kind: str, size: int, left: FrozenSet[int]) -> FrozenSet[int]:
-    """What a clue is looked at with in a square: nothing but the clue, what stands, or all that is left."""
+    """The numbers of a square with which a clue is looked at: nothing but the clue, those that stand, or all that are left."""
     if kind == 'clue' or (kind == 'stand' and len(left) <= 1):
         return left
     return each(size)
@@ -125,12 +131,12 @@ def is_left_alone(size: int, left: Left, cell: int, number: int, line: int) -> b
 
 
 def held(puzzle: Puzzle, left: Left, reason: Reason, cell: int) -> FrozenSet[int]:
-    """What a reason strikes of what is left of a square."""
+    """The numbers that a reason strikes of those left in a square."""
     return left[cell] & struck(puzzle, left, reason).get(cell, NONE)
 
 
 def after(puzzle: Puzzle, left: Left, steps: Sequence[Step]) -> Optional[Left]:
-    """What is left after the steps, or nothing where one of them strikes more than its reason does."""
+    """The numbers left after the steps, or nothing if one of them strikes more than its reason does."""
     for step in steps:
         may = struck(puzzle, left, step.reason)
         if not all(numbers <= may.get(cell, NONE) for cell, numbers in step.strikes.items()):

@@ -1,4 +1,4 @@
-"""What `crates/trial_runs` has to answer to requests is what the second implementation makes of its input."""
+"""The answers that `crates/trial_runs` has to give to requests are those that the second implementation makes of its input."""
 
 from itertools import islice
 from typing import List, Tuple
@@ -10,7 +10,7 @@ from tests.second_implementation.answers import answers, lines_of
 
 TRIALS = TOP / 'crates' / 'trial_runs'
 
-#: What the stored run prints after the answers: how the call of its words is answered, which has no place in the second implementation.
+#: The stored run's output after the answers: how the call of its words is answered, which has no place in the second implementation.
 CALLED = ['ok', 'changed']
 
 

@@ -13,7 +13,7 @@ TOOLS = ['pdfinfo', 'pdftotext', 'pdftoppm']
 #: Dots on an inch, for a look at the edges; and how many of them are free there: 8 mm of the 10 that are owed.
 DOTS, FREE = 25, 8
 
-#: What sticks out of its place in a section, in points of a screen: below the foot, right and left of the page, out of a caption, out of a
+#: The parts that stick out of their place in a section, in points of a screen: below the foot, right and left of the page, out of a caption, out of a
 #: line; and how many pictures and captions lie over another one.
 MEASURE = """
 [...document.querySelectorAll('section')].map(section => {
@@ -33,7 +33,7 @@ MEASURE = """
 
 
 class Printed(NamedTuple):
-    """What came onto paper."""
+    """The words that came onto paper."""
 
     #: The text of each page, and that of all without white space.
     texts: List[str]

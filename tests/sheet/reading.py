@@ -16,7 +16,7 @@ SVG = re.compile(r'<svg .*?</svg>', re.DOTALL)
 #: A digit's middle is so far above its baseline, in its font.
 MIDDLE = 0.36
 
-#: What is bold was given.
+#: A bold number was given.
 BOLD = '700'
 
 

@@ -1,4 +1,4 @@
-"""What is drawn is the puzzle that its ID names, and its only answer: read back from the places of lines and digits."""
+"""The drawing is the puzzle that its ID names, and its only answer: read back from the places of lines and digits."""
 
 import re
 from typing import Sequence

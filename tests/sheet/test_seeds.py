@@ -8,7 +8,7 @@ import pytest
 
 from playing.games import GRADES
 from playing.program import Program
-from tests.harness import Room, by_words
+from tests.harness import Room, by_words, in_the_gate
 from tests.harness.between import put_between
 from tests.second_implementation.fair import fair
 from tests.second_implementation.grades import LETTERS, follows
@@ -80,12 +80,20 @@ def made(game: str, size: int, letter: str, seed: int) -> str:
 EACH = [('towers', 5, 'hard', 1, 6), ('unequal', 6, 'easy', 40, 4), ('towers', 9, 'easy', 20261126, 2), ('unequal', 8, 'tricky', 2**64 - 1, 2)]
 
 
-@pytest.mark.parametrize(('game', 'size', 'grade', 'first', 'count'), EACH)
+@pytest.mark.parametrize(('game', 'size', 'grade', 'first', 'count'), in_the_gate(EACH, lambda row: row[1] > 6))
 def test_each_seed(maker: Maker, game: str, size: int, grade: str, first: int, count: int) -> None:
     """The puzzles are those of the seeds from the first one on, one after the other; after the last seed comes 0."""
     letter = next(letter for letter, name in GRADES[game].items() if name == grade)
     page = maker.page([game, '--size', str(size), '--grade', grade, '--seed', str(first), '--count', str(count), '--answers', 'none'])
     assert ids(page) == [made(game, size, letter, (first + at) % 2**64) for at in range(count)]
+
+
+@pytest.mark.parametrize(('game', 'letter', 'first'), [('towers', 'e', 20261126), ('towers', 'e', 20261127), ('unequal', 'k', 10**12 - 1)])
+def test_series(maker: Maker, game: str, letter: str, first: int) -> None:
+    """The seeds of a series are a million millions apart, so no two series have one in common. The foot tells the series."""
+    page = maker.page([game, '--grade', GRADES[game][letter], '--series', str(first), '--count', '4', '--answers', 'none'])
+    assert ids(page) == [made(game, 5, letter, first + at * 10**12) for at in range(4)]
+    assert re.search(rf'<footer><span>Sheet [0-9A-F]{{4}}, series {first}</span>', page)
 
 
 def test_again(maker: Maker) -> None:
@@ -145,9 +153,9 @@ def test_passed_over(maker: Maker, room: Room, objects: str) -> None:
     """A seed of which no draw gave a game is passed over, as 1185 is; after a hundred in a row no more are tried."""
     page = maker.page(['unequal', '--size', '4', '--grade', 'tricky', '--seed', '1185', '--count', '1', '--answers', 'none'])
     assert ids(page) == [made('unequal', 4, 'k', 1186)]
-    page = before(room, objects, 'seed in (2, 3, 5)').page(['towers', '--count', '4', '--answers', 'none'])
+    page = before(room, objects, 'seed in (2, 3, 5)').page(['towers', '--seed', '1', '--count', '4', '--answers', 'none'])
     assert ids(page) == [made('towers', 5, 'e', seed) for seed in (1, 4, 6, 7)]
-    told = 'No easy puzzle of Towers of size 5 was found with the 100 seeds from 9 to 108.\n'
+    told = 'No easy puzzle of Towers of size 5 was found with 100 seeds, from 9 to 108.\n'
     before(room, objects, '8 < seed < 2**64').refuses(['towers', '--seed', '7', '--output', 'page.html'], 3, told)
     assert room.names() == ['between']
 

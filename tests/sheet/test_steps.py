@@ -16,7 +16,7 @@ from tests.sheet.making import Maker, content
 from tests.sheet.reading import pictures
 from tests.sheet.test_seeds import TOWERS, UNEQUAL, ids
 
-#: What begins a move: its number, whether it is the hardest, and whether its first sentence stands on the same line.
+#: The beginning of a move: its number, whether it is the hardest, and whether its first sentence stands on the same line.
 MOVE = re.compile(r'<p><b>Move (\d+)(, the hardest)?(\.)?</b>')
 
 
@@ -95,7 +95,7 @@ def test_terms(maker: Maker) -> None:
 
 
 def test_example(maker: Maker) -> None:
-    """The cards of the course come first, of each game board by board: each with the number that follows, its sentence and the steps."""
+    """The cards of the course come first, of each game board by board: each with the number that follows, its sentence and those of the steps."""
     lines = content([TOWERS, UNEQUAL])
     page, without = maker.page(['--ids', '-', '--example'], lines), maker.page(['--ids', '-'], lines)
     kinds = re.findall(r'<h1 dir="auto">([A-Za-z: ]*)<bdi>', page)
@@ -109,7 +109,7 @@ def test_example(maker: Maker) -> None:
             put = [(cell, number) for cell, (number, given) in enumerate(zip(board.numbers, board.puzzle.givens)) if number != given]
             size = board.puzzle.size
             assert put == ([((shows.square[0] - 1) * size + shows.square[1] - 1, shows.number)] if shows.square else [])
-            assert texts[:2] == [card.title, card.text] and len(texts) >= 3 + len(shows.reasons)
+            assert texts[:2] == [card.title, card.text] and len(texts) >= 3 + bool(shows.reasons)
             assert ('thick frame' in texts[-1]) == (card is cards[0])
             at += 1
     assert ids(page)[at:] == ids(without)

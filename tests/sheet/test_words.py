@@ -1,8 +1,8 @@
 """The words of the command line, where the page goes, and that nothing is left where that comes to nothing."""
 
 import os
+import re
 import signal
-import time
 from typing import List, Sequence, Tuple
 
 import pytest
@@ -36,7 +36,12 @@ WRONG: List[Tuple[List[str], str]] = [
     (['towers', '--per-page', '13'], 'argument --per-page: a number from 1 to 12'),
     (['towers', '--paper', 'a5'], "argument --paper: invalid choice: 'a5' (choose from 'a4', 'letter')"),
     (['towers', '--steps', '--answers', 'none'], '--steps goes with answers'),
-    (['--ids', 'list', '--seed', '1'], '--ids takes no --size, --grade or --seed, since the list has the puzzles'),
+    (['--ids', 'list', '--seed', '1'], '--ids takes no --size, --grade, --series, --seed or --names, since the list has the puzzles'),
+    (['--ids', 'list', '--names', 'names'], '--ids takes no --size, --grade, --series, --seed or --names, since the list has the puzzles'),
+    (['towers', '--series', '1000000000000'], 'argument --series: a number from 0 to 999999999999'),
+    (['towers', '--series', '7', '--seed', '7'], '--series and --seed: the foot of a sheet has one of them'),
+    (['towers', '--names', ''], 'argument --names: the name of a file'),
+    (['towers', '--all-steps', '--answers', 'none'], '--steps goes with answers'),
     (['towers', '--tit', 'x'], 'unrecognized arguments: --tit x'),
     (['towers', '--\x1b[31m'], 'unrecognized arguments: --?[31m'),
 ]
@@ -76,7 +81,7 @@ def test_unwritten(maker: Maker, room: Room) -> None:
 
 
 def test_full_disk(maker: Maker, room: Room) -> None:
-    """What was there is there as before."""
+    """The file that was there is as before."""
     with small_disk(room.lay('disk'), 1 << 16), Folder('disk', room) as disk:
         disk.put('page.html', b'before')
         fill(disk)
@@ -84,8 +89,17 @@ def test_full_disk(maker: Maker, room: Room) -> None:
         assert (disk.read('page.html'), disk.names()) == (b'before', ['filler', 'page.html'])
 
 
-#: A program that never answers. A file says that it has begun.
-SILENT = b'#!/bin/sh\n: > begun\nexec sleep 600\n'
+def test_called(maker: Maker) -> None:
+    """The rules say which name newspapers have for a game, above puzzles and above a first lesson, whose first card says it, too; and nothing else says it."""
+    for page in (maker.page(['--ids', '-'], content([ID, 'unequal 3!7'])), maker.page(['towers', '--example']) + maker.page(['unequal', '--example'])):
+        rules = re.findall('<p class="rules"><b>(.*?)</b> Fill in the numbers', page)
+        assert set(rules) == {'Towers (Skyscrapers).', 'Unequal (Futoshiki).'}
+        cards = re.findall(r'(?:Towers \(Skyscrapers|Unequal \(Futoshiki)\):', page)
+        assert page.count('Skyscrapers') + page.count('Futoshiki') == len(rules) + len(cards)
+
+
+#: A program that never answers. A file says that it was asked.
+SILENT = b'#!/bin/sh\nread -r line\n: > asked\nexec sleep 600\n'
 
 
 @pytest.mark.parametrize('number', [signal.SIGINT, signal.SIGTERM])
@@ -95,14 +109,12 @@ def test_stopped(room: Room, number: signal.Signals) -> None:
     room.put('list', LIST)
     env = {'PATH': os.environ['PATH'], 'PUZZLES_JSON': f'{room.path}/silent'}
     with Terminal([PATH, '--ids', 'list', '--output', 'page.html'], env, cwd=room.path) as terminal:
-        assert eventually(lambda: 'begun' in room.names())
+        assert eventually(lambda: 'asked' in room.names())
         (silent,) = terminal.programs()
-        # It is waited for from now on.
-        time.sleep(0.3)
         terminal.signal(number)
         assert terminal.status() == 128 + number
     assert not os.path.exists(f'/proc/{silent}')
-    assert room.names() == ['begun', 'list', 'silent']
+    assert room.names() == ['asked', 'list', 'silent']
 
 
 def test_progress(maker: Maker, objects: str, room: Room) -> None:

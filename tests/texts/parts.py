@@ -33,7 +33,7 @@ def documents() -> List[str]:
 
 
 def found(pattern: str, text: str) -> List[str]:
-    """What a pattern has in its brackets, wherever it matches, each once and in order."""
+    """The text in the brackets of a pattern, wherever it matches, each once and in order."""
     return sorted(set(re.findall(pattern, text, re.MULTILINE)))
 
 

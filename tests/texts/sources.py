@@ -1,4 +1,4 @@
-"""What the sources declare."""
+"""The declarations of the sources."""
 
 import re
 from typing import Dict, List, Set
@@ -6,7 +6,7 @@ from typing import Dict, List, Set
 from bodies.edits import bodies_in
 from tests.texts.parts import ROOT, found, read
 
-#: What declares a name, by the ending of a file, with the name in brackets: items, members and clauses, and the words of texts.
+#: The words that declare a name, by the ending of a file, with the name in brackets: items, members and clauses, and the words of texts.
 DECLARATIONS = {
     '.rt': [
         r'\b(?:fn|struct|enum|trait|type|const|static|mod|ensures|requires|ghost) (\w+)',
@@ -45,7 +45,7 @@ def specs(crate: str, files: str) -> str:
 
 def commands() -> List[str]:
     """The words by which the lines of commands begin, by the definitions."""
-    return found(r'codes "([a-z]+) ?"', specs('puzzle_cli', 'Commands.antt'))
+    return found(r'codes "([a-z]+) ?"', specs('line_replies', 'Commands.antt'))
 
 
 def faults() -> Dict[str, Dict[str, str]]:

@@ -44,7 +44,7 @@ LINES = [
     ('the board, the course of a game', ['puzzles-play', 'learn', 'towers', ''], '--lines --help --version'),
     ('the page', ['puzzles-page', ''], '--path --help --version'),
     ('the page, all was named', ['puzzles-page', '--path', ''], ''),
-    ('a sheet', ['puzzles-sheet', 'towers', '--s'], '--size --seed --show-grades --steps'),
+    ('a sheet', ['puzzles-sheet', 'towers', '--s'], '--size --series --seed --show-grades --steps'),
     ('a sheet, where grades stand', ['puzzles-sheet', 'towers', '--show-grades', ''], 'answers all none'),
     ('a sheet, where a PDF goes', ['puzzles-sheet', 'towers', '--pdf', 'o'], 'old.sav'),
     ('a sheet, a word of an option', ['puzzles-sheet', 'towers', '--paper', ''], 'a4 letter'),
@@ -53,8 +53,9 @@ LINES = [
     ('a sheet, grades of Unequal', ['puzzles-sheet', 'unequal', '--grade', ''], 'trivial easy tricky'),
     ('a sheet, sizes', ['puzzles-sheet', '--size', ''], '3 4 5 6 7 8 9'),
     ('a sheet, a list', ['puzzles-sheet', '--ids', 'o'], 'old.sav'),
-    ('a check', ['puzzles-check', ''], '--json --solutions --quick --help --version old.sav'),
-    ('a check, an option', ['puzzles-check', 'old.sav', '--json', '--'], '--solutions --quick --help --version'),
+    ('a check', ['puzzles-check', ''], '--json --draw --table --solutions --quick --certificate --needed --seconds --megabytes --help --version old.sav'),
+    ('a check, an option', ['puzzles-check', 'old.sav', '--json', '--ne'], '--needed'),
+    ('a check, where certificates go', ['puzzles-check', '--certificate', 'o'], 'old.sav'),
     ('a sheet, nothing for a title', ['puzzles-sheet', '--title', ''], ''),
 ]
 
@@ -76,7 +77,7 @@ FRONTS = {'puzzles-play': 'board', 'puzzles-page': 'page', 'puzzles-sheet': 'she
 
 
 def zsh_options() -> Dict[str, List[str]]:
-    """What the file for zsh offers: its parts are arms of one case, of which the last is that of the programs."""
+    """The words that the file for zsh offers: its parts are arms of one case, of which the last is that of the programs."""
     text = read('board/completion.zsh')
     told = {name: found(r'--([a-z-]+)[=\[}]', part(text, f'    {name})', ';;$')) for name in FRONTS}
     return {'puzzles': found(r'--([a-z]+)[=}]', part(text, '    *)', ';;')), **told}

@@ -7,11 +7,11 @@ import pytest
 
 from tests.texts.parts import ROOT, documents, found, read, without_samples
 
-#: What a line of a document may have at most, and what README may.
+#: The length that a line of a document may have at most, and one of README.
 COLUMNS = 110
 README_LINES = 110
 
-#: What the board shows in README, of what it shows in its tests.
+#: The board's picture in README, and the one in its tests from which it comes.
 PICTURES = ['towers-5-40x20', 'unequal-5-40x20']
 PICTURE_LINES = 13
 

@@ -1,4 +1,4 @@
-"""What the documents name is there: functions, types, definitions, files, crates, targets of `make`, wrong bodies."""
+"""All that the documents name is there: functions, types, definitions, files, crates, targets of `make`, wrong bodies."""
 
 import re
 from typing import Dict, Iterator, Set
@@ -32,7 +32,7 @@ class Known:
         self.names.update(name for _, name in listed(PARTS).kit)
 
     def has(self, words: str) -> bool:
-        """Whether a name, a path or a command of `make` is one that there is. What is none of these is a sample."""
+        """Whether a name, a path or a command of `make` is one that there is. A word that is none of these is a sample."""
         if words.startswith('make '):
             return words.split()[1] in self.make
         if re.fullmatch(r'\w+::\w+', words):
@@ -42,7 +42,7 @@ class Known:
         return words in self.names or not re.fullmatch(r'[A-Za-z][A-Za-z_]{2,}', words)
 
     def has_member(self, owner: str, name: str) -> bool:
-        """What a crate declares, or a crate that declares the owner too."""
+        """The declarations of a crate, or of a crate that declares the owner too."""
         if owner in self.crates:
             return name in self.crates[owner]
         return any(owner in names and name in names for names in self.crates.values())

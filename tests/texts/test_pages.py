@@ -10,7 +10,7 @@ from tests.texts.parts import ROOT, found, part, read
 from tests.texts.test_completions import FRONTS, front_options
 from tests.texts.test_users import wanted
 
-#: What a page may have at most, in its source and on a terminal.
+#: The lines that a page may have at most, in its source and on a terminal.
 COLUMNS = 80
 
 #: Readers of manual pages: how each tells what is wrong with one, and how it shows one.
@@ -23,7 +23,7 @@ READERS = [
 #: The pages that are documents.
 DOCUMENTS = {'man/puzzles.5': 'docs/FORMATS.md', 'man/puzzles-hints.7': 'docs/HINTS.md'}
 
-#: What is said of pages that aren't installed, or are so without a list of all pages.
+#: The words on pages that aren't installed, or are so without a list of all pages.
 OF_OTHERS = r'referenced manual not found|mandoc\.db'
 
 #: A bold or underlined letter, as a typewriter makes it, without the first stroke.
@@ -34,9 +34,10 @@ def pages() -> List[str]:
     return sorted(f'man/{path.name}' for path in (ROOT / 'man').iterdir())
 
 
-@pytest.mark.parametrize('script', ['manual', 'texts', 'trust'])
+@pytest.mark.parametrize('script', ['manual', 'sheet_tables', 'texts', 'trust'])
 def test_made(room: Room, script: str) -> None:
-    """What these make by --write is what they make now: the pages that are documents, sentences of the page, and numbers of lines to read."""
+    """The texts that these made by --write are those that they make now: the pages that are documents, sentences of the page and tables of its sheets, and numbers of
+    lines to read."""
     if script == 'manual':
         need('pandoc')
     made = run([str(ROOT / 'tools' / script)], room, seconds=600)

@@ -27,9 +27,10 @@ def promised() -> List[str]:
 
 
 def test_sentences() -> None:
-    """In the order of README, each with what carries it."""
-    told = [item for item in items(part(read('docs/PROMISES.md'), '## The headline', '^## ')) if item.startswith('**"')]
-    assert [re.findall(r'^\*\*"(.*?)"\*\*', item)[0] for item in told] == promised()
+    """Each promise by name has what carries it, and README's sentences stand in quotes among them."""
+    told = [item for item in items(part(read('docs/PROMISES.md'), '## By name', '^## ')) if item.startswith('**')]
+    quoted = [re.findall(r'of the kit: "(.*?)"', item)[0] for item in told]
+    assert len(promised()) > 1 and [sentence for sentence in promised() if sentence not in ' '.join(quoted)] == []
     assert [item for item in told if 'Carried by' not in item] == []
 
 

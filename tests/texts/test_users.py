@@ -21,7 +21,7 @@ UNEXPLAINED = {'NoSolution', 'SeveralSolutions', 'NoGame'}
 REFUSALS = ['IdFault', 'GenFault', 'PlayFault', 'LoadFault', 'LineFault']
 
 
-#: What each text names, as a part of it (its first line, and what the line after it matches) and the pattern of a name there.
+#: The names of each text, as a part of it (its first line, and what the line after it matches) and the pattern of a name there.
 KINDS = ['commands', 'options', 'statuses', 'moves']
 WHERE = {
     'FORMATS': [
@@ -50,7 +50,7 @@ def said(name: str, text: str) -> List[List[str]]:
 
 
 def wanted() -> List[List[str]]:
-    """What each kind has to be: commands, options, statuses, moves."""
+    """The names that each kind has to have: commands, options, statuses, moves."""
     return [sources.commands(), *said('FORMATS', read('docs/FORMATS.md'))[1:]]
 
 
@@ -78,10 +78,10 @@ def test_faults(kind: str) -> None:
     assert set(told) == set(FAULTS[kind].items()) != set()
 
 
-#: The lines that are puzzles-json's own.
-OWN = [line.decode() for line in ALL_OWN]
+#: The first words of the lines that are puzzles-json's own.
+OWN = [line.decode().split()[0] for line in ALL_OWN]
 
-#: What is to be named, by the definitions and the objects, and what is: a line of help for each command, a sentence for each refusal.
+#: The names that the texts owe, by the definitions and the objects, and those that they have: a line of help for each command, a sentence for each refusal.
 NAMED = [
     ('the line mode', sources.commands(), ' '.join(found(r"^    '  (\S.*?)  ", read('board/manual.py'))).split()),
     (

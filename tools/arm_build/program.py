@@ -21,7 +21,7 @@ MADE = Files('build/arm', '', [])
 C_LIBRARY = '/usr/aarch64-linux-gnu'
 GCC = '/usr/lib/gcc-cross/aarch64-linux-gnu/12'
 
-#: What a program is linked with.
+#: The files with which a program is linked.
 LIBRARIES = [
     *(f'{C_LIBRARY}/lib/{name}' for name in 'Scrt1.o crti.o crtn.o ld-linux-aarch64.so.1 libc.so.6 libc_nonshared.a libgcc_s.so.1 libm.so.6'.split()),
     *(f'{GCC}/{name}' for name in 'crtbeginS.o crtendS.o libgcc.a'.split()),

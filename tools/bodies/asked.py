@@ -1,4 +1,4 @@
-"""What is to be tried of each crate: crates are tried side by side, as far as processors and memory reach."""
+"""The edits to be tried of each crate: crates are tried side by side, as far as processors and memory reach."""
 
 from __future__ import annotations
 
@@ -28,7 +28,7 @@ class Asked(NamedTuple):
 
     @staticmethod
     def of(crate: str, bodies: List[Body], mode: str) -> Asked:
-        """What a mode of the script asks for."""
+        """The wishes of a mode of the script."""
         chosen = [body for body in bodies if body.is_in_gate or mode != '--gate']
         faults = [Outcome(body.name, body.fault) for body in bodies if body.fault]
         if len(chosen) < min(LEAST, len(bodies)):
@@ -40,7 +40,7 @@ class Asked(NamedTuple):
         return Asked(crate, twins, wrong, [body.name for body in fit if not body.twin.pairs], faults)
 
     def left(self, kept: Kept) -> Tuple[Asked, List[Outcome]]:
-        """What is left to be tried, and what earlier runs have found of the others."""
+        """The edits left to be tried, and the outcomes of the others in earlier runs."""
         known = of_kept(self.crate, kept, self.twins, self.bodies)
         names = {outcome.name for outcome in known}
         twins = [edit for edit in self.twins if name_of_twin(edit) not in names]
@@ -52,7 +52,7 @@ class Asked(NamedTuple):
 
 
 class Result(NamedTuple):
-    """What came of a crate, and how often the whole crate had to be checked, since a function of it couldn't be asked for."""
+    """The outcome of a crate, and how often the whole crate had to be checked, since a function of it couldn't be asked for."""
 
     crate: str
     outcomes: List[Outcome]
@@ -70,7 +70,7 @@ class NotBuilt(Exception):
 
 
 def results(asked: Iterable[Asked], kit: Kit) -> Generator[Result, None, None]:
-    """What came of each crate: first what is kept, then the others as they end. Raises `NotBuilt` before anything is tried."""
+    """The outcome of each crate: first those that are kept, then the others as they end. Raises `NotBuilt` before anything is tried."""
     kept = Kept(kit.line)
     left: List[Asked] = []
     for one in asked:

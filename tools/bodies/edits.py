@@ -51,7 +51,7 @@ class BadEdit(Exception):
 
 
 def read_edit(name: str, edit: str) -> Body:
-    """What an edit says. Its twin is what stands after `# twin:` right below each line `new:`; one that is lacking has no pair."""
+    """The parts of an edit. Its twin is the text after `# twin:` right below each line `new:`; one that is lacking has no pair."""
     file, old, fault, above = '', '', '', ''
     wrong: List[Pair] = []
     twin: List[Pair] = []

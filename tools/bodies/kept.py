@@ -13,7 +13,7 @@ from typing import Dict, Iterable, List
 from bodies.edits import Edit
 from building.record import sum_of_sources
 
-#: What a result was found by, beside the kit: these scripts.
+#: The scripts by which a result was found, beside the kit: these scripts.
 SCRIPTS = Path(__file__).resolve().parent
 
 #: How many results are kept, those that were asked for last: those of all crates in some versions.
@@ -32,7 +32,7 @@ class Kept:
         self._sums: Dict[str, str] = {}
 
     def key(self, crate: str, what: str, edit: Edit) -> str:
-        """What a result goes by: the kit, the crate and all below it, what was tried, and the edit."""
+        """The key of a result: the kit, the crate and all below it, the tried code, and the edit."""
         if crate not in self._sums:
             self._sums[crate] = sum_of_sources([crate])
         return sum_of([self._kit, self._sums[crate], crate, what, repr(edit.pairs)])

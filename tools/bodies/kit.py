@@ -1,4 +1,4 @@
-"""What of the kit is used: how its command `rt` names a crate and the libraries below it to the prover, and the prover itself; and the copy of some
+"""The used parts of the kit: how its command `rt` names a crate and the libraries below it to the prover, and the prover itself; and the copy of some
 crates in which they are edited and proved."""
 
 from __future__ import annotations
@@ -15,7 +15,7 @@ from building.listing import PARTS, all_of, copy_folder, listed, own, write_list
 from building.kit import command, kit_of
 from gating.proofs import when_left
 
-#: What a check takes at most, in bytes.
+#: The memory that a check takes at most, in bytes.
 MEMORY = 3_000_000_000
 
 
@@ -24,7 +24,7 @@ class NoKit(Exception):
 
 
 class Said(NamedTuple):
-    """What a run of the prover said, and its status."""
+    """The output of a run of the prover, and its status."""
 
     status: int
     text: str
@@ -38,10 +38,10 @@ class Kit:
         rt = command()
         if not rt:
             raise NoKit('there is no command rt, and RT names none')
-        #: What tells this kit from another.
+        #: The text that tells this kit from another.
         self.line = kit_of(rt)
         self._library = library_beside(rt)
-        # What comes before each command of the kit, so that it ends when this process does.
+        # The words before each command of the kit, so that it ends when this process does.
         self._front: List[str] = self._library.guarded()
         self._running: Set[subprocess.Popen[str]] = set()
         self._lock = threading.Lock()
@@ -94,7 +94,7 @@ def library_beside(rt: str) -> Any:
 
 
 class Tree:
-    """The copy, in a folder. What earlier builds left of the libraries is used, and not written to."""
+    """The copy, in a folder. The libraries that earlier builds left are used, and not written to."""
 
     def __init__(self, folder: Path, names: Collection[str], kit: Kit) -> None:
         self.kit = kit

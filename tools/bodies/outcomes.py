@@ -1,4 +1,4 @@
-"""What comes of a crate's wrong bodies and twins, those of earlier runs that are kept among them."""
+"""The outcomes of a crate's wrong bodies and twins, those of earlier runs that are kept among them."""
 
 from __future__ import annotations
 
@@ -24,7 +24,7 @@ GOOD = (Kind.VALUES, Kind.GOAL)
 
 
 class Verdict(NamedTuple):
-    """What came of a wrong body: where it was refused, and what was said."""
+    """The outcome of a wrong body: where it was refused, and what was said."""
 
     kind: Kind
     said: str
@@ -38,7 +38,7 @@ class Verdict(NamedTuple):
 
 
 def verdicts(trial: Trial, bodies: Sequence[Edit]) -> Dict[str, Verdict]:
-    """What comes of each, all in one check. One that this check leaves in doubt is tried again alone."""
+    """The outcome of each, all in one check. One that this check leaves in doubt is tried again alone."""
     answer = trial.check(bodies)
     found = {body.name: verdict(trial, body, answer) for body in bodies}
     for body in bodies if len(bodies) > 1 else ():
@@ -48,7 +48,7 @@ def verdicts(trial: Trial, bodies: Sequence[Edit]) -> Dict[str, Verdict]:
 
 
 def verdict(trial: Trial, body: Edit, answer: Answer) -> Verdict:
-    """What a check says of a wrong body: whether a goal is open in the function that it makes wrong, the one with values before all."""
+    """The verdict of a check on a wrong body: whether a goal is open in the function that it makes wrong, the one with values before all."""
     if answer.is_proved:
         return Verdict(Kind.NOT, 'what it stands in is proved with it')
     if not answer.is_refused:
@@ -72,7 +72,7 @@ def refused_twins(trial: Trial, twins: Sequence[Edit]) -> Dict[str, str]:
 
 
 class Outcome(NamedTuple):
-    """What came of an edit: why it has failed, or nothing; of a wrong body its verdict, where it came to one; and whether an earlier run has found it."""
+    """The outcome of an edit: why it has failed, or nothing; of a wrong body its verdict, where it came to one; and whether an earlier run has found it."""
 
     name: str
     fault: str
@@ -81,7 +81,7 @@ class Outcome(NamedTuple):
 
 
 def of_kept(crate: str, kept: Kept, twin_edits: Iterable[Edit], bodies: Iterable[Edit]) -> List[Outcome]:
-    """What earlier runs have found of these."""
+    """The outcomes of these in earlier runs."""
     found = [Outcome(name_of_twin(edit), '', None, True) for edit in twin_edits if kept.find(kept.key(crate, 'twin', edit)) == ['proved']]
     judged = ((edit.name, as_verdict(kept.find(kept.key(crate, 'wrong', edit)))) for edit in bodies)
     return found + [Outcome(name, '', verdict, True) for name, verdict in judged if verdict]

@@ -10,7 +10,7 @@ from bodies.edits import BadEdit, Edit, Texts, all_applied, applied
 from bodies.kit import Tree
 from bodies.sources import Place, place_at, places_of
 
-#: What the prover says of a goal where it tells values that make it false.
+#: The words of the prover on a goal of which it tells values that make it false.
 VALUES = 'the facts known there allow values at which this goal is false'
 
 
@@ -66,7 +66,7 @@ def why(said: str) -> str:
 
 
 class Answer(NamedTuple):
-    """What a check of some edits said: whether all is proved, or else whether the check came to its end, why not, and the goals."""
+    """The outcome of a check of some edits: whether all is proved, or whether the check came to its end, why not, and the goals."""
 
     is_proved: bool
     is_refused: bool

@@ -13,7 +13,7 @@ from building.run import make
 from gating.counts import compared
 from web_build.scripts import Unfit
 
-#: What is to be done where the programs in the tree aren't those of the sources.
+#: The command to type if the programs in the tree aren't those of the sources.
 ADVICE = 'make programs, and commit'
 
 

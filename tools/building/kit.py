@@ -3,8 +3,9 @@
 from __future__ import annotations
 
 import os
+import re
 import subprocess
-from typing import Optional
+from typing import Optional, Sequence
 
 
 def command() -> Optional[str]:
@@ -25,11 +26,18 @@ def kit_of(rt: str) -> str:
 
 
 def answer(*words: str) -> str:
-    """What a command says; nothing where it isn't there."""
+    """The answer of a command; nothing where it isn't there."""
+    return _said(words, subprocess.DEVNULL)
+
+
+def knows(rt: str, word: str) -> bool:
+    """Whether a command's help has a word. `rt` writes its help to standard error, with the status of a fault."""
+    return word in re.findall(r'[^\s[\],]+', _said([rt, 'help'], subprocess.STDOUT))
+
+
+def _said(words: Sequence[str], errors: int) -> str:
     try:
-        return subprocess.run(
-            words, stdin=subprocess.DEVNULL, stdout=subprocess.PIPE, stderr=subprocess.DEVNULL, encoding='utf-8', errors='replace', check=False
-        ).stdout
+        return subprocess.run(words, stdin=subprocess.DEVNULL, stdout=subprocess.PIPE, stderr=errors, encoding='utf-8', errors='replace', check=False).stdout
     except OSError:
         return ''
 

@@ -15,16 +15,16 @@ Listed = Dict[str, List[str]]
 ROOT = Path(__file__).resolve().parent.parent.parent
 TOP = str(ROOT)
 
-#: What is built lies there.
+#: The built programs lie there.
 BUILD = ROOT / 'build'
 
-#: What the proof of a crate is made from, and what its files end in.
+#: The folders and files from which a crate is proved, and the endings of their names.
 PARTS = ('src', 'specs', 'proofs')
 READ = ('.rt', '.antt')
 
 
 def lines_of_crates() -> Dict[str, str]:
-    """What crates.txt says of each crate."""
+    """The lines of crates.txt on each crate."""
     lines = (ROOT / 'crates.txt').read_text(encoding='utf-8').splitlines()
     plain = [line.partition('#')[0].strip() for line in lines]
     return {line.partition(':')[0].split()[0]: line for line in plain if ':' in line}

@@ -7,7 +7,7 @@ import sys
 from building.record import BUILT, STRANGE, TREE, Files, sum_of_sources
 from building.run import make
 
-#: What to type if there are none.
+#: The command to type if there are none.
 ADVICE = 'run make, which proves and builds them: that needs the kit, and may take an hour'
 
 

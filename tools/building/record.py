@@ -9,7 +9,7 @@ A record is a text that `sha256sum --check` reads, too:
 That of the tree has such lines for the programs for ARM, too, with `# arm makers: ` for their kit and a sum over what they are linked with, and for the page, with
 `# page kit: `, `# page binaryen: ` (the line of `wasm-opt --version`) and `# page sources: ` (the sum over what the module is built from).
 
-What a build reads is told by lines: one of crates.txt for each crate that the programs stand on, as `NAME: LIBRARIES`, and one for each file of their
+Lines tell the files that a build reads: one of crates.txt for each crate that the programs stand on, as `NAME: LIBRARIES`, and one for each file of their
 src/, specs/ and proofs/ that ends in .rt or .antt, as `sha256sum` writes it for its path from the top; each in order. The sum of the sources is that of these lines.
 So it goes by names and texts, and not by dates, modes, owners or what git knows.
 """
@@ -60,7 +60,7 @@ class Files:
             return []
 
     def fact(self, name: str) -> str:
-        """What the record says by this name; nothing where it doesn't."""
+        """The record's value by this name; nothing where it doesn't."""
         return next((line.partition(': ')[2] for line in self.lines() if line.startswith(f'# {name}: ')), '')
 
     def sums(self) -> Dict[str, str]:
@@ -140,7 +140,7 @@ def lines_of_sources(tops: Iterable[str]) -> Iterator[str]:
 
 
 def put(path: str, content: bytes, mode: int) -> bool:
-    """Gives a file this content and mode, where it hasn't them yet. Says whether it hadn't. Who has the old file open keeps it."""
+    """Gives a file this content and mode, where it hasn't them yet. Says whether it hadn't. A program that has the old file open keeps it."""
     try:
         with open(path, 'rb') as file:
             if file.read() == content and os.fstat(file.fileno()).st_mode & 0o111 == mode & 0o111:
@@ -156,7 +156,7 @@ def put(path: str, content: bytes, mode: int) -> bool:
 
 
 def put_link(path: str, leads_to: str) -> bool:
-    """Makes a link that leads there, where it isn't one already. Says whether it wasn't. Who has an old file open keeps it."""
+    """Makes a link that leads there, where it isn't one already. Says whether it wasn't. A program that has an old file open keeps it."""
     if leads(path, leads_to):
         return False
     os.makedirs(os.path.dirname(path), exist_ok=True)

@@ -16,7 +16,7 @@ from building.listing import BUILD, ROOT, all_of, listed, own
 from building.record import BUILT, CRATE, NAMES, put, sum_of_sources
 from gating.in_turn import clean_up_at_signals
 
-#: What the prover says.
+#: The words of the prover.
 LOG = BUILD / 'prover.txt'
 
 #: So many of the last lines that it said of a crate are shown where that isn't proved.
@@ -70,7 +70,7 @@ def build(rt: str) -> None:
 
 
 def logged(words: Sequence[str], log: TextIO) -> int:
-    """Runs a command in the folder of the program's crate, and gives its status. What it says goes to a log, and to standard error of which crate it says it."""
+    """Runs a command in the folder of the program's crate, and gives its status. Its output goes to a log, and the name of its crate to standard error."""
     with subprocess.Popen(
         words, cwd=own(CRATE), stdin=subprocess.DEVNULL, stdout=subprocess.PIPE, stderr=subprocess.STDOUT, encoding='utf-8', errors='replace'
     ) as process:
@@ -87,7 +87,7 @@ def logged(words: Sequence[str], log: TextIO) -> int:
 
 
 def fault() -> str:
-    """What isn't proved, and the end of what was said of it."""
+    """The crates that aren't proved, and the end of the output on them."""
     said = LOG.read_text(encoding='utf-8')
     of_crates = dict(re.findall(r'^== (\w+)\n(.*?)(?=^== |\Z)', said, re.MULTILINE | re.DOTALL))
     failed = re.findall(r'^(\w+): failed', of_crates.get('summary', ''), re.MULTILINE)

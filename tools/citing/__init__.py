@@ -1,1 +1,1 @@
-"""What `specs/` and `proofs/` declare (`declared`), and what of it the files that can use it do use (`cited`)."""
+"""The words that `specs/` and `proofs/` declare (`declared`), and those of them that other files use (`cited`)."""

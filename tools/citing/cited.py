@@ -1,4 +1,4 @@
-"""What of all that is declared something uses, and from how many files: code, `specs/`, `proofs/` and documents."""
+"""The declared words that something uses, and from how many files: code, `specs/`, `proofs/` and documents."""
 
 from __future__ import annotations
 
@@ -20,7 +20,7 @@ WHOLE = re.compile(r'^\s*(?:ghost |pub )*use (Rattle\.[\w.]+)(?: as \w+)?;?$', r
 #: A lemma that the search is told of beside a function.
 TACTIC = re.compile(r'(?:proofs|specs)::([\w:]+)::([\w→-]+)')
 
-#: What a document names as it is written in code.
+#: A name in a document that is written as in code.
 NAMED = re.compile(r'`([^`\n]+)`')
 
 DOCUMENTS = ('*.md', 'docs/*.md')
@@ -37,7 +37,7 @@ class File(NamedTuple):
     means: Dict[str, Name]
     #: The modules that are named as a whole.
     modules: Set[str]
-    #: What is used by its path, as the pair above.
+    #: The words that are used by their path, as the pair above.
     paths: Set[Name]
 
 
@@ -68,7 +68,7 @@ def read_document(path: Path) -> File:
 
 
 def meanings(text: str) -> Tuple[Dict[str, Name], Set[str]]:
-    """What the words of a text mean, and which modules it names as a whole."""
+    """The meanings of the words of a text, and the modules that it names as a whole."""
     means = {word: (module.split('.')[-1], name) for word, (module, name) in imports(text).items()}
     return means, {module.split('.')[-1] for module in WHOLE.findall(text)}
 

@@ -19,14 +19,14 @@ PARAMETERS = re.compile(r'^ *module _ ')
 #: The head of declarations that use each other, which are read as one part without a name.
 MUTUAL = re.compile(r'^(?:abbrev )?mutual$')
 
-#: What is no part of any declaration, and which of it tells of one: no heading of several.
+#: The text that is no part of any declaration, and the text that tells of one: no heading of several.
 BETWEEN = re.compile(r'^(?:pub )?(?:use|mod) |^ *--')
 TELLS = re.compile(r'^ *-- (?!---)')
 
-#: What the prover asks for by this name is no lemma: an answer, an invariant, a measure.
+#: A proof that the prover asks for by this name is no lemma: an answer, an invariant, a measure.
 ASKED = re.compile(r'^[^=]*: goal\.')
 
-#: What parts the words of a text from one another; a minus, a quote or an arrow can be within a name.
+#: The characters that part the words of a text; a minus, a quote or an arrow can be within a name.
 APART = re.compile(r'[\s(){}\[\],;.:`@]+')
 
 
@@ -84,7 +84,7 @@ def parts_of(path: Path, text: str) -> Iterator[Part]:
 
 
 def is_of_specs(path: Path) -> bool:
-    """Whether all that a file declares is meant for contracts. What is in a folder `Laws` proves laws of traits."""
+    """Whether all that a file declares is meant for contracts. A file in a folder `Laws` proves laws of traits."""
     _, folder, *rest = path.relative_to(ROOT / 'crates').parts
     return folder == 'specs' and 'Laws' not in rest[:-1]
 

@@ -57,7 +57,7 @@ def skips_fail(by_itself: bool = True) -> bool:
 
 
 def counted(said: bytes, status: int) -> Tuple[Counts, str]:
-    """What the last counting line of a part says, and what is odd about it. One that has none, or ends badly though nothing failed, counts as one failure."""
+    """The counts of the last counting line of a part, and the oddity about it. One that has none, or ends badly though nothing failed, counts as one failure."""
     lines = LINE.findall(said)
     if not lines:
         return Counts(0, 1, 0), f'it has not counted; its status is {status}'
@@ -72,6 +72,6 @@ def counted(said: bytes, status: int) -> Tuple[Counts, str]:
 def finish(counts: Counts) -> int:
     """Prints the last line, which counts all, and gives the status to end with."""
     if counts.skipped and skips_fail():
-        print(f'What is skipped is not tried, so this has failed; {SKIPS_FAIL}=0 lets it pass.', flush=True)
+        print(f'A skipped case is not tried, so this has failed; {SKIPS_FAIL}=0 lets it pass.', flush=True)
     print(counts, flush=True)
     return counts.status()

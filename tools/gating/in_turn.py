@@ -14,7 +14,7 @@ from gating.counts import SKIPS_FAIL, Counts, counted, finish, skips_fail
 
 
 class Said(NamedTuple):
-    """What a command wrote, and how it ended."""
+    """The output of a command, and how it ended."""
 
     text: bytes
     status: int
@@ -69,6 +69,7 @@ class Turns:
                     said.append(piece)
                     self._pass_on(piece)
             except BaseException:
+                self.note(b'stopped\n')
                 process.terminate()
                 raise
         return Said(b''.join(said), process.returncode)
@@ -92,12 +93,19 @@ class Turns:
 
 
 def clean_up_at_signals() -> None:
-    """From now on a signal that ends the process lets it clean up first."""
-    for number in (signal.SIGTERM, signal.SIGHUP):
-        signal.signal(number, lambda number, _: sys.exit(128 + number))
+    """From now on a signal that ends the process lets it clean up first, after a line that says so. One that is ignored stays so."""
+    for number in (signal.SIGINT, signal.SIGTERM, signal.SIGHUP):
+        if signal.getsignal(number) != signal.SIG_IGN:
+            signal.signal(number, _end)
+
+
+def _end(number: int, _: object) -> None:
+    # Not by print, which may be at work just now.
+    os.write(2, f'stopped by {signal.Signals(number).name}\n'.encode())
+    sys.exit(128 + number)
 
 
 def processor_seconds() -> float:
-    """What all commands have used that have ended."""
+    """The use of processors by all commands that have ended."""
     used = resource.getrusage(resource.RUSAGE_CHILDREN)
     return used.ru_utime + used.ru_stime

@@ -7,13 +7,13 @@ import shutil
 from pathlib import Path
 from typing import Sequence
 
-from building.kit import answer
+from building.kit import knows
 from building.listing import BUILD, ROOT, listed
 from building.record import sum_of_sources
 from gating.counts import counted
 from gating.in_turn import Turns
 
-#: What `rt ci` leaves of each crate for those above it, and a file that says of which sources these are. By their dates nobody knows: those that
+#: The files that `rt ci` leaves of each crate for those above it, and a file that says of which sources these are. By their dates nobody knows: those that
 #: an earlier run has kept come back with the dates of then.
 LIBRARIES = 'crates/*/out/rlib'
 NOTE = BUILD / 'libraries'
@@ -31,10 +31,10 @@ def prove(turns: Turns, name: str, rt: str, prover: str, programs: Sequence[str]
     # The libraries that other parts check with are those that are built here, too: `rt ci` would bring back those that it finds.
     for library in ROOT.glob(LIBRARIES):
         shutil.rmtree(library)
-    said = turns.part(name, [rt, 'ci', *([ALL_ANEW] if is_anew and ALL_ANEW in answer(rt, 'help') else [])])
+    said = turns.part(name, [rt, 'ci', *([ALL_ANEW] if is_anew and knows(rt, ALL_ANEW) else [])])
     counts, odd = counted(*said)
     has_passed = said.status == 0 and not odd and counts.passed > 0 and counts.failed == counts.skipped == 0
-    # What was changed meanwhile may not be what was proved.
+    # A file that was changed meanwhile may not be the one that was proved.
     if has_passed and sum_of_libraries(prover) == before:
         NOTE.write_text(before, encoding='ascii')
 
@@ -48,5 +48,5 @@ def when_left(prover: str) -> float:
 
 
 def sum_of_libraries(prover: str) -> str:
-    """What libraries rest on: the prover, and the sources of all crates."""
+    """The bases of libraries: the prover, and the sources of all crates."""
     return f'{prover} {sum_of_sources(listed())}'

@@ -60,7 +60,7 @@ def compressed(content: bytes) -> bytes:
 
 
 def packed(programs: Ready, name: str) -> bytes:
-    """What is installed, as a tarball with one folder at its top."""
+    """The installed files, as a tarball with one folder at its top."""
     seconds = int(git('show', '-s', '--format=%ct', 'HEAD'))
     with tempfile.TemporaryDirectory() as folder:
         installing.put(places.items(programs.folder), Folders(folder, FOLDERS), programs.note)
@@ -72,7 +72,7 @@ def packed(programs: Ready, name: str) -> bytes:
 
 
 def log_of(programs: Ready) -> bytes:
-    """What the gate said, where it has passed with these programs, at this commit; else nothing."""
+    """The last line of the gate, if it has passed with these programs, at this commit; otherwise nothing."""
     path = ROOT / 'build' / 'gate.log'
     if not path.is_file():
         return b''

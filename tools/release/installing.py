@@ -150,7 +150,7 @@ TRIALS = [
 
 
 def check(items: Iterable[Item], folders: Folders) -> List[str]:
-    """What is wrong with what is installed: a file that lacks, or a command that doesn't answer as it should."""
+    """The faults of the installed files: a file that is lacking, or a command that doesn't answer as it should."""
     lacking = [folders.of(item) for item in items if not os.path.isfile(folders.now(folders.of(item)))]
     wrong = [f'{place} is not there' for place in lacking]
     return wrong or [text for trial in TRIALS for text in wrong_trial(trial, folders.now(folders.place('gamesdir')))]

@@ -1,4 +1,4 @@
-"""What is told of the programs that are ready: version, commit, prover, where they are from, and their sums. It is installed as `VERSION`."""
+"""The note on the programs that are ready: version, commit, prover, where they are from, and their sums. It is installed as `VERSION`."""
 
 from __future__ import annotations
 
@@ -71,7 +71,7 @@ def commit() -> str:
 
 
 def git(*words: str) -> bytes:
-    """What git answers here. Raises Unfit where it can't."""
+    """The answer of git here. Raises Unfit where it can't."""
     command: List[str] = ['git', '-C', str(ROOT), *words]
     try:
         return subprocess.run(command, stdout=subprocess.PIPE, stderr=subprocess.PIPE, check=True).stdout

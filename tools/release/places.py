@@ -1,4 +1,4 @@
-"""What is installed, and where: one list for `make install`, `make dist` and the package."""
+"""The files that are installed, and where: one list for `make install`, `make dist` and the package."""
 
 from __future__ import annotations
 
@@ -14,7 +14,7 @@ OURS = 'verified-puzzles'
 #: The folders that the Makefile names, and that packagers set.
 VARIABLES = ['gamesdir', 'datadir', 'mandir', 'docdir', 'bashcompdir', 'zshcompdir', 'fishcompdir']
 
-#: What the packages of the commands in Python have in common.
+#: The common part of the packages of the commands in Python.
 COMMON = 'playing'
 
 #: The commands in Python, and the packages that they start: each lies in the folder of its package.
@@ -63,7 +63,7 @@ class Folders:
 
 def items(folder: str) -> List[Item]:
     """All that is installed, with the programs of this folder. A manual page, a document or a module that is new in its folder needs no line here."""
-    return [*programs(folder), *packages(), *page(), *documents(), *manual(), *completions()]
+    return [*programs(folder), *packages(), *page(), *documents(), *checkers(), *manual(), *completions()]
 
 
 def programs(folder: str) -> Iterator[Item]:
@@ -75,7 +75,7 @@ def packages() -> Iterator[Item]:
     """The packages of Python, the stored puzzles, and what is told of the version."""
     yield Item(NOTE, 'datadir', f'{OURS}/VERSION')
     for package in (COMMON, *FRONTS.values()):
-        for pattern in ('*.py', 'bank/*.txt'):
+        for pattern in ('*.py', 'drawings/*.py', 'bank/*.txt'):
             for source in below(package, pattern):
                 yield Item(f'{package}/{source}', 'datadir', f'{OURS}/{package}/{source}')
 
@@ -87,6 +87,12 @@ def page() -> Iterator[Item]:
     yield Item(f'desktop/{OURS}.metainfo.xml', 'datadir', f'metainfo/{OURS}.metainfo.xml')
     for source in below('desktop', '*.desktop'):
         yield Item(f'desktop/{source}', 'datadir', f'applications/{source}')
+
+
+def checkers() -> Iterator[Item]:
+    """The checkers of certificates, each of which needs no other file."""
+    for source in below('certificate', 'verify.*'):
+        yield Item(f'certificate/{source}', 'docdir', f'certificate/{source}')
 
 
 def documents() -> Iterator[Item]:

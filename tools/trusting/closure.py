@@ -10,13 +10,13 @@ from trusting.contracts import Function, Rust
 from trusting.definitions import OWN, Meaning, Part, Specs
 from trusting.names import NAME, Source, Unknown, operators, strange, words
 
-#: The traits behind which the system can stand, so that what their functions keep is trusted there. What those of any other trait keep is owed by types
+#: The traits behind which the system can stand, so that what their functions keep is trusted there. The promises of any other trait's functions are owed by types
 #: of this repository, and proved of them: nobody need read it.
 DEVICES = frozenset({'Source', 'Sink', 'Words', 'GameFiles', 'Folder'})
 
 
 class Closure:
-    """What was reached, and where it leads. What stands in `left` isn't followed: the contracts say the same whatever it is."""
+    """The words that were reached, and where they lead. Those in `left` aren't followed: the contracts say the same whatever they are."""
 
     def __init__(self, rust: Rust, left: FrozenSet[str] = frozenset()) -> None:
         self.parts: Dict[Part, None] = {}
@@ -101,7 +101,7 @@ class Closure:
             self._reach(by, meaning)
 
     def _declared(self, path: List[str], name: str) -> Sequence[Optional[Meaning]]:
-        """What the prover makes of code: a constant, a type, the cases of one (`TheVariants`), or its fields (`TheInside`)."""
+        """A word that the prover makes of code: a constant, a type, the cases of one (`TheVariants`), or its fields (`TheInside`)."""
         crate, owner = path[1], path[-2] if path[-1] in ('TheVariants', 'TheInside') else path[-1]
         if owner == 'TheConstants':
             return [self._rust.constants.get((crate, name))]

@@ -1,4 +1,4 @@
-"""What the code tells besides its bodies: the contract of a function, the types that contracts see, and what traits and their impls say in ghosts."""
+"""The code without its bodies: the contract of a function, the types that contracts see, and what traits and their impls say in ghosts."""
 
 from __future__ import annotations
 
@@ -13,7 +13,7 @@ from trusting.names import imports, modules
 #: Crates whose impls are for tests, measurements and examples alone.
 FOR_TESTS = re.compile(r'tests$|^trial_runs$|^client$')
 
-#: Who may name an item of a file.
+#: The code that may name an item of a file.
 SEEN = r'(?:pub(?:\(\w+\))? )?'
 
 #: An item of a file, from its attributes and comments to its end.
@@ -32,7 +32,7 @@ MODEL = re.compile(r'impl(?:<.*?>)? Model for (\w+)')
 SHOWN = re.compile(r'impl(?:<.*?>)? (\w+)(?:<.*>)? for (\w+)')
 TRAIT = re.compile(rf'{SEEN}trait (\w+)(?:<[^>]*>)?:?(.*)', re.DOTALL)
 
-#: What a contract sees of a type with fields of its own: as which value, how that comes from the fields, and what holds of them.
+#: A contract's view of a type with fields of its own: as which value it is seen, how that comes from the fields, and what holds of them.
 OF_MODEL = ('Value', 'view', 'invariant')
 
 

@@ -82,7 +82,7 @@ def definitions(path: Path) -> Dict[str, Part]:
 
 
 class File(NamedTuple):
-    """What a file of `specs/` declares, and what it passes on from others."""
+    """The words that a file of `specs/` declares, and those that it passes on from others."""
 
     meanings: Dict[str, Meaning]
     passed_on: Dict[str, Source]
@@ -109,7 +109,9 @@ class Specs:
         _, crate, *rest = module.split('.')
         path = (ROOT / 'crates' / crate).joinpath(*rest).with_suffix('.antt')
         if not path.is_file():
-            return None
+            contents = path.with_name('Lib.antt')
+            given_on = modules(contents.read_text(encoding='utf-8')).get(path.stem) if contents.is_file() else None
+            return Specs._read(given_on) if given_on else None
         text = path.read_text(encoding='utf-8')
         here = definitions(path)
         names = {name: (module, name) for name in here}

@@ -12,7 +12,7 @@ from trusting.contracts import TYPE
 from trusting.definitions import blocks
 from trusting.names import NAME, Source, Unknown, imports, operators, passed_on, words
 
-#: What a line declares, with or without parameters: a definition, one case of it, or one of its fields.
+#: The declaration of a line, with or without parameters: a definition, one case of it, or one of its fields.
 DECLARES = re.compile(rf'^ *(?:(?:abbrev|unfoldable|record|data|opaque|pub) )*({NAME}|◌\S+◌)(?= [:{{(])')
 
 #: The crates whose words the standard library passes on as its own.
@@ -57,7 +57,7 @@ class Kit:
         return list(found)
 
     def _step(self, source: Source, found: Dict[str, None]) -> List[Source]:
-        """Adds the definition of a word, and gives the words that it uses. What is no crate's and has no text is the prover's own."""
+        """Adds the definition of a word, and gives the words that it uses. A word that is no crate's and has no text is the prover's own."""
         module, name = source
         if '.declared.' in module:
             found[self._type(module.split('.'))] = None

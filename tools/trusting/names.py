@@ -36,10 +36,10 @@ BINDERS = [
     rf'\b({NAME}) ←',
 ]
 
-#: What stands left of an equation's sign: the name that it declares, or an operator, and the values that it has there.
+#: The left side of an equation: the name that it declares, or an operator, and the values that it has there.
 EQUATION = re.compile(rf'^(?:(?:abbrev|pub|unfoldable) )*((?:\(|{NAME})(?:[^=:\n]|==|>>=)*?) =(?:\s|$)', re.MULTILINE)
 
-#: What code binds besides: parameters, clauses, what an `enum` or a `struct` declares.
+#: Other names that code binds: parameters, clauses, members of an `enum` or a `struct`.
 CODE_BINDERS = [rf'\b({NAME}):(?!:)', rf'\b(?:requires|ensures|ghost|fn|struct|enum|const) ({NAME})\b', rf'^ +({NAME})(?:\(.*\)| \{{.*\}})?(?:,| \{{)$']
 
 
@@ -59,7 +59,7 @@ def words(text: str) -> Set[str]:
 
 
 def operators(text: str, names: Iterable[str]) -> List[str]:
-    """Which of the named operators a text uses. What follows a step in `do` is one."""
+    """Which of the named operators a text uses. The text after a step in `do` is one."""
     shown = plain(text)
     used = shown + ' >>= ' * bool(re.search(r'\bdo$', shown, re.MULTILINE))
     return [name for name in names if name.startswith('◌') and name.endswith('◌') and f' {name.strip("◌")} ' in used]
@@ -78,12 +78,12 @@ def strange(text: str, is_code: bool) -> Set[str]:
 
 
 def imports(text: str) -> Dict[str, Source]:
-    """What each name that a text imports means."""
+    """The meaning of each name that a text imports."""
     return _named(USE.findall(text))
 
 
 def passed_on(text: str) -> Dict[str, Source]:
-    """What each name means that a text imports for others."""
+    """The meaning of each name that a text imports for others."""
     return _named(PASSED_ON.findall(text))
 
 

@@ -1,37 +1,34 @@
-"""What has to be read to believe each promise: the table in docs/TRUST.md, the numbers in README, and the list of one promise, with its text."""
+"""The texts that have to be read to believe each promise: the numbers in docs/PROMISES.md, docs/TRUST.md and README, and the list of one promise, with its text."""
 
 from __future__ import annotations
 
 import re
-import textwrap
 from pathlib import Path
 from typing import Dict, Iterable, Iterator, List, Optional, Set
 
 from building.listing import ROOT
+from trusting import bare
 from trusting.around import around
 from trusting.closure import Closure, in_reading_order
 from trusting.contracts import Function, Rust
 from trusting.definitions import Part
 from trusting.kit import Kit, folder, lines_of
 from trusting.names import Source
-from trusting.parts import called, parts
-from trusting.promises import ON_PAGE, PAGE, PROMISES, Promise, functions_of, promise
+from trusting.parts import PAGE, called, parts
+from trusting.promises import LINES, PROMISES, Promise, functions_of, promise
 
-README = ROOT / 'README.md'
-
-#: The width of the page.
-COLUMNS = 110
+README, TRUST = ROOT / 'README.md', ROOT / 'docs' / 'TRUST.md'
 
 #: Where README tells a number: that of this promise.
 COUNT = re.compile(r'\*\*[\d,]+ lines\*\*')
-TOLD = ('solve', 'program')
+TOLD = ('solve', 'program', 'together')
 
-#: What is read of the parts that no sentence of README speaks of.
+#: The texts to read of the parts that no sentence of README speaks of.
 PARTS = 'parts'
 
 
 class Listed:
-    """What there is to read of some contracts, in reading order."""
+    """The texts to read of some contracts, in reading order."""
 
     def __init__(self, closures: Iterable[Closure]) -> None:
         self.parts: Dict[Part, None] = {}
@@ -69,7 +66,7 @@ class Listed:
 
 
 def listed(name: str, rust: Optional[Rust] = None) -> Listed:
-    """What there is to read of a promise, by its name, of all that docs/PROMISES.md names, or of one function with its crate."""
+    """The texts to read of a promise, by its name, of all that docs/PROMISES.md names, or of one function with its crate."""
     known = rust or Rust()
     if name == PARTS:
         return Listed([reached(parts(known), known)])
@@ -99,23 +96,23 @@ def all_listed() -> Dict[str, Listed]:
 
 
 def pages(made: Dict[str, Listed]) -> Dict[Path, str]:
-    """The page and README, as they have to be. Without a kit the lines of the kit are those that the page has."""
-    page, readme = (path.read_text(encoding='utf-8') for path in (PAGE, README))
+    """The three pages, as they have to be. Without a kit the lines of the kit are those that the first has."""
+    page, trust, readme = (path.read_text(encoding='utf-8') for path in (PAGE, TRUST, README))
     promises, counts = iter(PROMISES), iter(TOLD)
+    if len(COUNT.findall(readme)) != len(TOLD):
+        raise ValueError(f'README.md has to say "**N lines**" of {", ".join(TOLD)}, each on one line, and of nothing else')
     return {
-        PAGE: ON_PAGE.sub(lambda _: item(next(promises), made), page),
-        README: around(COUNT.sub(lambda _: f'**{made[next(counts)].lines:,} lines**', readme, count=len(TOLD))),
+        PAGE: LINES.sub(lambda _: lines(next(promises), made), page),
+        TRUST: bare.TOLD.sub(bare.told(Rust()), trust),
+        README: around(COUNT.sub(lambda _: f'**{made[next(counts)].lines:,} lines**', readme)),
     }
 
 
-def item(one: Promise, made: Dict[str, Listed]) -> str:
-    """The item of a promise, with its lines, in which no name is cut."""
+def lines(one: Promise, made: Dict[str, Listed]) -> str:
+    """How many lines there are to read of a promise, and of the kit."""
     behind = made[one.name].of_kit()
     beside = f'{lines_of(behind):,}' if behind is not None else one.of_kit
-    text = f'**{one.name}**, {made[one.name].lines:,} lines and {beside} of the kit: {one.sentence}. See {one.says}.'
-    shown = re.sub(r'`[^`]*`', lambda name: name[0].replace(' ', '\0'), text)
-    lines = textwrap.fill(shown, COLUMNS, initial_indent='- ', subsequent_indent='  ', break_long_words=False, break_on_hyphens=False)
-    return lines.replace('\0', ' ')
+    return f'{made[one.name].lines:,} lines and {beside}'
 
 
 def outdated(made: Dict[str, Listed]) -> List[str]:

@@ -11,7 +11,7 @@ from trusting.definitions import Part, definitions
 from trusting.names import Unknown
 
 #: The document.
-PROMISES = ROOT / 'docs' / 'PROMISES.md'
+PAGE = ROOT / 'docs' / 'PROMISES.md'
 
 #: Names, with a type or a crate before `::`.
 NAME = re.compile(r'`([\w:]+)`')
@@ -40,7 +40,7 @@ def called(name: str, rust: Rust) -> List[Function]:
 
 def rows() -> Iterator[Row]:
     """The items of the document that are carried by something."""
-    for section in re.split(r'^## ', PROMISES.read_text(encoding='utf-8'), flags=re.MULTILINE):
+    for section in re.split(r'^## ', PAGE.read_text(encoding='utf-8'), flags=re.MULTILINE):
         heading, _, text = section.partition('\n')
         for item in re.findall(r'^- (.*(?:\n +\S.*)*)', text, re.MULTILINE):
             _, carries, carried = re.sub(r'\s+', ' ', item).partition('arried by ')
@@ -50,15 +50,24 @@ def rows() -> Iterator[Row]:
 
 def named(row: Row, rust: Rust) -> Iterator[Function]:
     """The functions and laws that a row names: those of the name's type, trait or crate, or of the one before it, or of the row's crates. A type and a
-    trait stand for their functions, and a trait for its ghosts. What is in parentheses names clauses."""
+    trait stand for their functions, and a trait for its ghosts. Words in parentheses name clauses."""
     owner = ''
     for name in NAME.findall(re.sub(r'\([^()]*\)', '', row.carried)):
         before, _, last = name.rpartition('::')
         owner = before or owner
-        found = [*rust.functions.get(last, []), *rust.laws.get(last, [])] or of_owner(last, rust)
-        owned = [one for one in found if owner in one.owners or owner == crate_of(one.path)]
-        meant = owned or [one for one in found if not row.crates or crate_of(one.path) in row.crates]
-        yield from (one for one in meant if one.has_clauses)
+        found = every(last, rust)
+        here = [one for one in found if not row.crates or crate_of(one.path) in row.crates]
+        yield from (one for one in meant(owner, last, rust) or here if one.has_clauses)
+
+
+def meant(owner: str, name: str, rust: Rust) -> List[Function]:
+    """The functions and laws of that name that a type, a trait or a crate has."""
+    return [one for one in every(name, rust) if owner in one.owners or owner == crate_of(one.path)]
+
+
+def every(name: str, rust: Rust) -> List[Function]:
+    """All functions and laws of that name, or of the type or trait of that name."""
+    return [*rust.functions.get(name, []), *rust.laws.get(name, [])] or of_owner(name, rust)
 
 
 def clauses(row: Row, rust: Rust) -> Set[str]:
@@ -78,6 +87,6 @@ def records(name: str) -> List[Part]:
 
 
 def of_owner(name: str, rust: Rust) -> List[Function]:
-    """What a type or a trait stands for."""
+    """The parts for which a type or a trait stands."""
     laws = [law for found in rust.laws.values() for law in found if law.owners == (name,)]
     return [one for one in rust.owned.get(name, []) if one.is_public] + laws

@@ -1,4 +1,4 @@
-"""The promises that docs/TRUST.md lists, and the contracts that say each of them."""
+"""The promises that docs/PROMISES.md lists by name, and the contracts that say each of them."""
 
 from __future__ import annotations
 
@@ -6,17 +6,18 @@ import re
 from typing import Iterator, List, NamedTuple, Tuple
 
 from trusting.contracts import Function, Rust
-from building.listing import ROOT
+from trusting.parts import PAGE, meant
 
-PAGE = ROOT / 'docs' / 'TRUST.md'
-
-#: An item of the page; and in it the name of a list, how many lines that has and how many of the kit stand behind it, a sentence, and what says it.
+#: An item of the page; and in it the name of a list, how many lines that has and how many of the kit stand behind it, a sentence, and the contracts that say it: all
+#: that carries it, up to the first semicolon, or other lists.
 ON_PAGE = re.compile(r'^- \*\*\w+\*\*, \d.*(?:\n  .*)*', re.MULTILINE)
-ITEM = re.compile(r'- \*\*(\w+)\*\*, [\d,]+ lines and ([\d,]+) of the kit: (.*?)\. See (.*)\.')
+ITEM = re.compile(r'- \*\*(\w+)\*\*, [\d,]+ lines and ([\d,]+) of the kit: "(.*?)" .*Carried by (.*?)[.;](?: .*)?')
 
-#: What says it: functions of a file, each with those of its clauses that say the sentence where not all do.
+#: Where an item tells its lines, and those of the kit.
+LINES = re.compile(r'(?<=\*\*, )[\d,]+ lines and [\d,]+(?= of the kit: )')
+
+#: The functions that say it, each with those of its clauses that say the sentence where not all do.
 FUNCTION = r'`([\w:]+)`(?: \(([^()]*)\))?'
-CONTRACTS = re.compile(rf'((?:(?:, )?{FUNCTION})+) of \[\w+\]\(\.\./(crates/[\w/.]+)\)(?:; )?')
 
 #: Words that aren't followed, since what is promised is the same whatever they mean. First: what a move does, and when it is refused; what the puzzles of
 #: both games are; and how a session keeps what takes its moves back. Then the texts that describe these puzzles, and how they are read.
@@ -63,16 +64,14 @@ def promise(name: str) -> Promise:
 
 def functions_of(one: Promise, rust: Rust) -> Iterator[Function]:
     """The contracts that say a promise. A name that no function or law has, and one that no clause has, is a fault of the page."""
-    if CONTRACTS.sub('', one.says):
-        raise ValueError(f'{PAGE}: nothing can be read of {CONTRACTS.sub("", one.says)}')
-    for names, *_, place in CONTRACTS.findall(one.says):
-        for name, clauses in re.findall(FUNCTION, names):
-            last = name.rpartition('::')[2]
-            found = [*rust.functions.get(last, []), *rust.laws.get(last, [])]
-            meant = [one for one in found if one.path == ROOT / place and one.meaning.part.name.replace('.', '::') == name]
-            if len(meant) != 1:
-                raise ValueError(f'{place} has no function {name}')
-            yield with_clauses(meant[0], re.findall(r'\w+', clauses)) if clauses else meant[0]
+    owner = ''
+    for name, clauses in re.findall(FUNCTION, one.says):
+        before, _, last = name.rpartition('::')
+        owner = before or owner
+        found = meant(owner, last, rust)
+        if len(found) != 1:
+            raise ValueError(f'{PAGE}: {len(found)} functions are {owner}::{last}')
+        yield with_clauses(found[0], re.findall(r'\w+', clauses)) if clauses else found[0]
 
 
 #: The beginning of a clause, with the comments above it.

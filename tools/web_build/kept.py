@@ -21,10 +21,10 @@ PAGE_FILE = f'{FOLDER}/puzzles.html'
 #: The crate whose function the page calls.
 CRATE = 'web_turn'
 
-#: What the module is built from, besides the crates.
+#: The sources of the module, besides the crates.
 SCRIPTS = [f'tools/web_build/{name}' for name in ('heap.c', 'module.py', 'retarget.py', 'sections.py')]
 
-#: What is to be done where those in the tree aren't of the sources that are here; and where a page is wanted, but no proof.
+#: The command to type if those in the tree aren't of the sources that are here; and if a page is wanted, but no proof.
 ADVICE = 'make web, and commit'
 RUN = 'run make web, which proves and builds it: that needs the kit, and may take an hour'
 
@@ -57,7 +57,7 @@ def made_fault() -> str:
             return f'the module in {PAGE_FILE} is not {MODULE_FILE}'
     except OSError as error:
         return f'{error.filename}: {error.strerror}'
-    return '' if page_of(as_packed) == found else f'{PAGE_FILE} is of other sources than those that are here'
+    return '' if page_of(as_packed, packed_in(found, 'later')) == found else f'{PAGE_FILE} is of other sources than those that are here'
 
 
 def where() -> None:
@@ -80,7 +80,8 @@ def store(said: TextIO = sys.stdout) -> None:
         makers = makers_here()
         tell(put(f'{TOP}/{MODULE_FILE}', built_by(makers), 0o644), MODULE_FILE, said)
     if wrong or page_fault():
-        tell(put(f'{TOP}/{PAGE_FILE}', page_of(packed_there() or packed(read(MODULE_FILE))), 0o644), PAGE_FILE, said)
+        module = packed_there() or packed(read(MODULE_FILE))
+        tell(put(f'{TOP}/{PAGE_FILE}', page_of(module, later_there()), 0o644), PAGE_FILE, said)
     tell(PAGE.write(makers), PAGE.record, said)
 
 
@@ -93,13 +94,21 @@ def packed_there() -> str:
         return ''
 
 
+def later_there() -> str:
+    """The later scripts as the page has them that lies there; nothing where there are none."""
+    try:
+        return packed_in(read(PAGE_FILE), 'later')
+    except OSError:
+        return ''
+
+
 def tell(is_new: bool, path: str, said: TextIO) -> None:
     if is_new:
         print(f'stored: {path}', file=said)
 
 
 def makers_here() -> List[str]:
-    """What a module would be made with here, and from what: the kit, Binaryen and the sources."""
+    """The record of a module that would be made here: the kit, Binaryen and the sources."""
     rt = command()
     return [kit_of(rt) if rt else '', binaryen(), sources()]
 

@@ -27,7 +27,7 @@ HEAP = Path(__file__).with_name('heap.c')
 #: The processor that the crate is built for: the default one has more, and the text then names it.
 CPU = 'x86-64'
 
-#: What the kit has clang do for WebAssembly, but for less space: the page is a tenth smaller, and a fair game takes half as long again.
+#: The words by which the kit has clang build for WebAssembly, but for less space: the page is a tenth smaller, and a fair game takes half as long again.
 TARGET = ['--no-default-config', '-no-canonical-prefixes', '-fintegrated-cc1', '--target=wasm64-unknown-unknown', '-mcpu=lime1']
 CODE = [
     *['-mllvm', '-expand-div-rem-bits=64', '-mllvm', '-expand-fp-convert-bits=64', '-ffunction-sections', '-fdata-sections', '-mllvm', '-trap-unreachable'],
@@ -35,7 +35,7 @@ CODE = [
 ]
 OF_HEAP = ['-O2', '-Wall', '-Wextra', '-Wno-unused-parameter', '-Werror', '-ffreestanding', '-nostdinc']
 
-#: What Binaryen may find in the module; it refuses what isn't named.
+#: The features that Binaryen may find in the module; it refuses those that aren't named.
 FEATURES = ['memory64', 'bulk-memory', 'sign-ext', 'mutable-globals', 'nontrapping-float-to-int', 'multivalue']
 
 #: Stands in the place of clang: it keeps the text of each call of its own, and calls clang.

@@ -13,18 +13,18 @@ from pathlib import Path
 from typing import Dict, NamedTuple, Sequence
 
 from building.listing import TOP
-from web_build.scripts import Unfit, script, shorter
+from web_build.scripts import Unfit, script, scripts, shorter
 
-#: What the page is made from, besides the module.
+#: The sources of the page, besides the module.
 SOURCES = Path(TOP) / 'page'
 
 #: The most bytes that the page may have.
-MOST_BYTES = 375_000
+MOST_BYTES = 400_000
 
 MARK = re.compile(r'\{\{(\w+)\}\}')
 
 #: The marks that stand once in the template. Those of the others may stand anywhere.
-ONCE = ['policy', 'style', 'site', 'worker', 'module', 'script']
+ONCE = ['policy', 'style', 'site', 'worker', 'module', 'later', 'script']
 
 #: zlib's word for the form of gzip, which has no date then.
 GZIP = 31
@@ -33,7 +33,7 @@ GZIP = 31
 INSTEAD = ','
 
 
-#: What a browser lets the page do, besides its own scripts and style, which are named by their sums: it connects to nothing.
+#: The rights that a browser gives the page, besides its own scripts and style, which are named by their sums: it connects to nothing.
 RULES = {
     'default-src': "'none'",
     'img-src': 'data:',
@@ -46,7 +46,7 @@ RULES = {
 
 
 class Extra(NamedTuple):
-    """What the page has besides where a web server hands it out: more in its head, a script, and the rules of its policy that are others."""
+    """The additions of a page that a web server hands out: more in its head, a script, and the rules of its policy that are others."""
 
     head: str
     script: str
@@ -56,19 +56,22 @@ class Extra(NamedTuple):
 NOTHING = Extra('', '', {})
 
 
-def page_of(packed: str, extra: Extra = NOTHING) -> bytes:
-    """The page with the module that was packed so: the same bytes for the same sources. Raises Unfit."""
+def page_of(module: str, later: str = '', extra: Extra = NOTHING) -> bytes:
+    """The page with the module that was packed so, and with its later scripts as they were packed, if they still are the ones: the same bytes for the same
+    sources. Raises Unfit."""
+    first, second = scripts(str(SOURCES), 'main.js')
     parts = {
         'style': squeezed(shorter(text_of('style.css'))),
         'icon': 'data:image/svg+xml;base64,' + base64.b64encode((SOURCES / 'icon.svg').read_bytes()).decode(),
         'site': extra.head + (f'<script>{extra.script}</script>' if extra.script else ''),
         'worker': script(str(SOURCES), 'worker.js'),
-        'module': packed,
-        'script': script(str(SOURCES), 'main.js'),
+        'module': module,
+        'later': later if later and unpacked(later) == second.encode() else zipped(second.encode()),
+        'script': first,
         'version': (Path(TOP) / 'VERSION').read_text(encoding='utf-8').strip(),
     }
-    scripts = [text for text in (extra.script, parts['script']) if text]
-    parts['policy'] = policy(scripts, parts['style'], {**RULES, **extra.rules})
+    named = [text for text in (extra.script, first, second) if text]
+    parts['policy'] = policy(named, parts['style'], {**RULES, **extra.rules})
     page = filled(shorter(text_of('index.html')), parts).encode()
     if len(page) > MOST_BYTES:
         raise Unfit(f'the page has {len(page):,} bytes, and may have {MOST_BYTES:,}')
@@ -87,13 +90,13 @@ def squeezed(style: str) -> str:
     return re.sub(r'(?<=[:;,{]) | (?=[{}])', '', style)
 
 
-def policy(scripts: Sequence[str], style: str, rules: Dict[str, str]) -> str:
-    own = {'script-src': f"{' '.join(map(hash_of, scripts))} 'wasm-unsafe-eval'", 'style-src': hash_of(style)}
+def policy(named: Sequence[str], style: str, rules: Dict[str, str]) -> str:
+    own = {'script-src': f"{' '.join(map(hash_of, named))} 'wasm-unsafe-eval'", 'style-src': hash_of(style)}
     return '; '.join(f'{name} {sources}' for name, sources in {**rules, **own}.items())
 
 
 def hash_of(text: str) -> str:
-    """What names a script or a style in a policy."""
+    """The sum that names a script or a style in a policy."""
     return f"'sha256-{base64.b64encode(hashlib.sha256(text.encode()).digest()).decode()}'"
 
 
@@ -119,20 +122,30 @@ def packed(module: bytes) -> str:
         ran = subprocess.run(['zopfli', '-c', str(file)], stdin=subprocess.DEVNULL, stdout=subprocess.PIPE, stderr=subprocess.PIPE, check=False)
     if ran.returncode:
         raise Unfit(f'zopfli has failed: {ran.stderr.decode(errors="replace").strip()}')
-    return base64.b85encode(ran.stdout).decode().replace('<', INSTEAD)
+    return in_letters(ran.stdout)
+
+
+def zipped(content: bytes) -> str:
+    """A smaller form of the bytes, by zlib, which is everywhere: its other versions may pack it otherwise."""
+    made = zlib.compressobj(9, zlib.DEFLATED, GZIP)
+    return in_letters(made.compress(content) + made.flush())
+
+
+def in_letters(content: bytes) -> str:
+    return base64.b85encode(content).decode().replace('<', INSTEAD)
 
 
 def unpacked(text: str) -> bytes:
-    """The module that was packed so. Raises Unfit."""
+    """The bytes that were packed so. Raises Unfit."""
     try:
         return zlib.decompress(base64.b85decode(text.replace(INSTEAD, '<')), GZIP)
     except (ValueError, zlib.error) as error:
-        raise Unfit(f'the module is not packed as it should be: {error}') from None
+        raise Unfit(f'a part of the page is not packed as it should be: {error}') from None
 
 
-def packed_in(page: bytes) -> str:
-    """How the module is packed in a page; nothing where there is none."""
-    found = re.search(rb'<script type="text/plain" id="module">([^<]*)</script>', page)
+def packed_in(page: bytes, part: str = 'module') -> str:
+    """How the module is packed in a page, or the later scripts; nothing where there is none."""
+    found = re.search(rb'<script type="text/plain" id="%s">([^<]*)</script>' % part.encode(), page)
     return found[1].decode() if found else ''
 
 

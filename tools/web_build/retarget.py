@@ -18,7 +18,7 @@ from web_build.scripts import Unfit
 GIVEN_LAYOUT = 'e-m:e-p270:32:32-p271:32:32-p272:64:64-i64:64-i128:128-f80:128-n8:16:32:64-S128'
 LAYOUT = 'e-m:e-p:64:64-p10:8:8-p20:8:8-i64:64-i128:128-n32:64-S128-ni:1:10:20'
 
-#: What belongs to some processors alone, or to the C library of a system, outside of quotes.
+#: The words that belong to some processors alone, or to the C library of a system, outside of quotes.
 FOREIGN = {
     r'@llvm\.(aarch64|amdgcn|arm|bpf|hexagon|loongarch|mips|nvvm|ppc|r600|riscv|s390|spv|ve|wasm|x86|xcore)\.': 'a call of one processor',
     r'\bx86_\w+': 'a type or a calling convention of one processor',
@@ -92,7 +92,7 @@ def attributes(line: str) -> str:
 
 
 def with_stack_tests(lines: Iterable[str]) -> Iterator[str]:
-    """Each function with the test of the stack in its first block. What the function takes of the stack there stands before the test, which then sees where
+    """Each function with the test of the stack in its first block. The stack that the function takes there stands before the test, which then sees where
     the frame ends. Raises Unfit where something is taken later: the test would know nothing of it."""
     block: Optional[Block] = None
     for line in lines:

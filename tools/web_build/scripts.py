@@ -2,8 +2,9 @@
 
 A module keeps to a few forms, so that no reader of JavaScript is needed here:
 
-    import {a, b} from './name.js';                       at its head, one statement each
+    import {a, b} from './name.js';                       at its head, one statement each; the checker lies at '../certificate/verify.mjs'
     export function .. | export async function .. | export class .. | export const NAME = ..      at the start of a line
+    await import('./name.js')                             anywhere: those modules come into a second script, which the first one unpacks
 
 Anything else that imports or exports is refused. Lines that are wholly comment and the blanks before code are left out of the script.
 """
@@ -14,15 +15,24 @@ import os
 import re
 from typing import Dict, List, NamedTuple, Sequence, Tuple
 
-IMPORT = re.compile(r'import \{([\w\s,]+)\} from \'\./([\w-]+\.js)\';\n')
+IMPORT = re.compile(r'import \{([\w\s,]+)\} from \'(?:\./([\w-]+\.js)|(\.\./certificate/verify\.mjs))\';\n')
 EXPORT = re.compile(r'^export (?=(?:async function|function\*?|class|const) (\w+))', re.MULTILINE)
+LATER = re.compile(r"await import\('\./([\w-]+\.js)'\)")
 COMMENT = re.compile(r'^[ \t]*(?://[^\n]*|/\*(?:(?!\*/).)*\*/[ \t]*)\n', re.MULTILINE | re.DOTALL)
 
-#: What is in no module once its imports and exports are taken away, and why.
+#: From this line on a module is for node, and no part of the script.
+NODE_ALONE = '\n// For node alone.\n'
+
+#: The module whose function `later` unpacks the second script.
+UNPACKS = 'later.js'
+
+HEAD = "'use strict';\n"
+
+#: The words that are in no module once its imports and exports are taken away, and why.
 REFUSED = {
     r'^import\b': 'an import that is not as `import {a, b} from \'./name.js\';` at the head',
     r'^export\b': 'an export that is no function, class or const',
-    r'\bimport\(': 'an import while it runs',
+    r'\bimport\(': 'an import while it runs that is not as `await import(\'./name.js\')`',
     r'\bimport\.meta\b': 'import.meta',
     r'</script': 'the end of a script',
     r'<!--': 'the start of a comment of HTML',
@@ -44,11 +54,22 @@ class Module(NamedTuple):
 
 def script(folder: str, first: str) -> str:
     """The modules that the first one stands on, and it, as one script. Raises Unfit."""
+    return scripts(folder, first)[0]
+
+
+def scripts(folder: str, first: str) -> Tuple[str, str]:
+    """The same, and what else the modules that are imported while it runs stand on, as a second script; nothing where there are none. Raises Unfit."""
     modules: Dict[str, Module] = {}
     add(folder, first, modules, [])
+    wanted = [name for module in modules.values() for name in LATER.findall(module.body)]
+    if wanted:
+        add(folder, UNPACKS, modules, [])
+    count = len(modules)
+    for name in wanted:
+        add(folder, name, modules, [])
     numbers = {name: number for number, name in enumerate(modules)}
     parts = [function_of(module, numbers[name], numbers) for name, module in modules.items()]
-    return "'use strict';\n" + ''.join(parts)
+    return HEAD + ''.join(parts[:count]), HEAD + ''.join(parts[count:]) if wanted else ''
 
 
 def add(folder: str, name: str, modules: Dict[str, Module], above: List[str]) -> None:
@@ -69,21 +90,22 @@ def add(folder: str, name: str, modules: Dict[str, Module], above: List[str]) ->
 
 def read(name: str, text: str) -> Module:
     """Takes a module apart."""
-    body = COMMENT.sub('', f'{text}\n')
+    body = COMMENT.sub('', f'{text.partition(NODE_ALONE)[0]}\n')
     imports: List[Tuple[str, str]] = []
     while True:
         found = IMPORT.match(body.lstrip('\n'))
         if not found:
             break
         words = [word.strip() for word in found[1].split(',') if word.strip()]
-        imports += [(found[2], word) for word in words]
+        imports += [(found[2] or found[3], word) for word in words]
         body = body.lstrip('\n')[found.end():]
     exports = EXPORT.findall(body)
     body = EXPORT.sub('', body)
     for form, why in REFUSED.items():
-        wrong = re.search(form, body, re.MULTILINE)
+        plain = LATER.sub('', body)
+        wrong = re.search(form, plain, re.MULTILINE)
         if wrong:
-            line = body[wrong.start():].partition('\n')[0]
+            line = plain[wrong.start():].partition('\n')[0]
             raise Unfit(f'{name}: {why}: {line.strip()[:80]}')
     return Module(imports, exports, shorter(body))
 
@@ -95,9 +117,10 @@ def shorter(text: str) -> str:
 
 
 def function_of(module: Module, number: int, numbers: Dict[str, int]) -> str:
-    """The function of a module, called once. What it exports is there under its number."""
+    """The function of a module, called once. Its exports are there under its number."""
     taken: Dict[str, List[str]] = {}
     for other, word in module.imports:
         taken.setdefault(other, []).append(word)
     heads = [f'const {{{",".join(words)}}}=m{numbers[other]};\n' for other, words in taken.items()]
-    return f'const m{number}=(()=>{{\n{"".join(heads)}{module.body}return {{{",".join(module.exports)}}};\n}})();\n'
+    body = LATER.sub(lambda found: f'(await m{numbers[UNPACKS]}.later(),m{numbers[found[1]]})', module.body)
+    return f'const m{number}=(()=>{{\n{"".join(heads)}{body}return {{{",".join(module.exports)}}};\n}})();\n'

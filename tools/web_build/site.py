@@ -20,7 +20,7 @@ ICONS = ['icon.svg', 'icon-180.png', 'icon-192.png', 'icon-512.png']
 
 HEAD = f'<link rel="manifest" href="{MANIFEST}">\n<link rel="apple-touch-icon" href="icon-180.png">\n'
 
-#: What the page may do there besides: it reads these files from its own server, and none from another.
+#: A right that the page has there besides: it reads these files from its own server, and none from another.
 RULES = {
     'img-src': "data: 'self'",
     'manifest-src': "'self'",
@@ -39,9 +39,9 @@ def write_site(folder: str) -> None:
 
 
 def files() -> Dict[str, bytes]:
-    register = (OWN / 'register.js').read_text(encoding='utf-8')
+    register, page = (OWN / 'register.js').read_text(encoding='utf-8'), read(PAGE_FILE)
     found = {
-        'index.html': page_of(packed_in(read(PAGE_FILE)), Extra(HEAD, register, RULES)),
+        'index.html': page_of(packed_in(page), packed_in(page, 'later'), Extra(HEAD, register, RULES)),
         MANIFEST: (OWN / MANIFEST).read_bytes(),
         **{icon: (SOURCES / icon).read_bytes() for icon in ICONS},
     }

@@ -1,4 +1,4 @@
--- What Towers and Unequal demand, and where.
+-- The demands of Towers and Unequal, and where they stand.
 use Rattle.std.specs.Prelude.{ℕ, ◌+◌, ◌==◌, nat_lt, if◌then◌else◌, [], ◌∷◌, map, slice_index, Option, Some, None}
 use Rattle.std.specs.List.{range_with_len}
 use Rattle.tower_lines.specs.TowersSeen.{seen}

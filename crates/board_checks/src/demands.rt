@@ -1,4 +1,4 @@
-//! What a game demands of the numbers in a row or column.
+//! The demands of a game on the numbers in a row or column.
 
 ghost use Rattle.std.specs.Prelude.{◌≡◌, ◌↔◌, IsTrue, Option, Some};
 ghost use Rattle.latin_board.specs.Squares.{GridValue, IsGrid, IsFull};
@@ -15,7 +15,7 @@ use trail_solver::Rules;
 /// Generic code knows of them only what the laws below say. By these the demands are all that the clues or signs ask: no
 /// game is lawful that leaves one out, or demands something that a solution need not meet.
 pub trait Demands: Rules {
-    // What the puzzle demands at a spot, if anything.
+    // The puzzle's demand at a spot, if there is one.
     ghost demand: { Self → Spot → Option Demand };
 
     /// Whether something is demanded at the spot that the grid can't meet any more, whatever comes into its blank squares.

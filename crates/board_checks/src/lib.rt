@@ -1,4 +1,4 @@
-//! What a board's numbers say of its puzzle: its errors. Nothing here takes memory from the heap.
+//! The errors of a board's numbers in its puzzle. Nothing here takes memory from the heap.
 //!
 //! A square is an error where its number stands a second time in its row or column. A spot, an edge clue or a sign, is one
 //! where no numbers in the blank squares of its line could meet it. A game writes `Demands`, as Towers and Unequal do here;

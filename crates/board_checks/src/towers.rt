@@ -1,4 +1,4 @@
-//! What Towers demands: along the line of each clue as many towers as it says.
+//! The demands of Towers: along the line of each clue as many towers as it says.
 
 ghost use Rattle.std.specs.Prelude.{◌≡◌, ◌*◌, ◌<◌, ◌↔◌, IsTrue};
 ghost use Rattle.latin_board.specs.Squares.{number_at};
@@ -49,7 +49,7 @@ fn breaks_clue(puzzle: &Towers, grid: &Grid, place: u8) -> bool
     clue != 0 && !has_filling(&line_sets(grid, place)[..width], clue)
 }
 
-// What the squares from an edge place can hold, the nearest first.
+// The numbers that the squares from an edge place can hold, the nearest first.
 fn line_sets(grid: &Grid, place: u8) -> [NumberSet; LINE]
     requires { place < 4 * grid.now.size }
     ensures { AreSetsFrom grid.now place result }
@@ -62,7 +62,7 @@ fn line_sets(grid: &Grid, place: u8) -> [NumberSet; LINE]
     sets
 }
 
-// What a square can hold: its number, or where it is blank each from 1 to the width.
+// The numbers that a square can hold: its own, or where it is blank each from 1 to the width.
 fn numbers_for(grid: &Grid, cell: usize) -> NumberSet
     requires { cell < grid.now.size * grid.now.size }
     ensures { CanHold grid.now.size (number_at grid.now cell) result }

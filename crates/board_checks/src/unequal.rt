@@ -1,4 +1,4 @@
-//! What Unequal demands: between each two neighbours with a sign the greater number where it says so.
+//! The demands of Unequal: between each two neighbours with a sign the greater number where it says so.
 
 ghost use Rattle.std.specs.Prelude.{◌≡◌, ◌*◌, ◌<◌, ◌↔◌, IsTrue};
 ghost use Rattle.latin_board.specs.Squares.{number_at};

@@ -18,9 +18,7 @@ place c bs = position_or_len (λ b. b == c) bs
 
 -- where something stands after the separator, it stands in the text
 found : (c : ℕ) (bs rest : List ℕ) → behind c bs ≡ Some rest → (place c bs < length bs) × (after_first (λ b. b == c) bs ≡ rest)
-found c bs rest cut =
-    let parts = cond_some (nat_lt (place c bs) (length bs)) (after_first (λ b. b == c) bs) rest cut in
-    (ltb-true (place c bs) (length bs) parts.0, parts.1)
+found c bs rest cut = grind (arith, nat_tests, cond_some, nat_lt, ltb-true)
 
 missing : (c : ℕ) (bs : List ℕ) → behind c bs ≡ None → length bs ≤ place c bs
 missing c bs =
@@ -29,10 +27,7 @@ missing c bs =
 
 -- no separator is left before the cut
 pub lacks_before : (c : ℕ) (bs : List ℕ) → Lacks c (before c bs)
-lacks_before c bs =
-    recursion_from_All (λ b. b ≢ c) (before c bs) (λ k d inside.
-    let fails = fails_before_first (λ b. b == c) bs k d (grind (arith, common_steps)) in
-    eqb-false _ c (grind (arith, common_steps)))
+lacks_before c bs = grind (arith, nat_tests, recursion_from_All, fails_before_first, common_steps, eqb-false)
 
 -- a text that is cut is what comes before the separator, the separator, and what comes behind it
 pub cut_parts : (c : ℕ) (bs rest : List ℕ) → behind c bs ≡ Some rest → bs ≡ before c bs ++ c ∷ rest
@@ -75,9 +70,7 @@ behind_none_in c xs lacks = rw (le-ltb (place c xs) (length xs) (omega (arith, p
 -- the pieces between separators: the first ends at the first separator
 pub pieces_more : (c : ℕ) (bs rest : List ℕ) → behind c bs ≡ Some rest
     → slice_split (λ b. b == c) bs ≡ before c bs ∷ slice_split (λ b. b == c) rest
-pieces_more c bs rest cut =
-    let f = found c bs rest cut in
-    slice_split_first (λ b. b == c) bs 0 f.0 ∙ ap (λ ys. before c bs ∷ slice_split (λ b. b == c) ys) f.1
+pieces_more c bs rest cut = grind (arith, nat_tests, found, slice_split_first)
 
 -- a text without the separator is one piece
 pub pieces_last : (c : ℕ) (bs : List ℕ) → behind c bs ≡ None → slice_split (λ b. b == c) bs ≡ bs ∷ []
@@ -89,28 +82,20 @@ lacks_append c [] ys left right = right
 lacks_append c (x ∷ xs) ys left right = (left.0, lacks_append c xs ys left.1 right)
 
 pub lacks_join : (c d : ℕ) (pieces : List (List ℕ)) → d ≢ c → AllByRecursion (Lacks c) pieces → Lacks c (join_with_byte d pieces)
-lacks_join c d [] other lacks = tt
-lacks_join c d (x ∷ []) other lacks = lacks.0
-lacks_join c d (x ∷ y ∷ xs) other lacks =
-    lacks_append c x (d ∷ join_with_byte d (y ∷ xs)) lacks.0 (other, lacks_join c d (y ∷ xs) other lacks.1)
+lacks_join c d [] other lacks = grind (arith, nat_tests)
+lacks_join c d (x ∷ []) other lacks = grind (arith, nat_tests)
+lacks_join c d (x ∷ y ∷ xs) other lacks = grind (arith, nat_tests, lacks_append, (lacks_join c d (y ∷ xs) other lacks.1))
 
 -- pieces that are joined by the separator, and have none in them, are the pieces of the whole
 pub pieces_join : (c : ℕ) (pieces : List (List ℕ)) → 0 < length pieces → AllByRecursion (Lacks c) pieces
     → slice_split (λ b. b == c) (join_with_byte c pieces) ≡ pieces
-pieces_join c [] some lacks = absurd (omega arith)
-pieces_join c (x ∷ []) some lacks = pieces_last c x (behind_none_in c x lacks.0)
-pieces_join c (x ∷ y ∷ xs) some lacks =
-    let joined = join_with_byte c (y ∷ xs) in
-    let cut = pieces_more c (x ++ c ∷ joined) joined (behind_at c x joined lacks.0) in
-    let front = before_at c x joined lacks.0 in
-    let rest = pieces_join c (y ∷ xs) (omega arith) lacks.1 in
-    cut ∙ (ap (λ p. p ∷ slice_split (λ b. b == c) joined) front ∙ ap (λ ps. x ∷ ps) rest)
+pieces_join c [] some lacks = grind (arith, nat_tests)
+pieces_join c (x ∷ []) some lacks = grind (arith, nat_tests, pieces_last, behind_none_in)
+pieces_join c (x ∷ y ∷ xs) some lacks = grind (arith, nat_tests, pieces_more, behind_at, before_at, (pieces_join c (y ∷ xs) (omega arith) lacks.1))
 
 -- no separator stands before the place that `position` answers
 pub found_first : (c : ℕ) (bs : List ℕ) (i : ℕ) → Some i ≡ position (λ b. b == c) bs → Lacks c (take i bs)
-found_first c bs i at =
-    let same : place c bs ≡ i = grind (arith, nat_tests) in
-    subst (λ n. Lacks c (take n bs)) same (lacks_before c bs)
+found_first c bs i at = grind (arith, nat_tests, lacks_before)
 
 -- at the place that `position` answers the text is cut in two
 pub found_parts : (c : ℕ) (bs : List ℕ) (i : ℕ) → Some i ≡ position (λ b. b == c) bs

@@ -1,5 +1,6 @@
 -- Decimal numbers without leading zeros: what is read is std's `decimal` of the number, and `decimal` is read.
-use Rattle.std.proofs.Common.{◌≡◌, ◌≢◌, ℕ, ◌+◌, ◌-◌, ◌*◌, ◌^◌, ◌<◌, ◌≤◌, Bool, true, false, ◌&&◌, List, [], ◌∷◌, length, get_or, Option, Some, None, inl, inr, refl, sym, ap, ◌∙◌, arith, rules, IfSome}
+use Rattle.std.proofs.lemmas.Bool.Decides.{nat_tests}
+use Rattle.std.proofs.Common.{◌≡◌, ◌≢◌, ℕ, ◌+◌, ◌-◌, ◌*◌, ◌^◌, ◌<◌, ◌≤◌, Bool, true, false, ◌&&◌, List, [], ◌∷◌, length, get_or, Option, Some, None, refl, sym, ap, ◌∙◌, arith, rules, IfSome}
 use Rattle.std.specs.Fmt.{decimal}
 use Rattle.std.proofs.lemmas.Str.Parse.{IsNumeralModel, numerals_by_fold}
 use Rattle.std.proofs.lemmas.Fmt.{decimal-digits_value, digits_decimal, digits_value-decimal, decimal_nonempty, first_decimal, decimal_digit}
@@ -47,38 +48,28 @@ value_onto_ge n [] = omega arith
 value_onto_ge n (b ∷ bs) = omega (arith, value_onto_ge (n * 10 + (b - 48)) bs)
 
 digits_lack : (c : ℕ) (bs : List ℕ) → is_digit c ≡ false → all_digits bs ≡ true → Lacks c bs
-digits_lack c [] other digits = tt
-digits_lack c (b ∷ bs) other digits =
-    let parts = and_parts (is_digit b) (all_digits bs) digits in
-    (λ same. let digit : is_digit c ≡ true = ap is_digit (sym same) ∙ parts.0 in cc, digits_lack c bs other parts.1)
+digits_lack c [] other digits = grind (arith, nat_tests)
+digits_lack c (b ∷ bs) other digits = grind (arith, nat_tests, and_parts, (digits_lack c bs other))
 
 -- digits are read, up to the greatest number
 from_again : (greatest n : ℕ) (bs : List ℕ) → all_digits bs ≡ true → value_onto n bs ≤ greatest
     → number_from greatest n bs ≡ Some (value_onto n bs)
-from_again greatest n [] digits within = refl
-from_again greatest n (b ∷ bs) digits within =
-    let parts = and_parts (is_digit b) (all_digits bs) digits in
-    let fits : n * 10 + (b - 48) ≤ greatest = omega (arith, value_onto_ge (n * 10 + (b - 48)) bs, within) in
-    rw (digit_onto_again greatest n b parts.0 fits) (from_again greatest (n * 10 + (b - 48)) bs parts.1 within)
+from_again greatest n [] digits within = grind (arith, nat_tests)
+from_again greatest n (b ∷ bs) digits within = grind (arith, nat_tests, and_parts, value_onto_ge, digit_onto_again, (from_again greatest (n * 10 + (b - 48)) bs))
 
 -- a text that begins with `0`, but has no leading zero, is `0` alone
 single_zero : (bs : List ℕ) → has_leading_zero bs ≡ false → get_or bs 0 0 ≡ 48 → length bs ≡ 1
-single_zero [] none first = absurd (omega arith)
-single_zero (b ∷ []) none first = refl
-single_zero (b ∷ c ∷ bs) none first = absurd (eqb-false b 48 none first)
+single_zero [] none first = grind (arith, nat_tests)
+single_zero (b ∷ []) none first = grind (arith, nat_tests)
+single_zero (b ∷ c ∷ bs) none first = grind (arith, nat_tests, eqb-false)
 
 no_leading_zero : (bs : List ℕ) → get_or bs 0 0 ≢ 48 → has_leading_zero bs ≡ false
-no_leading_zero [] other = refl
-no_leading_zero (b ∷ []) other = refl
-no_leading_zero (b ∷ c ∷ bs) other = apart_eqb b 48 other
+no_leading_zero [] other = grind (arith, nat_tests)
+no_leading_zero (b ∷ []) other = grind (arith, nat_tests)
+no_leading_zero (b ∷ c ∷ bs) other = grind (arith, nat_tests, apart_eqb)
 
 decimal_no_leading_zero : (m : ℕ) → m < 2 ^ 64 → has_leading_zero (decimal m) ≡ false
-decimal_no_leading_zero m fits = elim (cases_eq m 0) [
-  | inl zero ↦ rw (zero, decimal_digit 0 (omega arith)) refl
-  | inr other ↦
-      let positive : 0 < m = omega arith in
-      let first = first_decimal m positive fits in no_leading_zero (decimal m) (λ e. absurd (omega arith))
-]
+decimal_no_leading_zero m fits = grind (arith, nat_tests, cases_eq, decimal_digit, first_decimal, no_leading_zero)
 
 -- a text that is read as a number is the decimal of that number
 pub number_taken : (greatest m : ℕ) (bs : List ℕ) → greatest < 2 ^ 64 → decimal_value greatest bs ≡ Some m
@@ -102,17 +93,11 @@ number_of_digits greatest (b ∷ bs) some none = rw none refl
 
 -- the decimal of a number is read, also where leading zeros may stand
 pub digits_again : (greatest m : ℕ) → m ≤ greatest → greatest < 2 ^ 64 → number_from greatest 0 (decimal m) ≡ Some m
-digits_again greatest m within fits =
-    let below : m < 2 ^ 64 = omega arith in
-    let value = digits_value-decimal own m below in
-    from_again greatest 0 (decimal m) (digits_decimal own m below) (rw value within) ∙ ap Some value
+digits_again greatest m within fits = grind (arith, nat_tests, digits_value-decimal, own, from_again, digits_decimal)
 
 -- the decimal of a number is read as that number
 pub number_again : (greatest m : ℕ) → m ≤ greatest → greatest < 2 ^ 64 → decimal_value greatest (decimal m) ≡ Some m
-number_again greatest m within fits =
-    let below : m < 2 ^ 64 = omega arith in
-    number_of_digits greatest (decimal m) (decimal_nonempty m below) (decimal_no_leading_zero m below)
-    ∙ digits_again greatest m within fits
+number_again greatest m within fits = grind (arith, nat_tests, number_of_digits, decimal_nonempty, decimal_no_leading_zero, digits_again)
 
 -- a decimal has no other bytes than digits
 pub lacks_decimal : (c m : ℕ) → m < 2 ^ 64 → is_digit c ≡ false → Lacks c (decimal m)

@@ -1,4 +1,4 @@
--- What the readers of texts share: the bytes by name, where a text is cut, decimal numbers, and what a reader answers.
+-- Words that readers of texts share: bytes by name, where a text is cut, decimals, and a reader's answer.
 pub mod Bytes
 pub mod Cuts
 pub mod Decimals

@@ -1,4 +1,4 @@
--- What a reader answers, compared with reading as a function on lists: a value, or the first fault.
+-- A reader's answer, compared with reading as a function on lists: a value, or the first fault.
 use Rattle.std.specs.Prelude.{◌≡◌, ◌⊎◌, Result, Ok, Err}
 
 -- what follows a step that may fail, so that `do` works over `Result`

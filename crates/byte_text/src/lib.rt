@@ -1,4 +1,4 @@
-//! What the readers of texts share: cutting at a separator byte, and decimal numbers without leading zeros.
+//! Shared parts of the readers of texts: cutting at a separator, and decimal numbers without leading zeros.
 //!
 //! Texts are bytes. Nothing here takes memory, and each function goes over its text once.
 //!

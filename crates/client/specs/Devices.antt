@@ -1,4 +1,4 @@
--- What the sink of this crate is.
+-- The sink of this crate.
 use Rattle.std.specs.Prelude.{ℕ, List, Bool}
 
 -- the bytes that were taken, and whether a call has failed

@@ -26,7 +26,7 @@ use Rattle.fair_games.specs.Pruned.{IsTried, IsPrunedBy}
 use Rattle.fair_games.specs.declared.trial.Trial.{Trial}
 use Rattle.fair_games.specs.declared.fair_fault.FairFault.{FairFault}
 use Rattle.fair_games.specs.declared.fair_fault.FairFault.TheVariants.{NotOffered, NoneFound}
-use Rattle.fair_games.proofs.PruneSteps.{HasSteps, IsCutOf, pruned_cut, pruned_needs}
+use Rattle.fair_games.proofs.PruneSteps.{HasSteps, IsCutOf, pruned_cut, pruned_needs, square_follows}
 use Rattle.line_steps.specs.Reasons.{Striking}
 
 -- ---- draws
@@ -117,7 +117,7 @@ pub is_graded : {B : Type 0} (p : Puzzle) (Struck : Striking) (one grade : Grade
 is_graded {B} p Struck one grade same follows test =
     subst (λ (g : Grade). B ↔ IsGradeOf p Struck (Some g)) (sym same) (test (subst (λ (g : Grade). FollowsBy p Struck g) same follows))
 
--- ---- what a fair game is
+-- ---- the fair game and its solution
 
 -- a fair game is a cut of the full puzzle of its draw's square
 pub fair_puzzle : {P : Type 0} (f : Ghosts P) (Struck : P → Striking) (grade : Grade) (draws : ℕ → GridValue × List ℕ) (p : P)
@@ -173,10 +173,7 @@ game_needs {P} f Struck steps grade trial w g order p size pruned tried = λ kee
     let whole = pruned_cut f (FailsBy Struck grade g) g order p steps.items pruned in
     let valid = steps.items.cut_valid p keep whole.valid in
     let solves = steps.items.cut_solved p keep g whole.valid whole.solves in
-    let (h, solution) = follows in
-    let q = f.cut p keep in
-    let only = follows_only (f.puzzle q) (Struck q) (steps.sound q valid) grade h solution.follows solution.solves in
-    fails (subst (λ (s : GridValue). Follows (Struck q) grade s) (sym (only.only g solves)) solution.follows)
+    fails (square_follows f Struck steps grade g (f.cut p keep) valid solves follows)
 
 pub all_items : (count items cells squares i : ℕ) → count ≡ items → cells ≡ squares → squares ≤ items → i < items → i < count - cells + cells
 all_items count items cells squares i same also some below = omega (arith, same, also, some, below)
@@ -184,7 +181,7 @@ all_items count items cells squares i same also some below = omega (arith, same,
 pub first_given : (count items cells squares i : ℕ) → count ≡ items → cells ≡ squares → items - squares ≤ i → count - cells ≤ i
 first_given count items cells squares i same also from = omega (arith, same, also, from)
 
--- ---- what a fair game promises
+-- ---- the promise of a fair game
 
 -- the puzzle of the first draw that gives one of the grade keeps all that a fair game promises
 pub all_promised : {P : Type 0} (f : Ghosts P) (Struck : P → Striking) → HasSteps f Struck → (grade : Grade) (trial : Trial) (w : ℕ)

@@ -1,5 +1,5 @@
 -- The format: which of the fair games a size, a grade and a seed give. It is the pruned puzzle of the first draw that
--- gives one of the grade. What each of them promises stands in `FairGames`.
+-- gives one of the grade. The promise of each of them stands in `FairGames`.
 use Rattle.std.specs.Prelude.{◌≡◌, ℕ, ◌<◌, Bool, true, false, List, Result, Ok, Err}
 use Rattle.latin_board.specs.Squares.{GridValue}
 use Rattle.trail_solver.specs.declared.rules.Rules.{Ghosts}

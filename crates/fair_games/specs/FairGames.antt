@@ -1,4 +1,4 @@
--- What a fair game promises to its player, whichever size, grade and seed it is of. Which of these games a
+-- The promise of a fair game to its player, whichever size, grade and seed it is of. Which of these games a
 -- seed gives is a format (`Fair`).
 use Rattle.std.specs.Prelude.{◌≡◌, ℕ, ◌-◌, ◌*◌, ◌<◌, ◌≤◌, Bool, false, Some, IsTrue}
 use Rattle.latin_board.specs.Squares.{GridValue}

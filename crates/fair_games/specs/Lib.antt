@@ -1,7 +1,7 @@
--- What a fair game promises, and then the format: which of these games a size, a grade and a seed give. Each file is one
+-- The promise of a fair game, and then the format: which of these games a size, a grade and a seed give. Each file is one
 -- subject, and has definitions alone.
 
--- what each fair game promises
+-- the promise of each fair game
 pub mod FairGames
 -- the letters of the grades, which sizes and grades are offered, and the faults
 pub mod Letters
@@ -14,7 +14,5 @@ pub mod Squares
 pub mod Draws
 pub mod Fair
 pub mod FairLaws
--- words that the contracts of private functions alone use
-pub mod Inner
 -- lemmas for the laws of the trait that both games keep
 pub mod Laws

@@ -1,4 +1,4 @@
-//! What fair games ask of a game: a letter for each grade, and an order in which items are tried.
+//! A game that has fair games: it has a letter for each grade, and an order in which items are tried.
 
 ghost use Rattle.std.specs.Prelude.{◌≡◌, ℕ, ◌+◌, ◌*◌, ◌≤◌, Option};
 ghost use Rattle.line_steps.specs.declared.grade.Grade.{Grade};

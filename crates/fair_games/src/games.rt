@@ -17,7 +17,7 @@ use crate::fair_game::FairGame;
 use crate::pruning::pruned;
 use crate::square::draw_square;
 use latin_board::Size;
-use named_steps::{Grade, Steps, follows_knowing};
+use named_steps::{Grade, Steps, follows};
 use rand_core::Rng;
 use trail_solver::Rules;
 
@@ -121,7 +121,7 @@ fn letter_byte<P: FairGame>(grade: Grade) -> u8
     }
 }
 
-// The puzzle of the first draw from a stream that gives one of the grade. `cache` serves all draws.
+// The puzzle of the first draw from a stream that gives one of the grade.
 fn find_game<P: FairGame, R: Rng>(rng: &mut R, size: Size, grade: Grade) -> Option<P>
     ensures needed { IfSome result (NeedsItems ⟦<P as Rules>⟧ (StruckBy P.puzzle P.own) grade (P.trial_of grade) size) }
     ensures fair { MatchOption result
@@ -131,10 +131,9 @@ fn find_game<P: FairGame, R: Rng>(rng: &mut R, size: Size, grade: Grade) -> Opti
         (IsFair ⟦<P as Rules>⟧ (StruckBy P.puzzle P.own) grade
         (draw_at (P.trial_of grade) size (P.items_of size) (R.stream rng.old))) }
 {
-    let mut cache = P::Cache::default();
     for _draw in 0..MOST_DRAWS {
-        let puzzle = draw_game(rng, size, grade, &mut cache);
-        if is_of_grade(&puzzle, grade, &mut cache) {
+        let puzzle = draw_game(rng, size, grade);
+        if is_of_grade(&puzzle, grade) {
             return Some(puzzle);
         }
     }
@@ -142,7 +141,7 @@ fn find_game<P: FairGame, R: Rng>(rng: &mut R, size: Size, grade: Grade) -> Opti
 }
 
 // Draws a square and an order, and prunes by the grade.
-fn draw_game<P: FairGame, R: Rng>(rng: &mut R, size: Size, grade: Grade, cache: &mut P::Cache) -> P
+fn draw_game<P: FairGame, R: Rng>(rng: &mut R, size: Size, grade: Grade) -> P
     ensures pruned { IsPrunedGame ⟦<P as Rules>⟧ (StruckBy P.puzzle P.own) grade
         (drawn_game (P.trial_of grade) size (P.items_of size) (R.stream rng.old)).0 result }
     ensures follows { FollowsBy (P.puzzle result) (StruckBy P.puzzle P.own result) grade }
@@ -153,17 +152,17 @@ fn draw_game<P: FairGame, R: Rng>(rng: &mut R, size: Size, grade: Grade, cache: 
     let cells = width * width;
     let grid = draw_square(rng, size);
     let order = draw_trial(rng, P::trial(grade), P::item_count(size) - cells, cells);
-    pruned(&grid, order.as_slice(), grade, cache)
+    pruned(&grid, order.as_slice(), grade)
 }
 
 // Whether a puzzle that follows by a grade doesn't follow by the one below.
-fn is_of_grade<P: Steps>(puzzle: &P, grade: Grade, cache: &mut P::Cache) -> bool
+fn is_of_grade<P: Steps>(puzzle: &P, grade: Grade) -> bool
     requires { FollowsBy (P.puzzle puzzle.now) (StruckBy P.puzzle P.own puzzle.now) grade }
     ensures { IsTrue result ↔ IsOfGrade ⟦<P as Rules>⟧ (StruckBy P.puzzle P.own) grade puzzle.now }
 {
     match grade {
         Grade::Latin => true,
-        Grade::Easy => !follows_knowing(puzzle, Grade::Latin, cache),
-        Grade::Hard => !follows_knowing(puzzle, Grade::Easy, cache),
+        Grade::Easy => !follows(puzzle, Grade::Latin),
+        Grade::Hard => !follows(puzzle, Grade::Easy),
     }
 }

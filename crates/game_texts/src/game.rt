@@ -1,4 +1,4 @@
-//! What the mid-end and the programs know of a game.
+//! A game as the mid-end and the programs know it.
 ghost use Rattle.std.specs.Prelude.{◌≡◌, ℕ, ◌≤◌, false, List, Result, Ok, IsTrue, ◌↔◌, IfOk, IfErr};
 ghost use Rattle.std.specs.Option.{option_map_or};
 ghost use Rattle.latin_board.specs.Edges.{edge_place};

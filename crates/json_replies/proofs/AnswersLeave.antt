@@ -1,6 +1,6 @@
 -- The lines beside the commands leave the session.
 use Rattle.std.proofs.Common.{Option, subst}
-use Rattle.puzzle_cli.specs.GameFacts.{GameFacts}
+use Rattle.line_replies.specs.GameFacts.{GameFacts}
 use Rattle.json_replies.specs.FurtherLines.{BoardFacts, Further}
 use Rattle.json_replies.specs.JsonReplies.{TellsLine}
 use Rattle.json_replies.specs.ReplyLaws.{AnswersLeave}

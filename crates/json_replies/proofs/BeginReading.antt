@@ -7,7 +7,7 @@ use Rattle.byte_text.specs.Bytes.{space, comma}
 use Rattle.byte_text.proofs.CutLaws.{before_at, behind_at, behind_none_in}
 use Rattle.byte_text.specs.Cuts.{Lacks, behind}
 use Rattle.byte_text.proofs.DecimalLaws.{number_again, lacks_decimal}
-use Rattle.puzzle_cli.specs.Lines.{Line}
+use Rattle.line_replies.specs.Lines.{Line}
 use Rattle.json_replies.specs.declared.begin_line.BeginLine.TheVariants.{Fair}
 use Rattle.json_replies.specs.declared.fair_words.FairWords.{FairWords}
 use Rattle.json_replies.specs.declared.item_words.ItemNumbers.{ItemNumbers}

@@ -7,15 +7,15 @@ use Rattle.play_midend.specs.Histories.{History}
 use Rattle.line_steps.specs.declared.grade.Grade.{Grade}
 use Rattle.fair_games.proofs.PruneSteps.{HasSteps}
 use Rattle.fair_games.proofs.FairSteps.{fair_puzzle, fair_solved, draw_size}
-use Rattle.puzzle_cli.specs.declared.reply.refusal.Refusal.TheVariants.{Memory}
-use Rattle.puzzle_cli.specs.Lines.{Line}
-use Rattle.puzzle_cli.specs.GameFacts.{GameFacts}
-use Rattle.puzzle_cli.specs.NewSessions.{new_game}
-use Rattle.puzzle_cli.specs.SessionReplies.{Outcome, ok_line}
-use Rattle.puzzle_cli.specs.Replies.{LineGives, left}
-use Rattle.puzzle_cli.specs.RunLaws.{described_line}
-use Rattle.puzzle_cli.proofs.RepliesOnce.{IdsAreReadOnce}
-use Rattle.puzzle_cli.proofs.DescribedReplies.{AreCanonical, described_lines_begin}
+use Rattle.line_replies.specs.declared.reply.refusal.Refusal.TheVariants.{Memory}
+use Rattle.line_replies.specs.Lines.{Line}
+use Rattle.line_replies.specs.GameFacts.{GameFacts}
+use Rattle.line_replies.specs.NewSessions.{new_game}
+use Rattle.line_replies.specs.SessionReplies.{Outcome, ok_line}
+use Rattle.line_replies.specs.Replies.{LineGives, left}
+use Rattle.line_replies.specs.RunLaws.{described_line}
+use Rattle.line_replies.proofs.RepliesOnce.{IdsAreReadOnce}
+use Rattle.line_replies.proofs.DescribedReplies.{AreCanonical, described_lines_begin}
 use Rattle.json_replies.specs.declared.begin_line.BeginLine.{BeginLine}
 use Rattle.json_replies.specs.declared.begin_line.BeginLine.TheVariants.{Fair}
 use Rattle.json_replies.specs.declared.fair_words.FairWords.{FairWords}

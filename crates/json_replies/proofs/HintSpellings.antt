@@ -1,11 +1,10 @@
--- What is told of a hint can be written.
+-- The data that tell a hint can be written.
 use Rattle.std.proofs.Common.{ℕ, suc, ◌*◌, Bool, ◌&&◌, nat_lt, List, [], ◌∷◌, Option, Some, None, refl, sym, subst}
 use Rattle.std.specs.Prelude.{slice_index}
 use Rattle.std.specs.List.{range_with_len}
 use Rattle.number_sets.specs.Sets.{has_number}
 use Rattle.latin_board.specs.Edges.{edge_xy}
 use Rattle.latin_board.specs.Lines.{line_cell}
-use Rattle.latin_board.specs.Squares.{GridValue}
 use Rattle.trail_solver.specs.Candidates.{CandidatesValue, may_be}
 use Rattle.serde_json.specs.Data.{Data, null}
 use Rattle.line_steps.specs.declared.reason.Reason.{Reason}
@@ -26,7 +25,9 @@ use Rattle.json_replies.specs.Boards.{listed_data, when, mark_set_data, squares}
 use Rattle.json_replies.specs.ObjectLines.{IsShallow}
 use Rattle.json_replies.specs.Reasons.{ReasonParts, one_data, line_cells_data, parts_of}
 use Rattle.json_replies.specs.Steps.{x_data, y_data, edge_clue_data, greater_data, less_data, shows_data, strike_data, step_data}
-use Rattle.json_replies.specs.HintObjects.{SaidData, goal_line_data, grade_data, said_of, left_data, IsHintValue}
+use Rattle.json_replies.specs.HintObjects.{SaidData, goal_line_data, grade_data, said_of, left_data, unmarked_data, IsHintValue}
+use Rattle.json_replies.specs.declared.start.Start.{Start}
+use Rattle.json_replies.specs.declared.start.Start.TheVariants.{Numbers, Marks}
 use Rattle.json_replies.specs.Laws.Spellings.{either, integer_whole, list_fits, listed_fits, when_fits}
 
 -- the list of the numbers that pass a test can be written
@@ -145,15 +146,45 @@ said_fits w letter (Follows grade chain) =
 said_fits w letter (Refuted grade refutation) = record { by = tt; cell = tt; grade = tt; line = tt; number = tt }
 said_fits w letter Nothing = record { by = tt; cell = tt; grade = tt; line = tt; number = tt }
 
+-- the square whose marks lack its number can be written
+unmarked_fits : (start : Start) → IsShallow 6 (unmarked_data start)
+unmarked_fits Numbers = tt
+unmarked_fits (Marks None) = tt
+unmarked_fits (Marks (Some cell)) = refl
+
 -- all that is told of a hint can be written
 pub hint_value_fits : (w : ℕ) (letter : Grade → List ℕ) (clue : ℕ → ℕ) (is_over : ℕ → ℕ → Bool) (Struck : Striking)
-    (g : GridValue) (hint : NextHint) (value : Data) → IsHintValue w letter clue is_over Struck g hint value → IsShallow 7 value
-hint_value_fits w letter clue is_over Struck g hint value told =
+    (start : Start) (view : CandidatesValue) (hint : NextHint) (value : Data)
+    → IsHintValue w letter clue is_over Struck start view hint value → IsShallow 7 value
+hint_value_fits w letter clue is_over Struck start view hint value told =
     let said = said_fits w letter hint in
     let groups = list_fits 5 count_data (λ n. refl) told.groups in
     let steps = list_fits 5 (step_data w clue is_over) (step_fits w clue is_over) told.steps in
     let text = list_fits 5 text_data (λ line. tt) told.text in
-    let seen = listed_fits 5 (λ cell. left_data told.view cell ∷ []) (λ cell. (left_fits told.view cell, tt))
-    (squares told.view.size) in
-    subst (IsShallow 7) (sym told.is)
-    (said.by, (said.cell, (said.grade, (groups, (tt, (said.line, (said.number, (steps, (text, (seen, tt))))))))))
+    let seen = listed_fits 5 (λ cell. left_data view cell ∷ []) (λ cell. (left_fits view cell, tt))
+    (squares view.size) in
+    subst (IsShallow 7) (sym told.is) (
+      said.by,
+      (
+        said.cell,
+        (
+          tt,
+          (
+            said.grade,
+            (
+              groups,
+              (
+                tt,
+                (
+                  said.line,
+                  (
+                    said.number,
+                    (steps, (text, (unmarked_fits start, (seen, tt)))),
+                  ),
+                ),
+              ),
+            ),
+          ),
+        ),
+      ),
+    )

@@ -19,7 +19,7 @@ use Rattle.line_steps.specs.Reasons.{Striking}
 use Rattle.step_chains.specs.declared.hints.NextHint.{NextHint}
 use Rattle.step_chains.specs.declared.hints.NextHint.TheVariants.{Follows as Found, Refuted, Nothing}
 use Rattle.step_chains.specs.NextHints.{IsHint}
-use Rattle.puzzle_cli.specs.GameFacts.{GameFacts}
+use Rattle.line_replies.specs.GameFacts.{GameFacts}
 use Rattle.json_replies.specs.FairLaws.{IsExplainedBy, IsWrongAt, HintsLeadOn, HintsLeadToTheEnd, AreHintsInTurn, empty_count, with_hinted}
 use Rattle.json_replies.specs.FurtherLines.{BoardFacts}
 
@@ -36,7 +36,7 @@ count_other : (x : ℕ) (xs : List ℕ) → x ≢ 0 → count_by (λ n. n == 0) 
 count_other x xs some = count_more x xs ∙ ap (λ t. cond t 1 0 + count_by (λ n. n == 0) xs) (apart_eqb x 0 some)
 
 -- if a list has zeros, there is a place with 0
-blank_at : (xs : List ℕ) → 0 < count_by (λ n. n == 0) xs → (i : ℕ) × (i < length xs) × (get_or xs i 0 ≡ 0)
+pub blank_at : (xs : List ℕ) → 0 < count_by (λ n. n == 0) xs → (i : ℕ) × (i < length xs) × (get_or xs i 0 ≡ 0)
 blank_at [] some = absurd (omega arith)
 blank_at (x ∷ xs) some = elim (cases_eq x 0) [
   | inl is ↦ (0, omega arith, is)
@@ -74,12 +74,12 @@ one_less xs i n inside is some =
 -- ---- one hint
 
 -- the square of a goal is one of the grid
-goal_inside : (w : ℕ) (goal : Goal) → IsGoalOf w goal → goal_cell w goal < w * w
+pub goal_inside : (w : ℕ) (goal : Goal) → IsGoalOf w goal → goal_cell w goal < w * w
 goal_inside w (OnlyValue cell value) of = of.inside
 goal_inside w (OnlyPlace line index value) of = line_cell_inside w line index of.0 of.1
 
 -- the number of a goal goes from 1 to the width
-goal_low : (w : ℕ) (goal : Goal) → IsGoalOf w goal → (1 ≤ goal_value goal) × (goal_value goal ≤ w)
+pub goal_low : (w : ℕ) (goal : Goal) → IsGoalOf w goal → (1 ≤ goal_value goal) × (goal_value goal ≤ w)
 goal_low w (OnlyValue cell value) of = (of.low, of.high)
 goal_low w (OnlyPlace line index value) of = (of.2, of.3)
 
@@ -93,14 +93,14 @@ module _ (p : Puzzle) (Struck : Striking) (grade : Grade) (s : GridValue) (solve
       elim (cases_eq (number_at s at) (number_at g at)) [ inl same ↦ same | inr other ↦ absurd (right at (within, apart, λ e. other (sym e))) ]
 
   -- the next grid has no wrong square either, and one blank fewer
-  record IsNext (g next : GridValue) : Type 0 where
+  pub record IsNext (g next : GridValue) : Type 0 where
     pub grid : IsGrid next
     pub size : next.size ≡ s.size
     pub right : (wrong : ℕ) → IsWrongAt next s wrong → ⊥
     pub fewer : empty_count next + 1 ≡ empty_count g
 
   -- a blank square in which the solution's number is put makes a next grid
-  filled : (g : GridValue) (cell value : ℕ) → IsGrid g → g.size ≡ s.size → ((wrong : ℕ) → IsWrongAt g s wrong → ⊥) → cell < g.size * g.size
+  pub filled : (g : GridValue) (cell value : ℕ) → IsGrid g → g.size ≡ s.size → ((wrong : ℕ) → IsWrongAt g s wrong → ⊥) → cell < g.size * g.size
       → number_at g cell ≡ 0 → 1 ≤ value → value ≤ g.size → number_at s cell ≡ value
       → IsNext g (record { size = g.size; numbers = set g.numbers cell value })
   filled g cell value grid size right inside blank low high is =
@@ -131,12 +131,12 @@ module _ (p : Puzzle) (Struck : Striking) (grade : Grade) (s : GridValue) (solve
       let of = is.is_hint.least.0.goal_of in
       filled g (goal_cell g.size chain.goal) (goal_value chain.goal) grid size right (goal_inside g.size chain.goal of)
       is.is_hint.least.0.empty (goal_low g.size chain.goal of).0 (goal_low g.size chain.goal of).1
-      (is.is_hint.right s (solves, keeps g right))
+      (is.right s (solves, keeps g right))
   hint_next g (Refuted own refutation) grid size right is explained = absurd explained
   hint_next g Nothing grid size right is explained = absurd explained
 
   -- a grid without a blank or a wrong square is the solution
-  full_same : (g : GridValue) → IsGrid g → g.size ≡ s.size → ((wrong : ℕ) → IsWrongAt g s wrong → ⊥) → 0 ≡ empty_count g → g ≡ s
+  pub full_same : (g : GridValue) → IsGrid g → g.size ≡ s.size → ((wrong : ℕ) → IsWrongAt g s wrong → ⊥) → 0 ≡ empty_count g → g ≡ s
   full_same g grid size right none =
       let count = grid.count in
       let all = solves.is_grid.count in

@@ -1,6 +1,5 @@
 pub mod ReplyLines
 pub mod WrittenData
-pub mod ViewsAlike
 pub mod Spellings
 pub mod ObjectLines
 pub mod HintSpellings
@@ -14,4 +13,9 @@ pub mod ToldOnce
 pub mod AnswersLeave
 pub mod FairStarts
 pub mod FairHints
+pub mod MarkedHints
+pub mod MissingMarks
 pub mod HintsToEnd
+pub mod MarksToEnd
+pub mod Filling
+pub mod HintLines

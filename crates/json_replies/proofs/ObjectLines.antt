@@ -13,7 +13,7 @@ use Rattle.serde_json.specs.Read.{of_json, max_depth}
 use Rattle.serde_json.specs.Written.{outline, items_outline, members_outline, compact_text}
 use Rattle.serde_json.proofs.Texts.{print-outline}
 use Rattle.json_replies.specs.declared.further_line.FurtherLine.{FurtherLine}
-use Rattle.json_replies.specs.declared.further_line.FurtherLine.TheVariants.{Board, Completable, Hint, Grade, Solutions, Spare, SpareBy}
+use Rattle.json_replies.specs.declared.further_line.FurtherLine.TheVariants.{Board, Completable, Hint, HintMarks, Grade, Solutions, Spare, SpareBy}
 use Rattle.json_replies.specs.FurtherLines.{further_key, further_data, is_last_key}
 use Rattle.json_replies.specs.ObjectLines.{IsShallow, IsLineOfData}
 use Rattle.json_replies.specs.Inner.ObjectMembers.{reply_list, further_list}
@@ -76,6 +76,7 @@ pub further_in_order : (which : FurtherLine) (answer session : Data)
 further_in_order Board answer session = (refl, refl)
 further_in_order Completable answer session = (refl, refl)
 further_in_order Hint answer session = (refl, refl)
+further_in_order HintMarks answer session = (refl, refl)
 further_in_order Grade answer session = (refl, refl)
 further_in_order Solutions answer session = (refl, refl)
 further_in_order Spare answer session = (refl, refl)

@@ -5,7 +5,7 @@ use Rattle.std.proofs.lemmas.List.{take_more}
 use Rattle.std.proofs.lemmas.Str.{encode_ascii}
 use Rattle.std.proofs.lemmas.Bool.Decides.{nat_tests}
 use Rattle.byte_text.specs.Cuts.{Lacks}
-use Rattle.puzzle_cli.specs.Lines.{onto, segments}
+use Rattle.line_replies.specs.Lines.{onto, segments}
 use Rattle.serde_json.specs.Data.{Data}
 use Rattle.json.specs.Written.{Written}
 use Rattle.json_replies.specs.Texts.{latin_text, lines_of, text_data}

@@ -1,4 +1,4 @@
--- What is told of a session can be written.
+-- The data that tell a session can be written.
 use Rattle.std.proofs.Common.{ℕ, suc, ◌*◌, Bool, if◌then◌else◌, nat_lt, [], ◌∷◌, Option, Some, None, refl, sym, subst}
 use Rattle.std.specs.List.{range_with_len}
 use Rattle.latin_board.specs.Squares.{GridValue, number_at}
@@ -11,15 +11,16 @@ use Rattle.serde_json.specs.Data.{Data}
 use Rattle.needed_items.specs.declared.items.Items.{Ghosts as OfItems}
 use Rattle.play_midend.specs.Histories.{History}
 use Rattle.board_checks.specs.Errors.{ErrorsValue, has_repeated}
-use Rattle.puzzle_cli.specs.GameFacts.{GameFacts}
+use Rattle.line_replies.specs.GameFacts.{GameFacts}
 use Rattle.json_replies.specs.declared.further_line.FurtherLine.{FurtherLine}
-use Rattle.json_replies.specs.declared.further_line.FurtherLine.TheVariants.{Board, Completable, Hint as AskHint, Grade as AskGrade, Solutions, Spare, SpareBy}
+use Rattle.json_replies.specs.declared.further_line.FurtherLine.TheVariants.{Board, Completable, Hint as AskHint, HintMarks, Grade as AskGrade, Solutions, Spare, SpareBy}
 use Rattle.json_replies.specs.Boards.{squares, grid_data, givens_data, mark_set_data, marks_data, repeats_data, board_data}
 use Rattle.json_replies.specs.Counts.{count_data}
 use Rattle.json_replies.specs.FurtherLines.{BoardFacts, IsAnswer, answer_data, solutions_data, solutions_in}
 use Rattle.json_replies.specs.ListedItems.{place_data, ends_data, when_listed, sign_data, clues_listed, givens_listed, signs_listed, items_data}
 use Rattle.json_replies.specs.ObjectLines.{IsShallow}
 use Rattle.json_replies.specs.Sessions.{session_data}
+use Rattle.json_replies.specs.declared.start.Start.TheVariants.{Numbers}
 use Rattle.json_replies.specs.Laws.Spellings.{AllFit, all_append, either, integer_whole, list_fits, listed_fits, when_fits, deeper}
 use Rattle.json_replies.proofs.HintSpellings.{numbers_fit, set_fits, hint_value_fits, grade_fits}
 
@@ -112,8 +113,11 @@ told_fits f b fit p shown Board answer (e, are, is) =
     (fit.signs p shown e))
 told_fits f b fit p shown Completable answer (found, fits, is) = subst (IsShallow 7) (sym is) (answer_fits found)
 told_fits f b fit p shown AskHint answer (hint, so, value) =
-    hint_value_fits (f.rules.puzzle p).size b.letter (b.edge_clue p) (b.says_greater p) (b.struck_by p)
-    (grid_of shown) hint answer value
+    hint_value_fits (f.rules.puzzle p).size b.letter (b.edge_clue p) (b.says_greater p) (b.struck_by p) Numbers
+    so.view hint answer value
+told_fits f b fit p shown HintMarks answer (start, view, hint, so, value) =
+    hint_value_fits (f.rules.puzzle p).size b.letter (b.edge_clue p) (b.says_greater p) (b.struck_by p) start
+    view hint answer value
 told_fits f b fit p shown AskGrade answer (grade, least, is) = subst (IsShallow 7) (sym is)
     (grade_fits 7 b.letter grade)
 told_fits f b fit p shown Solutions answer (found, fits, is) = subst (IsShallow 7) (sym is) (solutions_fit found)

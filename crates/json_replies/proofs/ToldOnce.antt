@@ -9,13 +9,13 @@ use Rattle.serde_json.specs.View.{items_of}
 use Rattle.serde_json.specs.Written.{compact_text}
 use Rattle.serde_json.proofs.OnLiterals.{serde_json_on_literals}
 use Rattle.play_midend.specs.Histories.{History}
-use Rattle.puzzle_cli.specs.GameFacts.{GameFacts}
-use Rattle.puzzle_cli.specs.Lines.{Line}
-use Rattle.puzzle_cli.specs.Replies.{refusal_line}
-use Rattle.puzzle_cli.specs.RunLaws.{PicturesAreWholeLines, described_line}
-use Rattle.puzzle_cli.specs.WholeLines.{AreWholeLines}
-use Rattle.puzzle_cli.proofs.WholeReplies.{answers_are_whole}
-use Rattle.json_replies.specs.declared.further_line.FurtherLine.TheVariants.{Board, Completable, Hint, Grade, Solutions, Spare, SpareBy}
+use Rattle.line_replies.specs.GameFacts.{GameFacts}
+use Rattle.line_replies.specs.Lines.{Line}
+use Rattle.line_replies.specs.Replies.{refusal_line}
+use Rattle.line_replies.specs.RunLaws.{PicturesAreWholeLines, described_line}
+use Rattle.line_replies.specs.WholeLines.{AreWholeLines}
+use Rattle.line_replies.proofs.WholeReplies.{answers_are_whole}
+use Rattle.json_replies.specs.declared.further_line.FurtherLine.TheVariants.{Board, Completable, Hint, HintMarks, Grade, Solutions, Spare, SpareBy}
 use Rattle.json_replies.specs.Texts.{latin_text, text_data, lines_of, lines_text}
 use Rattle.json_replies.specs.ObjectLines.{IsLineOfData, lost_line}
 use Rattle.json_replies.specs.Replies.{Answer, answer_name, answer_text, name_data, reply_data}
@@ -106,6 +106,7 @@ further_not_lost f b (Err refusal) (Some h) bytes told lost = not_lost _ bytes t
 further_not_lost f b (Ok Board) (Some h) bytes (answer, is, line) lost = not_lost _ bytes line refl lost
 further_not_lost f b (Ok Completable) (Some h) bytes (answer, is, line) lost = not_lost _ bytes line refl lost
 further_not_lost f b (Ok Hint) (Some h) bytes (answer, is, line) lost = not_lost _ bytes line refl lost
+further_not_lost f b (Ok HintMarks) (Some h) bytes (answer, is, line) lost = not_lost _ bytes line refl lost
 further_not_lost f b (Ok Grade) (Some h) bytes (answer, is, line) lost = not_lost _ bytes line refl lost
 further_not_lost f b (Ok Solutions) (Some h) bytes (answer, is, line) lost = not_lost _ bytes line refl lost
 further_not_lost f b (Ok Spare) (Some h) bytes (answer, is, line) lost = not_lost _ bytes line refl lost

@@ -1,22 +1,22 @@
--- What is said to a line, in an object.
+-- The replies to a line, in an object.
 use Rattle.std.proofs.Common.{◌≡◌, ℕ, ◌==◌, true, false, true≢false, List, [], ◌∷◌, length, codes, bytes_eq, Option, Some, None, Ok, Err, refl, sym, ap, subst, ◌∙◌, inl, arith}
 use Rattle.std.proofs.lemmas.Slice.Eq.{bytes_eq-Decides}
 use Rattle.std.proofs.lemmas.Bool.Decides.{nat_tests}
 use Rattle.serde_json.specs.Data.{Data}
 use Rattle.play_midend.specs.Histories.{History}
-use Rattle.puzzle_cli.specs.Lines.{Line}
-use Rattle.puzzle_cli.specs.GameFacts.{GameFacts}
-use Rattle.puzzle_cli.specs.declared.command.line_fault.LineFault.TheVariants.{LongLine}
-use Rattle.puzzle_cli.specs.declared.reply.refusal.Refusal.TheVariants.{Line as OfLine}
-use Rattle.puzzle_cli.specs.Commands.{is_quit}
-use Rattle.puzzle_cli.specs.Formats.{Leaves}
+use Rattle.line_replies.specs.Lines.{Line}
+use Rattle.line_replies.specs.GameFacts.{GameFacts}
+use Rattle.line_replies.specs.declared.command.line_fault.LineFault.TheVariants.{LongLine}
+use Rattle.line_replies.specs.declared.reply.refusal.Refusal.TheVariants.{Line as OfLine}
+use Rattle.line_replies.specs.Commands.{is_quit}
+use Rattle.line_replies.specs.Formats.{Leaves}
 use Rattle.json_replies.specs.Replies.{reply_data}
 use Rattle.json_replies.specs.ObjectLines.{OrLost, IsLineOfData}
 use Rattle.json_replies.specs.Sessions.{session_data}
 use Rattle.json_replies.specs.JsonReplies.{TellsOutcome, TellsLine, JsonReply}
 use Rattle.json_replies.specs.declared.further_line.FurtherLine.{FurtherLine}
 use Rattle.latin_board.specs.Boards.{BoardValue}
-use Rattle.puzzle_cli.specs.SessionReplies.{shown_board}
+use Rattle.line_replies.specs.SessionReplies.{shown_board}
 use Rattle.json_replies.specs.FurtherLines.{BoardFacts, Further, further_at, IsFurtherLine, IsAnswer}
 
 -- if nothing is said, no bytes tell the outcome

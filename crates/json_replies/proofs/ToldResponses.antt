@@ -1,19 +1,19 @@
--- What is said to a line by what comes of it.
+-- The reply to a line by the outcome of the line.
 use Rattle.std.proofs.Common.{◌≡◌, ℕ, Bool, false, List, [], Option, Some, None, Result, Ok, Err, IfOk, IfErr, OnErr, refl, sym, subst, ◌∙◌, inl, inr}
 use Rattle.play_midend.specs.Histories.{History}
 use Rattle.game_texts.specs.declared.params.Params.{Params}
-use Rattle.puzzle_cli.specs.declared.line.machine.Response.{Response}
-use Rattle.puzzle_cli.specs.declared.line.machine.Response.TheVariants.{Reply, Silence, Quit}
-use Rattle.puzzle_cli.specs.declared.reply.refusal.Refusal.{Refusal}
-use Rattle.puzzle_cli.specs.Lines.{Line, ReplyRule}
-use Rattle.puzzle_cli.specs.Commands.{is_quit}
-use Rattle.puzzle_cli.specs.GameFacts.{GameFacts}
-use Rattle.puzzle_cli.specs.Formats.{Leaves}
-use Rattle.puzzle_cli.specs.Machines.{IsResponse}
-use Rattle.puzzle_cli.specs.Replies.{LineGives, left, refusal_line}
-use Rattle.puzzle_cli.specs.RunLaws.{described_line}
-use Rattle.puzzle_cli.specs.SessionReplies.{Outcome}
-use Rattle.puzzle_cli.specs.Texts.{text_bytes}
+use Rattle.line_replies.specs.declared.machine.Response.{Response}
+use Rattle.line_replies.specs.declared.machine.Response.TheVariants.{Reply, Silence, Quit}
+use Rattle.line_replies.specs.declared.reply.refusal.Refusal.{Refusal}
+use Rattle.line_replies.specs.Lines.{Line, ReplyRule}
+use Rattle.line_replies.specs.Commands.{is_quit}
+use Rattle.line_replies.specs.GameFacts.{GameFacts}
+use Rattle.line_replies.specs.Formats.{Leaves}
+use Rattle.line_replies.specs.Machines.{IsResponse}
+use Rattle.line_replies.specs.Replies.{LineGives, left, refusal_line}
+use Rattle.line_replies.specs.RunLaws.{described_line}
+use Rattle.line_replies.specs.SessionReplies.{Outcome}
+use Rattle.line_replies.specs.Texts.{text_bytes}
 use Rattle.json_replies.specs.declared.begin_line.BeginLine.{BeginLine}
 use Rattle.json_replies.specs.declared.begin_refusal.BeginRefusal.{BeginRefusal}
 use Rattle.json_replies.specs.BeginLines.{IsBeginLine, begin_at}

@@ -3,7 +3,7 @@ use Rattle.std.proofs.Common.{◌≡◌, ℕ, ◌-◌, ◌≤◌, ◌==◌, true
 use Rattle.std.proofs.Math.Seq.{take-append_seam}
 use Rattle.std.proofs.lemmas.Bool.{eqb-true}
 use Rattle.std.proofs.lemmas.List.{length_push}
-use Rattle.puzzle_cli.specs.Lines.{onto, segments}
+use Rattle.line_replies.specs.Lines.{onto, segments}
 use Rattle.json_replies.specs.Texts.{lines_of, lines_text}
 use Rattle.json_replies.specs.ReplyLaws.{LinesAreTheReply}
 use Rattle.json_replies.proofs.ReplyLines.{some_segments}

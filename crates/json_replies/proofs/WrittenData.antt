@@ -1,10 +1,10 @@
--- What follows when data are written token by token.
+-- The consequences of writing data token by token.
 use Rattle.std.proofs.Common.{◌≡◌, ℕ, ◌<◌, ◌^◌, List, [], ◌∷◌, ◌++◌, ℤ, pos, negsuc, SFits, w8, Some, Ok, option_map, option_and_then, refl, sym, ap, ◌∙◌, append_assoc, append-nil, arith, decimal, ◌+◌, map, take, subst}
 use Rattle.std.specs.List.{flat_map, range_with_len}
 use Rattle.std.specs.Fmt.{signed_decimal}
 use Rattle.std.proofs.lemmas.Grind.{flat_map-append}
 use Rattle.std.proofs.lemmas.List.{map-append}
-use Rattle.puzzle_cli.proofs.Ranges.{flat_map_onto}
+use Rattle.line_replies.proofs.Ranges.{flat_map_onto}
 use Rattle.json.specs.Token.{Token, begin_array, end_array, begin_object, end_object, key, number as number_token}
 use Rattle.json.specs.Tree.{json_tokens, items_tokens, members_tokens}
 use Rattle.json.specs.Written.{Written, Writes}

@@ -1,5 +1,5 @@
--- How the lines that begin a game and are no commands are read: `fair`, `blank`, `item` and `thin`.
-use Rattle.std.specs.Prelude.{◌≡◌, ℕ, ◌≤◌, ℤ, ◌&&◌, if◌then◌else◌, List, ◌∷◌, ◌++◌, codes, bytes_eq, Option, Some, None, option_map, option_and_then}
+-- How the lines that begin a game and are no commands are read: `fair`, `blank`, `item`, `thin` and `fill`.
+use Rattle.std.specs.Prelude.{◌≡◌, ℕ, ◌≤◌, ℤ, ◌&&◌, ◌||◌, if◌then◌else◌, List, ◌∷◌, ◌++◌, codes, bytes_eq, Option, Some, None, option_map, option_and_then}
 use Rattle.std.specs.Fmt.{decimal}
 use Rattle.std.specs.Option.{option_or}
 use denote.Ref.{Bor}
@@ -7,10 +7,12 @@ use Rattle.byte_text.specs.Bytes.{space, comma}
 use Rattle.byte_text.specs.Cuts.{Lacks, before, behind}
 use Rattle.byte_text.specs.Decimals.{decimal_value}
 use Rattle.play_midend.specs.MoveTexts.{coordinate_at}
-use Rattle.puzzle_cli.specs.Lines.{Line}
-use Rattle.puzzle_cli.specs.Inner.CommandReading.{rest_behind}
+use Rattle.line_replies.specs.Lines.{Line}
+use Rattle.line_replies.specs.Inner.CommandReading.{rest_behind}
 use Rattle.json_replies.specs.declared.begin_line.BeginLine.{BeginLine}
-use Rattle.json_replies.specs.declared.begin_line.BeginLine.TheVariants.{Fair, Blank, Item, Thin, ThinBy}
+use Rattle.json_replies.specs.declared.begin_line.BeginLine.TheVariants.{Fair, Blank, Item, Thin, ThinBy, Fill}
+use Rattle.json_replies.specs.declared.begin_line.FirstTried.{FirstTried}
+use Rattle.json_replies.specs.declared.begin_line.FirstTried.TheVariants.{Givens, Others}
 use Rattle.json_replies.specs.declared.fair_words.FairWords.{FairWords}
 use Rattle.json_replies.specs.declared.item_words.ItemNumbers.{ItemNumbers}
 use Rattle.json_replies.specs.declared.item_words.ItemNumbers.TheVariants.{Place, Sign}
@@ -22,7 +24,8 @@ begin_copied (Fair words) = Fair (words_copied words)
 begin_copied (Blank word) = Blank word.now
 begin_copied (Item numbers) = Item numbers
 begin_copied Thin = Thin
-begin_copied (ThinBy word) = ThinBy word.now
+begin_copied (ThinBy word first) = ThinBy word.now first
+begin_copied Fill = Fill
 
 -- ---- words
 
@@ -37,6 +40,19 @@ abbrev pub three_words_at : List ℕ → Option (FairWords (List ℕ))
 three_words_at text =
     option_and_then (λ rest. option_and_then (λ seed. words_of (before space text) (before space rest) seed)
     (behind space rest)) (behind space text)
+
+-- which items are tried first, by the word behind the letter of a line `thin`, if there is one: givens, or clues or signs
+abbrev pub first_tried_at : Option (List ℕ) → Option FirstTried
+first_tried_at None = Some Givens
+first_tried_at (Some word) =
+    if bytes_eq word (codes "givens") then Some Givens
+    else (if bytes_eq word (codes "clues") || bytes_eq word (codes "signs") then Some Others else None)
+
+-- a letter, and which items are tried first, from the text behind `thin `
+abbrev pub thin_at : List ℕ → Option (BeginLine (List ℕ))
+thin_at text =
+    option_and_then (λ first. option_map (λ letter. ThinBy letter first) (one_word_at (before space text)))
+    (first_tried_at (behind space text))
 
 -- ---- numbers
 
@@ -70,10 +86,11 @@ item_at text =
 abbrev pub begun_at : List ℕ → Option (BeginLine (List ℕ))
 begun_at text =
     if bytes_eq text (codes "thin") then Some Thin
-    else (option_or (option_map ThinBy (option_and_then one_word_at (rest_behind (codes "thin ") text)))
+    else (if bytes_eq text (codes "fill") then Some Fill
+    else (option_or (option_and_then thin_at (rest_behind (codes "thin ") text))
     (option_or (option_map Fair (option_and_then three_words_at (rest_behind (codes "fair ") text)))
     (option_or (option_map Blank (option_and_then one_word_at (rest_behind (codes "blank ") text)))
-    (option_map Item (option_and_then item_at (rest_behind (codes "item ") text))))))
+    (option_map Item (option_and_then item_at (rest_behind (codes "item ") text)))))))
 
 -- which game a line begins, if any: a line that is too long begins none
 abbrev pub begin_at : Line → Option (BeginLine (List ℕ))

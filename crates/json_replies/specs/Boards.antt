@@ -1,4 +1,4 @@
--- What is told of the board that is shown.
+-- The data that tell the board that is shown.
 use Rattle.std.specs.Prelude.{ℕ, ◌*◌, List, [], ◌∷◌, Bool, codes, if◌then◌else◌}
 use Rattle.std.specs.List.{range_with_len, flat_map}
 use Rattle.serde_json.specs.Data.{Data, boolean, array, object, no_members, member}

@@ -1,8 +1,10 @@
--- The puzzles of a setter: a blank one, one with an item changed, one without what it can do without.
-use Rattle.std.specs.Prelude.{◌≡◌, ◌≢◌, ◌⊎◌, ℕ, ◌<◌, IsTrue, false, List, Option, Some, None}
+-- The puzzles of a setter: a blank one, one with an item changed, one without what it can do without, one filled in.
+use Rattle.std.specs.Prelude.{◌≡◌, ◌≢◌, ◌⊎◌, ℕ, ◌-◌, ◌*◌, ◌<◌, nat_lt, ◌||◌, ◌++◌, Bool, IsTrue, false, List, Option, Some, None}
 use Rattle.game_texts.specs.declared.params.Params.{Params}
 use Rattle.trail_solver.specs.Answers.{Fits}
+use Rattle.latin_board.specs.Squares.{GridValue}
 use Rattle.trail_solver.specs.Puzzles.{Solves}
+use Rattle.trail_solver.specs.Solutions.{HasNoSolution, HasSeveralSolutions, IsOnlySolution}
 use Rattle.trail_solver.specs.declared.answer.Answer.{Answer}
 use Rattle.trail_solver.specs.declared.answer.Answer.TheVariants.{One}
 use Rattle.trail_solver.specs.declared.rules.Rules.{Ghosts}
@@ -13,7 +15,9 @@ use Rattle.needed_items.specs.Needed.{IsThinned, HasOnly}
 use Rattle.needed_items.specs.InTurn.{IsLeftInTurn, HasSeveral, falling}
 use Rattle.fair_games.specs.FairGames.{IsBeyondGrade, IsByGrade}
 use Rattle.json_replies.specs.declared.begin_refusal.BeginRefusal.{BeginRefusal}
-use Rattle.json_replies.specs.declared.begin_refusal.BeginRefusal.TheVariants.{BadSize, BadLetter, OffGrid, OffRange}
+use Rattle.json_replies.specs.declared.begin_refusal.BeginRefusal.TheVariants.{BadSize, BadLetter, OffGrid, OffRange, NoSolution, SeveralSolutions}
+use Rattle.json_replies.specs.declared.begin_line.FirstTried.{FirstTried}
+use Rattle.json_replies.specs.declared.begin_line.FirstTried.TheVariants.{Givens, Others}
 use Rattle.json_replies.specs.declared.desk.Change.{Change}
 use Rattle.json_replies.specs.declared.item_words.ItemNumbers.{ItemNumbers}
 use Rattle.json_replies.specs.FairLines.{IsSizeWord, letter_at}
@@ -75,14 +79,51 @@ IsLeftOf f found old new = new ≡ old
 abbrev pub IsThinOf : {P : Type 0} → Ghosts P → P → P → Type 0
 IsThinOf f old new = (found : Answer) × Fits (Solves (f.puzzle old)) found × IsLeftOf f found old new
 
+-- below which number items are tried before all others: clues and signs have the first numbers, givens the last
+abbrev pub first_count : {P : Type 0} → Ghosts P → ℕ → FirstTried → ℕ
+first_count f w Givens = 0
+first_count f w Others = f.items_of w - w * w
+
+-- the second puzzle is what is left of the first where these items are tried first, and then all, each time from the
+-- last to the first
+abbrev pub IsLeftWithFirst : {P : Type 0} → Ghosts P → (P → Type 0) → FirstTried → P → P → Type 0
+IsLeftWithFirst f Fails first old new =
+    let w = (f.puzzle old).size in
+    IsLeftInTurn f Fails (falling (first_count f w first) ++ falling (f.items_of w)) old new
+
 -- the second puzzle is what `thin` and a letter leave of the first: what it needs by that grade, or all of it
-abbrev pub IsThinBy : {P : Type 0} → Ghosts P → (P → Striking) → (Grade → Option ℕ) → List ℕ → P → P → Type 0
-IsThinBy f Struck letter word old new =
+abbrev pub IsThinBy : {P : Type 0} → Ghosts P → (P → Striking) → (Grade → Option ℕ) → List ℕ → FirstTried → P → P → Type 0
+IsThinBy f Struck letter word first old new =
     (grade : Grade) × (letter_at letter word ≡ Some grade)
-    × ((IsThinned f (IsByGrade f Struck grade) old new × IsLeftBackwards f (IsBeyondGrade f Struck grade) old new)
+    × ((IsThinned f (IsByGrade f Struck grade) old new × IsLeftWithFirst f (IsBeyondGrade f Struck grade) first old new)
     ⊎ (IsBeyondGrade f Struck grade old × (new ≡ old)))
 
 -- the word is refused, since it is no letter of a grade
 abbrev pub IsNoLetter : (Grade → Option ℕ) → List ℕ → BeginRefusal → Type 0
 IsNoLetter letter word BadLetter = letter_at letter word ≡ None
 IsNoLetter letter word refusal = ⊥
+
+-- ---- fill
+
+-- whether an item is in a puzzle once it is filled in: it is no given, or one that the puzzle has
+abbrev pub is_filled_in : {P : Type 0} → Ghosts P → P → ℕ → Bool
+is_filled_in f p i = nat_lt i (first_count f (f.puzzle p).size Others) || f.has p i
+
+-- Of a solution of the first puzzle the second one has each clue or sign, and of its numbers those that are givens of the
+-- first. The solution solves it: so a clue is what is seen there, and a sign stands as it does there.
+pub record IsFilled {P : Type 0} (f : Ghosts P) (g : GridValue) (old new : P) : Type 0 where
+  pub is_cut : new ≡ f.cut (f.full_of g) (is_filled_in f old)
+  pub valid : f.valid new
+  pub size : (f.puzzle new).size ≡ (f.puzzle old).size
+  pub all : (i : ℕ) → i < first_count f (f.puzzle old).size Others → IsTrue (f.has new i)
+  pub solves : Solves (f.puzzle new) g
+
+-- the second puzzle is the first one filled in from its only solution
+abbrev pub IsFillOf : {P : Type 0} → Ghosts P → P → P → Type 0
+IsFillOf f old new = (g : GridValue) × IsOnlySolution (f.puzzle old) g × IsFilled f g old new
+
+-- the puzzle isn't filled in, since it has no solution or several
+abbrev pub IsNoFill : {P : Type 0} → Ghosts P → P → BeginRefusal → Type 0
+IsNoFill f p NoSolution = HasNoSolution (f.puzzle p)
+IsNoFill f p SeveralSolutions = HasSeveralSolutions (f.puzzle p)
+IsNoFill f p refusal = ⊥

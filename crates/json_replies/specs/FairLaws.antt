@@ -15,15 +15,16 @@ use Rattle.step_chains.specs.declared.hints.NextHint.TheVariants.{Follows as Fou
 use Rattle.step_chains.specs.NextHints.{IsHint}
 use Rattle.line_steps.specs.Grades.{rank}
 use Rattle.fair_games.specs.FairGames.{IsOfGrade}
-use Rattle.puzzle_cli.specs.Lines.{Line}
-use Rattle.puzzle_cli.specs.GameFacts.{GameFacts}
-use Rattle.puzzle_cli.specs.NewSessions.{new_game}
+use Rattle.line_replies.specs.Lines.{Line}
+use Rattle.line_replies.specs.GameFacts.{GameFacts}
+use Rattle.line_replies.specs.NewSessions.{new_game}
 use Rattle.json_replies.specs.declared.fair_words.FairWords.{FairWords}
 use Rattle.json_replies.specs.declared.fair_request.FairRequest.{FairRequest}
 use Rattle.json_replies.specs.FairLines.{IsFairLine, IsAsked}
 use Rattle.json_replies.specs.FairReplies.{fair_params, IsGameOfRequest}
 use Rattle.json_replies.specs.FurtherLines.{BoardFacts}
 use Rattle.json_replies.specs.JsonReplies.{JsonReply}
+use Rattle.json_replies.specs.MarkedHints.{IsContradiction}
 
 -- a new session of the fair game of a request: its puzzle has one solution, which follows by the grade, and not by the
 -- one below
@@ -50,12 +51,6 @@ abbrev pub IsExplainedBy : Grade → NextHint → Type 0
 IsExplainedBy most (Found grade chain) = rank grade ≤ rank most
 IsExplainedBy most (Refuted grade refutation) = ⊥
 IsExplainedBy most Nothing = ⊥
-
--- the hint is that the numbers contradict one another
-abbrev pub IsContradiction : NextHint → Type 0
-IsContradiction (Found grade chain) = ⊥
-IsContradiction (Refuted grade refutation) = Unit {0}
-IsContradiction Nothing = ⊥
 
 -- the square has a number in the grid, and another one than in the solution
 abbrev pub IsWrongAt : GridValue → GridValue → ℕ → Type 0

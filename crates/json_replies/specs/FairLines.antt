@@ -9,7 +9,7 @@ use Rattle.game_texts.specs.GameIds.{largest_seed}
 use Rattle.line_steps.specs.declared.grade.Grade.{Grade}
 use Rattle.line_steps.specs.declared.grade.Grade.TheVariants.{Latin, Easy, Hard}
 use Rattle.fair_games.specs.Offers.{is_offered}
-use Rattle.puzzle_cli.specs.Lines.{Line}
+use Rattle.line_replies.specs.Lines.{Line}
 use Rattle.json_replies.specs.declared.fair_words.FairWords.{FairWords}
 use Rattle.json_replies.specs.declared.fair_request.FairRequest.{FairRequest}
 use Rattle.json_replies.specs.declared.begin_refusal.BeginRefusal.{BeginRefusal}

@@ -6,7 +6,7 @@ use Rattle.fair_games.specs.Squares.{fair_stream}
 use Rattle.fair_games.specs.Draws.{draw_at}
 use Rattle.fair_games.specs.Offers.{letter_code}
 use Rattle.fair_games.specs.Fair.{IsFair, IsPassedOver, most_draws}
-use Rattle.puzzle_cli.specs.GameFacts.{GameFacts}
+use Rattle.line_replies.specs.GameFacts.{GameFacts}
 use Rattle.json_replies.specs.declared.fair_words.FairWords.{FairWords}
 use Rattle.json_replies.specs.declared.fair_request.FairRequest.{FairRequest}
 use Rattle.json_replies.specs.declared.begin_refusal.BeginRefusal.{BeginRefusal}

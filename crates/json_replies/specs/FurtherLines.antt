@@ -20,15 +20,15 @@ use Rattle.named_steps.specs.Graded.{IsGradeOf}
 use Rattle.line_steps.specs.declared.reason.Reason.{Reason}
 use Rattle.line_steps.specs.declared.grade.Grade.{Grade}
 use Rattle.fair_games.specs.declared.trial.Trial.{Trial}
-use Rattle.puzzle_cli.specs.declared.command.line_fault.LineFault.TheVariants.{NoGame}
-use Rattle.puzzle_cli.specs.declared.reply.refusal.Refusal.TheVariants.{Line as OfLine}
-use Rattle.puzzle_cli.specs.Lines.{Line}
-use Rattle.puzzle_cli.specs.GameFacts.{GameFacts}
+use Rattle.line_replies.specs.declared.command.line_fault.LineFault.TheVariants.{NoGame}
+use Rattle.line_replies.specs.declared.reply.refusal.Refusal.TheVariants.{Line as OfLine}
+use Rattle.line_replies.specs.Lines.{Line}
+use Rattle.line_replies.specs.GameFacts.{GameFacts}
 use Rattle.needed_items.specs.declared.items.Items.{Ghosts as OfItems}
-use Rattle.puzzle_cli.specs.Inner.CommandReading.{entry_at, rest_behind}
-use Rattle.puzzle_cli.specs.SessionReplies.{shown_board}
+use Rattle.line_replies.specs.Inner.CommandReading.{entry_at, rest_behind}
+use Rattle.line_replies.specs.SessionReplies.{shown_board}
 use Rattle.json_replies.specs.declared.further_line.FurtherLine.{FurtherLine}
-use Rattle.json_replies.specs.declared.further_line.FurtherLine.TheVariants.{Board, Completable, Hint as AskHint, Grade as AskGrade, Solutions, Spare, SpareBy}
+use Rattle.json_replies.specs.declared.further_line.FurtherLine.TheVariants.{Board, Completable, Hint as AskHint, HintMarks, Grade as AskGrade, Solutions, Spare, SpareBy}
 use Rattle.json_replies.specs.declared.begin_refusal.BeginRefusal.{BeginRefusal}
 use Rattle.json_replies.specs.declared.begin_refusal.BeginRefusal.TheVariants.{BadLetter}
 use Rattle.json_replies.specs.declared.listed_items.Listing.TheVariants.{ByAnswer, ByGrade}
@@ -38,17 +38,21 @@ use Rattle.json_replies.specs.ListedItems.{AreItemsListed}
 use Rattle.json_replies.specs.Texts.{list_data}
 use Rattle.step_chains.specs.declared.hints.NextHint.{NextHint}
 use Rattle.json_replies.specs.HintObjects.{IsHintValue, grade_data}
+use Rattle.json_replies.specs.MarkedHints.{IsMarksHint}
+use Rattle.json_replies.specs.declared.start.Start.{Start}
+use Rattle.json_replies.specs.declared.start.Start.TheVariants.{Numbers}
 use Rattle.step_chains.specs.NextHints.{IsHint}
 use Rattle.json_replies.specs.ObjectLines.{IsLineOfData}
 use Rattle.json_replies.specs.Replies.{reply_members, IsAnswerLine, IsReplyLine}
 use Rattle.json_replies.specs.Sessions.{game_data}
 use Rattle.line_steps.specs.Reasons.{Striking}
 
--- the lines beside the commands that are one word, each with its word
+-- the lines beside the commands that are always the same, each with its text
 abbrev pub further_words : List (List ℕ × FurtherLine)
 further_words =
-    (codes "board", Board) ∷ (codes "completable", Completable) ∷ (codes "hint", AskHint) ∷ (codes "grade", AskGrade)
-    ∷ (codes "solutions", Solutions) ∷ (codes "spare", Spare) ∷ []
+    (codes "board", Board) ∷ (codes "completable", Completable) ∷ (codes "hint", AskHint)
+    ∷ (codes "hint marks", HintMarks) ∷ (codes "grade", AskGrade) ∷ (codes "solutions", Solutions)
+    ∷ (codes "spare", Spare) ∷ []
 
 -- one of these lines, or why it isn't answered: the word after `spare` is no letter
 abbrev pub Further : Type 0
@@ -70,6 +74,7 @@ abbrev pub further_key : FurtherLine → List ℕ
 further_key Board = codes "board"
 further_key Completable = codes "completable"
 further_key AskHint = codes "hint"
+further_key HintMarks = codes "hint"
 further_key AskGrade = codes "grade"
 further_key Solutions = codes "solutions"
 further_key Spare = codes "spare"
@@ -123,11 +128,19 @@ solutions_in (Several g h) = g ∷ h ∷ []
 abbrev pub solutions_data : Answer → Data
 solutions_data found = list_data grid_data (solutions_in found)
 
--- the answer tells a hint of the grid
+-- the answer tells a hint of the grid, from the candidates from which its steps begin
 abbrev pub IsHintAnswer : Puzzle → (Grade → List ℕ) → Striking → (ℕ → ℕ) → (ℕ → ℕ → Bool) → GridValue → Data
     → Type 0
 IsHintAnswer p letter Struck clue is_over g answer =
-    (hint : NextHint) × IsHint p Struck g hint × IsHintValue p.size letter clue is_over Struck g hint answer
+    (hint : NextHint) × (is : IsHint p Struck g hint)
+    × IsHintValue p.size letter clue is_over Struck Numbers is.view hint answer
+
+-- the answer tells a hint of the board, from its marks or, if its numbers alone are refuted, from these
+abbrev pub IsMarksAnswer : Puzzle → (Grade → List ℕ) → Striking → (ℕ → ℕ) → (ℕ → ℕ → Bool) → BoardValue → Data
+    → Type 0
+IsMarksAnswer p letter Struck clue is_over b answer =
+    (start : Start) × (view : CandidatesValue) × (hint : NextHint) × IsMarksHint p Struck b start view hint
+    × IsHintValue p.size letter clue is_over Struck start view hint answer
 
 -- the answer to one of these lines, of a puzzle and the board that is shown
 abbrev pub IsAnswer : {P : Type 0} → GameFacts P → BoardFacts P → P → BoardValue → FurtherLine → Data → Type 0
@@ -138,6 +151,8 @@ IsAnswer f b p shown Completable answer =
     (found : Answer) × Fits (Completes (f.rules.puzzle p) (grid_of shown)) found × (answer ≡ answer_data found)
 IsAnswer f b p shown AskHint answer =
     IsHintAnswer (f.rules.puzzle p) b.letter (b.struck_by p) (b.edge_clue p) (b.says_greater p) (grid_of shown) answer
+IsAnswer f b p shown HintMarks answer =
+    IsMarksAnswer (f.rules.puzzle p) b.letter (b.struck_by p) (b.edge_clue p) (b.says_greater p) shown answer
 IsAnswer f b p shown AskGrade answer =
     (grade : Option Grade) × IsGradeOf (f.rules.puzzle p) (b.struck_by p) grade × (answer ≡ grade_data b.letter grade)
 IsAnswer f b p shown Solutions answer =

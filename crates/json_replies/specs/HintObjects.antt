@@ -1,10 +1,9 @@
 -- The object of a hint: what it says, what is in view of the grid, and the steps from there, each with its sentence.
-use Rattle.std.specs.Prelude.{◌≡◌, ℕ, Bool, List, [], ◌∷◌, length, codes, Option, Some, None}
+use Rattle.std.specs.Prelude.{◌≡◌, ◌≤◌, ℕ, Bool, List, [], ◌∷◌, length, codes, Option, Some, None}
 use Rattle.std.specs.List.{range_with_len}
 use Rattle.serde_json.specs.Data.{Data, null, string, object, no_members, member}
-use Rattle.latin_board.specs.Squares.{GridValue}
 use Rattle.trail_solver.specs.Candidates.{CandidatesValue, may_be}
-use Rattle.named_steps.specs.Chains.{IsView, goal_cell, goal_value, IsGoalOf}
+use Rattle.named_steps.specs.Chains.{goal_cell, goal_value, IsGoalOf}
 use Rattle.named_steps.specs.declared.goal.Goal.{Goal}
 use Rattle.named_steps.specs.declared.goal.Goal.TheVariants.{OnlyValue, OnlyPlace}
 use Rattle.line_steps.specs.declared.grade.Grade.{Grade}
@@ -19,6 +18,8 @@ use Rattle.json_replies.specs.Boards.{listed_data, when, squares}
 use Rattle.json_replies.specs.Counts.{count_data}
 use Rattle.json_replies.specs.Texts.{text_data, list_data}
 use Rattle.json_replies.specs.Steps.{steps_data}
+use Rattle.json_replies.specs.declared.start.Start.{Start}
+use Rattle.json_replies.specs.declared.start.Start.TheVariants.{Numbers, Marks}
 use Rattle.line_steps.specs.Reasons.{Striking}
 
 -- ---- what it says
@@ -66,6 +67,17 @@ said_of w letter Nothing = without_number (codes "nothing") null
 
 -- ---- the object
 
+-- from what the steps of a hint begin, as a word
+abbrev pub start_word : Start → List ℕ
+start_word Numbers = codes "numbers"
+start_word (Marks unmarked) = codes "marks"
+
+-- the square whose marks lack its number, or null
+abbrev pub unmarked_data : Start → Data
+unmarked_data Numbers = null
+unmarked_data (Marks None) = null
+unmarked_data (Marks (Some cell)) = count_data cell
+
 -- the steps of a hint
 abbrev pub steps_in : NextHint → List Step
 steps_in (Follows grade chain) = chain.steps.items
@@ -80,11 +92,13 @@ left_data c cell = listed_data (λ n. when (may_be c cell n) (count_data n)) (ra
 abbrev pub view_data : CandidatesValue → Data
 view_data c = listed_data (λ cell. left_data c cell ∷ []) (squares c.size)
 
--- what a hint says, how many steps each sentence is of, the steps, all sentences, and what is in view, as one object
-abbrev pub hint_data : SaidData → Data → Data → Data → Data → Data
-hint_data said groups steps text view = object
+-- what a hint says, from what its steps begin, how many of them each sentence is of, the steps, all sentences, and what
+-- is in view, as one object
+abbrev pub hint_data : SaidData → Start → Data → Data → Data → Data → Data
+hint_data said start groups steps text view = object
     (member (codes "by") said.by
     (member (codes "cell") said.cell
+    (member (codes "from") (string (start_word start))
     (member (codes "grade") said.grade
     (member (codes "groups") groups
     (member (codes "kind") (string said.kind)
@@ -92,21 +106,20 @@ hint_data said groups steps text view = object
     (member (codes "number") said.number
     (member (codes "steps") steps
     (member (codes "text") text
+    (member (codes "unmarked") (unmarked_data start)
     (member (codes "view") view
-    no_members))))))))))
+    no_members))))))))))))
 
--- sentences in short lines, and none where nothing is said
+-- sentences in short lines, one at least, and none where nothing is said
 abbrev pub IsTextOf : NextHint → List (List ℕ) → Type 0
-IsTextOf (Follows grade chain) text = AreShort text
-IsTextOf (Refuted grade refutation) text = AreShort text
+IsTextOf (Follows grade chain) text = AreShort text × (1 ≤ length text)
+IsTextOf (Refuted grade refutation) text = AreShort text × (1 ≤ length text)
 IsTextOf Nothing text = text ≡ []
 
--- a hint of a grid, as an object of a puzzle of a width with these letters, clues and signs: its steps are told from
--- what is in view
+-- a hint from some candidates, as an object of a puzzle of a width with these letters, clues and signs: they are its
+-- `view`, and its steps are told from them
 pub record IsHintValue (w : ℕ) (letter : Grade → List ℕ) (clue : ℕ → ℕ) (is_over : ℕ → ℕ → Bool)
-    (Struck : Striking) (g : GridValue) (hint : NextHint) (value : Data) : Type 0 where
-  pub view : CandidatesValue
-  pub in_view : IsView g view
+    (Struck : Striking) (start : Start) (view : CandidatesValue) (hint : NextHint) (value : Data) : Type 0 where
   pub steps : List ToldStep
   pub told : AreTold Struck w view (steps_in hint) steps
   pub groups : List ℕ
@@ -114,7 +127,7 @@ pub record IsHintValue (w : ℕ) (letter : Grade → List ℕ) (clue : ℕ → �
   pub text : List (List ℕ)
   pub lines : IsTextOf hint text
   pub is : value
-      ≡ hint_data (said_of w letter hint) (list_data count_data groups) (steps_data w clue is_over steps)
+      ≡ hint_data (said_of w letter hint) start (list_data count_data groups) (steps_data w clue is_over steps)
       (list_data text_data text) (view_data view)
 
 -- the goal of a hint's chain, if the hint has one, is a goal of a grid of the width

@@ -2,3 +2,4 @@
 pub mod ObjectMembers
 pub mod WrittenData
 pub mod ToldResponses
+pub mod Marks

@@ -1,11 +1,11 @@
--- What is said to a line as JSON, and the session that is left, or none.
+-- The replies to a line as JSON, and the session that is left, or none.
 use Rattle.std.specs.Prelude.{◌≡◌, ◌⊎◌, ℕ, List, [], Option, Some, None, Ok, Err}
 use Rattle.play_midend.specs.Histories.{History}
-use Rattle.puzzle_cli.specs.Lines.{Line}
-use Rattle.puzzle_cli.specs.GameFacts.{GameFacts}
-use Rattle.puzzle_cli.specs.SessionReplies.{Outcome}
-use Rattle.puzzle_cli.specs.Replies.{LineGives}
-use Rattle.puzzle_cli.specs.Formats.{Leaves}
+use Rattle.line_replies.specs.Lines.{Line}
+use Rattle.line_replies.specs.GameFacts.{GameFacts}
+use Rattle.line_replies.specs.SessionReplies.{Outcome}
+use Rattle.line_replies.specs.Replies.{LineGives}
+use Rattle.line_replies.specs.Formats.{Leaves}
 use Rattle.json_replies.specs.ObjectLines.{OrLost}
 use Rattle.json_replies.specs.declared.begin_line.BeginLine.{BeginLine}
 use Rattle.json_replies.specs.Replies.{Answer, session_left, IsReplyLine, IsAnswerLine}

@@ -1,9 +1,10 @@
--- What is told as JSON. Bytes, lines and counts: Texts, Counts; data token by token: WrittenData; an object's
--- line: ObjectLines; the session that is left: Sessions; a reply: Replies; the board, its clues and signs:
--- Boards, ClueLists; a hint, with the steps that explain it: Reasons, Steps, HintObjects; the lines beside the
--- commands: FurtherLines; the line `fair`: FairLines, FairReplies; a setter's lines: ItemChanges, DeskReplies,
--- ListedItems; all lines that begin a game: BeginLines, BeginRefusals, BeginReplies; what may be said to a line:
--- JsonReplies; its laws: ReplyLaws, FairLaws.
+-- The words of this crate's contracts. Bytes, lines and counts: Texts, Counts; data token by token:
+-- WrittenData; an object's line: ObjectLines; the session that is left: Sessions; a reply: Replies; the
+-- board, its clues and signs: Boards, ClueLists; a hint, with the steps that explain it: Reasons, Steps,
+-- HintObjects, from pencil marks: MarkedHints; the lines beside the commands: FurtherLines; the line `fair`:
+-- FairLines, FairReplies; a setter's lines: ItemChanges, DeskReplies, ListedItems; all lines that begin a
+-- game: BeginLines, BeginRefusals, BeginReplies; the replies to a line: JsonReplies; its laws: ReplyLaws,
+-- FairLaws, MarkedLaws, HintLines.
 pub mod Texts
 pub mod Counts
 pub mod WrittenData
@@ -15,6 +16,7 @@ pub mod ClueLists
 pub mod Reasons
 pub mod Steps
 pub mod HintObjects
+pub mod MarkedHints
 pub mod ListedItems
 pub mod FurtherLines
 pub mod FairLines
@@ -27,6 +29,8 @@ pub mod BeginReplies
 pub mod JsonReplies
 pub mod ReplyLaws
 pub mod FairLaws
+pub mod MarkedLaws
+pub mod HintLines
 pub mod Laws
 -- words that the contracts of private functions alone use
 pub mod Inner

@@ -1,4 +1,4 @@
--- What the object of a step tells of its reason: its word, where it looks from, and what it speaks of.
+-- The members of a step's object that tell its reason: its word, where it looks from, and what it speaks of.
 use Rattle.std.specs.Prelude.{ℕ, ◌*◌, ◌&&◌, nat_lt, Bool, List, [], ◌∷◌, codes, if◌then◌else◌, Option, Some, None}
 use Rattle.std.specs.List.{range_with_len}
 use Rattle.serde_json.specs.Data.{Data, null, array}

@@ -2,10 +2,10 @@
 use Rattle.std.specs.Prelude.{ℕ, List, codes, Option, Some, None, Result, Ok, Err}
 use Rattle.serde_json.specs.Data.{Data, null, object, Members, no_members, member}
 use Rattle.play_midend.specs.Histories.{History}
-use Rattle.puzzle_cli.specs.GameFacts.{GameFacts}
-use Rattle.puzzle_cli.specs.Refusals.{refusal_name}
-use Rattle.puzzle_cli.specs.SessionReplies.{Outcome}
-use Rattle.puzzle_cli.specs.Replies.{plain_text, left, refusal_line}
+use Rattle.line_replies.specs.GameFacts.{GameFacts}
+use Rattle.line_replies.specs.Refusals.{refusal_name}
+use Rattle.line_replies.specs.SessionReplies.{Outcome}
+use Rattle.line_replies.specs.Replies.{plain_text, left, refusal_line}
 use Rattle.json_replies.specs.declared.begin_refusal.BeginRefusal.{BeginRefusal}
 use Rattle.json_replies.specs.BeginRefusals.{begin_refusal_name}
 use Rattle.json_replies.specs.ObjectLines.{IsLineOfData}

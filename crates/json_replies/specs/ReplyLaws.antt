@@ -1,10 +1,10 @@
 -- Laws of what is told as JSON: an object determines the plain reply.
 use Rattle.std.specs.Prelude.{◌≡◌, ◌≢◌, ℕ, List, Option, Some}
 use Rattle.play_midend.specs.Histories.{History}
-use Rattle.puzzle_cli.specs.Lines.{Line}
-use Rattle.puzzle_cli.specs.GameFacts.{GameFacts}
-use Rattle.puzzle_cli.specs.WholeLines.{AreWholeLines}
-use Rattle.puzzle_cli.specs.RunLaws.{PicturesAreWholeLines}
+use Rattle.line_replies.specs.Lines.{Line}
+use Rattle.line_replies.specs.GameFacts.{GameFacts}
+use Rattle.line_replies.specs.WholeLines.{AreWholeLines}
+use Rattle.line_replies.specs.RunLaws.{PicturesAreWholeLines}
 use Rattle.json_replies.specs.Texts.{lines_of, lines_text}
 use Rattle.json_replies.specs.ObjectLines.{lost_line, OrLost}
 use Rattle.json_replies.specs.Replies.{Answer, answer_name, answer_text, IsAnswerLine}

@@ -1,10 +1,10 @@
--- What is told of the session that is left.
+-- The data that tell the session that is left.
 use Rattle.std.specs.Prelude.{◌+◌, length, codes, Option, Some, None}
 use Rattle.serde_json.specs.Data.{Data, null, string, object, no_members, member}
 use Rattle.play_midend.specs.Histories.{History}
-use Rattle.puzzle_cli.specs.BoardTexts.{status_word}
-use Rattle.puzzle_cli.specs.GameFacts.{GameFacts}
-use Rattle.puzzle_cli.specs.SessionReplies.{shown_board, id_words}
+use Rattle.line_replies.specs.BoardTexts.{status_word}
+use Rattle.line_replies.specs.GameFacts.{GameFacts}
+use Rattle.line_replies.specs.SessionReplies.{shown_board, id_words}
 use Rattle.json_replies.specs.Counts.{count_data}
 use Rattle.json_replies.specs.Texts.{text_data}
 

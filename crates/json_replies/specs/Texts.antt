@@ -4,7 +4,7 @@ use Rattle.std.specs.List.{flat_map}
 use Rattle.serde_json.specs.Data.{Data, string, array}
 use Rattle.serde_json.specs.View.{items_of}
 use Rattle.byte_text.specs.Bytes.{line_feed}
-use Rattle.puzzle_cli.specs.Lines.{segments}
+use Rattle.line_replies.specs.Lines.{segments}
 
 -- the text whose characters have the bytes as their codes
 abbrev pub latin_text : List ℕ → List ℕ

@@ -3,21 +3,23 @@
 ghost use Rattle.std.specs.Prelude.{◌≡◌, Ok, Err, None, IfOk, IfErr, OnErr};
 ghost use Rattle.std.specs.Option.{IsSomeAnd};
 ghost use Rattle.game_texts.specs.Parameters.{IsParams};
-ghost use Rattle.puzzle_cli.specs.Commands.{is_quit};
-ghost use Rattle.puzzle_cli.specs.Machines.{IsResponse};
-ghost use Rattle.puzzle_cli.specs.Replies.{LineGives};
-ghost use Rattle.puzzle_cli.specs.RunLaws.{described_line};
+ghost use Rattle.line_replies.specs.Commands.{is_quit};
+ghost use Rattle.line_replies.specs.Machines.{IsResponse};
+ghost use Rattle.line_replies.specs.Replies.{LineGives};
+ghost use Rattle.line_replies.specs.RunLaws.{described_line};
 ghost use Rattle.json_replies.specs.BeginLines.{begin_copied};
 ghost use Rattle.json_replies.specs.BeginReplies.{AskFor, AskInVain};
 
 use crate::begin_line::BeginLine;
 use crate::begin_refusal::BeginRefusal;
-use crate::desk::{blank_puzzle, changed_puzzle, plain, thin_puzzle, thin_puzzle_by};
+use crate::desk::{
+    blank_puzzle, changed_puzzle, filled_puzzle, plain, thin_puzzle, thin_puzzle_by,
+};
 use crate::fair::fair_game;
 use crate::shown::{ShownFacts, Shows};
 use game_texts::Params;
+use line_replies::{Draw, Facts, Refusal, Response, Text, begin_game};
 use play_midend::Session;
-use puzzle_cli::{Draw, Facts, Refusal, Response, Text, begin_game};
 use std::alloc::Global;
 use trail_solver::Rules;
 
@@ -39,7 +41,10 @@ pub(crate) fn asked_game<P: Shows>(
         BeginLine::Blank(word) => Ok(plain(blank_puzzle(word)?)),
         BeginLine::Item(numbers) => Ok(plain(changed_puzzle(puzzle_of(session)?, numbers)?)),
         BeginLine::Thin => Ok(plain(thin_puzzle(puzzle_of(session)?))),
-        BeginLine::ThinBy(word) => Ok(plain(thin_puzzle_by(puzzle_of(session)?, word)?)),
+        BeginLine::ThinBy(word, first) => {
+            Ok(plain(thin_puzzle_by(puzzle_of(session)?, word, first)?))
+        }
+        BeginLine::Fill => Ok(plain(filled_puzzle(puzzle_of(session)?)?)),
     }
 }
 

@@ -20,13 +20,17 @@ pub(crate) enum BeginRefusal {
     OffGrid,
     /// The item can't say so much.
     OffRange,
+    /// The puzzle has no solution.
+    NoSolution,
+    /// The puzzle has several solutions.
+    SeveralSolutions,
 }
 
 impl BeginRefusal {
     /// The word by which the refusal is told.
     pub(crate) fn name(self) -> &'static str
         ensures name { result.now ≡ begin_refusal_name self }
-        ensures short { length result.now ≤ 9 }
+        ensures short { length result.now ≤ 16 }
     {
         match self {
             BeginRefusal::NoGame => "NoGame",
@@ -36,6 +40,8 @@ impl BeginRefusal {
             BeginRefusal::NoneFound => "NoneFound",
             BeginRefusal::OffGrid => "OffGrid",
             BeginRefusal::OffRange => "OffRange",
+            BeginRefusal::NoSolution => "NoSolution",
+            BeginRefusal::SeveralSolutions => "SeveralSolutions",
         }
     }
 }

@@ -1,17 +1,21 @@
-//! The puzzles of a setter: a blank one, the session's with one item changed, and that without items that it can do without.
+//! The puzzles of a setter: a blank one, the session's with one item changed, that without items that it can do without, and one filled
+//! in from its solution.
 
 ghost use Rattle.line_steps.specs.Reasons.{StruckBy};
 ghost use Rattle.std.specs.Prelude.{◌≡◌, ◌≤◌, ◌<◌, ◌*◌, IfOk, IfErr, IfSome, IsTrue};
 ghost use Rattle.json_replies.specs.ItemChanges.{cell_at, place_item, change_to, sign_change, change_at, turned};
 ghost use Rattle.json_replies.specs.DeskReplies.{IsBlankOf, IsNoBlank, IsChangeOf, IsNoChange, IsThinOf, IsThinBy, IsNoLetter, plain_params};
+ghost use Rattle.json_replies.specs.DeskReplies.{first_count, is_filled_in, IsFilled, IsFillOf, IsNoFill};
+ghost use Rattle.trail_solver.specs.Puzzles.{Solves};
 
+use crate::begin_line::FirstTried;
 use crate::begin_refusal::BeginRefusal;
 use crate::fair_request::{read_letter, read_size};
 use crate::item_words::ItemNumbers;
 use crate::shown::Shows;
 use fair_games::thinned_by;
 use game_texts::Params;
-use latin_board::{Size, edge_place};
+use latin_board::{Grid, Size, edge_place};
 use named_steps::follows;
 use needed_items::{Items, thinned};
 use trail_solver::{Answer, Rules, solve};
@@ -64,7 +68,7 @@ pub(crate) fn changed_puzzle<P: Shows>(puzzle: &P, numbers: ItemNumbers) -> Resu
 }
 
 /// The puzzle without items that it can do without, where it has just one solution, and otherwise the puzzle itself.
-// What it takes of the stack is on it while items are looked at alone.
+// Its frame is on the stack only while items are looked at.
 #[inline(never)]
 pub(crate) fn thin_puzzle<P: Shows>(puzzle: &P) -> P
     ensures { IsThinOf ⟦<P as Rules>⟧ puzzle.now result }
@@ -76,18 +80,72 @@ pub(crate) fn thin_puzzle<P: Shows>(puzzle: &P) -> P
     }
 }
 
-/// The puzzle without items that it can do without by the grade that a word says. Refused as `BadLetter`.
+/// The puzzle without items that it can do without by the grade that a word says, where these are tried first. Refused as `BadLetter`.
 #[inline(never)]
-pub(crate) fn thin_puzzle_by<P: Shows>(puzzle: &P, word: &[u8]) -> Result<P, BeginRefusal>
+pub(crate) fn thin_puzzle_by<P: Shows>(
+    puzzle: &P,
+    word: &[u8],
+    first: FirstTried,
+) -> Result<P, BeginRefusal>
     ensures asked { IfOk result
-        (IsThinBy ⟦<P as Rules>⟧ (StruckBy P.puzzle P.own) P.letter_of word.now puzzle.now) }
+        (IsThinBy ⟦<P as Rules>⟧ (StruckBy P.puzzle P.own) P.letter_of word.now first puzzle.now) }
     ensures refused { IfErr result (IsNoLetter P.letter_of word.now) }
 {
     match read_letter::<P>(word) {
-        Some(grade) if follows(puzzle, grade) => Ok(thinned_by(puzzle, grade)),
+        Some(grade) if follows(puzzle, grade) => {
+            Ok(thinned_by(puzzle, grade, first_count::<P>(puzzle.size(), first)))
+        }
         Some(_) => Ok(*puzzle),
         None => Err(BeginRefusal::BadLetter),
     }
+}
+
+// Below which number items are tried before all others. The givens have the last numbers.
+fn first_count<P: Shows>(size: Size, first: FirstTried) -> usize
+    ensures value { result ≡ first_count ⟦<P as Rules>⟧ size first }
+    ensures inside { result ≤ P.items_of size }
+{
+    let width = size.get() as usize;
+    match first {
+        FirstTried::Givens => 0,
+        FirstTried::Others => P::item_count(size).saturating_sub(width * width),
+    }
+}
+
+/// The puzzle with the givens of this one, and all else that its only solution can say. Refused as `NoSolution`, `SeveralSolutions`.
+#[inline(never)]
+pub(crate) fn filled_puzzle<P: Shows>(puzzle: &P) -> Result<P, BeginRefusal>
+    ensures asked { IfOk result (IsFillOf ⟦<P as Rules>⟧ puzzle.now) }
+    ensures refused { IfErr result (IsNoFill ⟦<P as Rules>⟧ puzzle.now) }
+{
+    match solve(puzzle) {
+        Answer::None => Err(BeginRefusal::NoSolution),
+        Answer::One(grid) => Ok(filled(puzzle, &grid)),
+        Answer::Several(_, _) => Err(BeginRefusal::SeveralSolutions),
+    }
+}
+
+// The full puzzle of a solution without the givens that the puzzle hasn't.
+fn filled<P: Shows>(puzzle: &P, grid: &Grid) -> P
+    requires { Solves (P.puzzle puzzle.now) grid.now }
+    ensures { IsFilled ⟦<P as Rules>⟧ grid.now puzzle.now result }
+{
+    let count = P::item_count(puzzle.size());
+    let mut filled = P::full(grid);
+    for item in 0..count {
+        if !is_filled_in(puzzle, item) {
+            filled.drop_item(item);
+        }
+    }
+    filled
+}
+
+// Whether an item is in the puzzle once it is filled in: it is no given, or one that the puzzle has.
+fn is_filled_in<P: Shows>(puzzle: &P, item: usize) -> bool
+    requires { item < P.items_of (P.puzzle puzzle.now).size }
+    ensures { result ≡ is_filled_in ⟦<P as Rules>⟧ puzzle.now item }
+{
+    item < first_count::<P>(puzzle.size(), FirstTried::Others) || puzzle.has_item(item)
 }
 
 // The change that numbers ask for, if there is such an item.
@@ -121,7 +179,7 @@ fn sign_change<P: Shows>(size: Size, first: usize, second: usize, n: u8) -> Opti
     Some(change_to::<P>(size, n <= 1, item, turned(n)))
 }
 
-// What the item of a sign says, where the second square is to be the greater if n is 1.
+// The number of a sign's item, where the second square is to be the greater if n is 1.
 fn turned(n: u8) -> u8
     ensures { result ≡ turned n }
 {

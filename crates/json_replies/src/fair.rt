@@ -11,13 +11,13 @@ use crate::fair_words::FairWords;
 use crate::shown::{ShownFacts, Shows};
 use fair_games::{FairGame, seeded};
 use game_texts::{Game, Params};
-use puzzle_cli::Facts;
+use line_replies::Facts;
 use trail_solver::Rules;
 
 /// The fair game that the words ask for: its parameters and its puzzle. It takes no memory.
 ///
 /// Refused, in this order, as `BadSize`, `BadLetter`, `BadSeed`, `NoneFound`.
-// What it takes of the stack is on it while a game is drawn alone.
+// Its frame is on the stack only while a game is drawn.
 #[inline(never)]
 pub(crate) fn fair_game<P: Shows>(words: FairWords<&[u8]>) -> Result<(Params, P), BeginRefusal>
     ensures asked { IfOk result (λ game. AskForFair ⟦<P as Facts>⟧.facts ⟦<P as ShownFacts>⟧.board_facts

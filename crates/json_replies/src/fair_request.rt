@@ -1,4 +1,4 @@
-//! What a line `fair` asks for.
+//! The request of a line `fair`.
 
 ghost use Rattle.std.specs.Prelude.{◌≡◌, ℕ, MatchOption};
 ghost use Rattle.line_steps.specs.declared.grade.Grade.{Grade};
@@ -20,7 +20,7 @@ pub(crate) struct FairRequest {
     pub(crate) seed: u64,
 }
 
-/// What the words ask for, of the game `P`.
+/// The request of the words, in the game `P`.
 ///
 /// Refused, in this order, as `BadSize`, `BadLetter`, `BadSeed`.
 pub(crate) fn read_request<P: Shows>(words: FairWords<&[u8]>) -> Result<FairRequest, BeginRefusal>

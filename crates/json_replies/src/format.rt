@@ -2,9 +2,9 @@
 
 ghost use Rattle.std.specs.Prelude.{◌≡◌, ◌≤◌, false, length, Some, None, Ok};
 ghost use Rattle.std.specs.Option.{option_copied};
-ghost use Rattle.puzzle_cli.specs.Machines.{IsResponse};
-ghost use Rattle.puzzle_cli.specs.Replies.{refusal_line};
-ghost use Rattle.puzzle_cli.specs.Texts.{text_bytes};
+ghost use Rattle.line_replies.specs.Machines.{IsResponse};
+ghost use Rattle.line_replies.specs.Replies.{refusal_line};
+ghost use Rattle.line_replies.specs.Texts.{text_bytes};
 ghost use Rattle.json_replies.specs.BeginLines.{begin_copied};
 ghost use Rattle.json_replies.specs.FurtherLines.{IsFurtherLine};
 ghost use Rattle.json_replies.specs.Inner.ToldResponses.{TellsBegun, TellsResponse};
@@ -20,8 +20,8 @@ use crate::further::answer_line;
 use crate::further_line::{FurtherLine, read_further};
 use crate::object_line::reply_line;
 use crate::shown::{ShownFacts, Shows};
+use line_replies::{Draw, Facts, Format, LineFault, Refusal, Response, Text, execute};
 use play_midend::Session;
-use puzzle_cli::{Draw, Facts, Format, LineFault, Refusal, Response, Text, execute};
 use std::alloc::Global;
 
 /// Each reply is one JSON object on one line: the refusal or null, the lines that the plain program says, and the session that is left;
@@ -51,7 +51,7 @@ impl<P: Shows> Format<P> for Json {
     }
 }
 
-// The answer to a line that begins this game. What it takes of the stack isn't on it while a hint is looked for.
+// The answer to a line that begins this game. Its frame isn't on the stack while a hint is looked for.
 #[inline(never)]
 fn begin_response<P: Shows>(
     alloc: Global,
@@ -148,7 +148,7 @@ fn object<P: Draw>(
     }
 }
 
-// What is said where memory is wanting.
+// The text where memory is wanting.
 fn lost() -> Text
     ensures { text_bytes result ≡ lost_line }
 {

@@ -22,24 +22,26 @@ use crate::board::{write_board, write_grid};
 use crate::further_line::FurtherLine;
 use crate::hint_text::write_hint;
 use crate::listed_items::{Listing, write_items};
+use crate::marked_hints::marks_answer;
 use crate::object_line::{ended, write_said};
 use crate::session::write_game;
 use crate::shown::{ShownFacts, Shows};
+use crate::start::Start;
 use crate::written::{write_null, write_word};
 use board_checks::errors;
 use json::Writer;
 use latin_board::{Board, Grid, OutOfMemory};
+use line_replies::Facts;
 use named_steps::{Grade, grade_of};
 use needed_items::Items;
 use play_midend::Session;
-use puzzle_cli::Facts;
 use std::alloc::{AllocError, Global};
-use step_chains::next_hint;
+use step_chains::{next_hint_from, view_of};
 use step_texts::StepNames;
 use trail_solver::{Answer, Rules, completion, solve};
 
 /// The line of the object with the answer, beside what each object has.
-// What it takes of the stack isn't on it while a fair game is drawn.
+// Its frame isn't on the stack while a fair game is drawn.
 #[inline(never)]
 pub(crate) fn answer_line<P: Shows>(
     alloc: Global,
@@ -123,6 +125,7 @@ fn write_answer<P: Shows>(
         FurtherLine::Board => board_answer(writer, puzzle, board),
         FurtherLine::Completable => count_answer(writer, puzzle, board.grid()),
         FurtherLine::Hint => hint_answer(alloc, writer, puzzle, board.grid()),
+        FurtherLine::HintMarks => marks_answer(alloc, writer, puzzle, board),
         FurtherLine::Grade => grade_answer(writer, puzzle),
         FurtherLine::Solutions => solutions_answer(writer, puzzle, board.grid()),
         FurtherLine::Spare => spare_answer(alloc, writer, puzzle),
@@ -132,7 +135,7 @@ fn write_answer<P: Shows>(
     }
 }
 
-// The board that is shown, and what is wrong on it. What it takes of the stack isn't on it while a hint is looked for.
+// The board that is shown, and its errors. Its frame isn't on the stack while a hint is looked for.
 #[inline(never)]
 fn board_answer<P: Shows>(writer: &mut Writer, puzzle: &P, board: &Board) -> Result<(), OutOfMemory>
     requires { board.now.size ≡ (P.puzzle puzzle.now).size }
@@ -144,8 +147,8 @@ fn board_answer<P: Shows>(writer: &mut Writer, puzzle: &P, board: &Board) -> Res
     Ok(())
 }
 
-// How many solutions keep the numbers of a grid of the puzzle's size. What it takes of the stack isn't on it while a hint is
-// looked for.
+// How many solutions keep the numbers of a grid of the puzzle's size. Its frame isn't on the stack while a
+// hint is looked for.
 #[inline(never)]
 fn count_answer<P: Shows>(writer: &mut Writer, puzzle: &P, grid: &Grid) -> Result<(), OutOfMemory>
     requires { grid.now.size ≡ (P.puzzle puzzle.now).size }
@@ -212,7 +215,8 @@ fn spare_answer<P: Shows>(alloc: Global, writer: &mut Writer, puzzle: &P) -> Res
     Ok(())
 }
 
-// The hint of a grid of the puzzle's size.
+// The hint of a grid of the puzzle's size. Its frame isn't on the stack while a hint is looked for from marks.
+#[inline(never)]
 fn hint_answer<P: Shows>(
     alloc: Global,
     writer: &mut Writer,
@@ -224,12 +228,13 @@ fn hint_answer<P: Shows>(
         (StruckBy P.puzzle P.own puzzle.now) (P.edge_clue_of puzzle.now) (P.says_greater_of puzzle.now) grid.now)
         writer.old writer.new) }
 {
-    let hint = next_hint(alloc, puzzle, grid)?;
-    write_hint(alloc, writer, puzzle, grid, &hint)?;
+    let view = view_of(grid);
+    let hint = next_hint_from(alloc, puzzle, grid, &view)?;
+    write_hint(alloc, writer, puzzle, grid, &view, &hint, Start::Numbers)?;
     Ok(())
 }
 
-// The puzzle's grade, if it has one. What it takes of the stack isn't on it while a hint is looked for.
+// The puzzle's grade, if it has one. Its frame isn't on the stack while a hint is looked for.
 #[inline(never)]
 fn grade_answer<P: Shows>(writer: &mut Writer, puzzle: &P) -> Result<(), OutOfMemory>
     ensures { OnOk result (FollowsWhere (λ answer. (grade : Option GradeValue)

@@ -10,7 +10,7 @@ use crate::fair_words::one_word;
 use crate::shown::Shows;
 use named_steps::Grade;
 
-/// What a line asks for that is no command.
+/// A line that is no command, by what it asks for.
 #[derive(Clone, Copy)]
 pub(crate) enum FurtherLine {
     /// The board that is shown.
@@ -19,6 +19,8 @@ pub(crate) enum FurtherLine {
     Completable,
     /// A number that follows from the board's numbers.
     Hint,
+    /// A number that follows from the board's pencil marks.
+    HintMarks,
     /// The grade of the steps by which the puzzle follows.
     Grade,
     /// Two of the solutions that keep the board's numbers, or as many as there are.
@@ -38,6 +40,7 @@ impl FurtherLine {
             FurtherLine::Board => "board",
             FurtherLine::Completable => "completable",
             FurtherLine::Hint => "hint",
+            FurtherLine::HintMarks => "hint",
             FurtherLine::Grade => "grade",
             FurtherLine::Solutions => "solutions",
             FurtherLine::Spare => "spare",
@@ -73,6 +76,8 @@ pub(crate) fn read_further<P: Shows>(
         Some(Ok(FurtherLine::Completable))
     } else if line == b"hint".as_slice() {
         Some(Ok(FurtherLine::Hint))
+    } else if line == b"hint marks".as_slice() {
+        Some(Ok(FurtherLine::HintMarks))
     } else if line == b"grade".as_slice() {
         Some(Ok(FurtherLine::Grade))
     } else if line == b"solutions".as_slice() {

@@ -4,8 +4,7 @@ ghost use Rattle.line_steps.specs.Reasons.{StruckBy};
 ghost use Rattle.std.specs.Prelude.{◌≡◌, ◌*◌, ◌<◌, ◌∷◌, [], codes, OnOk, IfOk};
 ghost use Rattle.std.specs.Option.{option_copied};
 ghost use Rattle.step_texts.specs.Lines.{line_texts};
-ghost use Rattle.named_steps.specs.Chains.{IsView};
-ghost use Rattle.trail_solver.specs.Candidates.{CandidatesValue, may_be};
+ghost use Rattle.trail_solver.specs.Candidates.{may_be};
 ghost use Rattle.trail_solver.specs.Pairs.{IsPair};
 ghost use Rattle.json_replies.specs.Boards.{when};
 ghost use Rattle.json_replies.specs.Counts.{count_data};
@@ -15,6 +14,7 @@ ghost use Rattle.json_replies.specs.HintObjects.{left_data, said_of, steps_in, v
 ghost use Rattle.json_replies.specs.Inner.WrittenData.{count_or_null, said_data, said_members, word_or_null, FollowsWhere, MembersFollow};
 ghost use Rattle.json_replies.specs.WrittenData.{Follow};
 
+use crate::start::Start;
 use crate::written::{
     Each, write_lines, write_number, write_number_at, write_number_when, write_range,
     write_squares, write_word_at,
@@ -24,42 +24,50 @@ use json::Writer;
 use latin_board::{Grid, Size};
 use named_steps::Goal;
 use std::alloc::{AllocError, Global};
-use step_chains::{NextHint, Step, view_of};
+use step_chains::{NextHint, Step};
 use step_texts::{
     Line, StepNames, ToldStep, chain_lines, refutation_lines, told_groups, told_steps,
 };
 use trail_solver::Candidates;
 
-/// Writes a hint of a grid as an object: what it says, what is in view, and the steps from there, each with its sentence.
+/// Writes a hint of a grid from some candidates as an object: what it says, the candidates, and the steps from there, each with its sentence.
 #[inline(never)]
 pub(crate) fn write_hint<P: StepNames>(
     alloc: Global,
     writer: &mut Writer,
     p: &P,
     grid: &Grid,
+    view: &Candidates,
     hint: &NextHint,
+    start: Start,
 ) -> Result<(), AllocError>
     requires size { grid.now.size ≡ (P.Rules.puzzle p.now).size }
     requires goal { IsGoalTold grid.now.size hint.now }
     ensures { OnOk result (FollowsWhere (IsHintValue (P.Rules.puzzle p.now).size P.grade_letter (P.edge_clue_of p.now)
-        (P.says_greater_of p.now) (StruckBy P.puzzle P.own p.now) grid.now hint.now) writer.old writer.new) }
+        (P.says_greater_of p.now) (StruckBy P.puzzle P.own p.now) start view.now hint.now) writer.old writer.new) }
 {
-    let told = told_steps(alloc, p, view_of(grid), steps_in(hint))?;
+    let told = told_steps(alloc, p, view, steps_in(hint))?;
     let groups = told_groups(alloc, p, told.as_slice())?;
-    let lines = text_of(alloc, p, grid, told.as_slice(), hint)?;
+    let lines = text_of(alloc, p, grid, view, told.as_slice(), hint)?;
     writer.begin_object()?;
-    write_said(writer, said_of::<P>(grid.size(), hint), groups.as_slice())?;
+    write_said(
+        writer,
+        said_of::<P>(grid.size(), hint),
+        start,
+        groups.as_slice(),
+    )?;
     writer.key("steps")?;
     write_steps(alloc, writer, p, told.as_slice())?;
     writer.key("text")?;
     write_lines(alloc, writer, lines.as_slice())?;
+    write_number_at(writer, "unmarked", start.unmarked())?;
     writer.key("view")?;
-    write_view(writer, grid)?;
+    write_candidates(writer, view)?;
     writer.end_object()?;
     Ok(())
 }
 
-// What a hint says: each a member, null where it says nothing of that.
+// The parts of a hint: each is a member of its object, null where the hint says nothing of it.
 #[derive(Drop)]
 struct Said {
     by: Option<&'static str>,
@@ -70,7 +78,7 @@ struct Said {
     number: Option<usize>,
 }
 
-// What a hint of a grid of a size says.
+// The parts of a hint of a grid of a size.
 fn said_of<P: StepNames>(size: Size, hint: &NextHint) -> Said
     requires { IsGoalTold size hint.now }
     ensures { said_data result ≡ said_of size P.grade_letter hint.now }
@@ -89,7 +97,7 @@ fn said_of<P: StepNames>(size: Size, hint: &NextHint) -> Said
     }
 }
 
-// What a hint says that has no number.
+// The parts of a hint that has no number.
 fn without_number(kind: &'static str, grade: Option<&'static str>) -> Said
     ensures { said_data result ≡ without_number kind.now (word_or_null (option_copied grade.entry)) }
 {
@@ -139,17 +147,19 @@ fn text_of<P: StepNames>(
     alloc: Global,
     p: &P,
     grid: &Grid,
+    view: &Candidates,
     told: &[ToldStep],
     hint: &NextHint,
 ) -> Result<Vec<Line>, AllocError>
     ensures { IfOk result (λ lines. IsTextOf hint.now (line_texts lines.items)) }
 {
     match hint {
-        NextHint::Follows { chain, .. } => chain_lines(alloc, p, grid, told, chain.goal),
+        NextHint::Follows { chain, .. } => chain_lines(alloc, p, grid, view, told, chain.goal),
         NextHint::Refuted { refutation, .. } => refutation_lines(
             alloc,
             p,
             grid,
+            view,
             told,
             refutation.cell,
         ),
@@ -157,13 +167,19 @@ fn text_of<P: StepNames>(
     }
 }
 
-// Writes what a hint says, and how many steps each of its sentences is of.
-fn write_said(writer: &mut Writer, said: Said, groups: &[usize]) -> Result<(), AllocError>
-    ensures { OnOk result (MembersFollow (said_members (said_data said) (list_data count_data groups.now))
+// Writes what a hint says, from what its steps begin, and how many of them each of its sentences is of.
+fn write_said(
+    writer: &mut Writer,
+    said: Said,
+    start: Start,
+    groups: &[usize],
+) -> Result<(), AllocError>
+    ensures { OnOk result (MembersFollow (said_members (said_data said) start (list_data count_data groups.now))
         writer.old writer.new) }
 {
     write_word_at(writer, "by", said.by)?;
     write_number_at(writer, "cell", said.cell)?;
+    write_word_at(writer, "from", Some(start.word()))?;
     write_word_at(writer, "grade", said.grade)?;
     write_groups_at(writer, groups)?;
     write_word_at(writer, "kind", Some(said.kind))?;
@@ -192,18 +208,6 @@ fn write_groups(writer: &mut Writer, groups: &[usize]) -> Result<(), AllocError>
         write_number(writer, *steps)?;
     }
     writer.end_array()?;
-    Ok(())
-}
-
-// Writes the numbers that are left of each square in view of a grid.
-// The steps took the candidates that were in view, so they are made again: they aren't on the stack while steps are told.
-#[inline(never)]
-fn write_view(writer: &mut Writer, grid: &Grid) -> Result<(), AllocError>
-    ensures { OnOk result ((view : CandidatesValue) × IsView grid.now view
-        × Follow (view_data view ∷ []) writer.old writer.new) }
-{
-    let candidates = view_of(grid);
-    write_candidates(writer, &candidates)?;
     Ok(())
 }
 

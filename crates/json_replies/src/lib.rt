@@ -1,7 +1,7 @@
-//! What a puzzle program says as JSON.
+//! The replies of a puzzle program as JSON.
 //!
 //! [`Json`] is a format of the program: each line is answered by one object on one line. It tells what the line makes of a session
-//! ([`execute`](puzzle_cli::execute)), or answers a line that only this format has: `hint` and others ask something of the session, and
+//! ([`execute`](line_replies::execute)), or answers a line that only this format has: `hint` and others ask something of the session, and
 //! `fair`, `blank`, `item` and `thin` begin one as `new` does.
 #![tactic(auto)]
 
@@ -20,11 +20,13 @@ mod further_line;
 mod hint_text;
 mod item_words;
 mod listed_items;
+mod marked_hints;
 mod object_line;
 mod reason_parts;
 mod reply_laws;
 mod session;
 mod shown;
+mod start;
 mod text;
 mod written;
 mod written_steps;

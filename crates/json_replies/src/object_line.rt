@@ -19,8 +19,8 @@ use crate::written::{write_null, write_text};
 use byte_text::cut;
 use json::Writer;
 use latin_board::OutOfMemory;
+use line_replies::{Draw, Facts};
 use play_midend::Session;
-use puzzle_cli::{Draw, Facts};
 use std::alloc::{AllocError, Global};
 
 /// The line of a reply's object: the refusal, the lines, the session that is left.

@@ -1,4 +1,4 @@
-//! What the object of a step tells of its reason: its word, where it looks from, and what it speaks of.
+//! The members of a step's object that tell its reason: its word, where it looks from, and what it speaks of.
 
 ghost use Rattle.std.specs.Prelude.{◌≡◌, ◌*◌, ◌<◌, ◌∷◌, [], ℕ, Bool, OnOk, IfSome};
 ghost use Rattle.number_sets.specs.Sets.{has_number};

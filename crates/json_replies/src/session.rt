@@ -9,8 +9,8 @@ ghost use Rattle.json_replies.specs.Inner.WrittenData.{MembersFollow};
 use crate::written::{write_null, write_number_at, write_text, write_word_at};
 use json::Writer;
 use latin_board::OutOfMemory;
+use line_replies::{Draw, Facts, id_text, status_word};
 use play_midend::Session;
-use puzzle_cli::{Draw, Facts, id_text, status_word};
 use std::alloc::{AllocError, Global};
 
 /// Writes the session, or null where there is none. `OutOfMemory` where a growth was refused.

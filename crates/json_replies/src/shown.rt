@@ -1,4 +1,4 @@
-//! What a game adds to be told as JSON: the clues and signs of its boards, and laws of its letters.
+//! The part that a game adds to be told as JSON: the clues and signs of its boards, and laws of its letters.
 
 ghost use Rattle.line_steps.specs.Reasons.{StruckBy};
 ghost use Rattle.std.specs.Prelude.{◌≡◌, ◌∷◌, [], OnOk};
@@ -17,8 +17,8 @@ use fair_games::FairGame;
 use game_texts::Game;
 use json::Writer;
 use latin_board::Board;
+use line_replies::Draw;
 use needed_items::Items;
-use puzzle_cli::Draw;
 use std::alloc::AllocError;
 use step_texts::StepNames;
 use towers_game::Towers;
@@ -129,7 +129,7 @@ impl Shows for Unequal {
     }
 }
 
-/// What the answers beside the commands know of a game, as one word for contracts.
+/// The facts of a game that the answers beside the commands know, as one word for contracts.
 pub trait ShownFacts {
     ghost board_facts: { BoardFacts Self };
 }

@@ -68,7 +68,7 @@ pub(crate) fn write_number_when(writer: &mut Writer, test: bool, n: usize) -> Re
     Ok(())
 }
 
-/// What is written for each of some numbers.
+/// The data that are written for each of some numbers.
 pub(crate) trait Each {
     // The numbers that are asked for, and the data of each.
     ghost asks: { Self → ℕ → Type 0 };

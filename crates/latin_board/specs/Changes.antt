@@ -1,4 +1,4 @@
--- What a change of a board holds, and what its exchange with a board leaves in both.
+-- The content of a change of a board, and both of them after an exchange.
 use Rattle.std.specs.Prelude.{◌≡◌, ℕ, ◌*◌, ◌<◌, ◌≤◌, Bool, slice_set}
 use Rattle.latin_board.specs.Squares.{number_at}
 use Rattle.latin_board.specs.Marks.{IsMarkSet}

@@ -9,7 +9,7 @@ use crate::out_of_memory::OutOfMemory;
 use std::alloc::Global;
 use std::marker::Model;
 
-/// What a move puts in place of something on a board: the content of one square with both flags, or a whole board.
+/// A move's change of a board: the content of one square with both flags, or a whole board.
 ///
 /// `Board::swap` exchanges it with what the board holds there, so that a second exchange takes the move back.
 #[derive(Debug, Drop)]

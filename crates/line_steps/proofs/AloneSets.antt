@@ -1,5 +1,6 @@
 -- The values but for which nothing is left of a square, and what rows and columns strike.
-use Rattle.std.proofs.Common.{◌≡◌, ◌↔◌, ℕ, ◌*◌, ◌<◌, ◌≤◌, true, nat_le, ◌&&◌, ◌==◌, not, sym, ◌∙◌, subst}
+use Rattle.std.proofs.lemmas.Bool.Decides.{nat_tests}
+use Rattle.std.proofs.Common.{◌≡◌, ◌↔◌, ℕ, ◌*◌, ◌<◌, ◌≤◌, true, nat_le, ◌&&◌, ◌==◌, not, sym, ◌∙◌, arith}
 use Rattle.std.proofs.lemmas.Bool.{both_ways, eq-eqb, eqb-true}
 use Rattle.number_sets.specs.Sets.{has_number, IsEmpty}
 use Rattle.latin_board.specs.Lines.{ArePeers, line_cell}
@@ -20,16 +21,7 @@ alone_none c cell set all v inside is none members =
 -- if one value is left of a square, its set has just the value but for which nothing is left
 pub alone_one : (c : CandidatesValue) (cell set one v : ℕ) → cell < c.size * c.size → IsSetOf c cell set → IsOnly c cell one
     → (has_number set v ≡ true) ↔ (IsPair c.size cell v × HasNoOther c cell v)
-alone_one c cell set one v inside is only =
-    let pair : IsPair c.size cell one = record { inside = inside; low = only.low; high = only.high } in (
-      λ has.
-          let left = (is v).0 has in
-          let same : v ≡ one = only.alone v left.0.low left.0.high left.1 in
-          (left.0, λ other there. only.alone other there.pair.low there.pair.high there.may ∙ sym same),
-      λ h.
-          let same : one ≡ v = h.1 one (record { pair = pair; may = only.left }) in
-          subst (λ (n : ℕ). has_number set n ≡ true) same ((is one).1 (pair, only.left)),
-    )
+alone_one c cell set one v inside is only = grind (arith, nat_tests)
 
 -- if several values are left of a square, no value is one but for which nothing is left
 pub alone_several : (c : CandidatesValue) (cell set v : ℕ) → cell < c.size * c.size → IsSetOf c cell set → (n : ℕ) × (has_number set n ≡ true)

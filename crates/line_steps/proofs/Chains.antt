@@ -1,4 +1,5 @@
 -- Chains of steps: one after another, and from fewer candidates.
+use Rattle.std.proofs.lemmas.Bool.Decides.{nat_tests}
 use Rattle.std.proofs.Common.{◌≡◌, ℕ, true, List, [], ◌∷◌, refl, subst, ◌++◌, ◌≤◌, arith}
 use Rattle.std.proofs.lemmas.Bool.{le-leb, leb-true}
 use Rattle.trail_solver.specs.Pairs.{IsPair}
@@ -32,10 +33,10 @@ step_less Struck less c d step size fewer h = λ cell value has.
 -- a chain from candidates is a chain from fewer of the same size, and leaves fewer there
 pub chain_less : (Struck : Striking) → IsAntitone Struck → (c d : CandidatesValue) (steps : List StepValue)
     → c.size ≡ d.size → IsFewer c d → IsChain Struck c steps → IsChain Struck d steps × IsFewer (left_by c steps) (left_by d steps)
-chain_less Struck less c d [] size fewer h = (tt, fewer)
+chain_less Struck less c d [] size fewer h = grind (arith, nat_tests)
 chain_less Struck less c d (step ∷ steps) size fewer h =
     let rest = chain_less Struck less (without c step.strikes) (without d step.strikes) steps size (fewer_without c d step.strikes fewer) h.1 in
-    ((step_less Struck less c d step size fewer h.0, rest.0), rest.1)
+    grind (arith, nat_tests, step_less, rest)
 
 -- what a chain leaves is left of the start
 pub left_fewer : (c : CandidatesValue) (steps : List StepValue) → IsFewer c (left_by c steps)

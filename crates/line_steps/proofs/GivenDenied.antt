@@ -1,5 +1,6 @@
 -- A given is denied: it goes from the candidates of its square.
-use Rattle.std.proofs.Common.{◌≡◌, ◌≢◌, ℕ, ◌<◌, Bool, sym, subst, ◌∙◌, inl, inr}
+use Rattle.std.proofs.lemmas.Bool.Decides.{nat_tests}
+use Rattle.std.proofs.Common.{◌≡◌, ◌≢◌, ℕ, Bool, arith}
 use Rattle.std.proofs.lemmas.Bool.{cases_eq}
 use Rattle.latin_board.specs.Squares.{GridValue, number_at}
 use Rattle.trail_solver.specs.Candidates.{CandidatesValue, IsEarlier}
@@ -24,21 +25,4 @@ pub given_denied : (w : ℕ) (a b : ℕ → ℕ) (m : GridValue → Bool) (k l :
     → ((c : ℕ) → c ≢ cell → b c ≡ a c) → KeepsEach (λ g. number_at g cell ≢ a cell) old new
     → Denies (record { size = w; given = a; meets = m; clued = k }) (record { size = w; given = b; meets = m; clued = l })
     (record { size = w; given = b; meets = m; clued = l }) old new
-given_denied w a b m k l cell old new rest keeps = record {
-  some = λ g s within. s;
-  others = λ g s within. elim (cases_eq (number_at g cell) (a cell)) [
-    | inl same ↦ inl (record {
-      is_grid = s.is_grid;
-      same_size = s.same_size;
-      latin = s.latin;
-      givens = λ c inside given. elim (cases_eq c cell) [
-        | inl here ↦ let P : ℕ → Type 0 = λ n. number_at g n ≡ a n in subst P (sym here) same
-        | inr apart ↦
-            let Low : ℕ → Type 0 = λ n. 0 < n in
-            s.givens c inside (subst Low (sym (rest c apart)) given) ∙ rest c apart
-      ];
-      clues = s.clues;
-    })
-    | inr other ↦ inr (s, keeps g other within)
-  ];
-}
+given_denied w a b m k l cell old new rest keeps = grind (arith, nat_tests, cases_eq)

@@ -1,9 +1,10 @@
--- What givens strike, square by square.
-use Rattle.std.proofs.Common.{◌≡◌, ◌≢◌, ◌↔◌, ℕ, ◌*◌, ◌<◌, true, nat_le, ◌&&◌, ◌==◌, not, refl, sym, subst}
+-- The strikes of givens, square by square.
+use Rattle.std.proofs.lemmas.Bool.Decides.{nat_tests}
+use Rattle.std.proofs.Common.{◌≡◌, ◌≢◌, ◌↔◌, ℕ, ◌*◌, ◌<◌, true, nat_le, ◌&&◌, ◌==◌, not, refl, sym, subst, arith}
 use Rattle.std.proofs.lemmas.Bool.{both_ways}
 use Rattle.number_sets.specs.Sets.{has_number}
 use Rattle.trail_solver.specs.Pairs.{IsPair}
-use Rattle.trail_solver.specs.Candidates.{CandidatesValue, may_be}
+use Rattle.trail_solver.specs.Candidates.{CandidatesValue}
 use Rattle.trail_solver.specs.Puzzles.{Puzzle}
 use Rattle.line_steps.specs.Reasons.{AllStrikes, IsByGiven, Striking}
 use Rattle.line_steps.specs.Left.{IsFewer}
@@ -20,9 +21,7 @@ use Rattle.line_steps.specs.declared.grade.Grade.TheVariants.{Latin}
 
 -- a given that strikes nothing that is left strikes nothing that is left of fewer candidates
 pub given_stays : (p : Puzzle) (at : ℕ) (a b : CandidatesValue) → b.size ≡ a.size → IsFewer a b → IsGivenQuiet p at a → IsGivenQuiet p at b
-given_stays p at a b size fewer quiet = λ cell value pair h.
-    let there : IsPair a.size cell value = subst (λ (n : ℕ). IsPair n cell value) size pair in
-    gone_from b cell value pair (λ left. both_ways (may_be a cell value) (quiet cell value there h) (fewer cell value left).may)
+given_stays p at a b size fewer quiet = grind (arith, nat_tests, gone_from, both_ways)
 
 -- givens that strike nothing that is left strike nothing that is left of fewer candidates
 pub givens_stay : (p : Puzzle) (a b : CandidatesValue) → b.size ≡ a.size → IsFewer a b → AreGivensSettled p a → AreGivensSettled p b

@@ -1,4 +1,4 @@
--- What a given strikes, as a set.
+-- The strikes of a given, as a set.
 use Rattle.std.proofs.Common.{◌≡◌, ◌≢◌, ◌↔◌, ℕ, ◌*◌, ◌<◌, true, nat_le, ◌&&◌, ◌==◌, not, sym, ap, ◌∙◌, arith}
 use Rattle.std.proofs.lemmas.Bool.{and_parts, and_from, eq-eqb, eqb-true, leb-true, le-leb}
 use Rattle.number_sets.specs.Sets.{has_number}

@@ -1,4 +1,5 @@
--- What groups of a line's squares strike, by the sets of what is left of these.
+-- The strikes of groups of a line's squares, by the sets of what is left of these.
+use Rattle.std.proofs.lemmas.Bool.Decides.{nat_tests}
 use Rattle.std.proofs.Common.{Bool, ◌≡◌, ◌↔◌, ℕ, ◌+◌, ◌*◌, ◌^◌, ◌⊎◌, ◌<◌, true, false, ◌||◌, List, slice_index, count_ones, inl, inr, refl, sym, ap, ◌∙◌, subst, arith}
 use Rattle.std.proofs.lemmas.Bool.{both_ways, false_from_ne_true, or_left, or_right, cases_eq, cases_Bool}
 use Rattle.number_sets.specs.Sets.{has_number, IsSubset}
@@ -36,19 +37,7 @@ pub united_on : (sets : List ℕ) (squares values here all k v : ℕ)
     → (has_number here v ≡ true) ↔ ((has_number squares k ≡ true) × (has_number (slice_index sets k) v ≡ true))
     → has_number all v ≡ (has_number values v || has_number here v)
     → (has_number all v ≡ true) ↔ ((j : ℕ) × (j < k + 1) × (has_number squares j ≡ true) × (has_number (slice_index sets j) v ≡ true))
-united_on sets squares values here all k v before now both = (
-  λ has. elim (cases_Bool (has_number values v)) [
-    | inl old ↦ let h = before.0 old in (h.0, omega (arith, h.1), h.2, h.3)
-    | inr lacks ↦ let h = now.0 (sym (both ∙ ap (λ b. b || has_number here v) lacks) ∙ has) in (k, omega arith, h.0, h.1)
-  ],
-  λ h. both ∙ (elim (cases_eq h.0 k) [
-    | inl same ↦ or_right (has_number values v) (has_number here v) (now.1 (
-      subst (λ (i : ℕ). has_number squares i ≡ true) same h.2,
-      subst (λ (i : ℕ). has_number (slice_index sets i) v ≡ true) same h.3,
-    ))
-    | inr other ↦ or_left (has_number values v) (has_number here v) (before.1 (h.0, omega (arith, h.1, other), h.2, h.3))
-  ]),
-)
+united_on sets squares values here all k v before now both = grind (arith, nat_tests, cases_Bool, cases_eq, or_right, slice_index, or_left)
 
 -- ---- groups below a bound
 

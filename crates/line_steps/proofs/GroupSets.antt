@@ -1,5 +1,6 @@
 -- Sets of numbers, one within another, and what a group of squares strikes.
-use Rattle.std.proofs.Common.{◌≡◌, ◌↔◌, ℕ, ◌*◌, ◌<◌, Bool, true, false, nat_le, ◌&&◌, not, refl, sym, ap, ◌∙◌, subst, count_ones}
+use Rattle.std.proofs.lemmas.Bool.Decides.{nat_tests}
+use Rattle.std.proofs.Common.{◌≡◌, ◌↔◌, ℕ, ◌*◌, ◌<◌, Bool, true, false, nat_le, ◌&&◌, not, refl, sym, ap, ◌∙◌, subst, count_ones, arith}
 use Rattle.std.specs.Bool.{IsTrue, MatchBool}
 use Rattle.std.proofs.lemmas.Bool.{both_ways, and_parts, and_from, true_from_ne_false, not_from_false, false≢true}
 use Rattle.number_sets.specs.Sets.{has_number, IsEmpty, IsSubset}
@@ -14,11 +15,7 @@ use Rattle.line_steps.proofs.GivenSets.{up_to_pair}
 -- a set is within another exactly if nothing is left of it without that
 subset_tested : (b : Bool) (set values rest : ℕ) → ((n : ℕ) → has_number rest n ≡ (has_number set n && not (has_number values n)))
     → MatchBool b (IsEmpty rest) ((n : ℕ) × (has_number rest n ≡ true)) → IsTrue b ↔ IsSubset set values
-subset_tested true set values rest is h = (
-  λ _ n has. true_from_ne_false (has_number values n) (λ lacks.
-      both_ways (has_number rest n) (h n) (is n ∙ and_from (has_number set n) (not (has_number values n)) has (not_from_false (has_number values n) lacks))),
-  λ _. refl,
-)
+subset_tested true set values rest is h = grind (arith, nat_tests, true_from_ne_false, both_ways, and_from, not_from_false)
 subset_tested false set values rest is h = (
   λ e. absurd (false≢true e),
   λ sub.

@@ -1,4 +1,4 @@
--- What a chain leaves has each solution that was within its start.
+-- A chain leaves each solution that was within its start.
 use Rattle.std.proofs.Common.{◌≡◌, ◌≢◌, ℕ, ◌*◌, ◌<◌, false, List, [], ◌∷◌, refl, subst}
 use Rattle.std.proofs.lemmas.Bool.{false_from_ne_true}
 use Rattle.latin_board.specs.Squares.{GridValue, number_at}

@@ -1,4 +1,5 @@
 -- Values that are taken away, square by square, and the steps that this is.
+use Rattle.std.proofs.lemmas.Bool.Decides.{nat_tests}
 use Rattle.std.proofs.Common.{◌≡◌, ℕ, ◌≤◌, true, false, ◌&&◌, ◌||◌, ◌==◌, List, [], ◌∷◌, ◌++◌, length, inl, inr, refl, sym, ap, ◌∙◌, subst, arith, append_assoc, append-nil, length-append}
 use Rattle.std.proofs.lemmas.Bool.{both_ways, and_parts, and_from, or_left, or_right, eq-eqb, eqb-true, cases_Bool}
 use Rattle.trail_solver.specs.Pairs.{IsPair, IsPrefix, has_pair}
@@ -24,12 +25,7 @@ allowed_joined grade (step ∷ front) back first second = (first.0, allowed_join
 -- a chain to b and one from there to c make a chain to c
 pub leads_on : (Struck : Striking) (grade : Grade) (a b c : CandidatesValue) → LeadsTo Struck grade a b
     → LeadsTo Struck grade b c → LeadsTo Struck grade a c
-leads_on Struck grade a b c h k = record {
-  steps = h.steps ++ k.steps;
-  chain = chain_joined Struck a h.steps k.steps h.chain (subst (λ d. IsChain Struck d k.steps) h.is k.chain);
-  allowed = allowed_joined grade h.steps k.steps h.allowed k.allowed;
-  is = k.is ∙ ap (λ d. left_by d k.steps) h.is ∙ sym (left_append a h.steps k.steps);
-}
+leads_on Struck grade a b c h k = grind (arith, nat_tests, chain_joined, allowed_joined, left_append)
 
 -- a chain leaves the size as it was
 pub leads_size : (Struck : Striking) (grade : Grade) (a b : CandidatesValue) → LeadsTo Struck grade a b → b.size ≡ a.size
@@ -140,13 +136,11 @@ wider_chain : (Less More : Striking) (lower higher : Grade)
 wider_chain Less More lower higher wider has c [] h of = (tt, tt)
 wider_chain Less More lower higher wider has c (step ∷ steps) h of =
     let rest = wider_chain Less More lower higher wider has (without c step.strikes) steps h.1 of.1 in
-    ((λ cell v is. let s = h.0 cell v is in (s.0, wider c step.reason cell v s.1), rest.0), (has step.reason of.0, rest.1))
+    grind (arith, nat_tests, wider, has, rest)
 
 -- candidates that a chain leads to are led to by a wider relation and a higher grade, too
 pub leads_wider : (Less More : Striking) (lower higher : Grade)
     → ((c : CandidatesValue) (reason : Reason) (cell v : ℕ) → Less c reason cell v → More c reason cell v)
     → ((reason : Reason) → has_reason lower reason ≡ true → has_reason higher reason ≡ true) → (a b : CandidatesValue)
     → LeadsTo Less lower a b → LeadsTo More higher a b
-leads_wider Less More lower higher wider has a b h =
-    let w = wider_chain Less More lower higher wider has a h.steps h.chain h.allowed in
-    record { steps = h.steps; chain = w.0; allowed = w.1; is = h.is }
+leads_wider Less More lower higher wider has a b h = grind (arith, nat_tests, wider_chain)

@@ -1,5 +1,6 @@
 -- Which lines wait after a look along one, and what is settled when none waits.
-use Rattle.std.proofs.Common.{◌≡◌, ◌≢◌, ℕ, ◌*◌, ◌<◌, Bool, true, false, not, nat_lt, ◌||◌, ◌==◌, ◌/◌, ◌%◌, length, inl, inr, refl, sym, ◌∙◌, subst, arith}
+use Rattle.std.proofs.lemmas.Bool.Decides.{nat_tests}
+use Rattle.std.proofs.Common.{◌≡◌, ◌≢◌, ℕ, ◌*◌, ◌<◌, Bool, true, false, not, nat_lt, ◌||◌, ◌==◌, ◌/◌, ◌%◌, length, inl, inr, sym, ◌∙◌, subst, arith}
 use Rattle.std.proofs.lemmas.Bool.{both_ways, cases_eq, or_parts, eq-eqb, lt-ltb, false_from_ne_true}
 use Rattle.std.proofs.lemmas.Nat.{div_below, mod_below}
 use Rattle.number_sets.specs.Sets.{has_number, IsEmpty}
@@ -67,10 +68,7 @@ IsStaying w Quiet =
 
 -- both kinds of quiet stay as long as the line's squares lose nothing: of squares, and of clues and signs
 pub looks_stay : (w : ℕ) (Struck : Striking) → AreLooksAlong w Struck → (grade : Grade) (what : Bool) → IsStaying w (IsQuietOn Struck grade what)
-looks_stay w Struck law grade true line c d is low size fewer stays settled = record {
-  live = live_stays line c d size stays settled.live;
-  quiet = quiet_stays line c d size fewer stays settled.quiet;
-}
+looks_stay w Struck law grade true line c d is low size fewer stays settled = grind (arith, nat_tests, live_stays, quiet_stays)
 looks_stay w Struck law grade false line c d is low size fewer stays quiet = along_stays w Struck law grade line c d is low size fewer stays quiet
 
 -- ---- what is noted of a look
@@ -89,12 +87,7 @@ more_noted line places first last a b on loses noted = elim noted [
 
 -- if the line doesn't wait after its look is noted, nothing went at its places
 none_noted : (w line places first last : ℕ) → IsNoted w line places first last → has_number last line ≡ false → IsEmpty places
-none_noted w line places first last noted free = elim noted [
-  | inl (none, same_set) ↦ none
-  | inr (some, gains) ↦
-      let here = (or_parts (has_number first line) ((line == line) || is_crossing w line places line) (sym (gains line) ∙ free)).1 in
-      absurd (both_ways (line == line) (or_parts (line == line) (is_crossing w line places line) here).0 (eq-eqb line line refl))
-]
+none_noted w line places first last noted free = grind (arith, nat_tests, or_parts, both_ways, eq-eqb)
 
 -- a look that is noted for squares and for clues is noted for either
 pub each_noted : (w line places : ℕ) (old new : Waiting) → IsNoted w line places old.squares new.squares → IsNoted w line places old.clues new.clues

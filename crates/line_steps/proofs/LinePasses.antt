@@ -1,4 +1,4 @@
--- What is taken away along a row or column is struck by reasons, and where nothing is taken these are quiet.
+-- Values taken away along a row or column are struck by reasons; where nothing is taken these are quiet.
 use Rattle.std.proofs.Common.{◌≡◌, ℕ, ◌*◌, ◌<◌, true, false, inl, inr, refl, sym, subst, arith}
 use Rattle.std.proofs.lemmas.Bool.{both_ways, false_from_ne_true}
 use Rattle.latin_board.specs.Lines.{line_cell}

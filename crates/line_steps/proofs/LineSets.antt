@@ -1,4 +1,5 @@
 -- Sets of lines, as the numbers whose bits they are.
+use Rattle.std.proofs.lemmas.Bool.Decides.{nat_tests}
 use Rattle.std.proofs.Common.{◌≡◌, ◌≢◌, ℕ, ◌+◌, ◌-◌, ◌*◌, ◌^◌, ◌%◌, ◌<◌, ◌≤◌, ◌⊎◌, true, false, inl, inr, refl, sym, ◌∙◌, subst, arith, bit_and, nat_lt}
 use Rattle.std.specs.Int.{trailing_zeros}
 use Rattle.std.specs.Int.Width.{w32}
@@ -72,10 +73,7 @@ pub set_less : (line s t : ℕ) → line < 32 → has_number s line ≡ true →
     → t % 2 ^ 32 < s % 2 ^ 32
 set_less line s t low was fewer =
     let le = set_most s t (λ k lacks. fewer k (inr lacks)) in
-    let differ : t % 2 ^ 32 ≢ s % 2 ^ 32 = λ same.
-    both_ways (has_number (t % 2 ^ 32) line) (has_number-mod t 32 line low ∙ fewer line (inl refl))
-    (subst (λ (set : ℕ). has_number set line ≡ true) (sym same) (has_number-mod s 32 line low ∙ was)) in
-    omega (arith, le, differ)
+    grind (arith, nat_tests, le, has_number-mod t 32 line low, has_number-mod s 32 line low, fewer line (inl refl), both_ways)
 
 -- ---- how long it can go on
 
@@ -96,17 +94,8 @@ lost_itself line s t loses = loses line ∙ rw (eq-eqb line line refl) (and-fals
 
 -- a set that lost a line has neither it nor what it lacked before
 pub lost_one : (line k s t : ℕ) → LosesLine line s t → (k ≡ line) ⊎ (has_number s k ≡ false) → has_number t k ≡ false
-lost_one line k s t loses out = elim (cases_eq k line) [
-  | inl same ↦ subst (λ (i : ℕ). has_number t i ≡ false) (sym same) (lost_itself line s t loses)
-  | inr apart ↦ elim out [
-    | inl same ↦ absurd (apart same)
-    | inr lacks ↦ lost_other line k s t loses apart ∙ lacks
-  ]
-]
+lost_one line k s t loses out = grind (arith, nat_tests, cases_eq, lost_itself, lost_other)
 
 -- no size has more pairs than the widest
 pub cube_most : (w : ℕ) → w ≤ 9 → w * w * w ≤ 729
-cube_most w small =
-    let square = mul-le-mul_left w small in
-    let cube = mul-le-mul_left (w * w) small in
-    omega (arith, square, cube)
+cube_most w small = grind (arith, nat_tests, mul-le-mul_left)

@@ -1,4 +1,5 @@
 -- The tally of a line's squares: one square more, and what the whole tally says of what the squares strike in one another.
+use Rattle.std.proofs.lemmas.Bool.Decides.{nat_tests}
 use Rattle.std.proofs.Common.{◌≡◌, ℕ, ◌+◌, ◌^◌, ◌<◌, ◌≤◌, ◌↔◌, ◌⊎◌, Bool, true, false, not, ◌&&◌, ◌||◌, ◌==◌, nat_le, inl, inr, refl, sym, ap, ◌∙◌, subst, arith}
 use Rattle.std.proofs.lemmas.Bool.{cases_Bool, cases_eq, cases_order, eq-eqb, eqb-true, both_ways, false_from_ne_true, and_parts, and_from, le-leb, leb-true, or_left, or_right, not-true, or_cases}
 use Rattle.number_sets.specs.Sets.{has_number, no_numbers, IsEmpty, IsShared, IsSingle}
@@ -36,16 +37,7 @@ alone_is c cell set is v =
 -- a property holds of one of the first k + 1 squares exactly if it does of one of the first k, or of the next
 found_more : (P : ℕ → Type 0) (k : ℕ) {Before Here Now : Type 0} → Before ↔ ((j : ℕ) × (j < k) × P j) → Here ↔ P k
     → Now ↔ (Before ⊎ Here) → Now ↔ ((j : ℕ) × (j < k + 1) × P j)
-found_more P k before here now = (
-  λ n. elim (now.0 n) [
-    | inl old ↦ let h = before.0 old in (h.0, omega (arith, h.1), h.2)
-    | inr new ↦ (k, omega arith, here.0 new)
-  ],
-  λ h. now.1 (elim (cases_eq h.0 k) [
-    | inl same ↦ inr (here.1 (subst P same h.2))
-    | inr other ↦ inl (before.1 (h.0, omega (arith, h.1, other), h.2))
-  ]),
-)
+found_more P k before here now = grind (arith, nat_tests, cases_eq)
 
 -- a property holds of two of the first k + 1 squares exactly if of two of the first k, or of one and the next
 twice_more : (P : ℕ → Type 0) (k : ℕ) {Once Before Here Now : Type 0} → Once ↔ ((j : ℕ) × (j < k) × P j)
@@ -152,14 +144,7 @@ lost_dead c line every lost places t h all lost_is (v, has) whole =
 pub whole_tally : (c : CandidatesValue) (line every lost : ℕ) (t : LineTally) → AreTallied c line c.size t
     → ((v : ℕ) → has_number every v ≡ (nat_le 1 v && nat_le v c.size))
     → ((v : ℕ) → has_number lost v ≡ (has_number every v && not (has_number t.once v))) → IsEmpty lost → IsTallyOf line c t
-whole_tally c line every lost t h all lost_is none = record {
-  tally = h;
-  placed = λ v low high. elim (cases_Bool (has_number t.once v)) [
-    | inl has ↦ has
-    | inr lacks ↦ absurd (both_ways (has_number lost v) (none v) ((has_rest every t.once lost v lost_is).1
-        (all v ∙ and_from (nat_le 1 v) (nat_le v c.size) (le-leb 1 v low) (le-leb v c.size high), both_ways (has_number t.once v) lacks)))
-  ];
-}
+whole_tally c line every lost t h all lost_is none = grind (arith, nat_tests, cases_Bool, both_ways, has_rest, and_from, nat_le, le-leb)
 
 -- ---- what the squares strike
 
@@ -295,9 +280,7 @@ forced_to t set forced u f has hidden =
 
 free_from : (t : LineTally) (set free v : ℕ) → IsFree t set free → has_number free v ≡ true
     → (has_number set v ≡ true) × (has_number t.singles v ≡ false)
-free_from t set free v f e =
-    let parts = and_parts _ _ (sym (f.is v) ∙ e) in
-    (parts.0, not-true (has_number t.singles v) parts.1)
+free_from t set free v f e = grind (arith, nat_tests, and_parts, not-true)
 
 free_to : (t : LineTally) (set free v : ℕ) → IsFree t set free → has_number set v ≡ true → has_number t.singles v ≡ false → has_number free v ≡ true
 free_to t set free v f has none = f.is v ∙ and_from _ _ has (ap not none)
@@ -361,10 +344,7 @@ clash_twice t set single s (value, before, here) = record { value = value; here 
 
 -- the or of two truth values is true exactly if one of them is
 either : (a b c : Bool) → c ≡ (a || b) → (c ≡ true) ↔ ((a ≡ true) ⊎ (b ≡ true))
-either a b c is = (
-  λ e. or_cases a b (sym is ∙ e),
-  λ h. is ∙ elim h [ inl first ↦ or_left a b first | inr second ↦ or_right a b second ],
-)
+either a b c is = grind (arith, nat_tests, or_cases, or_left, or_right)
 
 -- the tally u counts one set more than t, if the set's only value, where it has one, was alone in none
 pub counted_more : (t u : LineTally) (set single both : ℕ) → ((v : ℕ) → (has_number single v ≡ true) ↔ IsSingle set v) → (v : ℕ) × (has_number set v ≡ true)

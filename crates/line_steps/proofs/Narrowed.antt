@@ -1,5 +1,6 @@
--- What candidates that are narrowed by steps keep and lack: each solution is kept, and what is struck is gone.
-use Rattle.std.proofs.Common.{◌≡◌, ℕ, ◌*◌, ◌<◌, Bool, true, false, refl, sym, ◌∙◌, subst}
+-- Candidates that are narrowed by steps: each solution is kept, and each struck value is gone.
+use Rattle.std.proofs.lemmas.Bool.Decides.{nat_tests}
+use Rattle.std.proofs.Common.{◌≡◌, ℕ, ◌*◌, ◌<◌, Bool, true, false, sym, ◌∙◌, subst, arith}
 use Rattle.std.specs.Bool.{OnFalse, OnTrue}
 use Rattle.trail_solver.specs.Candidates.{CandidatesValue, IsEarlier, IsWithin, may_be}
 use Rattle.trail_solver.specs.Pairs.{IsPair}
@@ -66,14 +67,14 @@ settled_but p Own c size givens rest clues cell value pair (reason, is, h) =
 
 -- the highest grade has each reason
 hard_has : (reason : Reason) → has_reason Hard reason ≡ true
-hard_has (Given at) = refl
-hard_has (Peer by) = refl
-hard_has (Place line index value) = refl
-hard_has (Bound place) = refl
-hard_has (Stand place) = refl
-hard_has (Clue place) = refl
-hard_has (Sign from to) = refl
-hard_has (Set line squares values) = refl
+hard_has (Given at) = grind (arith, nat_tests)
+hard_has (Peer by) = grind (arith, nat_tests)
+hard_has (Place line index value) = grind (arith, nat_tests)
+hard_has (Bound place) = grind (arith, nat_tests)
+hard_has (Stand place) = grind (arith, nat_tests)
+hard_has (Clue place) = grind (arith, nat_tests)
+hard_has (Sign from to) = grind (arith, nat_tests)
+hard_has (Set line squares values) = grind (arith, nat_tests)
 
 -- what narrowing by lines promises
 pub record NarrowsBy (p : Puzzle) (Struck : Striking) (a b : CandidatesValue) (left : Bool) : Type 0 where

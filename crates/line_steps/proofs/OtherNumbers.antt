@@ -1,4 +1,5 @@
 -- Sets without some of their numbers.
+use Rattle.std.proofs.lemmas.Bool.Decides.{nat_tests}
 use Rattle.std.proofs.Common.{◌≡◌, ◌≢◌, ◌↔◌, ℕ, ◌-◌, ◌^◌, ◌<◌, true, false, not, ◌&&◌, inl, inr, sym, ap, ◌∙◌, subst, arith}
 use Rattle.std.proofs.lemmas.Bool.{both_ways, and_parts, and_from, cases_eq, false_from_ne_true, not_from_false}
 use Rattle.number_sets.specs.Sets.{has_number, IsSingle}
@@ -37,10 +38,4 @@ another set n small has several =
 -- the difference of two sets has the numbers that the first has and the second lacks
 pub has_rest : (all some rest v : ℕ) → ((n : ℕ) → has_number rest n ≡ (has_number all n && not (has_number some n)))
     → (has_number rest v ≡ true) ↔ ((has_number all v ≡ true) × (has_number some v ≡ true → ⊥))
-has_rest all some rest v is = (
-  λ has.
-      let both = and_parts (has_number all v) (not (has_number some v)) (sym (is v) ∙ has) in
-      (both.0, λ there. both_ways (not (has_number some v)) (ap not there) both.1),
-  λ h. is v ∙ and_from (has_number all v) (not (has_number some v)) h.0
-      (not_from_false (has_number some v) (false_from_ne_true (has_number some v) h.1)),
-)
+has_rest all some rest v is = grind (arith, nat_tests, and_parts, both_ways, and_from, not_from_false, false_from_ne_true)

@@ -1,4 +1,5 @@
 -- Where a pass over the rows and columns finds nothing, no reason of theirs strikes anything that is left.
+use Rattle.std.proofs.lemmas.Bool.Decides.{nat_tests}
 use Rattle.std.proofs.Common.{◌≡◌, ◌≢◌, ◌↔◌, ℕ, zero, suc, ◌+◌, ◌-◌, ◌*◌, ◌^◌, ◌⊎◌, ◌<◌, ◌≤◌, true, false, count_ones, inl, inr, refl, sym, ◌∙◌, subst, arith}
 use Rattle.std.proofs.lemmas.Bool.{both_ways, cases_eq, cases_lt, cases_Bool, false_from_ne_true}
 use Rattle.number_sets.specs.Sets.{has_number, IsSubset}
@@ -35,16 +36,7 @@ has_or_lacks set k = elim (cases_Bool (has_number set k)) [ inl has ↦ inl has 
 
 -- a value is left of the square or isn't
 left_or_gone : (c : CandidatesValue) (cell v : ℕ) → cell < c.size * c.size → Decided (IsLeft c cell v)
-left_or_gone c cell v inside = elim (cases_lt 0 v) [
-  | inl low ↦ elim (cases_lt c.size v) [
-    | inl past ↦ inr (λ left. omega (arith, left.pair.high, past))
-    | inr high ↦ elim (cases_Bool (may_be c cell v)) [
-      | inl may ↦ inl (record { pair = record { inside = inside; low = omega (arith, low); high = high }; may = may })
-      | inr gone ↦ inr (λ left. both_ways (may_be c cell v) gone left.may)
-    ]
-  ]
-  | inr none ↦ inr (λ left. omega (arith, left.pair.low, none))
-]
+left_or_gone c cell v inside = grind (arith, nat_tests, cases_lt, cases_Bool, both_ways)
 
 -- one of the first numbers is of a kind, or none is
 some_or_none : (P : ℕ → Type 0) (n : ℕ) → ((k : ℕ) → k < n → Decided (P k)) → Decided ((k : ℕ) × (k < n) × P k)

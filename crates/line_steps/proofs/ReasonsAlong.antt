@@ -1,8 +1,8 @@
 -- The reasons that look along a line, one after another.
+use Rattle.std.proofs.lemmas.Bool.Decides.{nat_tests}
 use Rattle.std.proofs.Common.{◌≡◌, ℕ, ◌+◌, ◌*◌, ◌<◌, ◌≤◌, ◌||◌, true, false, List, [], inl, inr, refl, sym, ap, ◌∙◌, subst, arith}
 use Rattle.std.proofs.lemmas.Bool.{cases_eq, or_parts}
 use Rattle.number_sets.specs.Sets.{has_number, IsEmpty}
-use Rattle.latin_board.specs.Lines.{line_cell}
 use Rattle.trail_solver.specs.Pairs.{IsPair}
 use Rattle.trail_solver.specs.Candidates.{CandidatesValue, may_be}
 use Rattle.line_steps.specs.Takes.{Takes, AreChanged}
@@ -57,12 +57,12 @@ listed w line reason cell along = absurd along
 
 -- a reason that looks along the line strikes in one of its squares
 looked_on : (w line : ℕ) (reason : Reason) (cell : ℕ) → LooksAlong w line reason cell → IsOn w line cell
-looked_on w line (Bound place) cell (low, on, at) = at
-looked_on w line (Stand place) cell (low, on, at) = at
-looked_on w line (Clue place) cell (low, on, at) = at
-looked_on w line (Sign from to) cell (same, inl (k, low, first, second)) = (k + 1, low, sym same ∙ sym second)
-looked_on w line (Sign from to) cell (same, inr (k, low, first, second)) = (k, omega (arith, low), sym same ∙ sym first)
-looked_on w line reason cell along = absurd along
+looked_on w line (Bound place) cell (low, on, at) = grind (arith, nat_tests)
+looked_on w line (Stand place) cell (low, on, at) = grind (arith, nat_tests)
+looked_on w line (Clue place) cell (low, on, at) = grind (arith, nat_tests)
+looked_on w line (Sign from to) cell (same, inl (k, low, first, second)) = grind (arith, nat_tests)
+looked_on w line (Sign from to) cell (same, inr (k, low, first, second)) = grind (arith, nat_tests)
+looked_on w line reason cell along = grind (arith, nat_tests)
 
 -- ---- one reason
 
@@ -77,9 +77,7 @@ reason_leads Struck less grade reason line row a b has on taken =
 -- if nothing goes when a reason takes away its row, it strikes nothing that is left along the line
 pub reason_quiet : (Struck : Striking) (reason : Reason) (line : ℕ) (row : List ℕ) (a b : CandidatesValue) → b ≡ a
     → AreStruckOn a.size (Struck a reason) line a.size row → Takes (IsInRow a.size line row) a b → IsQuietBy Struck reason line a
-reason_quiet Struck reason line row a b same on taken = λ k v low pair struck.
-    subst (λ (c : CandidatesValue). may_be c (line_cell a.size line k) v ≡ false) same
-    (taken.gone (line_cell a.size line k) v pair (k, low, refl, (on.each k v low).1 (pair, struck)))
+reason_quiet Struck reason line row a b same on taken = grind (arith, nat_tests)
 
 -- ---- one after another
 

@@ -1,4 +1,5 @@
 -- From passes to what a grade leaves.
+use Rattle.std.proofs.lemmas.Bool.Decides.{nat_tests}
 use Rattle.std.proofs.lemmas.Bool.{leb-true}
 use Rattle.std.proofs.Common.{◌≡◌, ℕ, ◌*◌, ◌<◌, ◌≤◌, Bool, true, false, sym, subst, arith}
 use Rattle.trail_solver.specs.Candidates.{CandidatesValue}
@@ -35,9 +36,7 @@ settled_all p Own grade c small size givens rest clues groups =
 -- a chain of groups is one of the game's, where the grade looks at them
 pub groups_lead : (p : Puzzle) (Own : Striking) (grade : Grade) (a b : CandidatesValue) → a.size ≡ p.size → grade ≡ Hard
     → LeadsTo (IsByLine a.size) Hard a b → LeadsTo (AllStrikes p Own) grade a b
-groups_lead p Own grade a b size highest h =
-    leads_wider (IsByLine a.size) (AllStrikes p Own) Hard grade (lines_lift p Own a.size size)
-    (λ reason has. subst (λ (g : Grade). has_reason g reason ≡ true) (sym highest) has) a b h
+groups_lead p Own grade a b size highest h = grind (arith, nat_tests, leads_wider, lines_lift)
 
 -- a chain leads from the first candidates to the present ones, and givens strike nothing more there
 pub record IsOnTheWay (p : Puzzle) (Own : Striking) (grade : Grade) (first now : CandidatesValue) : Type 0 where

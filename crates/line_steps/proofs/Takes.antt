@@ -1,4 +1,5 @@
 -- Values that are taken away, square by square.
+use Rattle.std.proofs.lemmas.Bool.Decides.{nat_tests}
 use Rattle.std.proofs.Common.{◌≡◌, ◌≢◌, ◌↔◌, ◌⊎◌, ℕ, ◌+◌, ◌*◌, ◌<◌, ◌≤◌, true, false, not, ◌&&◌, ◌||◌, ◌==◌, Bool, List, [], ◌∷◌, ◌++◌, length, slice_index, inl, inr, refl, sym, ap, ◌∙◌, subst, arith, append_assoc, append-nil, length-append}
 use Rattle.std.proofs.lemmas.Bool.{both_ways, and_parts, and_from, or_left, or_right, or_parts, or_from, eq-eqb, eqb-true, cases_eq, cases_Bool, not_from_false, false_from_ne_true}
 use Rattle.std.proofs.lemmas.List.Folds.{list_any-append}
@@ -34,11 +35,7 @@ was_left c pairs cell value h =
 -- what was left and is none of the pairs is left without them
 pub still_left : (c : CandidatesValue) (pairs : List (ℕ × ℕ)) (cell value : ℕ) → IsLeft c cell value → has_pair pairs cell value ≡ false
     → IsLeft (without c pairs) cell value
-still_left c pairs cell value h other = record {
-  pair = h.pair;
-  may = not_from_false _ (has_pair-append c.trail pairs cell value
-      ∙ or_from (has_pair c.trail cell value) (has_pair pairs cell value) (not_gone _ h.may) other);
-}
+still_left c pairs cell value h other = grind (arith, nat_tests, not_from_false, has_pair-append, or_from, not_gone)
 
 -- without some pairs fewer are left
 pub without_fewer : (c : CandidatesValue) (pairs : List (ℕ × ℕ)) → IsFewer c (without c pairs)
@@ -68,13 +65,7 @@ IsInRow w line row cell v = (k : ℕ) × (k < w) × (cell ≡ line_cell w line k
 
 -- if no pair is of the kind, taking the kind changes nothing
 pub takes_none : (Which : ℕ → ℕ → Type 0) (c : CandidatesValue) → ((cell v : ℕ) → Which cell v → ⊥) → Takes Which c c
-takes_none Which c none = record {
-  pairs = [];
-  size = refl;
-  trail = sym (append-nil c.trail);
-  each = λ cell v has. absurd (cc);
-  gone = λ cell v pair is. absurd (none cell v is);
-}
+takes_none Which c none = grind (arith, nat_tests, append-nil)
 
 -- if no pair of the kind is left, taking the kind changes nothing
 pub takes_still : (Which : ℕ → ℕ → Type 0) (c : CandidatesValue) → ((cell v : ℕ) → Which cell v → IsLeft c cell v → ⊥) → Takes Which c c
@@ -89,13 +80,7 @@ takes_still Which c still = record {
 -- if two kinds have the same pairs of the size, taking one is taking the other
 pub takes_map : (Which More : ℕ → ℕ → Type 0) (c d : CandidatesValue) → ((cell v : ℕ) → Which cell v → More cell v)
     → ((cell v : ℕ) → IsPair c.size cell v → More cell v → Which cell v) → Takes Which c d → Takes More c d
-takes_map Which More c d forth back t = record {
-  pairs = t.pairs;
-  size = t.size;
-  trail = t.trail;
-  each = λ cell v has. let h = t.each cell v has in (h.0, forth cell v h.1);
-  gone = λ cell v pair is. t.gone cell v pair (back cell v pair is);
-}
+takes_map Which More c d forth back t = grind (arith, nat_tests)
 
 -- taking the pairs of one kind, and then those of another, is taking the pairs of either
 pub takes_both : (First Second : ℕ → ℕ → Type 0) (a b c : CandidatesValue) → Takes First a b → Takes Second b c
@@ -146,15 +131,7 @@ takes_struck a b cell values s =
 -- taking values away that are all left of a square strikes them
 pub strikes_whole : (a b : CandidatesValue) (cell values : ℕ) → a.size ≤ 9 → AreCandidates a cell values → b.size ≡ a.size
     → b.trail ≡ a.trail ++ pairs_of cell values → Strikes a b cell values
-strikes_whole a b cell values small left size trail = record {
-  set = values;
-  small = small;
-  some = λ v has. has;
-  left = left;
-  all = λ v has pair may. has;
-  size = size;
-  trail = trail;
-}
+strikes_whole a b cell values small left size trail = grind (arith, nat_tests)
 
 -- striking the values that a square's set shares with some values strikes those
 pub strikes_among : (a b : CandidatesValue) (cell set values struck : ℕ) → IsSetOf a cell set
@@ -240,10 +217,7 @@ takes_same Which a b t e = same_more a b (record { pairs = t.pairs; size = t.siz
 
 -- a pair that is left and isn't of the kind stays
 pub takes_stays : (Which : ℕ → ℕ → Type 0) (a b : CandidatesValue) (cell v : ℕ) → Takes Which a b → IsLeft a cell v → (Which cell v → ⊥) → IsLeft b cell v
-takes_stays Which a b cell v t left other =
-    let is : b ≡ without a t.pairs = λ i. record { size = t.size i; trail = t.trail i } in
-    subst (λ d. IsLeft d cell v) (sym is)
-    (still_left a t.pairs cell v left (false_from_ne_true (has_pair t.pairs cell v) (λ has. other (t.each cell v has).1)))
+takes_stays Which a b cell v t left other = grind (arith, nat_tests, still_left, false_from_ne_true)
 
 -- taking values from the first k squares of a line leaves square k as it was
 pub set_before : (Which : ℕ → ℕ → Type 0) (line k set : ℕ) (a b : CandidatesValue) → line < 2 * a.size

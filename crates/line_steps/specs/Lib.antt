@@ -1,4 +1,4 @@
--- What steps strike, and what is left of it. Each of the files here is one subject, and has definitions alone.
+-- The strikes of steps, and the candidates that they leave. Each file is one subject, with definitions alone.
 
 -- the squares that are looked at from the edges of a grid
 pub mod Views

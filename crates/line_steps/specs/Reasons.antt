@@ -1,4 +1,4 @@
--- What each reason strikes from candidates.
+-- The strikes of each reason from candidates.
 use Rattle.std.specs.Prelude.{◌≡◌, ◌≢◌, ◌↔◌, ℕ, ◌*◌, ◌<◌, ◌≤◌, true, false, List, length, slice_index, count_ones}
 use Rattle.number_sets.specs.Sets.{has_number}
 use Rattle.latin_board.specs.Lines.{line_cell, ArePeers}

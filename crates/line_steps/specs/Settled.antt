@@ -1,4 +1,4 @@
--- What a grade leaves of candidates.
+-- The candidates that a grade leaves.
 use Rattle.std.specs.Prelude.{◌≡◌, ℕ, true, false, List}
 use Rattle.trail_solver.specs.Pairs.{IsPair}
 use Rattle.trail_solver.specs.Candidates.{CandidatesValue, may_be}

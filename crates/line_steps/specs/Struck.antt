@@ -1,4 +1,4 @@
--- What narrowing rules out, by the candidates alone: what is struck by every reason but groups of squares.
+-- The values that narrowing rules out, by the candidates alone: those that some reason but groups strikes.
 use Rattle.std.specs.Prelude.{◌≡◌, ℕ, Bool, true, false}
 use Rattle.trail_solver.specs.Candidates.{CandidatesValue, may_be}
 use Rattle.trail_solver.specs.Pairs.{IsPair}

@@ -1,10 +1,11 @@
 //! Steps along the rows and columns of a grid: what each reason strikes, and what the reasons of a grade leave.
 //!
-//! A `Reason` is a kind of step and the place where it looks, and a `Grade` has some kinds of reasons. What each strikes from
-//! candidates is a definition of one line. Givens, rows, columns and groups of squares strike alike in every game. A game of `Steps`
-//! says what its own reasons strike, its clues or signs, and `settle` takes away all that the reasons of a grade strike, one after
-//! another, until they strike nothing that is left. In whatever order that is done, the same is left. It ends earlier where a square
-//! is left nothing.
+//! A `Reason` is a kind of step and the place where it looks, and a `Grade` has some kinds of reasons. The
+//! strikes of each from candidates are a definition of one line. Givens, rows, columns and groups of squares
+//! strike alike in every game. A game of `Steps` says what its own reasons strike, its clues or signs, and
+//! `settle` takes away all that the reasons of a grade strike, one after another, until they strike nothing
+//! that is left. In whatever order that is done, the same is left. It ends earlier where a square is left
+//! nothing.
 //!
 //! A search narrows by the same loop over the rows and columns: by `narrow_lines` and `narrow_lines_from` where the game has clues or
 //! signs (`LinePass`), and by `narrow_by_givens` where it has none. No game is known here.

@@ -1,4 +1,4 @@
-//! What every game does along the rows and columns of a grid.
+//! The steps of every game along the rows and columns of a grid.
 
 pub(crate) mod by_givens;
 pub(crate) mod changed;

@@ -1,4 +1,4 @@
-//! What a game says of its steps, and the laws that these obey.
+//! A game's account of its steps, and the laws that these obey.
 ghost use Rattle.std.specs.Prelude.{◌≡◌, ◌≢◌, ◌↔◌, ℕ, ◌+◌, ◌*◌, ◌<◌, Bool, true, IfNone, IfSome};
 ghost use Rattle.number_sets.specs.Sets.{has_number, IsEmpty};
 ghost use Rattle.latin_board.specs.Squares.{GridValue, number_at};
@@ -29,11 +29,12 @@ use trail_solver::{Candidates, Rules};
 /// A puzzle whose steps have names. A game says what its reasons strike, and which laws that obeys. The functions with a body are for
 /// speed: a game may have quicker ones.
 pub trait Steps: Rules {
-    /// What is kept while steps are looked for, so that nothing is looked through twice; it is right for any puzzle.
+    /// The cache that is kept while steps are looked for, so that nothing is looked through twice; it is
+    /// right for any puzzle.
     type Cache: Default + Drop;
 
-    // What a clue or a sign strikes from candidates by a reason of the game's own: pairs of a square and a value. Givens, rows, columns
-    // and groups of squares strike as in every game (`AllStrikes`).
+    // The strikes of a clue or a sign from candidates by a reason of the game's own: pairs of a square and a
+    // value. Givens, rows, columns and groups of squares strike as in every game (`AllStrikes`).
     ghost own: { Self → Striking };
 
     /// The values that a clue or a sign strikes in a square, and none for other reasons; the sizes are equal, and the square is one of the
@@ -116,8 +117,8 @@ pub trait Steps: Rules {
         None
     }
 
-    // What a clue or a sign that looks along a line strikes, it struck before, if nothing went of the line's
-    // squares since then.
+    // A clue or a sign that looks along a line strikes nothing that it didn't strike before, if nothing went
+    // of the line's squares since then.
     ghost looks_along: { (p : Self) (c d : CandidatesValue) (reason : Reason) (cell value line : ℕ)
         → c.size ≡ (Self.Rules.puzzle p).size
         → line < 2 * c.size → LooksAlong c.size line reason cell → StaysOn line c d
@@ -127,17 +128,17 @@ pub trait Steps: Rules {
     ghost stands_along: { (p : Self) (c : CandidatesValue) (reason : Reason) (cell value : ℕ) → Self.Rules.valid p
         → own p c reason cell value → StandsAlong (Self.Rules.puzzle p).size reason cell };
 
-    // What a clue or a sign strikes from candidates it strikes from fewer.
+    // A clue or a sign that strikes a value from candidates strikes it from fewer.
     ghost own_less: { (p : Self) (c d : CandidatesValue) (reason : Reason) (cell value : ℕ) → IsFewer c d
         → own p c reason cell value → own p d reason cell value };
 
-    // What a clue or a sign strikes is in no solution within the candidates.
+    // A value that a clue or a sign strikes is in no solution within the candidates.
     ghost own_sound: { (p : Self) (c : CandidatesValue) (reason : Reason) (cell value : ℕ) (g : GridValue)
         → Self.Rules.valid p
         → c.size ≡ (Self.Rules.puzzle p).size → Solves (Self.Rules.puzzle p) g → IsWithin c g
         → own p c reason cell value → number_at g cell ≢ value };
 
-    // What a clue or a sign strikes in a cut of the puzzle it strikes in the whole.
+    // A clue or a sign that strikes a value in a cut of the puzzle strikes it in the whole.
     ghost own_cut: { (p : Self) (keep : ℕ → Bool) (c : CandidatesValue) (reason : Reason) (cell value : ℕ)
         → own (Self.Rules.cut p keep) c reason cell value → own p c reason cell value };
 }

@@ -1,4 +1,4 @@
--- What is settled: whatever the order of steps, a grade leaves the same.
+-- Candidates that are settled: whatever the order of steps, a grade leaves the same.
 use Rattle.std.proofs.Common.{◌≡◌, true, List, [], ◌∷◌}
 use Rattle.std.proofs.lemmas.Bool.{both_ways, false_from_ne_true}
 use Rattle.trail_solver.specs.Pairs.{has_pair}

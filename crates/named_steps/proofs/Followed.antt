@@ -1,8 +1,9 @@
 -- Grids that follow by a grade: each is the only solution, follows by higher grades, and boards lead to it.
-use Rattle.std.proofs.Common.{◌≡◌, ◌≢◌, ℕ, ◌*◌, ◌<◌, ◌≤◌, true, arith, List, [], ◌∷◌, refl, sym, ◌∙◌, subst}
+use Rattle.std.proofs.Common.{◌≡◌, ◌≢◌, ℕ, ◌*◌, ◌<◌, ◌≤◌, true, false, arith, List, [], ◌∷◌, refl, sym, ◌∙◌, subst}
+use Rattle.std.proofs.lemmas.Bool.{both_ways}
 use Rattle.latin_board.specs.Squares.{GridValue, number_at}
 use Rattle.latin_board.proofs.Numbers.{same_numbers}
-use Rattle.trail_solver.specs.Candidates.{CandidatesValue, IsWithin}
+use Rattle.trail_solver.specs.Candidates.{CandidatesValue, IsWithin, may_be}
 use Rattle.trail_solver.specs.Pairs.{IsPair}
 use Rattle.trail_solver.specs.Puzzles.{Puzzle, Solves}
 use Rattle.trail_solver.specs.Solutions.{IsOnlySolution}
@@ -17,6 +18,8 @@ use Rattle.named_steps.proofs.Kept.{completion_in_view}
 use Rattle.line_steps.proofs.KeptSolutions.{IsSoundFor, number_left, chain_keeps}
 use Rattle.line_steps.specs.declared.reason.Reason.{Reason}
 use Rattle.line_steps.specs.declared.grade.Grade.{Grade}
+use Rattle.named_steps.proofs.Shown.{shown_less}
+use Rattle.named_steps.specs.declared.goal.Goal.{Goal}
 use Rattle.named_steps.specs.declared.goal.Goal.TheVariants.{OnlyValue}
 use Rattle.line_steps.specs.Reasons.{Striking}
 
@@ -143,3 +146,55 @@ refuted_none p Struck sound grade g view size in_view r h done =
     let end_size : end.size ≡ view.size = left_size view r.steps in
     let inside : r.cell < end.size * end.size = subst (λ (w : ℕ). r.cell < w * w) (sym end_size) r.inside in
     r.nothing (number_at h r.cell) (number_left p end h r.cell (end_size ∙ view_size) done.0 within inside)
+
+-- ---- from any candidates
+
+-- from any candidates of its size a chain shows the number of each square of a grid that follows
+pub candidates_lead : (Struck : Striking) → IsAntitone Struck → (grade : Grade) (s : GridValue) (c : CandidatesValue)
+    (cell : ℕ) → Follows Struck grade s → c.size ≡ s.size → cell < s.size * s.size
+    → (steps : List StepValue) × Shows Struck grade c steps (OnlyValue cell (number_at s cell))
+candidates_lead Struck less grade s c cell f size inside =
+    let there = from_view Struck less grade s c f size in (
+      f.steps,
+      record {
+        chain = there.0;
+        allowed = f.allowed;
+        shown = λ other left. f.alone cell inside other (there.1 cell other left);
+      },
+    )
+
+-- from candidates that lack a number of a grid that follows, a chain leaves its square nothing
+pub lacking_refuted : (Struck : Striking) → IsAntitone Struck → (grade : Grade) (s : GridValue) (c : CandidatesValue)
+    (cell : ℕ) → Follows Struck grade s → c.size ≡ s.size → cell < s.size * s.size → may_be c cell (number_at s cell) ≡ false
+    → IsRefuted Struck grade c
+lacking_refuted Struck less grade s c cell f size inside lacks =
+    let there = from_view Struck less grade s c f size in
+    record {
+      steps = f.steps;
+      chain = there.0;
+      allowed = f.allowed;
+      cell = cell;
+      inside = subst (λ (w : ℕ). cell < w * w) (sym size) inside;
+      nothing = λ value left.
+          let right : value ≡ number_at s cell = f.alone cell inside value (there.1 cell value left) in
+          let was : IsLeft c cell value = left_fewer c f.steps cell value left in
+          both_ways (may_be c cell (number_at s cell)) lacks (subst (λ (v : ℕ). may_be c cell v ≡ true) right was.may);
+    }
+
+-- candidates that are refuted have no solution within them
+pub none_within : (p : Puzzle) (Struck : Striking) → IsSoundFor p Struck → (grade : Grade) (c : CandidatesValue) → c.size ≡ p.size
+    → IsRefuted Struck grade c → (h : GridValue) → Solves p h → IsWithin c h → ⊥
+none_within p Struck sound grade c size r h solves within =
+    let kept = chain_keeps p Struck sound c r.steps h size r.chain solves within in
+    let end = left_by c r.steps in
+    let end_size : end.size ≡ c.size = left_size c r.steps in
+    let inside : r.cell < end.size * end.size = subst (λ (w : ℕ). r.cell < w * w) (sym end_size) r.inside in
+    r.nothing (number_at h r.cell) (number_left p end h r.cell (end_size ∙ size) solves kept inside)
+
+-- a chain shows from fewer candidates what it shows from more
+pub fewer_lead : (Struck : Striking) → IsAntitone Struck → (grade : Grade) (c d : CandidatesValue) (steps : List StepValue)
+    (goal : Goal) → c.size ≡ d.size → IsFewer c d → Shows Struck grade c steps goal → Shows Struck grade d steps goal
+fewer_lead Struck less grade c d steps goal size fewer s =
+    let there = chain_less Struck less c d steps size fewer s.chain in
+    let ends : (left_by c steps).size ≡ (left_by d steps).size = left_size c steps ∙ size ∙ sym (left_size d steps) in
+    record { chain = there.0; allowed = s.allowed; shown = shown_less (left_by c steps) (left_by d steps) goal ends there.1 s.shown }

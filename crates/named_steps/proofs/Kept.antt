@@ -1,4 +1,4 @@
--- What a chain shows is so in each solution that was within its start.
+-- A number that a chain shows is so in each solution that was within its start.
 use Rattle.std.proofs.Common.{◌≡◌, ℕ, ◌*◌, ◌<◌, ◌≤◌, List, sym, ap, ◌∙◌, subst, inl, inr, arith}
 use Rattle.std.proofs.lemmas.Bool.{cases_eq}
 use Rattle.latin_board.specs.Squares.{GridValue, number_at}

@@ -1,4 +1,4 @@
--- What shows a number: in fewer candidates it is shown too, and where a grade is settled nothing more is shown.
+-- Numbers that are shown: also in fewer candidates, and where a grade is settled no others are shown.
 use Rattle.std.proofs.Common.{◌≡◌, ℕ, ◌<◌, List, subst, sym, ◌∙◌}
 use Rattle.latin_board.specs.Lines.{line_cell}
 use Rattle.trail_solver.specs.Candidates.{CandidatesValue}

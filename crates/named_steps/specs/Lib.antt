@@ -1,4 +1,4 @@
--- What a chain of named steps shows, and what follows by a grade. Each file is one subject, and has definitions alone.
+-- Chains of named steps, and what follows by a grade. Each file is one subject, and has definitions alone.
 
 -- goals of chains of steps, and hints that explain
 pub mod Chains

@@ -26,7 +26,7 @@ pub trait Test<P: Rules> {
     ghost apart: { (test : Self) (p : P) → passes test p → fails test p → ⊥ };
 }
 
-/// What is left of a puzzle that passes, where the items are tried in this order. It passes, too.
+/// The puzzle that is left of one that passes, where the items are tried in this order. It passes, too.
 pub fn left_in_turn<P: Rules, T: Test<P>>(puzzle: &P, order: &Order, test: &T) -> P
     requires inside { (k : ℕ) → k < length (items_in order.now)
         → slice_index (items_in order.now) k < P.items_of (P.puzzle puzzle.now).size }

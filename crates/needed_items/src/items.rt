@@ -1,4 +1,4 @@
-//! What each item of a puzzle says, and how one is changed: for those who compose puzzles.
+//! The items of a puzzle, the number that each says, and how one is changed: for those who compose puzzles.
 ghost use Rattle.std.specs.Prelude.{◌≡◌, ◌≢◌, ℕ, ◌*◌, ◌<◌, ◌≤◌, nat_lt, Option, Some, IfSome};
 
 use latin_board::Size;
@@ -9,7 +9,7 @@ use trail_solver::Rules;
 /// An item says a number: a clue or a given itself, a sign which of its two squares is the greater. 0 is said where the puzzle
 /// hasn't the item. By the laws a puzzle is nothing beside its size and what its items say.
 pub trait Items: Rules {
-    // What an item says, 0 where the puzzle hasn't it.
+    // The number that an item says, 0 where the puzzle hasn't it.
     ghost value_of: { Self → ℕ → ℕ };
 
     // The most that an item can say in a puzzle of a width.
@@ -21,7 +21,7 @@ pub trait Items: Rules {
         ensures valid { Self.valid result }
         ensures none { (i : ℕ) → i < Self.items_of size → value_of result i ≡ 0 };
 
-    /// What the item says, 0 where the puzzle hasn't it; i is below the count.
+    /// The number that the item says, 0 where the puzzle hasn't it; i is below the count.
     fn item_value(&self, i: usize) -> u8
         requires { i < Self.items_of (Self.puzzle self.now).size }
         ensures { result ≡ value_of self.now i };

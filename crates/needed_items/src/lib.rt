@@ -1,5 +1,6 @@
-//! The items of a puzzle: its clues, signs and givens, each by a number. What each says and how it is changed (`Items`); which
-//! could be left out, or are to blame; and the puzzle without those that it can do without.
+//! The items of a puzzle: its clues, signs and givens, each by a number. Of each there is the number that it
+//! says and how that is changed (`Items`), and whether it could be left out, or is to blame; and there is the
+//! puzzle without those that it can do without.
 //!
 //! ```
 //! let mut puzzle = Towers::blank(size);

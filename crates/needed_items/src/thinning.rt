@@ -31,7 +31,7 @@ impl<'a, P: Rules> Test<P> for OnlySolution<'a> {
 }
 
 /// The puzzle without items that it can do without: each is tried once, from the last to the first, and goes where the grid, the
-/// only solution, stays the only one. What is left needs each of its items.
+/// only solution, stays the only one. The puzzle that is left needs each of its items.
 pub fn thinned<P: Rules>(puzzle: &P, grid: &Grid) -> P
     requires only { IsOnlySolution (P.puzzle puzzle.now) grid.now }
     ensures thinned { IsThinned ⟦<P as Rules>⟧ (HasOnly ⟦<P as Rules>⟧ grid.now) puzzle.now result }

@@ -1,4 +1,4 @@
--- What is in the set that a call makes, where that set is known as a number.
+-- The members of the set that a call makes, where that set is known as a number.
 use Rattle.std.proofs.Common.{◌≡◌, ℕ, ◌+◌, ◌-◌, ◌*◌, ◌/◌, ◌%◌, ◌^◌, ◌<◌, arith, true, not, ◌&&◌, ◌||◌, eqb, leb, cond, bit_and, bit_or, bit_xor, w16}
 use Rattle.std.specs.Int.{bit_not}
 use Rattle.std.proofs.lemmas.Nat.{one_shl}

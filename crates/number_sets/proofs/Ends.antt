@@ -1,5 +1,6 @@
 -- The least and the greatest number of a set, and sets of one number.
-use Rattle.std.proofs.Common.{◌≡◌, ◌≢◌, ℕ, ◌+◌, ◌-◌, ◌*◌, ◌/◌, ◌%◌, ◌^◌, ◌<◌, ◌≤◌, inl, inr, true, false, not, eqb, refl, sym, ap, ◌∙◌, subst, arith, add-zero, add-one, bit_and, w16, w64}
+use Rattle.std.proofs.lemmas.Bool.Decides.{nat_tests}
+use Rattle.std.proofs.Common.{◌≡◌, ◌≢◌, ℕ, ◌+◌, ◌-◌, ◌*◌, ◌/◌, ◌%◌, ◌^◌, ◌<◌, ◌≤◌, inl, inr, true, false, eqb, refl, sym, ap, ◌∙◌, subst, arith, add-zero, add-one, bit_and, w16, w64}
 use Rattle.std.specs.Bool.{MatchBool}
 use Rattle.std.specs.Int.{trailing_zeros}
 use Rattle.std.specs.Int.Bits.{and_self}
@@ -105,8 +106,4 @@ and-single set n some small single =
 
 pub single_test : (set : ℕ) → set ≢ 0 → set < 2 ^ 16
     → MatchBool (eqb (bit_and set (set - 1)) 0) ((n : ℕ) × IsSingle set n) ((n : ℕ) → IsSingle set n → ⊥)
-single_test set some small =
-    elim (cases_eq (bit_and set (set - 1)) 0) [
-      | inl none ↦ rw (eq-eqb (bit_and set (set - 1)) 0 none) (single_from_and set some small none)
-      | inr more ↦ rw (ne_eqb (bit_and set (set - 1)) 0 more) (λ n single. more (and-single set n some small single))
-    ]
+single_test set some small = grind (arith, nat_tests, cases_eq, eq-eqb, single_from_and, ne_eqb, and-single)

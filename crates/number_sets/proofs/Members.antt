@@ -1,4 +1,6 @@
--- What is in a set: in the empty one, in that of one number, in those that the calls make, and in a number's bits shifted.
+-- The members of sets: of the empty one, of that of one number, of those that the calls make, and of a
+-- number's bits shifted.
+use Rattle.std.proofs.lemmas.Bool.Decides.{nat_tests}
 use Rattle.std.proofs.Common.{◌≡◌, ◌≢◌, ℕ, zero, suc, ◌+◌, ◌-◌, ◌*◌, ◌/◌, ◌%◌, ◌^◌, ◌<◌, ◌≤◌, inl, inr, Bool, true, false, not, ◌&&◌, ◌||◌, eqb, leb, ltb, cond, refl, sym, ap, ◌∙◌, subst, arith, add-one, bit_and, bit_or, w16}
 use Rattle.std.specs.Int.{bit_at, bit_not, trailing_zeros}
 use Rattle.std.specs.Bool.{MatchBool}
@@ -19,9 +21,7 @@ number-from_bit m k e = eq-eqb (bit_at m k) 1 e
 
 -- the bit of a number that isn't in the set
 pub bit-from_no_number : (m k : ℕ) → has_number m k ≡ false → bit_at m k ≡ 0
-bit-from_no_number m k e =
-    let small = bit_at-lt m k in
-    elim (cases_eq (bit_at m k) 1) [ inl one ↦ absurd (both_ways (has_number m k) e (number-from_bit m k one)) | inr other ↦ omega arith ]
+bit-from_no_number m k e = grind (arith, nat_tests, bit_at-lt, cases_eq, both_ways, number-from_bit)
 
 -- where the bit isn't set, the number isn't in the set
 pub no_number-from_bit : (m k : ℕ) → bit_at m k ≡ 0 → has_number m k ≡ false
@@ -46,25 +46,11 @@ below_from_number m k j h e =
 
 -- a number is in the union of two sets if it is in either
 pub has_number-or : (a b k : ℕ) → has_number (bit_or a b) k ≡ (has_number a k || has_number b k)
-has_number-or a b k =
-    let e = bit_at_or a b k in
-    elim (cases_Bool (has_number a k)) [
-      | inl x ↦ (let ea = bit-from_number a k x in let lb = bit_at-lt b k in
-          rw x (number-from_bit (bit_or a b) k (omega (arith, e))))
-      | inr x ↦ (let ea = bit-from_no_number a k x in
-          rw x (number-from_same_bit (bit_or a b) k b k (omega (arith, e))))
-    ]
+has_number-or a b k = grind (arith, nat_tests, bit_at_or, cases_Bool, bit-from_number, bit_at-lt, number-from_bit, bit-from_no_number, number-from_same_bit)
 
 -- a number is in what two sets share if it is in both
 pub has_number-and : (a b k : ℕ) → has_number (bit_and a b) k ≡ (has_number a k && has_number b k)
-has_number-and a b k =
-    let e = bit_at_and a b k in
-    elim (cases_Bool (has_number a k)) [
-      | inl x ↦ (let ea = bit-from_number a k x in let lb = bit_at-lt b k in
-          rw x (number-from_same_bit (bit_and a b) k b k (omega (arith, e))))
-      | inr x ↦ (let ea = bit-from_no_number a k x in
-          rw x (no_number-from_bit (bit_and a b) k (omega (arith, e))))
-    ]
+has_number-and a b k = grind (arith, nat_tests, bit_at_and, cases_Bool, bit-from_number, bit_at-lt, number-from_same_bit, bit-from_no_number, no_number-from_bit)
 
 -- sets that have the same numbers are the same
 pub same_set : (a b : ℕ) → ((k : ℕ) → has_number a k ≡ has_number b k) → a ≡ b
@@ -113,29 +99,15 @@ has_number-one_same k = number-from_bit (2 ^ k) k (bit_at-pow_same k)
 
 -- the set of k alone has no other number
 pub number_of_one : (k j : ℕ) → has_number (2 ^ k) j ≡ true → j ≡ k
-number_of_one k j e =
-    elim (cases_eq j k) [
-      | inl same ↦ same
-      | inr other ↦ absurd (both_ways (has_number (2 ^ k) j) (no_number-from_bit (2 ^ k) j (bit_at-pow_other k j other)) e)
-    ]
+number_of_one k j e = grind (arith, nat_tests, cases_eq, both_ways, no_number-from_bit, bit_at-pow_other)
 
 -- the set of n alone has just n, as a test
 pub has_number-one : (n k : ℕ) → has_number (2 ^ n) k ≡ eqb k n
-has_number-one n k =
-    elim (cases_eq k n) [
-      | inl same ↦
-          let P : ℕ → Type 0 = λ j. has_number (2 ^ n) j ≡ true in
-          subst P (sym same) (has_number-one_same n) ∙ sym (eq-eqb k n same)
-      | inr other ↦ false_from_ne_true (has_number (2 ^ n) k) (λ h. other (number_of_one n k h)) ∙ sym (ne_eqb k n other)
-    ]
+has_number-one n k = grind (arith, nat_tests, cases_eq, has_number-one_same, eq-eqb, false_from_ne_true, number_of_one, ne_eqb)
 
 -- the power of two of a number is no more than the set
 pub power_most : (m k : ℕ) → has_number m k ≡ true → 2 ^ k ≤ m
-power_most m k e =
-    elim (cases_lt m (2 ^ k)) [
-      | inl small ↦ absurd (let l = below_from_number m k k small e in omega arith)
-      | inr large ↦ large
-    ]
+power_most m k e = grind (arith, nat_tests, cases_lt, below_from_number)
 
 -- ---- the numbers of a range
 
@@ -152,11 +124,7 @@ has_number-numbers_to w n =
 
 -- 2 ^ k - 1 has the numbers below k
 pub has_number-below : (k n : ℕ) → has_number (2 ^ k - 1) n ≡ ltb n k
-has_number-below k n =
-    elim (cases_lt n k) [
-      | inl low ↦ rw (lt-ltb n k low) (number-from_bit (2 ^ k - 1) n (bit_at_ones k n low))
-      | inr high ↦ rw (le-ltb n k high) (no_number-from_bit (2 ^ k - 1) n (bit_at_ones_above k n high))
-    ]
+has_number-below k n = grind (arith, nat_tests, cases_lt, lt-ltb, number-from_bit, bit_at_ones, le-ltb, no_number-from_bit, bit_at_ones_above)
 
 -- 2 ^ 16 - 2 ^ k has the numbers from k on, of those below 16
 pub has_number-from : (k n : ℕ) → n < 16 → has_number (2 ^ 16 - 2 ^ k) n ≡ leb k n
@@ -170,25 +138,18 @@ has_number-from k n low =
 
 -- a bit to which 1 is added becomes the other one, and a bit to which 0 is added stays
 one_flipped : (b : ℕ) → b < 2 → eqb ((b + 1) % 2) 1 ≡ not (eqb b 1)
-one_flipped zero h = refl
-one_flipped (suc zero) h = refl
-one_flipped (suc (suc b)) h = absurd (omega arith)
+one_flipped zero h = grind (arith, nat_tests)
+one_flipped (suc zero) h = grind (arith, nat_tests)
+one_flipped (suc (suc b)) h = grind (arith, nat_tests)
 
 none_flipped : (b : ℕ) → b < 2 → eqb ((b + 0) % 2) 1 ≡ eqb b 1
-none_flipped zero h = refl
-none_flipped (suc zero) h = refl
-none_flipped (suc (suc b)) h = absurd (omega arith)
+none_flipped zero h = grind (arith, nat_tests)
+none_flipped (suc zero) h = grind (arith, nat_tests)
+none_flipped (suc (suc b)) h = grind (arith, nat_tests)
 
 -- only the number that is flipped changes
 pub has_number-flip : (set n k : ℕ) → has_number (flip_number set n) k ≡ cond (eqb k n) (not (has_number set k)) (has_number set k)
-has_number-flip set n k =
-    elim (cases_eq k n) [
-      | inl same ↦
-          let bit : bit_at (2 ^ n) k ≡ 1 = rw same (bit_at-pow_same n) in
-          rw (bit_at_xor set (2 ^ n) k, bit, eq-eqb k n same) (one_flipped (bit_at set k) (bit_at-lt set k))
-      | inr other ↦
-          rw (bit_at_xor set (2 ^ n) k, bit_at-pow_other n k other, ne_eqb k n other) (none_flipped (bit_at set k) (bit_at-lt set k))
-    ]
+has_number-flip set n k = grind (arith, nat_tests, cases_eq, bit_at-pow_same, bit_at_xor, eq-eqb, one_flipped, bit_at-lt, bit_at-pow_other, ne_eqb, none_flipped)
 
 -- to flip a number that is in the set takes it out
 pub has_number-taken : (m n k : ℕ) → has_number m n ≡ true → has_number (flip_number m n) k ≡ (has_number m k && not (eqb k n))
@@ -225,11 +186,7 @@ has_number-without a b k a_small b_small =
 
 -- a set cut to its bits up to n has its numbers up to n
 pub has_number-at_most : (set n k : ℕ) → has_number (bit_and set (2 ^ (n + 1) - 1)) k ≡ (has_number set k && leb k n)
-has_number-at_most set n k =
-    has_number-and set (2 ^ (n + 1) - 1) k ∙ ap (λ b. has_number set k && b) (has_number-below (n + 1) k ∙ elim (cases_lt n k) [
-      | inl above ↦ le-ltb k (n + 1) (omega arith) ∙ sym (lt-leb k n above)
-      | inr below ↦ lt-ltb k (n + 1) (omega arith) ∙ sym (le-leb k n below)
-    ])
+has_number-at_most set n k = grind (arith, nat_tests, has_number-and, has_number-below, cases_lt, le-ltb, lt-leb, lt-ltb, le-leb)
 
 -- ---- each number one more, in 16 bits
 
@@ -256,11 +213,7 @@ some_number set some small =
     (trailing_zeros w16 set, number-from_bit set (trailing_zeros w16 set) (bit_at-trailing_zeros w16 set p small).1)
 
 pub empty_test : (set : ℕ) → set < 2 ^ 16 → MatchBool (eqb set 0) (IsEmpty set) ((n : ℕ) × (has_number set n ≡ true))
-empty_test set small =
-    elim (cases_eq set 0) [
-      | inl none ↦ rw (eq-eqb set 0 none) (rw none has_number-none)
-      | inr some ↦ rw (ne_eqb set 0 some) (some_number set some small)
-    ]
+empty_test set small = grind (arith, nat_tests, cases_eq, eq-eqb, has_number-none, ne_eqb, some_number)
 
 shared_from_and : (a b : ℕ) → a < 2 ^ 16 → bit_and a b ≢ 0 → IsShared a b
 shared_from_and a b small some =
@@ -274,16 +227,10 @@ and-shared a b (n, in_first, in_second) e =
     both_ways (has_number 0 n) (has_number-none n) (rw e at (has_number-and a b n ∙ and_from _ _ in_first in_second))
 
 pub disjoint_test : (a b : ℕ) → a < 2 ^ 16 → MatchBool (eqb (bit_and a b) 0) (IsShared a b → ⊥) (IsShared a b)
-disjoint_test a b small =
-    elim (cases_eq (bit_and a b) 0) [
-      | inl none ↦ rw (eq-eqb (bit_and a b) 0 none) (λ s. and-shared a b s none)
-      | inr some ↦ rw (ne_eqb (bit_and a b) 0 some) (shared_from_and a b small some)
-    ]
+disjoint_test a b small = grind (arith, nat_tests, cases_eq, eq-eqb, and-shared, ne_eqb, shared_from_and)
 
 subset_from_and : (a b : ℕ) → bit_and a b ≡ a → IsSubset a b
-subset_from_and a b whole n e =
-    let P : ℕ → Type 0 = λ m. has_number m n ≡ true in
-    (and_parts _ _ (sym (has_number-and a b n) ∙ subst P (sym whole) e)).1
+subset_from_and a b whole n e = grind (arith, nat_tests, and_parts, has_number-and)
 
 and-subset : (a b : ℕ) → IsSubset a b → bit_and a b ≡ a
 and-subset a b h =
@@ -294,8 +241,4 @@ and-subset a b h =
 
 -- whether one set is within another, as their common part tells
 pub subset_test : (a b : ℕ) → MatchBool (eqb (bit_and a b) a) (IsSubset a b) (IsSubset a b → ⊥)
-subset_test a b =
-    elim (cases_eq (bit_and a b) a) [
-      | inl whole ↦ rw (eq-eqb (bit_and a b) a whole) (subset_from_and a b whole)
-      | inr less ↦ rw (ne_eqb (bit_and a b) a less) (λ h. less (and-subset a b h))
-    ]
+subset_test a b = grind (arith, nat_tests, cases_eq, eq-eqb, subset_from_and, ne_eqb, and-subset)

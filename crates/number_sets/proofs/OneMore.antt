@@ -1,5 +1,6 @@
 -- A set with one number more, as the sum with that number's power of two.
-use Rattle.std.proofs.Common.{◌≡◌, ◌≢◌, ℕ, suc, ◌+◌, ◌-◌, ◌*◌, ◌/◌, ◌%◌, ◌^◌, ◌<◌, inl, inr, true, false, sym, ap, ◌∙◌, arith, add-zero, count_ones}
+use Rattle.std.proofs.lemmas.Bool.Decides.{nat_tests}
+use Rattle.std.proofs.Common.{◌≡◌, ◌≢◌, ℕ, suc, ◌+◌, ◌-◌, ◌*◌, ◌/◌, ◌%◌, ◌^◌, ◌<◌, true, false, sym, ap, ◌∙◌, arith, add-zero, count_ones}
 use Rattle.std.specs.Int.{bit_at}
 use Rattle.std.proofs.lemmas.Bool.{cases_lt}
 use Rattle.std.proofs.lemmas.Nat.{pow_pos, shr_split, div-add-mod', ones_cat, ones_le_self, zero_from_ones, mod_below}
@@ -51,9 +52,7 @@ added_without m k n e h =
     }
 
 bit-here : (b k r : ℕ) → r < 2 ^ k → bit_at (b * 2 ^ k + r) k ≡ b % 2
-bit-here b k r h =
-    let none : k - k ≡ 0 = omega arith in
-    bit_at_cat_high b k r k h (omega arith) ∙ ap (bit_at b) none ∙ bit_at_lowest b
+bit-here b k r h = grind (arith, nat_tests, bit_at_cat_high, bit_at_lowest)
 
 -- the number that is added wasn't in before
 pub added_lacks : {m k n : ℕ} → IsAdded m k n → has_number m k ≡ false
@@ -77,13 +76,7 @@ bit-higher a k r j h l =
 
 -- every other number is in as before
 pub added_other : {m k n : ℕ} → IsAdded m k n → (j : ℕ) → j ≢ k → has_number n j ≡ has_number m j
-added_other {m} {k} {n} h j ne =
-    let bits : bit_at ((h.above * 2) * 2 ^ k + h.below) j ≡ bit_at ((h.above * 2 + 1) * 2 ^ k + h.below) j =
-    elim (cases_lt j k) [
-      | inl l ↦ bit_at_cat_low (h.above * 2) k h.below j l ∙ sym (bit_at_cat_low (h.above * 2 + 1) k h.below j l)
-      | inr l ↦ bit-higher h.above k h.below j h.small (omega arith)
-    ] in
-    number-from_same_bit n j m j (ap (λ x. bit_at x j) h.to ∙ sym bits ∙ ap (λ x. bit_at x j) (sym h.from))
+added_other {m} {k} {n} h j ne = grind (arith, nat_tests, cases_lt, bit_at_cat_low, bit-higher, number-from_same_bit)
 
 -- there is one number more
 pub added_ones : {m k n : ℕ} → IsAdded m k n → count_ones n ≡ count_ones m + 1

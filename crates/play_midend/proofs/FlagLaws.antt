@@ -1,4 +1,4 @@
--- What the flags `cheated` (help) and `completed` say of the moves since the last restart.
+-- The meaning of the flags `cheated` (help) and `completed` in the moves since the last restart.
 use Rattle.std.proofs.lemmas.Bool.Decides.{nat_tests}
 use Rattle.std.proofs.Common.{◌≡◌, ◌⊎◌, ℕ, ◌-◌, ◌*◌, ◌<◌, ◌≤◌, ◌==◌, true, false, not, ◌&&◌, ◌||◌, cond, Some, None, refl, sym, ◌∙◌, subst, inl, inr, arith, List, [], ◌∷◌}
 use Rattle.std.specs.Option.{option_map_or}
@@ -9,7 +9,7 @@ use Rattle.std.proofs.lemmas.Nat.{mul-add-lt}
 use Rattle.std.proofs.lemmas.List.Elements.{All-set}
 use Rattle.std.proofs.lemmas.List.FromFn.{get_or-map-range_with_len, length-map-range_with_len}
 use Rattle.latin_board.specs.Squares.{IsGrid}
-use Rattle.latin_board.specs.Boards.{BoardValue, grid_of, with_done_flipped}
+use Rattle.latin_board.specs.Boards.{BoardValue, IsBoard, grid_of, with_done_flipped}
 use Rattle.latin_board.specs.Edges.{edge_place}
 use Rattle.latin_board.proofs.LatinLines.{latin_full}
 use Rattle.trail_solver.specs.Puzzles.{Puzzle, Solves, solves_test}
@@ -17,13 +17,16 @@ use Rattle.trail_solver.proofs.SolutionTests.{Decides-solves_test}
 use Rattle.play_midend.specs.declared.moves.Move.{Move}
 use Rattle.play_midend.specs.declared.moves.Move.TheVariants.{Real, Pencil, MarkAll, Solve, Restart, Done}
 use Rattle.play_midend.specs.Steps.{cell_of, entry_refusal, mark_refusal, refusal_of, with_number, with_mark_flipped, start_of, moved, is_restart, after_move, replay_from, ArePlayable}
-use Rattle.play_midend.specs.Histories.{past}
+use Rattle.play_midend.specs.declared.session.Session.TheInside.{Inside}
+use Rattle.play_midend.specs.Histories.{past, IsSessionBoard}
+use Rattle.play_midend.specs.Inner.Links.{viewed, AreLinked}
 use Rattle.play_midend.specs.Flags.{fills_in, LeavesSolution, HelpIsFlagged, CompletionIsFlagged, HelpCompletes}
 use Rattle.play_midend.proofs.TestedSolutions.{solutions_are_filled_in}
 use Rattle.play_midend.proofs.Playing.{or_none, not_refused}
 use Rattle.play_midend.proofs.Replaying.{ArePlayable-take, after_step}
 use Rattle.play_midend.proofs.Making.{step_allowed}
 use Rattle.play_midend.proofs.Flagging.{IsSetBy, flagged}
+use Rattle.play_midend.proofs.Viewing.{shown_viewed, valid_viewed}
 
 -- the flag `cheated` after a move: a solution sets it, a restart takes it back, any other move leaves it
 helped_is : (p : Puzzle) (b : BoardValue) (m : Move) → (moved p b m).cheated ≡ (fills_in m || (b.cheated && not (is_restart m)))
@@ -197,3 +200,15 @@ pub help_completes : {P : Type 0} (puzzle : P → Puzzle) → HelpCompletes puzz
 help_completes puzzle h valid is =
     let p = puzzle h.puzzle in
     both_replayed p (start_of p) (past h) (ArePlayable-take p (start_of p) (h.position - 1) h.moves valid.legal.playable) (λ off. cc) is
+
+-- the board of a session is one of its puzzle's size, on which help comes with completion
+pub session_board : {P : Type 0} (puzzle : P → Puzzle) (s : Inside P) → s.params.size ≡ (puzzle s.puzzle).size
+    → AreLinked (puzzle s.puzzle) s.links.items s.past s.board → IsBoard s.board → IsSessionBoard (puzzle s.puzzle).size s.board
+session_board puzzle s size linked board =
+    let p = puzzle s.puzzle in
+    record {
+      board = board;
+      size = linked.size;
+      helped = subst (λ (b : BoardValue). b.cheated ≡ true → b.completed ≡ true) (shown_viewed p s linked)
+          (help_completes puzzle (viewed s) (valid_viewed p s size linked));
+    }

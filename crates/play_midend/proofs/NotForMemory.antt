@@ -1,4 +1,4 @@
--- What a call of a session gives, memory left aside, is never OutOfMemory.
+-- The answer to a call of a session, memory left aside, is never OutOfMemory.
 use Rattle.std.proofs.lemmas.Bool.Decides.{nat_tests}
 use Rattle.std.proofs.Common.{◌≢◌, Err, refl, arith}
 use Rattle.trail_solver.specs.Puzzles.{Puzzle}

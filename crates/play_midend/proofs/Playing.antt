@@ -1,4 +1,4 @@
--- What refuses a move in a session, and what a move that isn't refused makes of it.
+-- The refusals of a move in a session, and the session after a move that isn't refused.
 use Rattle.std.proofs.lemmas.Bool.Decides.{nat_tests}
 use Rattle.std.proofs.Common.{◌≡◌, ◌≢◌, ℕ, ◌+◌, false, List, [], ◌∷◌, ◌++◌, take, Option, Some, None, Ok, IsOk, refl, ap, subst, arith, inr}
 use Rattle.std.specs.Option.{option_or}
@@ -14,7 +14,7 @@ use Rattle.play_midend.specs.declared.session.Session.TheInside.{Inside}
 use Rattle.play_midend.specs.declared.fault.PlayFault.{PlayFault}
 use Rattle.play_midend.specs.Steps.{is_restart, refusal_of, unless_refused, moved}
 use Rattle.play_midend.specs.declared.session.TheConstants.{MOST_STATES}
-use Rattle.play_midend.specs.Histories.{History, past, shown, first_state_refusal, full_refusal, refusal_in, with_move, played, IsRefusal, IsSolveRefusal, at_position}
+use Rattle.play_midend.specs.Histories.{History, shown, first_state_refusal, full_refusal, refusal_in, with_move, played, IsRefusal, IsSolveRefusal, at_position}
 use Rattle.play_midend.specs.Inner.Links.{moves_of, viewed, AreLinked}
 use Rattle.latin_board.specs.Squares.{GridValue}
 use Rattle.play_midend.proofs.TestedSolutions.{solutions_are_filled_in}

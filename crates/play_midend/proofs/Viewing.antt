@@ -28,6 +28,7 @@ pub shown_viewed : {P : Type 0} (p : Puzzle) (s : Inside P) → AreLinked p s.li
 shown_viewed p s h =
     ap (λ ms. replay_from p (start_of p) ms) (past_viewed s) ∙ shown_linked p s.links.items s.past s.board h
 
+-- if the links of a session are linked, it is valid
 pub valid_viewed : {P : Type 0} (p : Puzzle) (s : Inside P) → s.params.size ≡ p.size → AreLinked p s.links.items s.past s.board
     → IsValid p (viewed s)
 valid_viewed p s size h = grind (arith, nat_tests, length-map, legal_linked)

@@ -1,4 +1,4 @@
--- What the two flags of a board mean, in the words of the moves since the last restart.
+-- The meaning of the two flags of a board, in the words of the moves since the last restart.
 use Rattle.std.specs.Prelude.{◌≡◌, ◌↔◌, Bool, true, false, List, ◌∷◌, ◌++◌}
 use Rattle.std.specs.List.{AllByRecursion}
 use Rattle.latin_board.specs.Boards.{BoardValue, grid_of}

@@ -1,9 +1,9 @@
 -- The value of a session, and what each call makes of it.
-use Rattle.std.specs.Prelude.{◌≡◌, ◌⊎◌, ℕ, ◌+◌, ◌-◌, ◌≤◌, ◌==◌, if◌then◌else◌, List, [], ◌∷◌, ◌++◌, length, take}
+use Rattle.std.specs.Prelude.{◌≡◌, ◌⊎◌, ℕ, ◌+◌, ◌-◌, ◌≤◌, ◌==◌, true, if◌then◌else◌, List, [], ◌∷◌, ◌++◌, length, take}
 use Rattle.std.specs.Prelude.{Option, Some, None, Result, Ok, Err, IsOk}
 use Rattle.std.specs.Option.{option_or}
 use Rattle.latin_board.specs.Squares.{GridValue}
-use Rattle.latin_board.specs.Boards.{BoardValue}
+use Rattle.latin_board.specs.Boards.{BoardValue, IsBoard}
 use Rattle.trail_solver.specs.Puzzles.{Puzzle}
 use Rattle.trail_solver.specs.Solutions.{HasNoSolution, HasSeveralSolutions, IsOnlySolution}
 use Rattle.game_texts.specs.declared.params.Params.{Params}
@@ -33,6 +33,12 @@ past h = take (h.position - 1) h.moves
 -- the board of the state that is shown
 abbrev pub shown : {P : Type 0} → Puzzle → History P → BoardValue
 shown p h = replay p (past h)
+
+-- what the board of a session of a puzzle keeps: it is a board of the puzzle's size, and with help comes completion
+pub record IsSessionBoard (w : ℕ) (b : BoardValue) : Type 0 where
+  pub board : IsBoard b
+  pub size : b.size ≡ w
+  pub helped : b.cheated ≡ true → b.completed ≡ true
 
 -- the session is valid: its moves can be made in turn, and its position is one of its states
 pub record IsValid {P : Type 0} (p : Puzzle) (h : History P) : Type 0 where

@@ -1,4 +1,4 @@
--- What the contracts of the crate say. Each of the files here is one subject, and has definitions alone.
+-- The words of the crate's contracts. Each of the files here is one subject, and has definitions alone.
 
 -- the refusals by number and name, and the texts of moves
 pub mod Faults

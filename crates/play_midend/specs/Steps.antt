@@ -7,7 +7,7 @@ use Rattle.std.specs.Result.{result_unwrap_or}
 use Rattle.latin_board.specs.Squares.{GridValue, number_at}
 use Rattle.number_sets.specs.Sets.{no_numbers, numbers_to, flip_number}
 use Rattle.latin_board.specs.Boards.{BoardValue, grid_of, marks_at, start_board, with_done_flipped}
-use Rattle.latin_board.specs.Changes.{ChangeValue, FitsBoard, board_after, change_after}
+use Rattle.latin_board.specs.Changes.{ChangeValue, OneSquare, WholeBoard, FitsBoard, board_after, change_after}
 use Rattle.latin_board.specs.Edges.{edge_place}
 use Rattle.trail_solver.specs.Puzzles.{Puzzle, solves_test}
 use Rattle.play_midend.specs.declared.moves.Move.{Move}
@@ -149,6 +149,11 @@ takes_memory _ = true
 abbrev pub IsRefusalOf : Move → Result BoardValue PlayFault → PlayFault → Type 0
 IsRefusalOf m exact OutOfMemory = IsOk exact × IsTrue (takes_memory m)
 IsRefusalOf m exact fault = exact ≡ Err fault
+
+-- the change holds the content of one square, and no board
+abbrev pub IsOneSquare : ChangeValue → Type 0
+IsOneSquare (OneSquare held) = Unit {0}
+IsOneSquare (WholeBoard other) = ⊥
 
 -- a change that makes a move on a board, and takes it back when it is exchanged once more
 pub record Makes (p : Puzzle) (b : BoardValue) (m : Move) (change : ChangeValue) : Type 0 where

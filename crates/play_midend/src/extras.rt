@@ -2,14 +2,14 @@
 
 use std::marker::Model;
 
-/// What a session keeps for a save file and never looks into.
+/// The bytes that a session keeps for a save file and never looks into.
 ///
 /// Contracts see the bytes alone, and not how much room each vector has: sessions that keep equal bytes are equal.
 #[derive(Drop, Debug)]
 pub struct Extras {
     /// The seed of the usual program's generator.
     pub seed: Option<Vec<u8>>,
-    /// What that program's solver needs besides.
+    /// The bytes that that program's solver needs besides.
     pub auxinfo: Option<Vec<u8>>,
     /// The state of its user interface.
     pub ui: Option<Vec<u8>>,

@@ -110,7 +110,7 @@ fn exchange(board: &mut Board, link: &mut Link)
 }
 
 impl<P: Game> Session<P> {
-    ghost use Rattle.play_midend.specs.Histories.{History, IsValid, shown, started, at_position, refusal_in, played};
+    ghost use Rattle.play_midend.specs.Histories.{History, IsSessionBoard, IsValid, shown, started, at_position, refusal_in, played};
     ghost use Rattle.play_midend.specs.Histories.{restarted, SolveGives, undone, redone, IsRefusal, IsSolveRefusal};
     ghost use Rattle.play_midend.specs.declared.moves.Move.{Move};
     ghost use Rattle.play_midend.specs.Inner.Effects.{IsEffect};
@@ -220,7 +220,7 @@ impl<P: Game> Session<P> {
         Ok(())
     }
 
-    // What a move does, or its first refusal, `OutOfMemory` left aside.
+    // The effect of a move, or its first refusal, `OutOfMemory` left aside.
     fn allow(&self, m: &Move) -> Result<Effect, PlayFault>
         ensures ok { OnOk result (refusal_in (P.puzzle self.now.puzzle) self.now m.now ≡ None) }
         ensures effect { IfOk result (IsEffect (P.puzzle self.now.puzzle)
@@ -276,8 +276,10 @@ impl<P: Game> Session<P> {
     pub fn board(&self) -> &Board
         ensures shown { result.now ≡ shown (P.puzzle self.now.puzzle) self.now }
         ensures size { result.now.size ≡ (P.puzzle self.now.puzzle).size }
+        ensures kept { IsSessionBoard (P.puzzle self.now.puzzle).size result.now }
         ensures valid { IsValid (P.puzzle self.now.puzzle) self.now }
     {
+        let _size = self.board.size();
         &self.board
     }
 

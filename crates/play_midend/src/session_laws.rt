@@ -12,8 +12,8 @@ use game_texts::Game;
 /// A grid can be filled in just where it solves the puzzle. The board that is shown has the puzzle's givens. Any list of calls, whatever was answered, leaves a valid session,
 /// and a refused call changes nothing. A session that begins with a puzzle and parameters of the game can be stored in a save
 /// file, whatever calls follow. A move, a restart or a solution that is accepted and then undone gives back the puzzle, the
-/// parameters, the kept bytes, the past, the position and the board. What is undone and then made again is the whole session
-/// as it was, later moves included.
+/// parameters, the kept bytes, the past, the position and the board. An undo and then a redo give back the
+/// whole session, later moves included.
 ///
 /// The flag `cheated` of the board that is shown is set exactly if a solution that was filled in stands among the past moves, by `solve` or
 /// by `play`, and no restart after it; `completed` exactly if a number or such a solution left the puzzle solved since then,

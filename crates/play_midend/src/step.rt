@@ -1,10 +1,10 @@
 //! One move on a board: its refusals, and the change that makes it.
 
-ghost use Rattle.std.specs.Prelude.{◌≡◌, ◌<◌, ◌≤◌, ◌+◌, ◌*◌, None, Some, IfOk, IfErr, IsOk, MatchResult};
+ghost use Rattle.std.specs.Prelude.{◌≡◌, ◌<◌, ◌≤◌, ◌+◌, ◌*◌, false, None, Some, IfOk, IfErr, IsOk, MatchResult};
 ghost use Rattle.latin_board.specs.Marks.{IsMarkSet};
 ghost use Rattle.latin_board.specs.Changes.{FitsBoard, OneSquare, board_after};
 ghost use Rattle.play_midend.specs.Steps.{cell_of, entry_refusal, refusal_of, with_number, with_mark_flipped};
-ghost use Rattle.play_midend.specs.Steps.{marks_of_all, all_marked, filled, givens_of, start_of, moved, step, IsRefusalOf, Makes};
+ghost use Rattle.play_midend.specs.Steps.{marks_of_all, all_marked, filled, givens_of, start_of, moved, step, takes_memory, IsOneSquare, IsRefusalOf, Makes};
 ghost use Rattle.play_midend.specs.Inner.Effects.{effect_on, IsOfBoard, IsOfSquare, IsEffect};
 
 use crate::fault::PlayFault;
@@ -14,7 +14,7 @@ use latin_board::{Board, Change, Grid, Marks, OutOfMemory, edge_place};
 use std::alloc::Global;
 use trail_solver::{Rules, solves};
 
-/// What a move that isn't refused does to a board.
+/// The effect on a board of a move that isn't refused.
 #[derive(Clone, Copy, Debug)]
 pub(crate) enum Effect {
     /// A number at a square, 0 for none, and no marks there.
@@ -154,6 +154,7 @@ fn number_change<P: Game>(puzzle: &P, board: &Board, cell: usize, n: u8) -> Chan
     ensures fits { FitsBoard board.now result }
     ensures board { board_after board.now result
         ≡ with_number (P.puzzle puzzle.now) board.now cell n }
+    ensures one_square { IsOneSquare result }
 {
     let mut grid = *board.grid();
     grid.set(cell, n);
@@ -168,6 +169,7 @@ fn mark_change(board: &Board, cell: usize, n: u8) -> Change
     requires high { n ≤ board.now.size }
     ensures fits { FitsBoard board.now result }
     ensures board { board_after board.now result ≡ with_mark_flipped board.now cell n }
+    ensures one_square { IsOneSquare result }
 {
     let _size = board.size();
     let mut marks = board.marks(cell);
@@ -181,7 +183,7 @@ fn mark_change(board: &Board, cell: usize, n: u8) -> Change
     )
 }
 
-/// What a move does, or its first refusal, `HistoryFull` and `OutOfMemory` left aside.
+/// The effect of a move, or its first refusal, `HistoryFull` and `OutOfMemory` left aside.
 #[tactic(auto, using(crate::proofs::TestedSolutions::grid_tested))]
 pub(crate) fn effect_of<P: Game>(puzzle: &P, board: &Board, m: &Move) -> Result<Effect, PlayFault>
     requires { board.now.size ≡ (P.puzzle puzzle.now).size }
@@ -235,6 +237,7 @@ pub(crate) fn change_for<P: Game>(
     ensures fits { IfOk result (FitsBoard board.now) }
     ensures board { IfOk result (λ change.
         board_after board.now change ≡ effect_on (P.puzzle puzzle.now) board.now effect) }
+    ensures one_square { IsOfSquare effect → IfOk result IsOneSquare }
     ensures in_place { IsOfSquare effect → IsOk result }
 {
     match effect {
@@ -245,6 +248,7 @@ pub(crate) fn change_for<P: Game>(
 }
 
 /// The change that, exchanged with a board of the puzzle's size, makes the move there, and exchanged again takes it back.
+/// That of a number or a pencil mark is one square.
 ///
 /// Refused, the first that applies: `OffGrid`, `OffRange`, `GivenSquare`, `FilledSquare` and `BadSolution` as the board has
 /// it; `OutOfMemory`, which a number or a pencil mark never meets.
@@ -257,6 +261,7 @@ pub fn change_of<P: Game>(
 ) -> Result<Change, PlayFault>
     requires { board.now.size ≡ (P.puzzle puzzle.now).size }
     ensures ok { IfOk result (λ change. Makes (P.puzzle puzzle.now) board.now m.now change) }
+    ensures one_square { takes_memory m.now ≡ false → IfOk result IsOneSquare }
     ensures why { IfErr result (IsRefusalOf m.now (step (P.puzzle puzzle.now) board.now m.now)) }
 {
     let effect = effect_of(puzzle, board, m)?;

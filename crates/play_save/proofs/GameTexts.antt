@@ -1,4 +1,4 @@
--- What saves ask of a game's descriptions; and puzzles with the same written description are the same.
+-- The facts that saves ask of a game's descriptions; and puzzles with one written description are the same.
 use Rattle.std.proofs.Common.{arith}
 use Rattle.std.proofs.lemmas.Bool.Decides.{nat_tests}
 use Rattle.std.proofs.Common.{◌≡◌, ◌≢◌, ℕ, ◌≤◌, List, Some, None, Ok, refl}

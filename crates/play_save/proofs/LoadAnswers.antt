@@ -1,4 +1,4 @@
--- What the answer of loading says of the text, by the laws of save texts.
+-- The meaning of loading's answer for the text, by the laws of save texts.
 use Rattle.std.proofs.Common.{◌≡◌, ℕ, ◌<◌, List, length, Result, Ok, Err, IfOk, refl, subst}
 use Rattle.std.proofs.lemmas.Bool.{lt-ltb}
 use Rattle.byte_text.specs.Reading.{GivesUnless}

@@ -1,4 +1,5 @@
--- What was met after one more record that has no fault, and that a record which may stand once is refused the second time.
+-- The records that were met after one more that has no fault, and that a record which may stand once is
+-- refused the second time.
 use Rattle.std.proofs.Common.{arith}
 use Rattle.std.proofs.lemmas.Bool.Decides.{nat_tests}
 use Rattle.std.proofs.Common.{◌≡◌, ℕ, Bool, true, false, List, [], ◌∷◌, ◌++◌, map, Option, Some, None, option_and_then, cond, refl, sym, ap, ◌∙◌}

@@ -1,4 +1,4 @@
--- What reading the next record answers.
+-- The answers of reading the next record.
 use Rattle.std.proofs.Common.{arith}
 use Rattle.std.proofs.lemmas.Bool.Decides.{nat_tests}
 use Rattle.std.proofs.Common.{◌≡◌, ℕ, List, Option, option_map, Result, Ok, Err, IfOk, IfErr, MatchOption, Bor}

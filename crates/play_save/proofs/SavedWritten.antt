@@ -1,4 +1,4 @@
--- What is written of a session is a save of it, and of no other.
+-- The text that is written of a session is a save of it, and of no other.
 use Rattle.std.proofs.lemmas.Bool.Decides.{nat_tests}
 use Rattle.std.proofs.Common.{◌≡◌, ℕ, ◌≤◌, List, [], ◌∷◌, ◌++◌, length, map, Result, Ok, Err, IfOk, IfErr, refl, sym, ap, ◌∙◌, subst, arith, length-append, lit≤}
 use Rattle.std.proofs.lemmas.Option.{some_pair_parts}

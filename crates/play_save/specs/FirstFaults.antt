@@ -47,7 +47,7 @@ positive (suc n) = Some (suc n)
 abbrev pub count_at : List ℕ → Option ℕ
 count_at value = option_and_then positive (decimal_value MOST_STATES value)
 
--- What some records say: the first value of each key that may stand once, and the state records.
+-- The content of some records: the first value of each key that may stand once, and the state records.
 pub record MetValue : Type 0 where
   pub first : HeaderKey → Option (List ℕ)
   pub states : List KeyedState

@@ -26,8 +26,9 @@ use Rattle.play_save.specs.Records.{Entry, BeginsWith}
 use Rattle.play_save.specs.KeyedRecords.{KeyedRecord, KeyedState, BeginsWithAll, values_of, states_in, IsOne}
 use Rattle.play_save.specs.KeyedRecords.{once_if_kept, CountsStandFirst, EndsWithState}
 
--- What saves ask of a game: its name and letters, whether it has an adjacent mode, what its puzzles are, which text
--- describes which puzzle of which width, the puzzle that is read of a description, and the description that is written.
+-- The facts that saves ask of a game: its name and letters, whether it has an adjacent mode, what its puzzles
+-- are, which text describes which puzzle of which width, the puzzle that is read of a description, and the
+-- description that is written.
 pub record SavedGame (P : Type 0) : Type 1 where
   pub title : List ℕ
   pub letters : List ℕ

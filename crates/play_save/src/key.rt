@@ -1,10 +1,10 @@
-//! What a record is about, by its key.
+//! The subject of a record, by its key.
 
 ghost use Rattle.std.specs.Prelude.{◌≡◌, ◌≤◌, length, bytes_eq};
 ghost use Rattle.std.specs.List.{find};
 ghost use Rattle.play_save.specs.Keys.{key_name, key_of, keys};
 
-/// What a state record holds: the key says how the state was reached.
+/// The content of a state record: the key says how the state was reached.
 #[derive(Clone, Copy, Debug, PartialEq, Eq)]
 pub(crate) enum StateKey {
     /// `MOVE`: the text of any move but a restart.
@@ -67,10 +67,10 @@ pub(crate) enum HeaderKey {
     Count(WhichCount),
 }
 
-/// What a record is about.
+/// The subject of a record.
 #[derive(Clone, Copy, Debug, PartialEq, Eq)]
 pub(crate) enum Key {
-    /// What may stand once.
+    /// A record that may stand once.
     Header(HeaderKey),
     /// A state after the first.
     State(StateKey),

@@ -21,7 +21,7 @@ use latin_board::Size;
 use play_midend::{Extras, Move, PlayFault, Session, read_move};
 use std::alloc::{AllocError, Global};
 
-// What follows the first record, which has to name the format.
+// The bytes after the first record, which has to name the format.
 fn behind_head(bytes: &[u8]) -> Result<&[u8], LoadFault>
     ensures { Gives (λ rest. rest.now) result (behind_head (record_at bytes.now)) }
 {
@@ -37,7 +37,7 @@ fn behind_head(bytes: &[u8]) -> Result<&[u8], LoadFault>
     }
 }
 
-// Takes records in turn, up to the last that is needed. What follows is ignored.
+// Takes records in turn, up to the last that is needed. The rest is ignored.
 fn find<'a, P: Game>(alloc: Global, bytes: &'a [u8]) -> Result<Met<'a>, LoadFault>
     ensures given { GivesUnless LoadFault.OutOfMemory met_of result
         (met_in (saves_of P.Rules P.Game.own) (records_of bytes.now)) }
@@ -63,7 +63,7 @@ fn kept(alloc: Global, bytes: Option<&[u8]>) -> Result<Option<Vec<u8>>, AllocErr
     }
 }
 
-// What a session keeps, of the records that were met.
+// The bytes that a session keeps, of the records that were met.
 fn extras(alloc: Global, met: &Met) -> Result<Extras, AllocError>
     ensures { IfOk result (λ extras. extras ≡ extras_met (met_of met.now)) }
 {
@@ -172,7 +172,7 @@ fn start<P: Game>(
     }
 }
 
-// What the records say, as a session at their position.
+// The session that the records tell, at their position.
 #[tactic(auto, unfolding(crate::specs::FirstFaults::session_of))]
 fn session<P: Game>(alloc: Global, met: &Met) -> Result<Session<P>, LoadFault>
     requires { IsPlayable (met_of met.now) }

@@ -1,4 +1,4 @@
-//! What the records of a save file say, met one by one.
+//! The records of a save file, met one by one.
 
 ghost use Rattle.std.specs.Prelude.{◌≡◌, ℕ, Option, if◌then◌else◌, Some, None, [], OnOk, IfErr};
 ghost use Rattle.std.specs.Result.{result_err};
@@ -29,7 +29,7 @@ pub(crate) struct StateRecord<'a> {
     pub(crate) value: &'a [u8],
 }
 
-/// What the records of a save file said so far.
+/// The records of a save file that were met so far.
 #[derive(Drop, Debug)]
 pub(crate) struct Met<'a> {
     // Each of its own key.

@@ -53,7 +53,7 @@ fn name(key: &[u8]) -> &[u8]
     &key[..end]
 }
 
-// What stands before the first colon and after it.
+// The bytes before the first colon and those after it.
 fn field(bytes: &[u8]) -> Option<(&[u8], &[u8])>
     ensures { option_map (λ parts. (parts.0.now, parts.1.now)) result ≡ field_at bytes.now }
 {

@@ -1,4 +1,5 @@
-//! What saving and loading share: the most bytes of a save text, the format's name, and what a solution is.
+//! The parts that saving and loading share: the most bytes of a text, the format's name, and whether a move
+//! is a solution.
 
 ghost use Rattle.std.specs.Prelude.{◌≡◌};
 ghost use Rattle.play_save.specs.SaveTexts.{is_solve};

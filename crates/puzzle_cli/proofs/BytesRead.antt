@@ -3,9 +3,10 @@ use Rattle.std.proofs.Common.{◌≡◌, ℕ, ◌+◌, ◌<◌, ◌≤◌, Bool,
 use Rattle.std.proofs.lemmas.List.{take_more}
 use Rattle.std.proofs.KnownBytes.{Consumes-kept, Consumes-trans}
 use Rattle.std.specs.Io.KnownBytes.{Consumes, IsAtEnd, Keeps}
-use Rattle.puzzle_cli.specs.Lines.{Line, ReplyRule, as_line, all_lines, ended_lines}
+use Rattle.line_replies.specs.Lines.{Line, ReplyRule, as_line, all_lines, ended_lines}
 use Rattle.puzzle_cli.specs.Inner.LineBuffer.{ended_from, last_from}
-use Rattle.puzzle_cli.specs.Runs.{Point, Progress, before_quit, Served, WereRead, AreAll, Ends}
+use Rattle.puzzle_cli.specs.Runs.{Point, Progress, Served, WereRead, AreAll, Ends}
+use Rattle.line_replies.specs.InTurn.{before_quit}
 use Rattle.puzzle_cli.specs.Inner.Steps.{ComeTo}
 use Rattle.puzzle_cli.specs.declared.line.line_loop.Flow.{Flow}
 use Rattle.puzzle_cli.specs.declared.line.line_loop.Flow.TheVariants.{More, Quit, Unsent}

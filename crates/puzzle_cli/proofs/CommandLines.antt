@@ -1,4 +1,4 @@
--- What clap's account of a command line says of ours.
+-- Our command line by clap's account of it.
 use Rattle.std.proofs.Common.{◌≡◌, ◌≢◌, ◌⊎◌, ◌∙◌, ℕ, true, List, codes, Some, Result, Ok, Err, IfOk, IfErr, ap, inl, inr, refl, subst, sym}
 use Rattle.std.specs.Borrow.{Bor}
 use Rattle.clap.proofs.WalkLemmas.{first_value-rows}
@@ -11,7 +11,8 @@ use Rattle.clap.specs.declared.parser.matches.Found.{Found}
 use Rattle.puzzle_cli.specs.declared.start.command_fault.CommandFault.{CommandFault}
 use Rattle.puzzle_cli.specs.declared.start.command_fault.CommandFault.TheVariants.{BadWords, HelpAsked, OutOfMemory as NoMemory}
 use Rattle.puzzle_cli.specs.declared.start.command_line.Args.{Args}
-use Rattle.puzzle_cli.specs.CommandLine.{AreRead, AreRefused, AreTaken, AreUnfit, AskForHelp, IsCommandLine, NotBoth, command_line, named, option_rule, program_line}
+use Rattle.puzzle_cli.specs.CommandLine.{AreRead, AreRefused, AreTaken, AreUnfit, AskForHelp, IsCommandLine, command_line, named, option_rule, program_line}
+use Rattle.line_replies.specs.Starts.{NotBoth}
 use Rattle.puzzle_cli.specs.Inner.WordReading.{AreParsed, AreValuesFound, IsGameRule, IsParseFault, AreWordsRefused, IsToldOfKind}
 
 line_is_free : (name : Text) (games : Bor (List (Bor Text))) → is_simple_and_free (command_line name games) ≡ true

@@ -3,7 +3,7 @@ use Rattle.std.proofs.Common.{◌≡◌, ℕ, ◌-◌, ◌==◌, true, false, if
 use Rattle.std.proofs.Math.Seq.{take-append_seam}
 use Rattle.std.proofs.lemmas.List.{length_push}
 use Rattle.std.proofs.lemmas.Bool.Decides.{nat_tests}
-use Rattle.puzzle_cli.specs.Lines.{Line, onto, segments, unless_long, as_line, all_lines, ended_lines}
+use Rattle.line_replies.specs.Lines.{Line, onto, segments, unless_long, as_line, all_lines, ended_lines}
 use Rattle.puzzle_cli.specs.Inner.LineBuffer.{pushed, ended_from, last_from}
 
 -- ---- one list of bytes after another

@@ -2,8 +2,9 @@
 use Rattle.std.proofs.Common.{◌≡◌, ℕ, Bool, true, false, if◌then◌else◌, List, [], ◌∷◌, ◌++◌, refl, sym, ap, ◌∙◌, subst, append_assoc, take}
 use Rattle.std.proofs.KnownBytes.{Appends-nil, Appends-trans}
 use Rattle.std.specs.Io.KnownBytes.{Appends}
-use Rattle.puzzle_cli.specs.Lines.{Line, ReplyRule}
-use Rattle.puzzle_cli.specs.Runs.{Progress, RepliesInTurn, has_quit, before_quit, Served, BreaksOff}
+use Rattle.line_replies.specs.Lines.{Line, ReplyRule}
+use Rattle.puzzle_cli.specs.Runs.{Progress, Served, BreaksOff}
+use Rattle.line_replies.specs.InTurn.{RepliesInTurn, has_quit, before_quit}
 use Rattle.puzzle_cli.specs.Inner.Steps.{ComeTo}
 use Rattle.puzzle_cli.specs.declared.line.line_loop.Flow.{Flow}
 use Rattle.puzzle_cli.specs.declared.line.line_loop.Flow.TheVariants.{More, Quit, Unsent}

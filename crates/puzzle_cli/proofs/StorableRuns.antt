@@ -4,12 +4,13 @@ use Rattle.play_midend.specs.Histories.{History}
 use Rattle.needed_items.proofs.ItemLaws.{ItemLaws}
 use Rattle.puzzle_cli.specs.declared.run_end.End.{End}
 use Rattle.puzzle_cli.specs.declared.run_end.End.TheVariants.{Finished, ReadFault, WriteFault}
-use Rattle.puzzle_cli.specs.Lines.{Line, ReplyRule}
-use Rattle.puzzle_cli.specs.GameFacts.{GameFacts}
-use Rattle.puzzle_cli.specs.Formats.{LeavesAsAnswers}
-use Rattle.puzzle_cli.specs.Runs.{Point, RepliesInTurn, Ends}
-use Rattle.puzzle_cli.specs.RunLaws.{IsNoneOrStorable}
-use Rattle.puzzle_cli.proofs.StorableReplies.{answers_stay_storable}
+use Rattle.line_replies.specs.Lines.{Line, ReplyRule}
+use Rattle.line_replies.specs.GameFacts.{GameFacts}
+use Rattle.line_replies.specs.Formats.{LeavesAsAnswers}
+use Rattle.puzzle_cli.specs.Runs.{Point, Ends}
+use Rattle.line_replies.specs.InTurn.{RepliesInTurn}
+use Rattle.line_replies.specs.RunLaws.{IsNoneOrStorable}
+use Rattle.line_replies.proofs.StorableReplies.{answers_stay_storable}
 
 module _ {P : Type 0} (f : GameFacts P) (laws : ItemLaws f.rules) (reply : ReplyRule (Option (History P))) (leaves : LeavesAsAnswers f reply) where
   -- what a reply leaves is none, or can be stored, if what was before it is none or can be

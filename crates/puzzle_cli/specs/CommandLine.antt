@@ -1,4 +1,4 @@
--- What a command line says: the words of the games, at most one way to begin, and how the words are read by clap's
+-- The command line: the words of the games, at most one way to begin, and how the words are read by clap's
 -- account of them.
 use Rattle.std.specs.Prelude.{◌≡◌, ◌≢◌, ◌⊎◌, ℕ, ◌&&◌, true, false, List, [], ◌∷◌, codes, map, Option, Some, is_some}
 use Rattle.std.specs.Prelude.{option_map, string_bytes, Result, Ok, Err}
@@ -11,8 +11,9 @@ use Rattle.clap.specs.declared.error.kind.ErrorKind.TheVariants.{DisplayHelp, Di
 use Rattle.puzzle_cli.specs.declared.start.command_fault.CommandFault.{CommandFault}
 use Rattle.puzzle_cli.specs.declared.start.command_fault.CommandFault.TheVariants.{BadWords, HelpAsked, OutOfMemory}
 use Rattle.puzzle_cli.specs.declared.start.command_line.Args.{Args}
-use Rattle.puzzle_cli.specs.declared.start.command_line.GameName.{GameName}
-use Rattle.puzzle_cli.specs.declared.start.command_line.GameName.TheVariants.{Towers, Unequal}
+use Rattle.line_replies.specs.declared.start.game_name.GameName.{GameName}
+use Rattle.line_replies.specs.declared.start.game_name.GameName.TheVariants.{Towers, Unequal}
+use Rattle.line_replies.specs.Starts.{NotBoth}
 
 -- the word that names a game
 abbrev pub game_word : GameName → List ℕ
@@ -22,10 +23,6 @@ game_word Unequal = codes "unequal"
 -- the texts of words
 abbrev pub word_texts : List (Bor Text) → List Text
 word_texts = map (λ word. word.now)
-
--- at most one of two values is there
-abbrev pub NotBoth : {A B : Type 0} → Option A → Option B → Type 0
-NotBoth a b = is_some a && is_some b ≡ false
 
 -- ---- the command line, as clap knows it
 
@@ -97,8 +94,8 @@ pub record AskForHelp (words : List Text) : Type 0 where
   pub line : IsCommandLine app
   pub asks : IsAmong DisplayHelp (fault_of app words) ⊎ IsAmong DisplayVersion (fault_of app words)
 
--- What is read of the words: their values; or, memory apart, a refusal just where there is a fault in them or they are
--- unfit, and help where it is asked for.
+-- The reading of the words: their values; or, memory apart, a refusal just where there is a fault in them or
+-- they are unfit, and help where it is asked for.
 abbrev pub AreRead : List Text → Result Args CommandFault → Type 0
 AreRead words (Ok args) = AreTaken words args
 AreRead words (Err (BadWords text)) = AreRefused words

@@ -2,7 +2,7 @@
 use Rattle.std.specs.Prelude.{ℕ, List, [], codes, Option, None, option_map, string_bytes}
 use Rattle.puzzle_cli.specs.declared.start.command_fault.CommandFault.TheVariants.{BadWords, HelpAsked, OutOfMemory as WordsOutOfMemory}
 use Rattle.puzzle_cli.specs.CommandFault.{command_fault_status}
-use Rattle.puzzle_cli.specs.StartFault.{start_fault_status, start_fault_line}
+use Rattle.line_replies.specs.StartFault.{start_fault_status, start_fault_line}
 use Rattle.puzzle_cli.specs.declared.fault.Fault.{Fault}
 use Rattle.puzzle_cli.specs.declared.fault.Fault.TheVariants.{Words, Start, LoadFile, SaveFile, Input, Output, OutOfMemory}
 

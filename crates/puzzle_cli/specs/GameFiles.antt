@@ -12,10 +12,7 @@ use Rattle.puzzle_cli.specs.declared.fault.Fault.TheVariants.{LoadFile, SaveFile
 use Rattle.puzzle_cli.specs.declared.program.game_files.Unwritten.{Unwritten}
 use Rattle.puzzle_cli.specs.declared.program.game_files.Unwritten.TheVariants.{Failed, LeftAt}
 use Rattle.puzzle_cli.specs.Stages.{Stage}
-
--- the text that a word of the command line gives
-abbrev pub Word : Type 0
-Word = String Global
+use Rattle.line_replies.specs.Starts.{Word}
 
 -- the most bytes that are asked for of a file to load: one more than a save may have
 abbrev pub most_read : ℕ

@@ -1,33 +1,33 @@
--- What the contracts of this crate cite. A line and its command: Lines, Commands; what is said and left: GameFacts,
--- NewSessions, SessionReplies, Replies; in other words: Formats; the run: Texts, Machines, Runs; its laws: RunLaws; the
--- program: Starts, Stages, GameFiles, Programs. The others are texts and faults, and Inner the words of private steps.
-pub mod WholeLines
-pub mod Symbols
-pub mod TowersPicture
-pub mod UnequalPicture
-pub mod BoardTexts
-pub mod SolutionTexts
-pub mod Commands
+-- The words of this crate's contracts. The run: Runs; the program: Stages, GameFiles, Programs; its words:
+-- CommandLine; ends and faults. Inner has the words of private steps. The words on replies are line_replies'.
 pub mod CommandFault
 pub mod CommandLine
-pub mod GameFacts
-pub mod Refusals
-pub mod NewSessions
-pub mod SessionReplies
-pub mod Replies
 pub mod End
-pub mod LineFault
-pub mod Lines
 pub mod Runs
-pub mod StartFault
-pub mod Starts
 pub mod Faults
-pub mod Texts
-pub mod Machines
-pub mod Formats
 pub mod Stages
 pub mod GameFiles
 pub mod Programs
-pub mod RunLaws
-pub mod Faithful
 pub mod Inner
+pub use Rattle.line_replies.specs.WholeLines
+pub use Rattle.line_replies.specs.Symbols
+pub use Rattle.line_replies.specs.TowersPicture
+pub use Rattle.line_replies.specs.UnequalPicture
+pub use Rattle.line_replies.specs.BoardTexts
+pub use Rattle.line_replies.specs.SolutionTexts
+pub use Rattle.line_replies.specs.Commands
+pub use Rattle.line_replies.specs.GameFacts
+pub use Rattle.line_replies.specs.Refusals
+pub use Rattle.line_replies.specs.NewSessions
+pub use Rattle.line_replies.specs.SessionReplies
+pub use Rattle.line_replies.specs.Replies
+pub use Rattle.line_replies.specs.LineFault
+pub use Rattle.line_replies.specs.Lines
+pub use Rattle.line_replies.specs.StartFault
+pub use Rattle.line_replies.specs.Starts
+pub use Rattle.line_replies.specs.Texts
+pub use Rattle.line_replies.specs.Machines
+pub use Rattle.line_replies.specs.Formats
+pub use Rattle.line_replies.specs.RunLaws
+pub use Rattle.line_replies.specs.Faithful
+pub use Rattle.line_replies.specs.InTurn

@@ -11,31 +11,20 @@ use Rattle.puzzle_cli.specs.declared.fault.Fault.TheVariants.{Start, Input, Outp
 use Rattle.puzzle_cli.specs.declared.run_end.End.{End}
 use Rattle.puzzle_cli.specs.declared.run_end.End.TheVariants.{Finished, ReadFault, WriteFault}
 use Rattle.puzzle_cli.specs.declared.start.command_line.Args.{Args}
-use Rattle.puzzle_cli.specs.declared.start.command_line.GameName.{GameName}
-use Rattle.puzzle_cli.specs.declared.start.command_line.GameName.TheVariants.{Towers, Unequal}
-use Rattle.puzzle_cli.specs.declared.start.start_fault.StartFault.{StartFault}
-use Rattle.puzzle_cli.specs.Lines.{ReplyRule}
-use Rattle.puzzle_cli.specs.Commands.{is_quit}
-use Rattle.puzzle_cli.specs.GameFacts.{GameFacts}
-use Rattle.puzzle_cli.specs.GameFiles.{Word, Reads, Writes, Loads, Saves}
-use Rattle.puzzle_cli.specs.NewSessions.{TextBegins, IsStartRefusal}
-use Rattle.puzzle_cli.specs.RunLaws.{IsNoneOrStorable}
+use Rattle.line_replies.specs.declared.start.game_name.GameName.{GameName}
+use Rattle.line_replies.specs.declared.start.game_name.GameName.TheVariants.{Towers, Unequal}
+use Rattle.line_replies.specs.declared.start.start_fault.StartFault.{StartFault}
+use Rattle.line_replies.specs.Lines.{ReplyRule}
+use Rattle.line_replies.specs.Commands.{is_quit}
+use Rattle.line_replies.specs.GameFacts.{GameFacts}
+use Rattle.line_replies.specs.Starts.{Word}
+use Rattle.puzzle_cli.specs.GameFiles.{Reads, Writes, Loads, Saves}
+use Rattle.line_replies.specs.NewSessions.{TextBegins, IsStartRefusal}
+use Rattle.line_replies.specs.RunLaws.{IsNoneOrStorable}
 use Rattle.puzzle_cli.specs.Runs.{point_at, Ends}
 use Rattle.puzzle_cli.specs.Stages.{Stage, AnswerThen, ThenAnswer, InTurn}
-use Rattle.puzzle_cli.specs.Starts.{FileBegins}
-
--- what may be said to a line of a game
-abbrev pub GameReply : Type 0 → Type 1
-GameReply P = ReplyRule (Option (History P))
-
--- the first session: that of the ID, or otherwise that of the file's bytes, or why it is refused; none without both
-abbrev pub Begins : {P : Type 0} → GameFacts P → Option Word → Option (List ℕ)
-    → Result (Option (History P)) StartFault → Type 0
-Begins f (Some id) bytes (Ok first) = IsSomeAnd first (λ h. TextBegins f (string_bytes id) (Ok h))
-Begins f (Some id) bytes (Err fault) = IsStartRefusal (TextBegins f (string_bytes id)) fault
-Begins f None (Some bytes) (Ok first) = IsSomeAnd first (λ h. FileBegins f bytes (Ok h))
-Begins f None (Some bytes) (Err fault) = FileBegins f bytes (Err fault)
-Begins f None None result = result ≡ Ok None
+use Rattle.line_replies.specs.Starts.{FileBegins}
+use Rattle.line_replies.specs.Starts.{GameReply, Begins}
 
 -- a run from one session and the streams around it to another ends so
 abbrev pub RunEnds : {P R W : Type 0} → GameReply P → OfSource R → OfSink W → End → Option (History P) → R × W
@@ -78,8 +67,3 @@ abbrev pub IsGame : {P F R W : Type 0} → GameFacts P → GameReply P → Reads
     → Stage (F × (R × W)) (Unit {0})
 IsGame f reply reads writes of_source of_sink args =
     InTurn (Loads reads args.load) (Plays f reply of_source of_sink args) (Saves writes args.save)
-
--- what is said of the game that the words name
-abbrev pub OfGame : {A : Type 1} → GameName → A → A → A
-OfGame Towers towers unequal = towers
-OfGame Unequal towers unequal = unequal

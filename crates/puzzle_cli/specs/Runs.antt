@@ -1,12 +1,13 @@
--- What a run writes and how it ends, over what may be said to a line (`reply`) and which lines end a run (`quit`).
+-- A run's output and its end, over what may be said to a line (`reply`) and which lines end a run (`quit`).
 use Rattle.std.specs.Prelude.{◌≡◌, ℕ, ◌<◌, ◌≤◌, Bool, true, false, if◌then◌else◌, Option, List, [], ◌∷◌, ◌++◌, length, take, ◌⊎◌}
 use Rattle.std.specs.Io.KnownBytes.{Appends, Consumes, IsAtEnd}
 use Rattle.puzzle_io.specs.declared.device.Source.{Ghosts as OfSource}
 use Rattle.puzzle_io.specs.declared.device.Sink.{Ghosts as OfSink}
 use Rattle.puzzle_cli.specs.declared.line.line_loop.TheConstants.{INPUT_BYTES}
-use Rattle.puzzle_cli.specs.Lines.{Line, ReplyRule, all_lines, ended_lines}
+use Rattle.line_replies.specs.Lines.{Line, ReplyRule, all_lines, ended_lines}
 use Rattle.puzzle_cli.specs.declared.run_end.End.{End}
 use Rattle.puzzle_cli.specs.declared.run_end.End.TheVariants.{Finished, ReadFault, WriteFault}
+use Rattle.line_replies.specs.InTurn.{RepliesInTurn, has_quit, before_quit}
 
 -- How far the answers have come: what answers lines; the bytes that the sink took, where it tells them; and whether it
 -- has failed.
@@ -35,23 +36,6 @@ point_at of_source of_sink session source sink =
       to_come = of_source.to_come source;
       read_failed = of_source.has_failed source;
     }
-
--- the replies to the lines in turn, one after another, and what they leave
-abbrev pub RepliesInTurn : {S : Type 0} → ReplyRule S → List Line → S → List ℕ → S → Type 0
-RepliesInTurn reply [] old written new = (written ≡ []) × (new ≡ old)
-RepliesInTurn {S} reply (line ∷ lines) old written new =
-    (bytes : List ℕ) × (mid : S) × (rest : List ℕ) × reply old line bytes mid × (written ≡ bytes ++ rest)
-    × RepliesInTurn reply lines mid rest new
-
--- whether one of the lines ends the run
-abbrev pub has_quit : (Line → Bool) → List Line → Bool
-has_quit quit [] = false
-has_quit quit (line ∷ lines) = if quit line then true else has_quit quit lines
-
--- the lines before the first that ends the run
-abbrev pub before_quit : (Line → Bool) → List Line → List Line
-before_quit quit [] = []
-before_quit quit (line ∷ lines) = if quit line then [] else line ∷ before_quit quit lines
 
 -- the lines were answered in turn, and the sink, where it tells its bytes, took the replies
 abbrev pub Served : {S : Type 0} → ReplyRule S → List Line → Progress S → Progress S → Type 0

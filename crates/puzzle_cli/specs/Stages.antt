@@ -1,4 +1,4 @@
--- What a program does, stage by stage: each stage gives something, or its fault is the program's end.
+-- The stages of a program: each gives something, or its fault is the program's end.
 use Rattle.std.specs.Prelude.{◌≡◌, ◌⊎◌, Result, Ok, Err}
 use Rattle.puzzle_cli.specs.declared.fault.Fault.{Fault}
 

@@ -5,8 +5,8 @@ ghost use Rattle.puzzle_cli.specs.Faults.{fault_status, fault_line, fault_left_a
 
 use crate::run_end::End;
 use crate::start::command_fault::CommandFault;
-use crate::start::start_fault::StartFault;
 use arrayvec::ArrayString;
+use line_replies::StartFault;
 
 /// Why the program ends before its work is done.
 #[derive(Drop)]

@@ -2,4 +2,4 @@
 
 pub(crate) mod line_buffer;
 pub(crate) mod line_loop;
-pub(crate) mod machine;
+pub(crate) mod session_machine;

@@ -2,18 +2,17 @@
 
 ghost use Rattle.std.specs.Prelude.{◌≡◌, ◌≢◌, false, IfErr, OnOk};
 ghost use Rattle.puzzle_cli.specs.Faults.{fault_status};
-ghost use Rattle.puzzle_cli.specs.Programs.{IsGame, OfGame};
+ghost use Rattle.puzzle_cli.specs.Programs.{IsGame};
+ghost use Rattle.line_replies.specs.Starts.{OfGame};
 
 pub(crate) mod game_files;
 pub(crate) mod game_text;
 
-use crate::draw::Draw;
 use crate::fault::Fault;
-use crate::format::Format;
 use crate::program::game_files::{GameFiles, load_file, save_file};
 use crate::program::game_text::game_text;
-use crate::reply::facts::Facts;
-use crate::start::command_line::{Args, GameName};
+use crate::start::command_line::Args;
+use line_replies::{Draw, Facts, Format, GameName};
 use puzzle_io::{Sink, Source};
 use std::alloc::Global;
 use towers_game::Towers;

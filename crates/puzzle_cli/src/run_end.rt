@@ -51,7 +51,7 @@ impl End {
         }
     }
 
-    /// What the program says on standard error, without the LF; nothing at `Finished`.
+    /// The program's line on standard error, without the LF; nothing at `Finished`.
     pub fn fault_line(&self) -> ArrayString<40>
         ensures { result.bytes ≡ end_fault_line self.now }
     {

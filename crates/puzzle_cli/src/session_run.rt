@@ -1,16 +1,14 @@
 //! The run of a session: lines come in, and their replies go out.
 ghost use Rattle.std.specs.Prelude.{◌≡◌, ◌≢◌, false};
-ghost use Rattle.puzzle_cli.specs.Commands.{is_quit};
-ghost use Rattle.puzzle_cli.specs.Replies.{Reply};
-ghost use Rattle.puzzle_cli.specs.RunLaws.{IsNoneOrStorable};
+ghost use Rattle.line_replies.specs.Commands.{is_quit};
+ghost use Rattle.line_replies.specs.Replies.{Reply};
+ghost use Rattle.line_replies.specs.RunLaws.{IsNoneOrStorable};
 ghost use Rattle.puzzle_cli.specs.Runs.{point_at, Ends};
 
-use crate::draw::Draw;
-use crate::format::session_machine::SessionMachine;
-use crate::format::{Format, Plain};
 use crate::line::line_loop::run_machine;
-use crate::reply::facts::Facts;
+use crate::line::session_machine::SessionMachine;
 use crate::run_end::End;
+use line_replies::{Draw, Facts, Format, Plain};
 use play_midend::Session;
 use puzzle_io::{Sink, Source};
 use std::alloc::Global;

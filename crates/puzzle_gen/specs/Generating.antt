@@ -1,4 +1,4 @@
--- What is generated from parameters and a seed: a puzzle, or a refusal.
+-- The outcome of generating from parameters and a seed: a puzzle, or a refusal.
 use Rattle.std.specs.Prelude.{◌≡◌, ℕ, ◌<◌, ◌≤◌, Result, Ok, Err, None, IsSome}
 use Rattle.trail_solver.specs.declared.rules.Rules.{Ghosts}
 use Rattle.game_texts.specs.declared.params.Params.{Params}

@@ -1,4 +1,4 @@
--- What comes of a seed: a stream of random words, a Latin square, and an order of the items of its full puzzle.
+-- The choices of a seed: a stream of random words, a Latin square, and an order of its full puzzle's items.
 use Rattle.std.specs.Prelude.{ℕ, ◌+◌, ◌*◌, ◌/◌, ◌%◌, List, ◌++◌, replicate, slice_index, map}
 use Rattle.std.specs.Int.{w64, to_be_bytes}
 use Rattle.std.specs.List.{range_with_len}

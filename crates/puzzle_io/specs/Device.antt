@@ -1,4 +1,4 @@
--- What a flush passes on, and when a write is a failure of the sink.
+-- The bytes that a flush passes on, and when a write is a failure of the sink.
 use Rattle.std.specs.Prelude.{◌≡◌, ℕ, List, Option, Some, None, Bool, true, not, ◌&&◌, ◌==◌, Result, Ok, Err}
 use Rattle.puzzle_io.specs.declared.device.DeviceFault.{DeviceFault}
 

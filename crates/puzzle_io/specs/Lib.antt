@@ -1,4 +1,4 @@
--- What contracts see of the devices, and when a write failed.
+-- The devices as contracts see them, and when a write failed.
 pub mod Device
 pub mod Memory
 pub mod Stream

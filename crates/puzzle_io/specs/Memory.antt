@@ -1,4 +1,4 @@
--- What a contract sees of the devices over memory.
+-- The devices over memory as contracts see them.
 use Rattle.std.specs.Prelude.{ℕ, Bool, List}
 
 -- a source: the bytes to come, how many a read gives at most, and whether it has failed;

@@ -1,4 +1,4 @@
--- What a contract sees of the devices over `std`'s readers and writers.
+-- The devices over `std`'s readers and writers as contracts see them.
 use Rattle.std.specs.Prelude.{Bool}
 
 -- the reader or writer, and whether a call has failed

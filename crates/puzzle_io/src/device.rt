@@ -1,4 +1,4 @@
-//! What a source and a sink of bytes have to keep, and the fault that both answer.
+//! The duties of a source and a sink of bytes, and the fault that both answer.
 
 ghost use Rattle.std.specs.Prelude.{◌≡◌, ℕ, ◌≤◌, Bool, true, Option, None, List, length, IfOk, OnOk, IsErr, is_err, is_some, codes};
 ghost use Rattle.std.specs.Io.KnownBytes.{Keeps, ReadConsumes, WriteAppends};

@@ -46,7 +46,7 @@ impl<R: Read> Source for FromRead<R> {
         ensures failed { self.new.failed ≡ is_err result }
         ensures stays_failed { self.old.failed ≡ true → IsErr result }
 
-        // What the reader itself tells of its bytes.
+        // The reader's own account of its bytes.
         ensures reader { ReadConsumes (R.remaining self.old.stream) (R.remaining self.new.stream)
             result buffer.new }
     {

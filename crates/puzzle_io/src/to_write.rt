@@ -47,7 +47,7 @@ impl<W: Write> Sink for ToWrite<W> {
         ensures failed { self.new.failed ≡ write_failed result (length bytes.now) }
         ensures stays_failed { self.old.failed ≡ true → IsErr result }
 
-        // What the writer itself tells of its bytes.
+        // The writer's own account of its bytes.
         ensures writer { WriteAppends (W.contents self.old.stream) (W.contents self.new.stream)
             result bytes.now }
     {
@@ -66,7 +66,7 @@ impl<W: Write> Sink for ToWrite<W> {
         ensures failed { self.new.failed ≡ is_err result }
         ensures stays_failed { self.old.failed ≡ true → IsErr result }
 
-        // What the writer itself tells of its bytes.
+        // The writer's own account of its bytes.
         ensures writer { Keeps (W.contents self.old.stream) (W.contents self.new.stream) }
     {
         if self.failed {

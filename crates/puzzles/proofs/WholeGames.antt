@@ -1,6 +1,6 @@
 -- The program from its words on, case by case.
 use Rattle.std.proofs.Common.{◌≡◌, ◌↔◌, ◌∙◌, List, subst, sym}
-use Rattle.puzzle_cli.specs.GameFiles.{Word}
+use Rattle.puzzle_cli.specs.Starts.{Word}
 use Rattle.puzzles.specs.Names.{IsCalledPuzzlesJson}
 use Rattle.puzzles.specs.WholePrograms.{IsUnderName}
 use Rattle.puzzles.specs.declared.program_name.ProgramName.{ProgramName}

@@ -4,7 +4,7 @@ use Rattle.puzzle_cli.specs.declared.fault.Fault.TheVariants.{Words}
 use Rattle.puzzle_cli.specs.declared.start.command_fault.CommandFault.{CommandFault}
 use Rattle.puzzle_cli.specs.declared.start.command_line.Args.{Args}
 use Rattle.puzzle_cli.specs.CommandLine.{AreRead}
-use Rattle.puzzle_cli.specs.GameFiles.{Word}
+use Rattle.puzzle_cli.specs.Starts.{Word}
 use Rattle.puzzle_cli.specs.Stages.{Stage, AnswerThen}
 use Rattle.puzzles.specs.Names.{IsCalledPuzzlesJson}
 

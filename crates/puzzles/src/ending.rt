@@ -12,7 +12,8 @@ use std::io;
 /// The status that a program ends with, after it has said what there is to say.
 ///
 /// 0 where its work is done. Otherwise the line of the fault, or the text of refused words, goes to standard error, and the status is the
-/// fault's. The text of help goes to standard output, with status 0, or 1 where that can't be written. What is printed is tested only.
+/// fault's. The text of help goes to standard output, with status 0, or 1 where that can't be written. The
+/// printed texts are only tested.
 pub(crate) fn status_of(rt: &(impl Print + Eprint), ended: Result<(), Fault>) -> u8
     ensures { IsStatus (result_err ended) result }
 {

@@ -1,8 +1,8 @@
-//! What help and version say of the program where it answers in objects.
+//! The texts of help and version where the program answers in objects.
 
 use puzzle_cli::ProgramTexts;
 
-/// What the help and the version say of `puzzles-json`.
+/// The texts of help and version of `puzzles-json`.
 pub(crate) const PUZZLES_JSON: ProgramTexts = ProgramTexts {
     name: "puzzles-json",
     about: "Towers and Unequal for other programs: each line is a command, and a JSON object answers it",
@@ -17,6 +17,7 @@ Commands, one per line:
   board        the board that is shown, its clues or signs, and where it breaks a rule
   completable  whether none, one or several solutions keep its numbers
   hint         a number that follows from its numbers, and by which steps
+  hint marks   the same from its pencil marks, or where one is missing
   grade        by which steps the puzzle follows, as a letter, or null
   solutions    two solutions that keep the numbers of the board, or as many as there are
   spare [LETTER]  the items each of which could be left out, by uniqueness or by that grade; or
@@ -27,7 +28,9 @@ Commands, one per line:
   blank SIZE            begins the puzzle without clues, signs and givens
   item X,Y,N            begins the puzzle with a clue or a given of N, 0 for none
   item X,Y,U,V,N        begins it with a sign: the first square is the greater; none where N is 0
-  thin [LETTER]         begins the puzzle without what it can do without, also by a grade
+  thin [LETTER [FIRST]] begins the puzzle without what it can do without, also by a grade; FIRST
+                        is givens, clues or signs, which are tried first
+  fill                  begins the puzzle with each clue or sign of its only solution
 
 Each reply is one object on one line:
   refused    null, or the refusal's name

@@ -8,7 +8,7 @@ use std::io;
 use std::io::Read;
 use std::rt::Files;
 
-/// What stands in the file, cut at this many bytes.
+/// The bytes of the file, cut at this many.
 pub(crate) fn read_file(
     rt: &(impl Files + AllocGlobal),
     path: &str,
@@ -19,7 +19,7 @@ pub(crate) fn read_file(
     read_cut(rt.alloc(), File::open(rt, path)?, most)
 }
 
-/// What the reader gives, cut at this many bytes.
+/// The bytes that the reader gives, cut at this many.
 fn read_cut<R: Read + Drop>(alloc: Global, reader: R, most: usize) -> io::Result<Vec<u8>>
     ensures bound { IfOk result (λ bytes. vec_len bytes ≤ most) }
     ensures front { IfOk result (λ bytes. IfSome (R.remaining reader)

@@ -2,7 +2,7 @@
 
 ghost use Rattle.std.specs.Prelude.{◌≡◌, List, Result, Ok, Err, IfOk, IfErr, map, string_bytes};
 ghost use Rattle.puzzle_cli.specs.CommandLine.{AreRead, word_texts};
-ghost use Rattle.puzzle_cli.specs.GameFiles.{Word};
+ghost use Rattle.puzzle_cli.specs.Starts.{Word};
 ghost use Rattle.puzzle_cli.specs.declared.start.command_fault.CommandFault.{CommandFault};
 
 use puzzle_cli::{Args, CommandFault, ProgramTexts, read_words_of};
@@ -10,13 +10,14 @@ use std::alloc::{AllocError, Global};
 use std::rt::Env;
 use std::{env, io};
 
-/// What is said of words that no text can hold.
+/// The message on words that no text can hold.
 const NO_TEXT: &str =
     "error: a word of the command line is no UTF-8 text\n\nFor more information, try '--help'.\n";
 
 /// Where the words of a program come from.
 pub(crate) trait Words {
-    // What may come of asking for the words: these, the name that the program was called by before the others, or why there are none.
+    // The outcomes of asking for the words: these, the name that the program was called by before the others,
+    // or why there are none.
     ghost gives: { Self → Result (List Word) CommandFault → Type 0 };
 
     /// The words.
@@ -45,7 +46,7 @@ impl<R: Env + AllocGlobal> Words for ProcessWords<'_, R> {
     }
 }
 
-/// What these words say to a program with these texts.
+/// The arguments that these words give to a program with these texts.
 pub(crate) fn args(
     alloc: Global,
     texts: &ProgramTexts,

@@ -1,7 +1,8 @@
 //! The program as one expression: from the words of a process to a status, over files and streams.
 
 ghost use Rattle.std.specs.Prelude.{◌≡◌, false};
-ghost use Rattle.puzzle_cli.specs.Programs.{IsGame, OfGame};
+ghost use Rattle.puzzle_cli.specs.Programs.{IsGame};
+ghost use Rattle.puzzle_cli.specs.Starts.{OfGame};
 ghost use Rattle.puzzles.specs.WholePrograms.{IsOfWords, IsProgram};
 
 use crate::json_texts::PUZZLES_JSON;
@@ -13,7 +14,7 @@ use puzzle_cli::{Facts, Fault, Format, GameFiles, PUZZLES, Plain, ProgramTexts, 
 use puzzle_io::{Sink, Source};
 use std::alloc::Global;
 
-/// What a user who types lines at a terminal is told of the lines and of the board.
+/// The line that tells a user who types at a terminal of the lines and of the board.
 const GREETING: &str = "puzzles --help has the lines that can be typed; puzzles-play is the board";
 
 /// Reads the words, and plays the game that they name, in the format of the name that the program is called by, as

@@ -1,4 +1,4 @@
--- What a crash leaves of a folder over memory, where each change is made at once: what stands there.
+-- Crashes of a folder over memory, where each change is made at once: they leave what stands there.
 use Rattle.std.proofs.Common.{inl, inr, ⊎_elim, List, ℕ, ◌≡◌, refl, ◌∙◌}
 use Rattle.std.specs.Prelude.{Result, Ok, Err, OnOk, OnErr}
 use Rattle.safe_save.specs.Folder.{Image, Same, Touched, TouchedBoth, MayMove, LeavesChanged, Elapses}

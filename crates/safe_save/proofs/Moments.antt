@@ -1,4 +1,4 @@
--- What crashes leave over calls that come one after the other.
+-- The images that crashes leave over calls that come one after the other.
 use Rattle.std.proofs.lemmas.Bool.Decides.{nat_tests}
 use Rattle.std.proofs.Common.{◌≡◌, false, arith}
 use Rattle.std.specs.Prelude.{Result, Ok, Err, OnOk, is_err}

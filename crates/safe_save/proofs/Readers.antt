@@ -1,4 +1,4 @@
--- Who may read a new file while it is filled.
+-- The users who may read a new file while it is filled.
 use Rattle.std.proofs.Common.{arith}
 use Rattle.std.proofs.lemmas.Bool.Decides.{nat_tests}
 use Rattle.std.proofs.Common.{◌≡◌, ℕ, List, []}

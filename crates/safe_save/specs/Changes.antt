@@ -1,4 +1,4 @@
--- What stands in a folder over memory, as a list of its changes.
+-- The images of a folder over memory, by a list of its changes.
 use Rattle.std.specs.Prelude.{◌≡◌, ◌⊎◌, ℕ, ◌≤◌, List, length, take, fold, Option, None, option_map, if◌then◌else◌}
 use Rattle.std.specs.Str.{bytes_eq}
 use Rattle.safe_save.specs.Folder.{Image, FolderState, Same}

@@ -1,4 +1,4 @@
--- What a folder tells of itself, and what its calls do to that.
+-- The state that a folder tells, and the effects of its calls on it.
 use Rattle.std.specs.Prelude.{◌≡◌, ◌≢◌, ◌⊎◌, ℕ, ◌≤◌, ◌<◌, List, ◌++◌, Option, Some, None, IsSome, Result, IfErr}
 use Rattle.safe_save.specs.declared.folder.FolderCall.{FolderCall}
 use Rattle.safe_save.specs.declared.folder.FolderFault.{FolderFault}

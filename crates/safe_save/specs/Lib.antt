@@ -1,4 +1,4 @@
--- What a folder tells of itself and what its calls do to that, and what a save promises.
+-- The state that a folder tells, the effects of its calls on it, and the promises of a save.
 pub mod Changes
 pub mod FailedCalls
 pub mod Folder

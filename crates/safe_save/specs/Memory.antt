@@ -1,4 +1,4 @@
--- What a folder over memory tells.
+-- The state that a folder over memory tells.
 use Rattle.std.specs.Prelude.{◌≤◌, ℕ, List, length}
 use Rattle.std.proofs.Common.{sym, ◌∙◌, ap, arith}
 use Rattle.std.proofs.lemmas.List.{take_all}

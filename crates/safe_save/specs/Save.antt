@@ -1,4 +1,4 @@
--- What a save promises.
+-- The promises of a save.
 use Rattle.std.specs.Prelude.{◌≡◌, ◌⊎◌, ℕ, List, Some, IsSome, Result, Err}
 use Rattle.safe_save.specs.Folder.{Image, FolderState, Touched, LeavesChanged, LeavesOnly, KeepsFaults, FailedWith, HasFailed}
 use Rattle.safe_save.specs.declared.folder.FolderCall.{FolderCall}

@@ -1,4 +1,4 @@
--- What is told of a save that failed.
+-- The report on a save that failed.
 use Rattle.std.specs.Prelude.{◌≡◌, ◌⊎◌, ℕ, List, All, Some, IsSome, string_bytes}
 use Rattle.std.specs.IoError.{error_kind}
 use Rattle.std.specs.declared.io.ErrorKind.TheVariants.{AlreadyExists, Other}

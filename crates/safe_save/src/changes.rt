@@ -17,7 +17,7 @@ pub(crate) struct FolderChange {
 impl FolderChange {
     ghost use Rattle.safe_save.specs.Changes.{changed};
 
-    // What stands at the name after the change, where this stood there.
+    // The bytes at the name after the change, where `before` stood there.
     fn at<'a>(&'a self, name: &str, before: Option<&'a [u8]>) -> Option<&'a [u8]>
         ensures { option_map (λ bytes. bytes.now) result
             ≡ changed name.now (option_map (λ bytes. bytes.now) before.entry) self.entry.now }
@@ -36,7 +36,7 @@ impl FolderChange {
     }
 }
 
-// What stands at the name in a folder that was empty before these changes.
+// The bytes at the name in a folder that was empty before these changes.
 pub(crate) fn content_of<'a>(changes: &'a [FolderChange], name: &str) -> Option<&'a [u8]>
     ensures { option_map (λ bytes. bytes.now) result ≡ image_of changes.now name.now }
 {

@@ -3,7 +3,8 @@
 //!
 //! All that is done to the new file is done by its descriptor: a name can be made to lead elsewhere between two calls.
 //!
-//! A call by a name has room for that name on the stack. What makes such calls isn't inlined, so that few have theirs at once.
+//! A call by a name has room for that name on the stack. Functions that make such calls aren't inlined, so
+//! that few have theirs at once.
 
 use crate::{Folder, FolderFault};
 use std::fs::{File, Files, Metadata, OpenOptions, Permissions};
@@ -12,10 +13,11 @@ use std::os::unix::fs::{MetadataExt, OpenOptionsExt, PermissionsExt, fchown};
 use std::path::Path;
 use std::{fs, io};
 
-/// Who may read, write and run a file, without the bits that lend its owner's or group's rights to those who run it.
+/// The bits of reading, writing and running a file, without those that lend its owner's or group's rights to
+/// users who run it.
 const RIGHTS: u32 = 0o777;
 
-/// What stands where a save is to go.
+/// The state of the place where a save is to go.
 #[derive(Drop)]
 pub enum Standing {
     /// Nothing: a new file may be made there.
@@ -67,7 +69,7 @@ impl<R: Files<File = File>> Folder for FilesFolder<'_, R> {
 
     #[inline(never)]
     fn open_new(&mut self, name: &str) -> Result<(), FolderFault> {
-        // Whoever may not see the old file may not see the new one.
+        // A user who may not see the old file may not see the new one.
         let mode = match &self.standing {
             Standing::Nothing => 0o666,
             Standing::File(_) | Standing::Unclear => 0o600,

@@ -1,4 +1,4 @@
-//! What a folder has to keep, and the fault that its calls answer.
+//! The duties of a folder, and the fault that its calls answer.
 
 ghost use Rattle.std.specs.Prelude.{◌≡◌, ◌≢◌, ◌≤◌, ℕ, Some, None, [], IsSome, OnOk, OnErr, IsErrOf};
 ghost use Rattle.safe_save.specs.Folder.{Image, FolderState, Same, Touched, TouchedBoth, Appended, Moved, MayMove};
@@ -44,7 +44,7 @@ pub trait Folder {
     // Whether folders of this type tell what stands in them.
     ghost tells: { Type 0 };
 
-    // What a folder tells.
+    // The state that a folder tells.
     ghost state: { Self → FolderState };
 
     /// Makes a new empty file under a name at which nothing stands.
@@ -151,10 +151,10 @@ pub trait Folder {
         ensures cause { tells → HasCause FolderCall.FlushFolder (state self.old)
             (state self.new) result };
 
-    // What stands is among what a crash may leave.
+    // The image that stands is among those that a crash may leave.
     ghost may_stand: { (folder : Self) → tells → (state folder).may_leave (state folder).stands };
 
-    // What a crash may leave now it might have left since any earlier moment.
+    // An image that a crash may leave now it might have left since any earlier moment.
     ghost counts_now: { (folder : Self) (t : ℕ) (f : Image) → tells → t ≤ (state folder).moment
         → (state folder).may_leave f → (state folder).left_since t f };
 

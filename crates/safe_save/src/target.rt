@@ -1,6 +1,7 @@
 //! The file that a path leads to, and how a save is put there.
 //!
-//! A call by a name has room for that name on the stack. What makes such calls isn't inlined, so that few have theirs at once.
+//! A call by a name has room for that name on the stack. Functions that make such calls aren't inlined, so
+//! that few have theirs at once.
 
 ghost use Rattle.std.specs.Prelude.{◌≡◌, length, map, string_bytes, IfErr, IfOk, OnOk};
 ghost use Rattle.safe_save.specs.Folder.{NoWider};
@@ -32,7 +33,7 @@ const OPEN_TO_WRITE: u32 = 0o200;
 /// Why a file was not saved.
 #[derive(Debug, Drop)]
 pub enum Unsaved {
-    /// What the system said. What stood at the path stands there; or all is done, and a crash could bring back what stood there.
+    /// The system's error. The path has what it had; or all is done, and a crash could bring back the old.
     Failed(io::Error),
     /// The new file couldn't take its place. The whole save stands at this path.
     LeftBeside(String),
@@ -83,7 +84,7 @@ fn is_open<R: Files + AllocGlobal>(rt: &R, target: &Metadata) -> io::Result<bool
         let descriptor = match descriptor {
             Ok(descriptor) => descriptor,
             Err(error) if error.kind() == ErrorKind::OutOfMemory => return Err(error),
-            // What can't be told is no reason not to save.
+            // An answer that can't be had is no reason not to save.
             Err(_) => return Ok(false),
         };
         let path = descriptor.path();

@@ -1,4 +1,4 @@
--- What the counts of a row's fillings say of a reason's line.
+-- The counts of a row's fillings are those that a reason's line shows.
 use Rattle.std.proofs.Common.{◌≡◌, ◌↔◌, ℕ, ◌<◌, ◌≤◌, true, List, take, slice_index, sym, ap, ◌∙◌, subst}
 use Rattle.number_sets.specs.Sets.{has_number}
 use Rattle.line_steps.specs.Views.{view_cell}

@@ -72,7 +72,8 @@ impl ClueCounts {
         self.size.get()
     }
 
-    /// What may stand in a square of the line, by what is known of it. The squares are counted from 0, from the clue on.
+    /// The numbers that may stand in a square of the line, by what is known of it. The squares are counted
+    /// from 0, from the clue on.
     pub fn may(&self, index: u8) -> NumberSet
         requires { index < self.now.size }
         ensures { result ≡ slice_index self.now.row index }
@@ -225,7 +226,7 @@ fn known_row(row: &[NumberSet; 9], width: u8, squares: NumberSet) -> [NumberSet;
     known
 }
 
-// What may stand in a square if it is known, and otherwise any number.
+// The numbers that may stand in a square if it is known, and otherwise any number.
 fn known_in(may: NumberSet, is_known: bool, width: u8) -> NumberSet
     requires { width ≤ 9 }
     ensures { IsKnownIn width may is_known result }

@@ -1,11 +1,8 @@
 -- Chains come to the same from each view of a grid; and what the candidates that a grade leaves of it say.
 use Rattle.std.proofs.Common.{◌≡◌, ◌↔◌, ℕ, ◌*◌, ◌<◌, List, sym, ◌∙◌, subst, arith, inl, inr}
-use Rattle.std.proofs.lemmas.Bool.{cases_eq}
-use Rattle.latin_board.specs.Squares.{GridValue, number_at}
-use Rattle.trail_solver.specs.Pairs.{IsPair}
 use Rattle.trail_solver.specs.Candidates.{CandidatesValue}
 use Rattle.line_steps.specs.Left.{IsLeft, IsFewer}
-use Rattle.named_steps.specs.Chains.{Shows, IsShown, IsView}
+use Rattle.named_steps.specs.Chains.{Shows, IsShown}
 use Rattle.line_steps.specs.Chains.{StepValue, left_by, LeadsTo}
 use Rattle.line_steps.specs.Settled.{IsSettled, IsClosure}
 use Rattle.line_steps.proofs.Leads.{leads_size}
@@ -16,6 +13,7 @@ use Rattle.line_steps.specs.declared.grade.Grade.{Grade}
 use Rattle.named_steps.specs.declared.goal.Goal.{Goal}
 use Rattle.named_steps.specs.declared.goal.Goal.TheVariants.{OnlyValue}
 use Rattle.step_chains.specs.declared.aims.Aim.{Aim}
+use Rattle.step_chains.specs.Inner.Views.{SeenValue, IsSeen}
 use Rattle.step_chains.specs.ChainValues.{HasSome, LeavesNothing}
 use Rattle.step_chains.specs.Inner.FromEachView.{NothingIsShown, IsRefutedGrid}
 use Rattle.step_chains.specs.Inner.Replays.{Leads}
@@ -27,21 +25,17 @@ use Rattle.line_steps.specs.Reasons.{Striking}
 
 -- ---- views
 
--- a value that is left of a square in one view of a grid is left in each
-pub views_fewer : (g : GridValue) (a b : CandidatesValue) → IsView g a → IsView g b → IsFewer a b
-views_fewer g a b first second = λ cell v left.
-    let pair : IsPair g.size cell v = subst (λ (w : ℕ). IsPair w cell v) second.size left.pair in
-    record {
-      pair = subst (λ (w : ℕ). IsPair w cell v) (sym first.size) pair;
-      may = elim (cases_eq (number_at g cell) 0) [
-        | inl blank ↦ (first.empty cell v pair blank).1 ((second.empty cell v pair blank).0 left.may)
-        | inr some ↦ (first.filled cell v pair some).1 ((second.filled cell v pair some).0 left.may)
-      ];
-    }
+-- a value that is left of a square in one view is left in each
+pub views_fewer : (g : SeenValue) (a b : CandidatesValue) → IsSeen g a → IsSeen g b → IsFewer a b
+views_fewer g a b first second = λ cell v left. first.all cell v (second.among cell v left)
+
+-- the start is a view of itself
+pub seen_itself : (g : SeenValue) → g.start.size ≡ g.grid.size → IsSeen g g.start
+seen_itself g size = record { size = size; among = λ cell v left. left; all = λ cell v left. left }
 
 -- a chain shows a goal from each view or from none
-pub shows_in : (Struck : Striking) → IsAntitone Struck → (grade : Grade) (g : GridValue) (a b : CandidatesValue)
-    (steps : List StepValue) (goal : Goal) → IsView g a → IsView g b → Shows Struck grade a steps goal → Shows Struck grade b steps goal
+pub shows_in : (Struck : Striking) → IsAntitone Struck → (grade : Grade) (g : SeenValue) (a b : CandidatesValue)
+    (steps : List StepValue) (goal : Goal) → IsSeen g a → IsSeen g b → Shows Struck grade a steps goal → Shows Struck grade b steps goal
 shows_in Struck less grade g a b steps goal first second =
     shows_alike Struck less grade a b steps goal (first.size ∙ sym second.size) (views_fewer g a b first second)
 
@@ -65,8 +59,8 @@ leaves_where Struck grade c steps cell inside = (
 -- ---- what a grade leaves of a view
 
 -- if the candidates that a grade leaves show no number of an empty square, no chain of the grade does
-pub nothing_shown : (Struck : Striking) → IsAntitone Struck → (grade : Grade) (g : GridValue) (view d : CandidatesValue)
-    → IsView g view → IsClosure Struck grade view d → ((goal : Goal) → IsOpenShown g d goal → ⊥) → NothingIsShown Struck grade g
+pub nothing_shown : (Struck : Striking) → IsAntitone Struck → (grade : Grade) (g : SeenValue) (view d : CandidatesValue)
+    → IsSeen g view → IsClosure Struck grade view d → ((goal : Goal) → IsOpenShown g.grid d goal → ⊥) → NothingIsShown Struck grade g
 nothing_shown Struck less grade g view d is closed none = λ other other_is steps goal goal_of empty shows.
     none goal (record {
       goal_of = goal_of;
@@ -75,8 +69,8 @@ nothing_shown Struck less grade g view d is closed none = λ other other_is step
     })
 
 -- if a grade leaves something of each square, no chain of the grade leaves a square nothing
-pub none_refuted : (Struck : Striking) → IsAntitone Struck → (grade : Grade) (g : GridValue) (view d : CandidatesValue)
-    → IsView g view → IsClosure Struck grade view d → HasSome d → IsRefutedGrid Struck grade g → ⊥
+pub none_refuted : (Struck : Striking) → IsAntitone Struck → (grade : Grade) (g : SeenValue) (view d : CandidatesValue)
+    → IsSeen g view → IsClosure Struck grade view d → HasSome d → IsRefutedGrid Struck grade g → ⊥
 none_refuted Struck less grade g view d is closed some r =
     let (other, other_is, refuted) = r in
     let size : other.size ≡ view.size = other_is.size ∙ sym is.size in
@@ -87,8 +81,8 @@ none_refuted Struck less grade g view d is closed some r =
     refuted.nothing left.0 (here.1 refuted.cell left.0 (fewer refuted.cell left.0 left.1))
 
 -- a goal that some steps of the grade show is shown by all of them, from each view
-pub shown_by_all : (Struck : Striking) → IsAntitone Struck → (grade : Grade) (g : GridValue) (view d : CandidatesValue)
-    (goal : Goal) → IsView g view → LeadsTo Struck grade view d → IsShown d goal → IsShownByAll Struck grade g goal
+pub shown_by_all : (Struck : Striking) → IsAntitone Struck → (grade : Grade) (g : SeenValue) (view d : CandidatesValue)
+    (goal : Goal) → IsSeen g view → LeadsTo Struck grade view d → IsShown d goal → IsShownByAll Struck grade g goal
 shown_by_all Struck less grade g view d goal is leads shown = λ other e other_is other_closed.
     let size : view.size ≡ other.size = is.size ∙ sym other_is.size in
     let there = chain_less Struck less view other leads.steps size (views_fewer g view other is other_is) leads.chain in
@@ -98,8 +92,8 @@ shown_by_all Struck less grade g view d goal is leads shown = λ other e other_i
     shown_less d e goal (leads_size Struck grade view d leads ∙ size ∙ sym other_closed.size) all shown
 
 -- steps that leave the grade settled show each goal that all steps of the grade show
-pub all_show : (Struck : Striking) (grade : Grade) (g : GridValue) (view d : CandidatesValue) (steps : List StepValue)
-    (goal : Goal) → IsView g view → Leads Struck grade view steps d → IsSettled Struck grade d → IsShownByAll Struck grade g goal
+pub all_show : (Struck : Striking) (grade : Grade) (g : SeenValue) (view d : CandidatesValue) (steps : List StepValue)
+    (goal : Goal) → IsSeen g view → Leads Struck grade view steps d → IsSettled Struck grade d → IsShownByAll Struck grade g goal
     → Shows Struck grade view steps goal
 all_show Struck grade g view d steps goal is leads settled shown =
     (shows_where Struck grade view d steps goal leads).0 (shown view d is (record {
@@ -112,8 +106,8 @@ all_show Struck grade g view d steps goal is leads settled shown =
     }))
 
 -- steps come to a square that they leave nothing, and otherwise, with the grade settled, to the given aim
-pub all_come_to : (Struck : Striking) (grade : Grade) (g : GridValue) (view d : CandidatesValue)
-    (steps : List StepValue) (aim end : Aim) → IsView g view → Leads Struck grade view steps d → (HasSome d → IsSettled Struck grade d)
+pub all_come_to : (Struck : Striking) (grade : Grade) (g : SeenValue) (view d : CandidatesValue)
+    (steps : List StepValue) (aim end : Aim) → IsSeen g view → Leads Struck grade view steps d → (HasSome d → IsSettled Struck grade d)
     → IsShownByAll Struck grade g (aim_goal aim) → IsAimOrNothing d aim end
     → Shows Struck grade view steps (aim_goal end)
 all_come_to Struck grade g view d steps aim end is leads settled shown (inl (cell, nothing, same)) =
@@ -124,12 +118,12 @@ all_come_to Struck grade g view d steps aim end is leads settled shown (inr (som
     (all_show Struck grade g view d steps (aim_goal aim) is leads (settled some) shown)
 
 -- steps that come to a square left nothing refute the grid's numbers, and others come to the aim
-pub all_refute : (Struck : Striking) (grade : Grade) (g : GridValue) (view d : CandidatesValue) (steps : List StepValue)
-    (aim end : Aim) → IsView g view → Leads Struck grade view steps d → IsAimOf g.size aim → IsAimOrNothing d aim end
-    → IsAimOf g.size end × IsAimOrRefuted Struck grade g aim end
+pub all_refute : (Struck : Striking) (grade : Grade) (g : SeenValue) (view d : CandidatesValue) (steps : List StepValue)
+    (aim end : Aim) → IsSeen g view → Leads Struck grade view steps d → IsAimOf g.grid.size aim → IsAimOrNothing d aim end
+    → IsAimOf g.grid.size end × IsAimOrRefuted Struck grade g aim end
 all_refute Struck grade g view d steps aim end is leads aim_of (inl (cell, nothing, same)) =
     let inside : cell < view.size * view.size = subst (λ (w : ℕ). cell < w * w) leads.size nothing.0 in (
-      subst (IsAimOf g.size) (sym same) (subst (λ (w : ℕ). cell < w * w) is.size inside),
+      subst (IsAimOf g.grid.size) (sym same) (subst (λ (w : ℕ). cell < w * w) is.size inside),
       inl (
         cell,
         same,
@@ -148,4 +142,4 @@ all_refute Struck grade g view d steps aim end is leads aim_of (inl (cell, nothi
       ),
     )
 all_refute Struck grade g view d steps aim end is leads aim_of (inr (some, same)) =
-    (subst (IsAimOf g.size) (sym same) aim_of, inr same)
+    (subst (IsAimOf g.grid.size) (sym same) aim_of, inr same)

@@ -1,4 +1,6 @@
 pub mod Unseen
+pub mod Unmarked
+pub mod Copies
 pub mod Followed
 pub mod Pieces
 pub mod Tight
@@ -11,3 +13,4 @@ pub mod NextHints
 pub mod ForcedLaws
 pub mod Spare
 pub mod BoundHints
+pub mod Within

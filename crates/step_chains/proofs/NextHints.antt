@@ -1,15 +1,13 @@
 -- The least grade whose steps lead to an aim, and what no steps lead to.
 use Rattle.std.proofs.Common.{◌≡◌, Option, Some, None, ℕ, ◌*◌, ◌<◌, ◌≤◌, Bool, false, List, [], ◌∷◌, refl, sym, ◌∙◌, subst, arith, inl, inr, true}
 use Rattle.std.proofs.lemmas.Bool.{cases_eq, both_ways}
-use Rattle.latin_board.specs.Squares.{GridValue}
 use Rattle.trail_solver.specs.Pairs.{IsPair}
 use Rattle.trail_solver.specs.Candidates.{CandidatesValue, may_be}
 use Rattle.line_steps.specs.Left.{IsLeft, IsEmptied, IsFewer}
 use Rattle.line_steps.specs.Grades.{has_reason, IsLower, rank}
-use Rattle.named_steps.specs.Chains.{IsView}
+use Rattle.step_chains.specs.Inner.Views.{SeenValue, IsSeen}
 use Rattle.line_steps.specs.Chains.{StepValue, LeadsTo, AreOfGrade}
 use Rattle.line_steps.specs.Settled.{IsClosure, IsSettled}
-use Rattle.named_steps.specs.Following.{IsRefuted}
 use Rattle.line_steps.proofs.Leads.{leads_on, leads_size, leads_wider}
 use Rattle.line_steps.proofs.Rounds.{closure_reached}
 use Rattle.std.specs.Bool.{OnTrue, OnFalse}
@@ -25,7 +23,6 @@ use Rattle.named_steps.specs.declared.goal.Goal.TheVariants.{OnlyValue}
 use Rattle.step_chains.specs.declared.aims.Aim.{Aim}
 use Rattle.step_chains.specs.declared.aims.Aim.TheVariants.{Number, Nothing}
 use Rattle.step_chains.specs.ChainValues.{HasSome}
-use Rattle.step_chains.specs.Explanations.{IsRefutation}
 use Rattle.step_chains.specs.NextHints.{IsForcedSquare}
 use Rattle.step_chains.specs.Inner.FromEachView.{IsRefutedGrid, NothingIsShown, NoneBelowRefutes, NoneBelowShows}
 use Rattle.step_chains.specs.Inner.Aims.{AreLeftBy, IsAimOrRefuted, IsLeastBy, IsLeftNothing, IsOver, LeadNowhere}
@@ -36,41 +33,41 @@ use Rattle.line_steps.specs.Reasons.{Striking}
 -- ---- one grade after another
 
 -- candidates that steps of a grade leave are left by steps of a higher grade, too
-pub left_up : (Struck : Striking) (lower grade : Grade) (g : GridValue) (c : CandidatesValue) → rank lower ≤ rank grade → AreLeftBy Struck lower g c
+pub left_up : (Struck : Striking) (lower grade : Grade) (g : SeenValue) (c : CandidatesValue) → rank lower ≤ rank grade → AreLeftBy Struck lower g c
     → AreLeftBy Struck grade g c
 left_up Struck lower grade g c h (view, is, leads) =
     (view, is, leads_wider Struck Struck lower grade (λ _ reason cell v h. h) (higher_has lower grade h) view c leads)
 
 -- candidates that steps of a grade and then more of its steps leave are left by steps of the grade
-pub left_on : (Struck : Striking) (grade : Grade) (g : GridValue) (c d : CandidatesValue) → AreLeftBy Struck grade g c → LeadsTo Struck grade c d
+pub left_on : (Struck : Striking) (grade : Grade) (g : SeenValue) (c d : CandidatesValue) → AreLeftBy Struck grade g c → LeadsTo Struck grade c d
     → AreLeftBy Struck grade g d
 left_on Struck grade g c d (view, is, leads) more = (view, is, leads_on Struck grade view c d leads more)
 
 -- candidates that steps of a grade leave have the grid's size
-pub left_size : (Struck : Striking) (grade : Grade) (g : GridValue) (c : CandidatesValue) → AreLeftBy Struck grade g c → c.size ≡ g.size
+pub left_size : (Struck : Striking) (grade : Grade) (g : SeenValue) (c : CandidatesValue) → AreLeftBy Struck grade g c → c.size ≡ g.grid.size
 left_size Struck grade g c (view, is, leads) = leads_size Struck grade view c leads ∙ is.size
 
 -- if a grade is settled or a square is left nothing, and no square is, the grade is over
-over_by : (Struck : Striking) (grade : Grade) (g : GridValue) (d : CandidatesValue) (b : Bool) → AreLeftBy Struck grade g d
+over_by : (Struck : Striking) (grade : Grade) (g : SeenValue) (d : CandidatesValue) (b : Bool) → AreLeftBy Struck grade g d
     → OnTrue b (IsSettled Struck grade d) → OnFalse b (IsEmptied d) → HasSome d → IsOver Struck grade g d
 over_by Struck grade g d true (view, is, leads) settled emptied some = (view, is, closure_reached Struck grade view d leads settled, some)
 over_by Struck grade g d false left settled (at, inside, nothing) some = let (value, has) = some at inside in absurd (nothing value has)
 
 -- if a search for a square that is left nothing finds none, the grade is over
-pub over_found : (Struck : Striking) (grade : Grade) (g : GridValue) (d : CandidatesValue) (b : Bool) (found : Option ℕ)
+pub over_found : (Struck : Striking) (grade : Grade) (g : SeenValue) (d : CandidatesValue) (b : Bool) (found : Option ℕ)
     → AreLeftBy Struck grade g d → OnTrue b (IsSettled Struck grade d) → OnFalse b (IsEmptied d)
     → MatchOption found (HasSome d) (IsLeftNothing d) → MatchOption found (IsOver Struck grade g d) (IsLeftNothing d)
 over_found Struck grade g d b (Some cell) left settled emptied nothing = nothing
 over_found Struck grade g d b None left settled emptied some = over_by Struck grade g d b left settled emptied some
 
 -- the steps of a grade that is over don't refute the grid's numbers
-pub over_holds : (Struck : Striking) → IsAntitone Struck → (grade : Grade) (g : GridValue) (d : CandidatesValue) → IsOver Struck grade g d
+pub over_holds : (Struck : Striking) → IsAntitone Struck → (grade : Grade) (g : SeenValue) (d : CandidatesValue) → IsOver Struck grade g d
     → IsRefutedGrid Struck grade g → ⊥
 over_holds Struck less grade g d (view, is, closed, some) = none_refuted Struck less grade g view d is closed some
 
 -- the steps of a grade that is over show no number, if the candidates that it leaves show none
-pub over_silent : (Struck : Striking) → IsAntitone Struck → (grade : Grade) (g : GridValue) (d : CandidatesValue) → IsOver Struck grade g d
-    → ((goal : Goal) → IsOpenShown g d goal → ⊥) → NothingIsShown Struck grade g
+pub over_silent : (Struck : Striking) → IsAntitone Struck → (grade : Grade) (g : SeenValue) (d : CandidatesValue) → IsOver Struck grade g d
+    → ((goal : Goal) → IsOpenShown g.grid d goal → ⊥) → NothingIsShown Struck grade g
 over_silent Struck less grade g d (view, is, closed, some) none = nothing_shown Struck less grade g view d is closed none
 
 -- ---- the grades below one
@@ -96,7 +93,7 @@ below_hard P first second Hard h = absurd (omega (arith, h))
 -- ---- the least grade that leads to an aim
 
 -- a square that a grade leaves nothing is a least aim, if no grade below refutes the grid
-pub emptied_least : (Struck : Striking) → IsAntitone Struck → (grade : Grade) (g : GridValue) (d : CandidatesValue)
+pub emptied_least : (Struck : Striking) → IsAntitone Struck → (grade : Grade) (g : SeenValue) (d : CandidatesValue)
     (cell : ℕ) → AreLeftBy Struck grade g d → IsLeftNothing d cell → NoneBelowRefutes Struck grade g
     → IsLeastBy Struck g grade (Nothing cell)
 emptied_least Struck less grade g d cell (view, is, leads) found below = (
@@ -106,8 +103,8 @@ emptied_least Struck less grade g d cell (view, is, leads) found below = (
 )
 
 -- a number that a grade shows is a least aim, if no grade below shows any and none refutes the grid
-pub shown_least : (Struck : Striking) → IsAntitone Struck → (grade : Grade) (g : GridValue) (d : CandidatesValue)
-    (goal : Goal) → AreLeftBy Struck grade g d → IsOpenShown g d goal → NoneBelowShows Struck grade g
+pub shown_least : (Struck : Striking) → IsAntitone Struck → (grade : Grade) (g : SeenValue) (d : CandidatesValue)
+    (goal : Goal) → AreLeftBy Struck grade g d → IsOpenShown g.grid d goal → NoneBelowShows Struck grade g
     → (IsRefutedGrid Struck Hard g → ⊥) → IsLeastBy Struck g grade (Number goal)
 shown_least Struck less grade g d goal (view, is, leads) found below holds = (
   (found.goal_of, found.empty),
@@ -129,7 +126,7 @@ all_hard [] = tt
 all_hard (step ∷ steps) = (hard_all step.reason, all_hard steps)
 
 -- where no steps refute the grid's numbers, all steps come to their aim
-pub aim_stays : (Struck : Striking) (grade : Grade) (g : GridValue) (aim end : Aim)
+pub aim_stays : (Struck : Striking) (grade : Grade) (g : SeenValue) (aim end : Aim)
     → IsAimOrRefuted Struck grade g aim end → (IsRefutedGrid Struck Hard g → ⊥) → end ≡ aim
 aim_stays Struck grade g aim end (inr same) holds = same
 aim_stays Struck grade g aim end (inl (cell, same, (view, is, r))) holds = absurd (holds (
@@ -146,17 +143,17 @@ aim_stays Struck grade g aim end (inl (cell, same, (view, is, r))) holds = absur
 ))
 
 -- where the hardest grade leaves something of each square and shows no number, no square is forced
-pub none_forced : (Struck : Striking) → IsAntitone Struck → (g : GridValue) (view d : CandidatesValue) → IsView g view
-    → IsClosure Struck Hard view d → HasSome d → ((goal : Goal) → IsOpenShown g d goal → ⊥) → (other : CandidatesValue) (cell : ℕ) → IsView g other
-    → IsForcedSquare Struck g other cell → ⊥
+pub none_forced : (Struck : Striking) → IsAntitone Struck → (g : SeenValue) (view d : CandidatesValue) → IsSeen g view
+    → IsClosure Struck Hard view d → HasSome d → ((goal : Goal) → IsOpenShown g.grid d goal → ⊥) → (other : CandidatesValue) (cell : ℕ) → IsSeen g other
+    → IsForcedSquare Struck g.grid other cell → ⊥
 none_forced Struck less g view d is closed some none other cell other_is f =
-    let size : d.size ≡ g.size = closed.size ∙ is.size in
+    let size : d.size ≡ g.grid.size = closed.size ∙ is.size in
     let fewer : IsFewer other d = λ k v left. views_fewer g other view other_is is k v (closure_fewer Struck Hard view d closed k v left) in
     let only : (u : ℕ) → IsLeft d cell u → u ≡ f.number = λ u left.
     elim (cases_eq u f.number) [
       | inl same ↦ same
       | inr apart ↦
-          let pair : IsPair g.size cell u = subst (λ (w : ℕ). IsPair w cell u) size left.pair in
+          let pair : IsPair g.grid.size cell u = subst (λ (w : ℕ). IsPair w cell u) size left.pair in
           let (reason, struck) = f.others u pair apart in
           absurd (both_ways (may_be d cell u)
           (closed.settled reason cell u (hard_all reason) left.pair (less other d reason cell u fewer struck)) left.may)
@@ -169,25 +166,11 @@ none_forced Struck less g view d is closed some none other cell other_is f =
     })
 
 -- where the hardest grade is over and shows no number, no steps lead on
-pub nowhere_left : (Struck : Striking) → IsAntitone Struck → (g : GridValue) (d : CandidatesValue) → IsOver Struck Hard g d
-    → ((goal : Goal) → IsOpenShown g d goal → ⊥) → LeadNowhere Struck g
+pub nowhere_left : (Struck : Striking) → IsAntitone Struck → (g : SeenValue) (d : CandidatesValue) → IsOver Struck Hard g d
+    → ((goal : Goal) → IsOpenShown g.grid d goal → ⊥) → LeadNowhere Struck g
 nowhere_left Struck less g d (view, is, closed, some) none = record {
   timely = (view, is, tt);
   shown = nothing_shown Struck less Hard g view d is closed none;
   holds = none_refuted Struck less Hard g view d is closed some;
   forced = none_forced Struck less g view d is closed some none;
-}
-
--- ---- what a hint says of solutions
-
--- a refutation is a chain of the grade's that leaves a square of its view nothing
-pub refuted_grid : (Struck : Striking) (grade : Grade) (g : GridValue) (steps : List StepValue) (cell : ℕ)
-    (r : IsRefutation Struck grade g steps cell) → IsRefuted Struck grade r.view
-refuted_grid Struck grade g steps cell r = record {
-  steps = steps;
-  chain = r.refutes.leaves.chain;
-  allowed = r.refutes.leaves.allowed;
-  cell = cell;
-  inside = r.refutes.leaves.inside;
-  nothing = r.refutes.leaves.nothing;
 }

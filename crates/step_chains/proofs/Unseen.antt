@@ -1,4 +1,4 @@
--- What isn't in view of a square, as sets of numbers.
+-- The numbers that aren't in view of a square, as sets.
 use Rattle.std.proofs.Common.{◌≡◌, ◌≢◌, ◌↔◌, ℕ, ◌+◌, ◌*◌, ◌/◌, ◌%◌, ◌<◌, ◌≤◌, true, nat_le, ◌&&◌, ◌||◌, ◌==◌, not, inl, inr, ◌⊎◌, sym, ap, ◌∙◌, subst, arith}
 use Rattle.std.proofs.lemmas.Bool.{both_ways, and_parts, and_from, or_left, or_right, cases_eq, cases_Bool, not_from_false, eq-eqb, ne_eqb, eqb-true, le-leb}
 use Rattle.std.proofs.lemmas.Nat.{div_below, mod_below}

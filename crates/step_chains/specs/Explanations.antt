@@ -1,8 +1,6 @@
--- What a chain that refutes says of a grid.
+-- The meaning of a chain that refutes the numbers of a grid.
 use Rattle.std.specs.Prelude.{◌≡◌, ℕ, List, ◌∷◌, ◌++◌}
-use Rattle.latin_board.specs.Squares.{GridValue}
 use Rattle.trail_solver.specs.Candidates.{CandidatesValue}
-use Rattle.named_steps.specs.Chains.{IsView}
 use Rattle.line_steps.specs.Chains.{StepValue}
 use Rattle.line_steps.specs.declared.grade.Grade.{Grade}
 use Rattle.step_chains.specs.ChainValues.{LeavesNothing}
@@ -14,10 +12,3 @@ pub record Refutes (Struck : Striking) (grade : Grade) (c : CandidatesValue) (st
   pub leaves : LeavesNothing Struck grade c steps cell
   pub tight : (front back : List StepValue) (step : StepValue) → steps ≡ front ++ step ∷ back
       → LeavesNothing Struck grade c (front ++ back) cell → ⊥
-
--- a refutation: from what is in view of the grid the steps leave the square nothing, and each is needed
-pub record IsRefutation (Struck : Striking) (grade : Grade) (g : GridValue) (steps : List StepValue)
-    (cell : ℕ) : Type 0 where
-  pub view : CandidatesValue
-  pub in_view : IsView g view
-  pub refutes : Refutes Struck grade view steps cell

@@ -6,6 +6,10 @@ pub mod ChainValues
 pub mod Explanations
 -- what the next hint of a grid says
 pub mod NextHints
+-- what is in view of a board with pencil marks
+pub mod BoardViews
+-- candidates taken once more
+pub mod Copies
 -- squares that narrowing forces
 pub mod ForcedLaws
 -- words that the contracts of private functions alone use

@@ -1,10 +1,10 @@
--- What the next hint of a grid says: by the steps of the least grade that lead to one, from what is in view.
+-- The next hint of a grid: by the steps of the least grade that lead to one, from what is in view.
 use Rattle.std.specs.Prelude.{◌≡◌, ◌≢◌, ℕ, ◌*◌, ◌<◌, List}
 use Rattle.latin_board.specs.Squares.{GridValue, number_at}
 use Rattle.trail_solver.specs.Pairs.{IsPair}
-use Rattle.trail_solver.specs.Candidates.{CandidatesValue}
+use Rattle.trail_solver.specs.Candidates.{CandidatesValue, IsWithin}
 use Rattle.trail_solver.specs.Completions.{Completes}
-use Rattle.trail_solver.specs.Puzzles.{Puzzle}
+use Rattle.trail_solver.specs.Puzzles.{Puzzle, Solves}
 use Rattle.named_steps.specs.Chains.{Explains, IsGoalOf, IsView, Shows, goal_cell, goal_value}
 use Rattle.named_steps.specs.Following.{IsRefuted}
 use Rattle.line_steps.specs.Chains.{StepValue}
@@ -52,6 +52,13 @@ HasNeededSteps Struck view (Refuted grade refutation) =
     AreNeededForNothing Struck grade view (steps_of refutation.steps.items) refutation.cell
 HasNeededSteps Struck view Nothing = Unit {0}
 
+-- each solution within the candidates has the hint's number; or, if it refutes them, there is none
+abbrev pub IsRightWithin : Puzzle → GridValue → CandidatesValue → NextHint → Type 0
+IsRightWithin p g view (Follows grade chain) =
+    (h : GridValue) → Solves p h → IsWithin view h → number_at h (goal_cell g.size chain.goal) ≡ goal_value chain.goal
+IsRightWithin p g view (Refuted grade refutation) = (h : GridValue) → Solves p h → IsWithin view h → ⊥
+IsRightWithin p g view Nothing = Unit {0}
+
 -- each solution that keeps the grid's numbers has the hint's number; or, if it refutes them, there is none
 abbrev pub IsRightHint : Puzzle → GridValue → NextHint → Type 0
 IsRightHint p g (Follows grade chain) =
@@ -69,14 +76,14 @@ pub record IsForcedSquare (Struck : Striking) (g : GridValue) (c : CandidatesVal
 
 -- The hint from these candidates: the steps of the least grade lead to it, each strikes only numbers that are left
 -- before it, while something is left of each square, no number of a step can be left out, what they say is so of each
--- solution that keeps the grid's numbers, and where reasons strike all numbers but one from an empty square at once,
+-- solution within them, and where reasons strike all numbers but one from an empty square at once,
 -- something is said.
 pub record IsHintFrom (p : Puzzle) (Struck : Striking) (g : GridValue) (view : CandidatesValue) (hint : NextHint)
     : Type 0 where
   pub least : IsLeastFrom Struck g view hint
   pub live : HasLiveSteps view hint
   pub needed : HasNeededSteps Struck view hint
-  pub right : IsRightHint p g hint
+  pub right : IsRightWithin p g view hint
   pub forced : (cell : ℕ) → IsForcedSquare Struck g view cell → hint ≢ Nothing
 
 -- the hint of a grid is the one from the candidates that are in view of the grid
@@ -84,3 +91,4 @@ pub record IsHint (p : Puzzle) (Struck : Striking) (g : GridValue) (hint : NextH
   pub view : CandidatesValue
   pub in_view : IsView g view
   pub is_hint : IsHintFrom p Struck g view hint
+  pub right : IsRightHint p g hint

@@ -1,4 +1,4 @@
-//! What the steps of a chain are to come to.
+//! The aims to which the steps of a chain are to come.
 ghost use Rattle.std.specs.Prelude.{◌↔◌, IsTrue, MatchOption};
 ghost use Rattle.named_steps.specs.Chains.{IsShown};
 ghost use Rattle.step_chains.specs.ChainValues.{HasSome};
@@ -9,7 +9,7 @@ use latin_board::Size;
 use named_steps::Goal;
 use trail_solver::Candidates;
 
-/// What the steps of a chain are to come to: a number is shown, or a square is left nothing.
+/// An aim to which the steps of a chain are to come: a number is shown, or a square is left nothing.
 #[derive(Clone, Copy, Debug)]
 pub(crate) enum Aim {
     Number(Goal),

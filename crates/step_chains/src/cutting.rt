@@ -27,7 +27,8 @@ pub(crate) fn cut(candidates: &mut Candidates, found: Aimed) -> Aimed {
     }
 }
 
-// How many steps there are up to the first that leaves its square nothing, and that square. What the steps list is taken away up to there.
+// How many steps there are up to the first that leaves its square nothing, and that square. The strikes of
+// the steps up to there are taken away.
 fn emptied_first(candidates: &mut Candidates, steps: &[Step]) -> Option<(usize, usize)> {
     for place in 0..steps.len() {
         let step = &steps[place];

@@ -2,11 +2,12 @@
 ghost use Rattle.line_steps.specs.Reasons.{StruckBy};
 ghost use Rattle.std.specs.Prelude.{◌≡◌, MatchOption};
 ghost use Rattle.step_chains.specs.declared.aims.Aim.TheVariants.{Number, Nothing};
+ghost use Rattle.step_chains.specs.Inner.Views.{seen};
 ghost use Rattle.step_chains.specs.Inner.Aims.{LeadNowhere, IsLeastAim, AreLeftBy, IsOver, IsLeftNothing};
 
 use crate::aims::{Aim, first_empty};
 use crate::goals::shown_goal;
-use crate::view::view_of;
+use crate::view::copy_of;
 use latin_board::Grid;
 use named_steps::{Goal, Grade, Steps, settle};
 use trail_solver::{Candidates, Rules};
@@ -22,20 +23,26 @@ pub(crate) struct LeastAim {
 /// of an empty square that the steps of the least grade show, where any do. Each grade goes on from what the one below it leaves, which is
 /// on the stack only here, and not while a chain is searched.
 #[inline(never)]
-pub(crate) fn first_aim<P: Steps>(p: &P, grid: &Grid, cache: &mut P::Cache) -> Option<LeastAim>
-    requires { grid.now.size ≡ (P.puzzle p.now).size }
-    ensures { MatchOption result (LeadNowhere (StruckBy P.puzzle P.own p.now) grid.now) (IsLeastAim (StruckBy P.puzzle P.own p.now) grid.now) }
+pub(crate) fn first_aim<P: Steps>(
+    p: &P,
+    grid: &Grid,
+    view: &Candidates,
+    cache: &mut P::Cache,
+) -> Option<LeastAim>
+    requires grid { grid.now.size ≡ (P.puzzle p.now).size }
+    requires view { view.now.size ≡ grid.now.size }
+    ensures { MatchOption result (LeadNowhere (StruckBy P.puzzle P.own p.now) (seen grid.now view.now)) (IsLeastAim (StruckBy P.puzzle P.own p.now) (seen grid.now view.now)) }
 {
-    let mut settled = view_of(grid);
-    if let Some(cell) = go_on(p, Grade::Latin, grid, &mut settled, cache) {
+    let mut settled = copy_of(grid, view);
+    if let Some(cell) = go_on(p, Grade::Latin, grid, view, &mut settled, cache) {
         return Some(emptied(Grade::Latin, cell));
     }
     let by_latin = shown_goal(&settled, grid);
-    if let Some(cell) = go_on(p, Grade::Easy, grid, &mut settled, cache) {
+    if let Some(cell) = go_on(p, Grade::Easy, grid, view, &mut settled, cache) {
         return Some(emptied(Grade::Easy, cell));
     }
     let by_easy = shown_goal(&settled, grid);
-    if let Some(cell) = go_on(p, Grade::Hard, grid, &mut settled, cache) {
+    if let Some(cell) = go_on(p, Grade::Hard, grid, view, &mut settled, cache) {
         return Some(emptied(Grade::Hard, cell));
     }
     match (by_latin, by_easy, shown_goal(&settled, grid)) {
@@ -51,13 +58,14 @@ fn go_on<P: Steps>(
     p: &P,
     grade: Grade,
     grid: &Grid,
+    view: &Candidates,
     settled: &mut Candidates,
     cache: &mut P::Cache,
 ) -> Option<usize>
     requires size { grid.now.size ≡ (P.puzzle p.now).size }
-    requires from { AreLeftBy (StruckBy P.puzzle P.own p.now) grade grid.now settled.old }
-    ensures left { AreLeftBy (StruckBy P.puzzle P.own p.now) grade grid.now settled.new }
-    ensures over { MatchOption result (IsOver (StruckBy P.puzzle P.own p.now) grade grid.now settled.new) (IsLeftNothing settled.new) }
+    requires from { AreLeftBy (StruckBy P.puzzle P.own p.now) grade (seen grid.now view.now) settled.old }
+    ensures left { AreLeftBy (StruckBy P.puzzle P.own p.now) grade (seen grid.now view.now) settled.new }
+    ensures over { MatchOption result (IsOver (StruckBy P.puzzle P.own p.now) grade (seen grid.now view.now) settled.new) (IsLeftNothing settled.new) }
 {
     settle(p, grade, settled, cache);
     first_empty(settled)

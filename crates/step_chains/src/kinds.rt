@@ -2,7 +2,7 @@
 //! Nothing here ensures anything: `short_chain` follows what comes of it step by step, and tells it only where it is a chain.
 use named_steps::Grade;
 
-/// What rounds are to lead to.
+/// The end to which rounds are to lead.
 #[derive(Clone, Copy, Debug)]
 pub(crate) enum Sought {
     /// A number of an empty square.
@@ -37,8 +37,8 @@ pub(crate) const KINDS: [Kind; 8] = [
     Kind::Clue,
 ];
 
-/// Whether steps of a kind may lead on, and are of the grade. What rows and columns alone strike shows a number at once, so on the way to
-/// one they strike nothing.
+/// Whether steps of a kind may lead on, and are of the grade. A strike by rows and columns alone shows a
+/// number at once, so on the way to one they strike nothing.
 pub(crate) fn is_of_use(kind: Kind, sought: Sought, grade: Grade) -> bool {
     match (kind, sought, grade) {
         (Kind::Peer | Kind::Place, Sought::NumberShown, _) => false,

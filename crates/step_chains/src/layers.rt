@@ -43,7 +43,7 @@ pub(crate) struct Rounds<'a, P: Steps> {
     peers: Values,
     // Whether there are signs, which strike something whatever is left.
     has_signs: bool,
-    // What was left of each square when the signs were looked at last: what they strike by it is listed.
+    // The numbers that were left of each square at the last look at the signs: those strikes are listed.
     signs: Values,
     // From which places a clue strikes something by itself: from the others there is none.
     has_clue: [bool; PLACES],
@@ -376,7 +376,7 @@ impl<'a, P: Steps> Rounds<'a, P> {
         Ok(())
     }
 
-    // What a clue strikes in the squares from its place, all found at once; and whether that is anything.
+    // The strikes of a clue in the squares from its place, all found at once; and whether there are any.
     fn look_from(
         &mut self,
         p: &P,
@@ -396,7 +396,7 @@ impl<'a, P: Steps> Rounds<'a, P> {
         Ok(strikes)
     }
 
-    // What a reason strikes in some squares.
+    // The strikes of a reason in some squares.
     fn look_among(
         &mut self,
         p: &P,
@@ -410,7 +410,7 @@ impl<'a, P: Steps> Rounds<'a, P> {
         Ok(())
     }
 
-    // What a reason strikes in one square.
+    // The strikes of a reason in one square.
     fn look_in(
         &mut self,
         p: &P,

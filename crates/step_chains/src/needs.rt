@@ -23,7 +23,7 @@ impl Values {
         }
     }
 
-    /// What is left of each square.
+    /// The numbers that are left of each square.
     pub(crate) fn left(candidates: &Candidates) -> Values {
         let mut values = Values::none();
         for cell in 0..CELLS {
@@ -66,7 +66,7 @@ pub(crate) fn needed_in(cells: &ArrayVec<u8, 9>, gone: &Values, needs: &Values) 
     needed
 }
 
-/// What has to be struck from candidates so that they come to the aim.
+/// The numbers that have to be struck from candidates so that they come to the aim.
 pub(crate) fn needs_of(candidates: &Candidates, aim: Aim) -> Values {
     match aim {
         Aim::Number(Goal::OnlyValue { cell, value }) => needs_of_value(
@@ -107,7 +107,7 @@ pub(crate) fn single(value: u8) -> NumberSet {
     }
 }
 
-/// What is left of a square; nothing where there is no such square.
+/// The numbers that are left of a square; none where there is no such square.
 pub(crate) fn left(candidates: &Candidates, cell: usize) -> NumberSet {
     let width = candidates.size().get() as usize;
     if cell < width * width {

@@ -115,7 +115,7 @@ fn step_at<P: Steps>(
     step_by(p, grade, candidates, &reason, cache)
 }
 
-// What a reason strikes of what is left, in the first square where it does.
+// The step by which a reason strikes something of what is left, in the first square where it does.
 fn step_by<P: Steps>(
     p: &P,
     grade: Grade,
@@ -136,7 +136,7 @@ fn step_by<P: Steps>(
     None
 }
 
-// What a reason strikes of what is left of a square, if it strikes anything.
+// The step by which a reason strikes something of what is left of a square, if it does.
 fn step_in<P: Steps>(
     p: &P,
     grade: Grade,

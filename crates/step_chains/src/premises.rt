@@ -1,4 +1,4 @@
-//! What a step needs of what is gone before it.
+//! The premises of a step: what it needs of what is gone before it.
 //! Nothing here ensures anything: `short_chain` follows what comes of it step by step, and tells it only where it is a chain.
 
 use crate::chain::Step;

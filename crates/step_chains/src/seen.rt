@@ -39,7 +39,7 @@ impl Looks {
     }
 }
 
-/// What is left of some squares, in their order.
+/// The numbers that are left of some squares, in their order.
 pub(crate) fn row_of(candidates: &Candidates, cells: &ArrayVec<u8, 9>) -> [NumberSet; 9] {
     let mut row = [NumberSet::empty(); 9];
     for place in 0..cells.len() {
@@ -50,7 +50,7 @@ pub(crate) fn row_of(candidates: &Candidates, cells: &ArrayVec<u8, 9>) -> [Numbe
     row
 }
 
-/// What a reason strikes in each of the squares from a place at the edge.
+/// The numbers that a reason strikes in each of the squares from a place at the edge.
 pub(crate) fn struck_along<P: Steps>(
     p: &P,
     candidates: &Candidates,
@@ -68,7 +68,7 @@ pub(crate) fn struck_along<P: Steps>(
     struck_in_each(p, candidates, reason, cells, cache)
 }
 
-// What a reason strikes in each of some squares, found square by square.
+// The numbers that a reason strikes in each of some squares, found square by square.
 fn struck_in_each<P: Steps>(
     p: &P,
     candidates: &Candidates,

@@ -5,11 +5,13 @@ ghost use Rattle.std.specs.Bool.{OnTrue};
 ghost use Rattle.named_steps.specs.Chains.{IsTight, Shows};
 ghost use Rattle.step_chains.specs.ChainValues.{steps_of, AreAllNeeded};
 ghost use Rattle.step_chains.specs.Inner.FromEachView.{AreNeededFrom, IsTimelyFrom};
+ghost use Rattle.step_chains.specs.Inner.Views.{seen};
 ghost use Rattle.step_chains.specs.Inner.Aims.{IsAimOf, IsReached, aim_goal};
 ghost use Rattle.step_chains.specs.Inner.Replays.{AreTimely};
 
 use crate::aims::{Aim, Aimed};
 use crate::chain::Step;
+use crate::clues_alone::step_of_clue;
 use crate::cutting::cut;
 use crate::goals::{shown_in_place, shown_in_square};
 use crate::joining::joined;
@@ -19,7 +21,7 @@ use crate::needs::{left, squares_of};
 use crate::replays::{are_timely, come_to};
 use crate::slices::{gathered, slice};
 use crate::tightening::tighten;
-use crate::view::view_of;
+use crate::view::copy_of;
 use arrayvec::ArrayVec;
 use latin_board::{Grid, OutOfMemory};
 use named_steps::{Goal, Grade, Reason, Steps};
@@ -33,21 +35,30 @@ pub(crate) fn short_chain<P: Steps>(
     alloc: Global,
     p: &P,
     grid: &Grid,
+    view: &Candidates,
     grade: Grade,
     sought: Sought,
     cache: &mut P::Cache,
 ) -> Result<Option<Aimed>, OutOfMemory>
+    requires { view.now.size ≡ grid.now.size }
     ensures reached { IfOk result (λ found. IfSome found (λ a. IsAimOf grid.now.size a.aim
-        × IsReached (StruckBy P.puzzle P.own p.now) grade grid.now (steps_of a.steps.items) (aim_goal a.aim))) }
-    ensures timely { IfOk result (λ found. IfSome found (λ a. IsTimelyFrom grid.now (steps_of a.steps.items))) }
+        × IsReached (StruckBy P.puzzle P.own p.now) grade (seen grid.now view.now) (steps_of a.steps.items) (aim_goal a.aim))) }
+    ensures timely { IfOk result (λ found. IfSome found (λ a. IsTimelyFrom (seen grid.now view.now) (steps_of a.steps.items))) }
     ensures needed { IfOk result (λ found. IfSome found
-        (λ a. AreNeededFrom (StruckBy P.puzzle P.own p.now) grade grid.now (steps_of a.steps.items) (aim_goal a.aim))) }
+        (λ a. AreNeededFrom (StruckBy P.puzzle P.own p.now) grade (seen grid.now view.now) (steps_of a.steps.items) (aim_goal a.aim))) }
 {
-    let Some(found) = least_chain(alloc, p, grid, grade, sought, cache)? else {
+    if matches!((grade, sought), (Grade::Easy, Sought::NumberShown)) {
+        if let Some(mut first) = step_of_clue(alloc, p, grid, view, cache)? {
+            if shorten_from_view(p, grid, view, grade, &mut first.steps, first.aim, cache) {
+                return Ok(Some(first));
+            }
+        }
+    }
+    let Some(found) = least_chain(alloc, p, grid, view, grade, sought, cache)? else {
         return Ok(None);
     };
-    let mut found = ended(alloc, p, grid, grade, found, cache)?;
-    if !shorten_from_view(p, grid, grade, &mut found.steps, found.aim, cache) {
+    let mut found = ended(alloc, p, grid, view, grade, found, cache)?;
+    if !shorten_from_view(p, grid, view, grade, &mut found.steps, found.aim, cache) {
         return Ok(None);
     }
     Ok(Some(found))
@@ -59,17 +70,20 @@ fn ended<P: Steps>(
     alloc: Global,
     p: &P,
     grid: &Grid,
+    view: &Candidates,
     grade: Grade,
     found: Aimed,
     cache: &mut P::Cache,
-) -> Result<Aimed, OutOfMemory> {
+) -> Result<Aimed, OutOfMemory>
+    requires { view.now.size ≡ grid.now.size }
+{
     if found.steps.is_empty() {
         return Ok(found);
     }
-    let mut view = view_of(grid);
-    let Aimed { steps, aim } = cut(&mut view, found);
-    let steps = joined(alloc, p, grade, &mut view, steps, aim, cache)?;
-    Ok(cut(&mut view, Aimed { steps, aim }))
+    let mut left = copy_of(grid, view);
+    let Aimed { steps, aim } = cut(&mut left, found);
+    let steps = joined(alloc, p, grade, &mut left, steps, aim, cache)?;
+    Ok(cut(&mut left, Aimed { steps, aim }))
 }
 
 // The same as `shorten` from what is in view of the grid.
@@ -77,19 +91,21 @@ fn ended<P: Steps>(
 fn shorten_from_view<P: Steps>(
     p: &P,
     grid: &Grid,
+    view: &Candidates,
     grade: Grade,
     steps: &mut Vec<Step>,
     aim: Aim,
     cache: &mut P::Cache,
 ) -> bool
+    requires { view.now.size ≡ grid.now.size }
     ensures reached { OnTrue result (IsAimOf grid.now.size aim
-        × IsReached (StruckBy P.puzzle P.own p.now) grade grid.now (steps_of steps.new.items) (aim_goal aim)) }
-    ensures timely { OnTrue result (IsTimelyFrom grid.now (steps_of steps.new.items)) }
+        × IsReached (StruckBy P.puzzle P.own p.now) grade (seen grid.now view.now) (steps_of steps.new.items) (aim_goal aim)) }
+    ensures timely { OnTrue result (IsTimelyFrom (seen grid.now view.now) (steps_of steps.new.items)) }
     ensures needed { OnTrue result
-        (AreNeededFrom (StruckBy P.puzzle P.own p.now) grade grid.now (steps_of steps.new.items) (aim_goal aim)) }
+        (AreNeededFrom (StruckBy P.puzzle P.own p.now) grade (seen grid.now view.now) (steps_of steps.new.items) (aim_goal aim)) }
 {
-    let mut view = view_of(grid);
-    shorten(p, grade, &mut view, steps, aim, cache)
+    let mut left = copy_of(grid, view);
+    shorten(p, grade, &mut left, steps, aim, cache)
 }
 
 // Leaves out what can be left out, where the steps come to the aim; and tells whether they do.
@@ -130,17 +146,20 @@ fn least_chain<P: Steps>(
     alloc: Global,
     p: &P,
     grid: &Grid,
+    view: &Candidates,
     grade: Grade,
     sought: Sought,
     cache: &mut P::Cache,
-) -> Result<Option<Aimed>, OutOfMemory> {
+) -> Result<Option<Aimed>, OutOfMemory>
+    requires { view.now.size ≡ grid.now.size }
+{
     let mut least = Least {
         chain: None,
         cost: usize::MAX,
     };
     for is_at_once in [false, true] {
         if !is_at_once || least.is_worth_another() {
-            let mut rounds = Rounds::of(alloc, view_of(grid), sought, is_at_once, cache);
+            let mut rounds = Rounds::of(alloc, copy_of(grid, view), sought, is_at_once, cache);
             rounds.go_through(p, grid, grade)?;
             least.try_all(alloc, p, grid, sought, &mut rounds)?;
         }
@@ -325,7 +344,7 @@ impl Least {
             rounds.cache,
         )?;
         let steps = gathered(alloc, p, &mut rounds.now, needed.as_slice(), rounds.cache)?;
-        let cost = cost_of(steps.as_slice());
+        let cost = cost_of(p.size().get(), steps.as_slice());
         if cost < self.cost {
             self.cost = cost;
             self.chain = Some(Aimed { steps, aim });
@@ -345,17 +364,50 @@ fn looks_in(steps: &[Step]) -> usize {
     looks
 }
 
-// What a chain costs: 1,000 for each look, more for the dearer kinds, and 1 for each value that is struck.
-fn cost_of(steps: &[Step]) -> usize {
+// The cost of a chain: first by its sentences, and then by how soon a learner meets the dearest of its looks,
+// and then 1,000 for each look, more for the dearer kinds, and 1 for each value that is struck.
+fn cost_of(width: u8, steps: &[Step]) -> usize {
     let mut cost: usize = 0;
+    let mut sentences: usize = 0;
+    let mut rank: usize = 0;
     for i in 0..steps.len() {
-        let is_same = i > 0 && steps[i].is_same_look(&steps[i - 1]);
-        if !is_same {
-            cost = cost.saturating_add(weight(&steps[i].reason));
+        let step = &steps[i];
+        if i == 0 || !step.is_same_look(&steps[i - 1]) {
+            cost = cost.saturating_add(weight(&step.reason));
         }
-        cost = cost.saturating_add(steps[i].values.len() as usize);
+        if i == 0 || !is_one_sentence(&steps[i - 1], step) {
+            sentences = sentences.saturating_add(1);
+        }
+        cost = cost.saturating_add(step.values.len() as usize);
+        let here = rank_of(width, step);
+        if here > rank {
+            rank = here;
+        }
     }
-    cost
+    cost.saturating_add(sentences.saturating_mul(1_000_000))
+        .saturating_add(rank.saturating_mul(100_000))
+}
+
+// Whether a step is told in one sentence with the one before it: they have one reason, or both are signs or clues that strike the same one
+// number.
+fn is_one_sentence(before: &Step, step: &Step) -> bool {
+    let are_alike = matches!(
+        (before.reason, step.reason),
+        (Reason::Bound { .. }, Reason::Bound { .. }) | (Reason::Sign { .. }, Reason::Sign { .. })
+    );
+    step.is_same_look(before)
+        || (are_alike && step.values == before.values && step.values.is_single())
+}
+
+// How soon a learner meets the look of a step: a clue alone that leaves a square one number before all others.
+fn rank_of(width: u8, step: &Step) -> usize {
+    match step.reason {
+        Reason::Bound { .. } if step.values.len().saturating_add(1) >= width as u32 => 0,
+        Reason::Given { .. } | Reason::Bound { .. } | Reason::Sign { .. } => 1,
+        Reason::Peer { .. } | Reason::Place { .. } | Reason::Stand { .. } => 2,
+        Reason::Clue { .. } => 3,
+        Reason::Set { .. } => 4,
+    }
 }
 
 // How dear a look is.

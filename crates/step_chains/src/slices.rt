@@ -1,4 +1,4 @@
-//! What an aim needs of a long chain: a slice of it, with the strikes of a reason side by side.
+//! The slice of a long chain that an aim needs, with the strikes of a reason side by side.
 //! Nothing here ensures anything: `short_chain` follows what comes of it step by step, and tells it only where it is a chain.
 
 use crate::aims::Aim;

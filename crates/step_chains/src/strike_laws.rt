@@ -1,4 +1,4 @@
-//! What narrowing strikes and what reasons strike: a square that narrowing forces is forced by reasons.
+//! The strikes of narrowing and those of reasons: a square that narrowing forces is forced by reasons.
 
 ghost use Rattle.line_steps.specs.Reasons.{StruckBy};
 ghost use Rattle.step_chains.specs.ForcedLaws.{NarrowingForcesMore};

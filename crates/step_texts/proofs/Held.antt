@@ -1,4 +1,4 @@
--- What is told of a chain holds where it stands.
+-- A told chain holds where it stands.
 use Rattle.std.proofs.Common.{◌≡◌, ◌==◌, ◌<◌, ◌^◌, ℕ, List, [], ◌∷◌, ◌++◌, All, map, true, false, slice_index, refl, sym, ap, ap₂, ◌∙◌, subst, Option, Some, None, IfSome}
 use Rattle.std.proofs.lemmas.Bool.{false_from_ne_true, and_from, eq-eqb}
 use Rattle.std.proofs.lemmas.List.Elements.{All-nil, All-cons, All-head, All-tail, All-weaker}

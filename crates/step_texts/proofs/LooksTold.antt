@@ -78,9 +78,10 @@ pub record GoesOn (Struck : Striking) (w : ℕ) (start d : CandidatesValue) (ste
   pub alike : AreAlike c d
   pub onward : (later : List ToldStep) → AreTold Struck w c rest later → AreTold Struck w start steps (told ++ later)
 
--- before anything is told, the rest is all steps
-pub none_yet : (Struck : Striking) (w : ℕ) (c : CandidatesValue) (steps : List Step) → GoesOn Struck w c c steps steps []
-none_yet Struck w c steps = record { c = c; size = refl; alike = (λ cell v h. h, λ cell v h. h); onward = λ later are. are }
+-- before anything is told, the rest is all steps, by candidates of which the same is left
+pub none_yet : (Struck : Striking) (w : ℕ) (c d : CandidatesValue) (steps : List Step) → d.size ≡ c.size → AreAlike c d
+    → GoesOn Struck w c d steps steps []
+none_yet Struck w c d steps size alike = record { c = c; size = size; alike = alike; onward = λ later are. are }
 
 -- steps that have a first one are this one and then the others
 pub headed : (steps : List Step) (first : Step) → slice_get steps 0 ≡ Some first → steps ≡ first ∷ drop 1 steps

@@ -1,5 +1,5 @@
 -- Lines that are short.
-use Rattle.std.proofs.Common.{◌≡◌, ◌≤◌, ℕ, List, [], ◌∷◌, ◌++◌, length, Bool, true, false, if◌then◌else◌, sym, subst}
+use Rattle.std.proofs.Common.{◌≡◌, ◌≤◌, ℕ, List, [], ◌∷◌, ◌++◌, length, arith, Bool, true, false, if◌then◌else◌, sym, subst}
 use Rattle.std.proofs.lemmas.List.{map-append}
 use Rattle.std.proofs.lemmas.List.Elements.{All-push}
 use Rattle.arrayvec.specs.ArrayVec.{ArrayVec}
@@ -18,3 +18,8 @@ pub one_more : (more_is : Bool) (lines more : List (ArrayVec ℕ)) (line : Array
     → length line.items ≤ 100 → AreShort (line_texts lines) → AreShort (line_texts more)
 one_more true lines more line grown fits short = longer lines more line grown fits short
 one_more false lines more line grown fits short = subst (λ (ls : List (ArrayVec ℕ)). AreShort (line_texts ls)) (sym grown) short
+
+-- where there is a line there is a text of a line
+pub some_texts : (lines : List (ArrayVec ℕ)) → 1 ≤ length lines → 1 ≤ length (line_texts lines)
+some_texts [] some = absurd (omega (arith, some))
+some_texts (line ∷ lines) some = omega arith

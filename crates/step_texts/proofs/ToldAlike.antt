@@ -1,4 +1,4 @@
--- What is told of steps is the same by candidates of which the same is left.
+-- Steps are told alike by candidates of which the same is left.
 use Rattle.std.proofs.Common.{◌≡◌, ℕ, List, [], ◌∷◌, sym, ap, ◌∙◌, subst, Option, Some, None}
 use Rattle.trail_solver.specs.Candidates.{CandidatesValue}
 use Rattle.line_steps.specs.Left.{IsLeft, IsFewer, AreAlike}

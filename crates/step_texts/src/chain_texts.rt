@@ -1,5 +1,5 @@
 //! The text of a chain: its told steps, numbered, and what they show or leave nothing.
-ghost use Rattle.std.specs.Prelude.{IfOk};
+ghost use Rattle.std.specs.Prelude.{◌≤◌, length, IfOk};
 ghost use Rattle.step_texts.specs.Lines.{AreShort, line_texts};
 
 use crate::endings::{say_empty, say_goal};
@@ -11,37 +11,44 @@ use latin_board::Grid;
 use named_steps::Goal;
 use std::alloc::{AllocError, Global};
 use std::fmt::Write;
+use trail_solver::Candidates;
 
-/// The told steps of a grid, with the number of each sentence, and then the number that they show.
+/// The told steps of a grid from some candidates, with the number of each sentence, and then the number that they show.
+#[tactic(auto, using(crate::proofs::ShortLines::some_texts))]
 pub fn chain_lines<P: StepNames>(
     alloc: Global,
     p: &P,
     grid: &Grid,
+    view: &Candidates,
     told: &[ToldStep],
     goal: Goal,
 ) -> Result<Vec<Line>, AllocError>
-    ensures { IfOk result (λ lines. AreShort (line_texts lines.items)) }
+    ensures short { IfOk result (λ lines. AreShort (line_texts lines.items)) }
+    ensures some { IfOk result (λ lines. 1 ≤ length (line_texts lines.items)) }
 {
     let mut text = Writing::new(alloc);
     say_steps(&mut text, p, told)?;
-    said(say_goal(&mut text, grid, goal))?;
+    said(say_goal(&mut text, grid, view, goal))?;
     text.end()?;
     Ok(text.into_lines())
 }
 
-/// The told steps of a grid, with the number of each sentence, and then the square, or the number of a line, that they leave nothing.
+/// The told steps of a grid from some candidates, with the number of each sentence, and then the square, or the number of a line, that they leave nothing.
+#[tactic(auto, using(crate::proofs::ShortLines::some_texts))]
 pub fn refutation_lines<P: StepNames>(
     alloc: Global,
     p: &P,
     grid: &Grid,
+    view: &Candidates,
     told: &[ToldStep],
     cell: usize,
 ) -> Result<Vec<Line>, AllocError>
-    ensures { IfOk result (λ lines. AreShort (line_texts lines.items)) }
+    ensures short { IfOk result (λ lines. AreShort (line_texts lines.items)) }
+    ensures some { IfOk result (λ lines. 1 ≤ length (line_texts lines.items)) }
 {
     let mut text = Writing::new(alloc);
     say_steps(&mut text, p, told)?;
-    said(say_empty(&mut text, grid, told, cell))?;
+    said(say_empty(&mut text, grid, view, told, cell))?;
     text.end()?;
     Ok(text.into_lines())
 }

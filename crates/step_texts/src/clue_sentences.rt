@@ -1,16 +1,17 @@
 //! The sentence of a clue: what would be seen with the numbers that it strikes.
 ghost use Rattle.std.specs.Prelude.{◌<◌, length};
 
-use crate::known_squares::{needed_places, say_known, squares_from};
+use crate::known_squares::{facts_in, needed_places, say_known, say_settled, squares_from};
 use crate::names::{EdgeClue, GridLine, Joined, List, Losses, Square, Squares, numbers};
 use crate::sentences::Look;
-use crate::showing::{Showing, ShownStrike, shown_strikes};
+use crate::showing::{Settled, Showing, ShownStrike, shown_strikes};
 use crate::writing::Writing;
+use arrayvec::ArrayVec;
 use number_sets::NumberSet;
 use shown_counts::ClueCounts;
 use std::fmt::{self, Write};
 
-/// What is known of the other squares of a clue's line, when it is looked at.
+/// The knowledge of the other squares of a clue's line, when it is looked at.
 #[derive(Clone, Copy)]
 pub(crate) enum Knowing {
     /// Nothing.
@@ -39,7 +40,7 @@ pub(crate) fn say_clue(
     write!(text, ": {why}, so {}.", Losses { size, strikes })
 }
 
-// What has to be known, and what would be seen with the struck numbers, told together where it is the same.
+// Says what has to be known and what would be seen with the struck numbers, together where it is the same.
 fn say_shown(
     text: &mut Writing,
     at: &EdgeClue,
@@ -47,14 +48,20 @@ fn say_shown(
     line: &ClueCounts,
     look: &Look,
 ) -> fmt::Result {
-    let shown = shown_strikes(line, look.strikes, at.clue);
-    let shown = shown.as_slice();
-    let places = if look.is_of_many {
-        None
-    } else {
-        needed_places(line, shown, at.clue)
+    let mut shown = shown_strikes(line, look.strikes, at.clue);
+    let places = match knowing {
+        Knowing::Alone => Some(NumberSet::empty()),
+        _ if look.is_of_many => None,
+        _ => needed_places(line, shown.as_slice(), at.clue),
     };
-    say_knowing(text, at, knowing, line, places)?;
+    let mut settled = ArrayVec::new();
+    if let Some(left) = look.left {
+        for strike in shown.as_mut_slice() {
+            strike.settle(left, &mut settled);
+        }
+    }
+    let shown = shown.as_slice();
+    say_knowing(text, at, knowing, line, places, settled.as_slice())?;
     write!(text, ": ")?;
     for index in 0..shown.len() {
         for number in 1..10 {
@@ -64,30 +71,33 @@ fn say_shown(
     write!(text, ".")
 }
 
-// What has to be known of the other squares: what those at a few places have, or otherwise what stands or is left in the line.
+// Says what has to be known of the other squares: what those at a few places have, and where the tallest
+// tower is, or otherwise what stands or is left in the line.
 fn say_knowing(
     text: &mut Writing,
     at: &EdgeClue,
     knowing: Knowing,
     line: &ClueCounts,
     places: Option<NumberSet>,
+    settled: &[Settled],
 ) -> fmt::Result {
-    let words = match knowing {
-        Knowing::Alone => return Ok(()),
-        Knowing::Stands => "with the numbers in",
-        Knowing::Marks => "by what is left in",
+    let Some(places) = places else {
+        let words = match knowing {
+            Knowing::Stands if settled.is_empty() => "with the numbers in",
+            _ => "by what is left in",
+        };
+        return write!(text, ", {words} {}", GridLine::from(at.size, at.place));
     };
-    match places {
-        None => write!(text, ", {words} {}", GridLine::from(at.size, at.place)),
-        Some(places) if places.is_empty() => Ok(()),
-        Some(places) => {
-            write!(text, ", where ")?;
-            say_known(text, at, line, places)
-        }
+    if places.is_empty() && settled.is_empty() {
+        return Ok(());
     }
+    write!(text, ", where ")?;
+    say_known(text, at, line, places, facts_in(settled))?;
+    say_settled(text, at, settled)
 }
 
-// What would be seen with a number in the square of a strike and with all others that are alike, where it is the first of them.
+// Says what would be seen with a number in the square of a strike and with all others that are alike, where
+// it is the first of them.
 fn say_from(
     text: &mut Writing,
     at: &EdgeClue,
@@ -115,7 +125,7 @@ fn say_from(
     say_showing(text, at, &showing, &shown[index..])
 }
 
-// What would be seen, with which numbers in which squares.
+// Says what would be seen, with which numbers in which squares.
 fn say_showing(
     text: &mut Writing,
     at: &EdgeClue,

@@ -8,10 +8,15 @@ use latin_board::{Grid, Size, line_cell};
 use named_steps::{Goal, Reason};
 use number_sets::NumberSet;
 use std::fmt::{self, Write};
-use step_chains::view_of;
+use trail_solver::Candidates;
 
-/// What a chain shows on a board, and why.
-pub(crate) fn say_goal(text: &mut Writing, grid: &Grid, goal: Goal) -> fmt::Result {
+/// Says the number that a chain from some candidates shows on a board, and why.
+pub(crate) fn say_goal(
+    text: &mut Writing,
+    grid: &Grid,
+    view: &Candidates,
+    goal: Goal,
+) -> fmt::Result {
     let size = grid.size();
     match goal {
         Goal::OnlyValue { cell, value } => {
@@ -21,8 +26,7 @@ pub(crate) fn say_goal(text: &mut Writing, grid: &Grid, goal: Goal) -> fmt::Resu
                 let line = GridLine { size, index };
                 return write!(text, "it is the last free square of {line}.");
             }
-            let view = view_of(grid);
-            say_gone(text, size, left_of(&view, cell), one(value))
+            say_gone(text, grid, cell, left_of(view, cell), one(value))
         }
         Goal::OnlyPlace {
             line: at,
@@ -42,66 +46,67 @@ pub(crate) fn say_goal(text: &mut Writing, grid: &Grid, goal: Goal) -> fmt::Resu
 // The row of a square, or otherwise its column, where all numbers but this one stand there.
 fn line_that_lacks(grid: &Grid, cell: usize, value: u8) -> Option<usize> {
     let width = grid.size().get() as usize;
-    if lacks_only(grid, cell / width, value) {
+    if lacking_on(grid, cell / width) == one(value) {
         return Some(cell / width);
     }
     let column = width + cell % width;
-    if lacks_only(grid, column, value) {
+    if lacking_on(grid, column) == one(value) {
         Some(column)
     } else {
         None
     }
 }
 
-// Whether all numbers but one stand in a row or column.
-fn lacks_only(grid: &Grid, line: usize, value: u8) -> bool {
+// The numbers that don't stand in a row or column.
+fn lacking_on(grid: &Grid, line: usize) -> NumberSet {
     let size = grid.size();
     let width = size.get();
     let mut stand = NumberSet::empty();
-    if line >= 2 * width as usize {
-        return false;
+    if line < 2 * width as usize {
+        for index in 0..width {
+            stand = stand.union(one(grid.get(line_cell(size, line as u8, index))));
+        }
     }
-    for index in 0..width {
-        stand = stand.union(one(grid.get(line_cell(size, line as u8, index))));
-    }
-    NumberSet::up_to(width).difference(stand) == one(value)
+    NumberSet::up_to(width).difference(stand)
 }
 
-/// What told steps leave nothing: a number that has no square left in a line, where the last step comes to that, or otherwise this square.
+/// Says what told steps leave nothing: a number that has no square left in a line, where the last step comes
+/// to that, or otherwise this square.
 pub(crate) fn say_empty(
     text: &mut Writing,
     grid: &Grid,
+    view: &Candidates,
     told: &[ToldStep],
     cell: usize,
 ) -> fmt::Result {
     if let Some((last, before)) = told.split_last() {
         if let Reason::Place { line, index, value } = last.reason {
-            if !is_left(grid, before, line, index, value) {
+            if !is_left(view, before, line, index, value) {
                 let size = grid.size();
                 let line = GridLine { size, index: line };
                 return write!(text, "So {line} has no square left for {value}.");
             }
         }
     }
-    say_no_number(text, grid, cell)
+    say_no_number(text, grid, view, cell)
 }
 
 // Whether told steps leave a number of what is in view at a place of a line.
-fn is_left(grid: &Grid, told: &[ToldStep], line: usize, index: usize, value: u8) -> bool {
-    let size = grid.size();
+fn is_left(view: &Candidates, told: &[ToldStep], line: usize, index: usize, value: u8) -> bool {
+    let size = view.size();
     let width = size.get() as usize;
     if line >= 2 * width || index >= width {
         return false;
     }
     let cell = line_cell(size, line as u8, index as u8);
-    let mut left = left_of(&view_of(grid), cell);
+    let mut left = left_of(view, cell);
     for step in told {
         left = left.difference(struck_of(step, cell));
     }
     one(value).is_subset(left)
 }
 
-// What a told step strikes in a square.
+// The numbers that a told step strikes in a square.
 fn struck_of(step: &ToldStep, cell: usize) -> NumberSet {
     let mut struck = NumberSet::empty();
     for strike in step.strikes.as_slice() {
@@ -113,9 +118,9 @@ fn struck_of(step: &ToldStep, cell: usize) -> NumberSet {
 }
 
 // That a square of a board is left nothing, and why.
-fn say_no_number(text: &mut Writing, grid: &Grid, cell: usize) -> fmt::Result {
+fn say_no_number(text: &mut Writing, grid: &Grid, view: &Candidates, cell: usize) -> fmt::Result {
     let size = grid.size();
-    let view = left_of(&view_of(grid), cell);
+    let view = left_of(view, cell);
     write!(text, "So {} has no number left: ", Square::of(size, cell))?;
     if is_filled(grid, cell) {
         write!(
@@ -124,32 +129,65 @@ fn say_no_number(text: &mut Writing, grid: &Grid, cell: usize) -> fmt::Result {
             numbers(view, Joined::And)
         )
     } else {
-        say_gone(text, size, view, NumberSet::empty())
+        say_gone(text, grid, cell, view, NumberSet::empty())
     }
 }
 
-// Where the values have gone, but for those that stay, of an empty square with these in view.
-fn say_gone(text: &mut Writing, size: Size, view: NumberSet, stay: NumberSet) -> fmt::Result {
-    let stood = NumberSet::up_to(size.get()).difference(view);
+// Where the values have gone, but for those that stay, of an empty square with these in view: what isn't in
+// view and doesn't stand in its row or column isn't among its pencil marks.
+fn say_gone(
+    text: &mut Writing,
+    grid: &Grid,
+    cell: usize,
+    view: NumberSet,
+    stay: NumberSet,
+) -> fmt::Result {
+    let size = grid.size();
+    let width = size.get() as usize;
+    let free = lacking_on(grid, cell / width).intersection(lacking_on(grid, width + cell % width));
+    let stood = NumberSet::up_to(size.get()).difference(free);
     let struck = view.difference(stay);
-    if !stood.is_empty() {
-        let stand = if stood.is_single() { "stands" } else { "stand" };
-        write!(
-            text,
-            "{} {stand} in its row or column",
-            numbers(stood, Joined::And)
-        )?;
-    }
-    if !struck.is_empty() {
-        let before = if stood.is_empty() { "" } else { ", and " };
-        let are = if struck.is_single() { "is" } else { "are" };
-        write!(
-            text,
-            "{before}{} {are} ruled out above",
-            numbers(struck, Joined::And)
-        )?;
-    }
+    let unmarked = free.difference(view);
+    say_part(
+        text,
+        "",
+        stood,
+        ["stands in its row or column", "stand in its row or column"],
+    )?;
+    let before = if stood.is_empty() {
+        ""
+    } else if unmarked.is_empty() {
+        ", and "
+    } else {
+        ", "
+    };
+    say_part(
+        text,
+        before,
+        struck,
+        ["is ruled out above", "are ruled out above"],
+    )?;
+    let before = if stood.is_empty() && struck.is_empty() {
+        ""
+    } else {
+        ", and "
+    };
+    say_part(
+        text,
+        before,
+        unmarked,
+        ["isn't among its marks", "aren't among its marks"],
+    )?;
     write!(text, ".")
+}
+
+// Says of numbers, if there are any, what one of them does, or several do.
+fn say_part(text: &mut Writing, before: &str, set: NumberSet, words: [&str; 2]) -> fmt::Result {
+    if set.is_empty() {
+        return Ok(());
+    }
+    let does = if set.is_single() { words[0] } else { words[1] };
+    write!(text, "{before}{} {does}", numbers(set, Joined::And))
 }
 
 // Whether a square of the grid has a number.

@@ -5,10 +5,11 @@ ghost use Rattle.step_texts.specs.Groups.{AreGroups};
 use crate::clue_sentences::article_of;
 use crate::left::one;
 use crate::names::{Joined, List, Square, Squares, between};
+use crate::said_before::weaker;
 use crate::sentences::{edge_clue, is_greater};
 use crate::showing::Showing;
 use crate::step_names::StepNames;
-use crate::told::{Strike, ToldStep};
+use crate::told::{SignEnd, Strike, ToldStep};
 use crate::writing::Writing;
 use latin_board::Size;
 use named_steps::Reason;
@@ -45,9 +46,9 @@ pub(crate) fn first_group<P: StepNames>(p: &P, told: &[ToldStep]) -> usize
     ensures some { 1 ≤ result }
     ensures within { result ≤ length told.now }
 {
-    let why = Why::of(p, &told[0]);
+    let why = why_of(p, &told[0]);
     for at in 1..told.len() {
-        if why.is_none() || Why::of(p, &told[at]) != why {
+        if why.is_none() || why_of(p, &told[at]) != why {
             return at;
         }
     }
@@ -63,15 +64,15 @@ pub(crate) fn say_group<P: StepNames>(
     let Some((first, others)) = group.split_first() else {
         return Ok(());
     };
-    match Why::of(p, first) {
+    match why_of(p, first) {
         Some(why) if !others.is_empty() => say_together(text, p, group, why),
         _ => text.say_lines(first.text.as_slice()),
     }
 }
 
-// Why a told step strikes one number, without the square or clue of which it is told.
+/// Why a told step strikes one number, without the square or clue of which it is told.
 #[derive(Clone, Copy, PartialEq, Eq, Debug)]
-enum Why {
+pub(crate) enum Why {
     /// Each square is at the greater end of a sign.
     Greater(u8),
     /// Each is at the lesser end.
@@ -81,13 +82,14 @@ enum Why {
 }
 
 impl Why {
-    fn of<P: StepNames>(p: &P, step: &ToldStep) -> Option<Why> {
-        let number = only_number(step.strikes.as_slice())?;
-        match step.reason {
+    /// Why a reason strikes these.
+    pub(crate) fn of<P: StepNames>(p: &P, reason: Reason, strikes: &[Strike]) -> Option<Why> {
+        let number = only_number(strikes)?;
+        match reason {
             Reason::Sign { from, to } if is_greater(p, from, to) => Some(Why::Less(number)),
             Reason::Sign { .. } => Some(Why::Greater(number)),
             Reason::Bound { place } => {
-                let counts = counts_with(step.strikes.as_slice(), number);
+                let counts = counts_with(strikes, number);
                 match Showing::beside(counts, edge_clue(p, place).clue) {
                     Showing::Never | Showing::Both(_) => None,
                     beside => Some(Why::Seen(number, beside)),
@@ -96,6 +98,11 @@ impl Why {
             _ => None,
         }
     }
+}
+
+// Why a told step strikes.
+fn why_of<P: StepNames>(p: &P, step: &ToldStep) -> Option<Why> {
+    Why::of(p, step.reason, step.strikes.as_slice())
 }
 
 // The number that is struck in each square, where it is only one.
@@ -133,12 +140,12 @@ fn say_together<P: StepNames>(
         Why::Greater(number) => {
             let squares = squares_in(size, group, Joined::And);
             write!(text, "{squares} are each greater than a neighbour")?;
-            say_neighbour(text, "at least", number, 1)
+            say_neighbour(text, group, number)
         }
         Why::Less(number) => {
             let squares = squares_in(size, group, Joined::And);
             write!(text, "{squares} are each less than a neighbour")?;
-            say_neighbour(text, "at most", number, size.get())
+            say_neighbour(text, group, number)
         }
         Why::Seen(number, showing) => {
             say_clues(text, p, group)?;
@@ -157,10 +164,16 @@ fn say_together<P: StepNames>(
     }
 }
 
-// What is left of the neighbours, where that is needed: it isn't if the number is the last of all; and what is struck.
-fn say_neighbour(text: &mut Writing, words: &str, number: u8, last: u8) -> fmt::Result {
-    if number != last {
-        write!(text, " that is {words} {number}")?;
+// Says what is left of each neighbour, where that is needed; and what is struck.
+fn say_neighbour(text: &mut Writing, group: &[ToldStep], number: u8) -> fmt::Result {
+    let mut end = None;
+    for step in group {
+        end = weaker(end, step.end);
+    }
+    match end {
+        Some(SignEnd::AtLeast(least)) => write!(text, " that is at least {least}")?,
+        Some(SignEnd::AtMost(most)) => write!(text, " that is at most {most}")?,
+        None => {}
     }
     write!(text, ": they are not {number}.")
 }

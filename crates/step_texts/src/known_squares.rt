@@ -1,8 +1,8 @@
-//! What has to be known of a clue's line, for the numbers that are struck to show too many or too few towers.
+//! The squares of a clue's line that have to be known: with them the struck numbers show too many or too few.
 ghost use Rattle.std.specs.Prelude.{◌<◌};
 
 use crate::names::{EdgeClue, Joined, List, Square, Squares, between, numbers};
-use crate::showing::ShownStrike;
+use crate::showing::{Settled, ShownStrike};
 use crate::writing::Writing;
 use arrayvec::ArrayVec;
 use line_steps::view_cell;
@@ -86,12 +86,13 @@ fn are_few(line: &ClueCounts, places: NumberSet) -> bool {
 }
 
 /// The squares at some places of a line and the numbers that are left there, those with one number before the others, and those that have the
-/// same ones together.
+/// same ones together, before so many other facts.
 pub(crate) fn say_known(
     text: &mut Writing,
     at: &EdgeClue,
     line: &ClueCounts,
     places: NumberSet,
+    facts: usize,
 ) -> fmt::Result {
     let firsts = first_places(line, places);
     let firsts = firsts.as_slice();
@@ -104,8 +105,51 @@ pub(crate) fn say_known(
         let alike = places_alike(line, places, may);
         let squares = squares_from(at, alike, Joined::And);
         let are = if alike.is_single() { "is" } else { "are" };
-        let behind = between(firsts.len() - 1 - k, Joined::And);
+        let rest = facts.saturating_add(firsts.len() - 1 - k);
+        let behind = between(rest, Joined::And);
         write!(text, "{squares} {are} {}{behind}", numbers(may, Joined::Or))?;
+    }
+    Ok(())
+}
+
+/// How many facts are settled.
+pub(crate) fn facts_in(settled: &[Settled]) -> usize {
+    let mut facts = 0usize;
+    for of_number in settled {
+        facts = facts.saturating_add(of_number.facts());
+    }
+    facts
+}
+
+/// Where the tallest towers of a line are, as far as that is settled.
+pub(crate) fn say_settled(text: &mut Writing, at: &EdgeClue, settled: &[Settled]) -> fmt::Result {
+    let mut rest = facts_in(settled);
+    for said in settled {
+        let number = said.number;
+        if !said.stands.is_empty() {
+            rest = rest.saturating_sub(1);
+            let square = squares_from(at, said.stands, Joined::And);
+            write!(text, "{square} is {number}{}", between(rest, Joined::And))?;
+        }
+        if !said.lacks.is_empty() {
+            rest = rest.saturating_sub(1);
+            let squares = squares_from(at, said.lacks, Joined::And);
+            let are = if said.lacks.is_single() { "is" } else { "are" };
+            write!(
+                text,
+                "{squares} {are} not {number}{}",
+                between(rest, Joined::And)
+            )?;
+        }
+        if !said.only.is_empty() {
+            rest = rest.saturating_sub(1);
+            let squares = squares_from(at, said.only, Joined::Or);
+            write!(
+                text,
+                "only {squares} can be {number}{}",
+                between(rest, Joined::And)
+            )?;
+        }
     }
     Ok(())
 }

@@ -1,4 +1,4 @@
-//! What is left of a square, by its number and by its place on a line.
+//! The numbers that are left of a square, by its number and by its place on a line.
 
 use latin_board::line_cell;
 use number_sets::NumberSet;
@@ -13,7 +13,7 @@ pub(crate) fn one(value: u8) -> NumberSet {
     }
 }
 
-/// What is left of a square of the grid; nothing of any other.
+/// The numbers that are left of a square of the grid; none of any other.
 pub(crate) fn left_of(candidates: &Candidates, cell: usize) -> NumberSet {
     let width = candidates.size().get() as usize;
     if cell < width * width {
@@ -23,7 +23,7 @@ pub(crate) fn left_of(candidates: &Candidates, cell: usize) -> NumberSet {
     }
 }
 
-/// What is left at a place of a row or column; nothing at any other.
+/// The numbers that are left at a place of a row or column; none at any other.
 pub(crate) fn left_on(candidates: &Candidates, line: usize, index: usize) -> NumberSet {
     let size = candidates.size();
     let width = size.get() as usize;

@@ -6,8 +6,9 @@
 //! with a sentence begins with three spaces.
 //!
 //! ```
-//! let told = told_steps(alloc, &puzzle, view_of(&grid), chain.steps.as_slice())?;
-//! for line in chain_lines(alloc, &grid, told.as_slice(), chain.goal)?.iter() {
+//! let view = view_of(&grid);
+//! let told = told_steps(alloc, &puzzle, &view, chain.steps.as_slice())?;
+//! for line in chain_lines(alloc, &puzzle, &grid, &view, told.as_slice(), chain.goal)?.iter() {
 //!     output.write_all(line.as_slice())?;
 //! }
 //! ```
@@ -21,6 +22,7 @@ mod known_squares;
 mod left;
 mod looks;
 mod names;
+mod said_before;
 mod sentences;
 mod set_sentences;
 mod showing;
@@ -34,6 +36,6 @@ pub use chain_texts::{chain_lines, refutation_lines};
 pub use groups::told_groups;
 pub use step_names::StepNames;
 pub use telling::told_steps;
-pub use told::{Strike, ToldStep};
+pub use told::{SignEnd, Strike, ToldStep};
 pub use told_laws::laws;
 pub use writing::{LINE, Line};

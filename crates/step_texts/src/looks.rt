@@ -65,7 +65,7 @@ fn holds_at<P: Steps>(p: &P, candidates: &Candidates, step: &Step, cache: &mut P
     step.values.is_subset(values)
 }
 
-// What is left of the values that a reason strikes in a square: nothing, where the sizes differ.
+// The numbers left of those that a reason strikes in a square: none, where the sizes differ.
 fn struck_left<P: Steps>(
     p: &P,
     candidates: &Candidates,

@@ -150,7 +150,7 @@ impl<T: fmt::Display, const MOST: usize> fmt::Display for List<T, MOST> {
     }
 }
 
-/// What stands before the last so many of a list.
+/// The text that stands before the last so many of a list.
 pub(crate) fn between(rest: usize, joined: Joined) -> &'static str {
     match (rest, joined) {
         (0, _) => "",
@@ -182,7 +182,8 @@ pub(crate) fn squares_on(size: Size, line: usize, indices: NumberSet) -> Squares
     list
 }
 
-/// What is struck, the squares that lose the same values together: `r1c1 is not 2; r1c2 and r1c3 are not 3 or 4`.
+/// The struck numbers, the squares that lose the same values together:
+/// `r1c1 is not 2; r1c2 and r1c3 are not 3 or 4`.
 #[derive(Clone, Copy)]
 pub(crate) struct Losses<'a> {
     pub(crate) size: Size,

@@ -5,8 +5,9 @@ use crate::left::{left_of, left_on, one};
 use crate::names::{EdgeClue, GridLine, Joined, Losses, Square, numbers};
 use crate::set_sentences::say_set;
 use crate::step_names::StepNames;
-use crate::told::Strike;
+use crate::told::{SignEnd, Strike};
 use crate::writing::Writing;
+use latin_board::Size;
 use named_steps::Reason;
 use number_sets::NumberSet;
 use shown_counts::ClueCounts;
@@ -18,6 +19,11 @@ use trail_solver::Candidates;
 pub(crate) struct Look<'a> {
     pub(crate) reason: Reason,
     pub(crate) line: &'a Option<ClueCounts>,
+    // That line by what is left of it.
+    pub(crate) left: &'a Option<ClueCounts>,
+    // The bound that is told of the other end of a sign, and whether it is a number alone.
+    pub(crate) end: Option<SignEnd>,
+    pub(crate) is_alone: bool,
     pub(crate) strikes: &'a [Strike],
     // Whether it is one of so many that nobody looks for the squares that its clue needs.
     pub(crate) is_of_many: bool,
@@ -35,7 +41,12 @@ pub(crate) fn say_step<P: StepNames>(
     match look.reason {
         Reason::Given { cell } => write!(text, "{} is given", Square::of(size, cell))?,
         Reason::Peer { cell } => say_left(text, Square::of(size, cell), left_of(candidates, cell))?,
-        Reason::Place { line, index, value } => say_place(text, candidates, line, index, value)?,
+        Reason::Place { line, index, value } => {
+            if has_no_square(candidates, line, index, value, strikes) {
+                return say_no_square(text, size, line, index, value);
+            }
+            say_place(text, candidates, line, index, value)?;
+        }
         Reason::Bound { place } => {
             return say_looked(text, &edge_clue(p, place), Knowing::Alone, look);
         }
@@ -45,7 +56,7 @@ pub(crate) fn say_step<P: StepNames>(
         Reason::Clue { place } => {
             return say_looked(text, &edge_clue(p, place), Knowing::Marks, look);
         }
-        Reason::Sign { from, to } => say_sign(text, p, candidates, from, to, strikes)?,
+        Reason::Sign { from, to } => say_sign(text, p, from, to, look)?,
         Reason::Set {
             line,
             squares,
@@ -63,7 +74,7 @@ fn say_looked(text: &mut Writing, at: &EdgeClue, knowing: Knowing, look: &Look) 
     }
 }
 
-// What is left of a square.
+// Says what is left of a square.
 fn say_left(text: &mut Writing, square: Square, left: NumberSet) -> fmt::Result {
     if left.is_empty() {
         write!(text, "{square} has no number left")
@@ -90,44 +101,85 @@ fn say_place(
     }
 }
 
-// What a sign says by what is left of one of its ends. That isn't needed where only the number is struck that no grid has at the other end.
+// Whether a value is left at none of a line's squares, and all that is left of this one goes.
+fn has_no_square(
+    candidates: &Candidates,
+    line: usize,
+    index: usize,
+    value: u8,
+    strikes: &[Strike],
+) -> bool {
+    let left = left_on(candidates, line, index);
+    let goes = strikes.iter().all(|strike| strike.values == left);
+    goes && !one(value).is_subset(left)
+}
+
+// That a value has no square in a line, told at one of them.
+fn say_no_square(
+    text: &mut Writing,
+    size: Size,
+    at: usize,
+    index: usize,
+    value: u8,
+) -> fmt::Result {
+    let line = GridLine { size, index: at };
+    let square = Square::on(size, at, index);
+    write!(
+        text,
+        "No other square of {line} can be {value}, nor can {square}."
+    )
+}
+
+// Says the sign, by what is left of its other end if that is told.
 fn say_sign<P: StepNames>(
     text: &mut Writing,
     p: &P,
-    candidates: &Candidates,
     from: usize,
     to: usize,
-    strikes: &[Strike],
+    look: &Look,
 ) -> fmt::Result {
-    let size = candidates.size();
-    let left = left_of(candidates, from);
+    let size = p.size();
     let square = Square::of(size, to);
     let other = Square::of(size, from);
-    if is_greater(p, from, to) {
-        write!(text, "{square} is less than {other}")?;
-        say_end(text, left, left.greatest(), size.get(), "at most ", strikes)
+    let is = if is_greater(p, from, to) {
+        "less"
     } else {
-        write!(text, "{square} is greater than {other}")?;
-        say_end(text, left, left.least(), 1, "at least ", strikes)
+        "greater"
+    };
+    write!(text, "{square} is {is} than {other}")?;
+    match look.end {
+        Some(end) if look.is_alone => write!(text, ", which is {}", end.number()),
+        Some(SignEnd::AtLeast(least)) => write!(text, ", which is at least {least}"),
+        Some(SignEnd::AtMost(most)) => write!(text, ", which is at most {most}"),
+        None => Ok(()),
     }
 }
 
-// What is left of a sign's other end, where that is needed: more is struck than the number at the end of all.
-fn say_end(
-    text: &mut Writing,
+/// The bound that is told of the other end of a sign with these numbers left there. It isn't needed if only
+/// the number is struck that no grid has at the other end.
+pub(crate) fn end_of<P: StepNames>(
+    p: &P,
+    reason: Reason,
     left: NumberSet,
-    end: Option<u8>,
-    last: u8,
-    words: &str,
     strikes: &[Strike],
-) -> fmt::Result {
-    match end {
-        Some(end) if end != last && !strikes.iter().all(|strike| strike.values == one(last)) => {
-            let bound = if left.is_single() { "" } else { words };
-            write!(text, ", which is {bound}{end}")
-        }
-        _ => Ok(()),
+) -> Option<SignEnd> {
+    let Reason::Sign { from, to } = reason else {
+        return None;
+    };
+    let is_less = is_greater(p, from, to);
+    let (number, last) = if is_less {
+        (left.greatest()?, p.size().get())
+    } else {
+        (left.least()?, 1)
+    };
+    if number == last || strikes.iter().all(|strike| strike.values == one(last)) {
+        return None;
     }
+    Some(if is_less {
+        SignEnd::AtMost(number)
+    } else {
+        SignEnd::AtLeast(number)
+    })
 }
 
 /// The clue at a place of the edge; 0 of any other.

@@ -42,7 +42,8 @@ pub(crate) fn say_set(
     }
 }
 
-// What a set leaves of a line: its other open squares, and the numbers that neither the set takes nor a square has alone.
+// The rest of a line beside a set: its other open squares, and the numbers that neither the set takes nor a
+// square has alone.
 #[derive(Clone, Copy)]
 struct Others {
     squares: NumberSet,

@@ -1,4 +1,4 @@
-//! What a game adds for its steps to be told.
+//! The part that a game adds for its steps to be told.
 ghost use Rattle.line_steps.specs.Reasons.{StruckBy};
 ghost use Rattle.std.specs.Prelude.{◌≡◌, ◌*◌, ◌<◌, ℕ, Bool, List};
 ghost use Rattle.trail_solver.specs.Candidates.{CandidatesValue};
@@ -36,7 +36,7 @@ pub trait StepNames: Steps {
         requires second { second < (Self.Rules.puzzle self.now).size * (Self.Rules.puzzle self.now).size }
         ensures { result ≡ says_greater_of self.now first second };
 
-    // What a clue strikes is told by the counts: the clue is in none of those with a number that it strikes.
+    // A clue's strikes are told by the counts: the clue is in none of those with a number that it strikes.
     ghost struck_unshown: { (p : Self) (c : CandidatesValue) (reason : Reason) (cell value : ℕ)
         → c.size ≡ (Self.Rules.puzzle p).size
         → StruckBy Self.Rules.puzzle Self.Steps.own p c reason cell value → IsShownBy c reason cell value (reason_clue (edge_clue_of p) reason) → ⊥ };

@@ -6,15 +6,18 @@ ghost use Rattle.line_steps.specs.declared.reason.Reason.{Reason};
 ghost use Rattle.shown_counts.specs.Shown.{IsLineOf};
 ghost use Rattle.step_texts.specs.Told.{AreToldCounts, AreToldStrikes, IsToldOf, AreTold};
 
+use crate::groups::Why;
 use crate::looks::joined_steps;
-use crate::sentences::{Look, say_step};
+use crate::said_before::SaidBefore;
+use crate::sentences::{Look, end_of, say_step};
 use crate::step_names::StepNames;
 use crate::told::{Strike, ToldStep};
 use crate::writing::{Writing, said};
+use named_steps::Reason;
 use number_sets::NumberSet;
 use shown_counts::ClueCounts;
 use std::alloc::{AllocError, Global};
-use step_chains::{Step, take_all};
+use step_chains::{Step, copied, take_all};
 use trail_solver::{Candidates, Rules};
 
 // Of more steps nobody reads each sentence, and the squares that a clue needs take long to find.
@@ -27,21 +30,22 @@ const MANY: usize = 60;
 pub fn told_steps<P: StepNames>(
     alloc: Global,
     p: &P,
-    candidates: Candidates,
+    view: &Candidates,
     steps: &[Step],
 ) -> Result<Vec<ToldStep>, AllocError>
     ensures { IfOk result
-        (λ told. AreTold (StruckBy P.puzzle P.own p.now) (P.Rules.puzzle p.now).size candidates steps.now told.items) }
+        (λ told. AreTold (StruckBy P.puzzle P.own p.now) (P.Rules.puzzle p.now).size view.now steps.now told.items) }
 {
-    let mut candidates = candidates;
+    let mut candidates = copied(view);
     let mut cache = P::Cache::default();
+    let mut before = SaidBefore::nothing(&candidates);
     let mut told = Vec::new(alloc);
     let mut rest = steps;
     let are_many = steps.len() > MANY;
     while let Some(first) = rest.first() {
         let joined = joined_steps(p, &candidates, first, &rest[1..], &mut cache);
         let (look, more) = rest.split_at(joined + 1);
-        told.push(told_step(alloc, p, &candidates, first, look, are_many)?)?;
+        told.push(told_step(alloc, p, &candidates, &mut before, first, look, are_many)?)?;
         take_all(&mut candidates, look);
         rest = more;
     }
@@ -53,6 +57,7 @@ fn told_step<P: StepNames>(
     alloc: Global,
     p: &P,
     candidates: &Candidates,
+    before: &mut SaidBefore,
     first: &Step,
     look: &[Step],
     is_of_many: bool,
@@ -61,10 +66,17 @@ fn told_step<P: StepNames>(
 {
     let line = ClueCounts::of(candidates, first.reason);
     let strikes = told_strikes(alloc, candidates, first, &line, look)?;
+    before.go_on(Why::of(p, first.reason, strikes.as_slice()));
+    let other = before.left_of(other_end(first.reason));
+    let end = end_of(p, first.reason, other, strikes.as_slice());
+    before.rule_out(strikes.as_slice(), end);
     let mut text = Writing::new(alloc);
     let told = Look {
         reason: first.reason,
         line: &line,
+        left: &left_line(candidates, first.reason),
+        end,
+        is_alone: other.is_single(),
         strikes: strikes.as_slice(),
         is_of_many,
     };
@@ -73,11 +85,30 @@ fn told_step<P: StepNames>(
     Ok(ToldStep {
         reason: first.reason,
         strikes,
+        end,
         text: text.into_lines(),
     })
 }
 
-// What steps of the first one's reason strike, square by square, with the counts of its clue's line.
+// The square at the other end of a sign; of other reasons the first one, of which nothing is told then.
+fn other_end(reason: Reason) -> usize {
+    match reason {
+        Reason::Sign { from, .. } => from,
+        _ => 0,
+    }
+}
+
+// The line of a reason's clue by what is left of it, of those that look at less than that.
+fn left_line(candidates: &Candidates, reason: Reason) -> Option<ClueCounts> {
+    match reason {
+        Reason::Bound { place } | Reason::Stand { place } => {
+            ClueCounts::of(candidates, Reason::Clue { place })
+        }
+        _ => None,
+    }
+}
+
+// The strikes of steps of the first one's reason, square by square, with the counts of its clue's line.
 fn told_strikes(
     alloc: Global,
     candidates: &Candidates,

@@ -4,7 +4,7 @@ use crate::writing::Line;
 use named_steps::Reason;
 use number_sets::NumberSet;
 
-/// What is struck in a square.
+/// A square, and the numbers that are struck in it.
 #[derive(Clone, Copy, Debug)]
 pub struct Strike {
     pub cell: u8,
@@ -14,10 +14,52 @@ pub struct Strike {
     pub shows: Option<[NumberSet; 10]>,
 }
 
+/// The bound that is told of the other end of a sign.
+#[derive(Clone, Copy, PartialEq, Eq, Debug)]
+pub enum SignEnd {
+    /// The least number that is left of the lesser square.
+    AtLeast(u8),
+    /// The greatest that is left of the greater one.
+    AtMost(u8),
+}
+
+impl SignEnd {
+    /// Its number.
+    pub(crate) fn number(self) -> u8 {
+        match self {
+            SignEnd::AtLeast(least) => least,
+            SignEnd::AtMost(most) => most,
+        }
+    }
+
+    /// The one of two that says less.
+    pub(crate) fn or_weaker(self, other: SignEnd) -> SignEnd {
+        match (self, other) {
+            (SignEnd::AtLeast(least), SignEnd::AtLeast(less)) if less < least => other,
+            (SignEnd::AtMost(most), SignEnd::AtMost(more)) if more > most => other,
+            _ => self,
+        }
+    }
+
+    /// The numbers that this leaves none of at the sign's own end.
+    pub(crate) fn beyond(self) -> NumberSet {
+        let all = NumberSet::up_to(9);
+        match self {
+            SignEnd::AtLeast(least) if least <= 9 => NumberSet::up_to(least),
+            SignEnd::AtMost(most) if 1 <= most && most <= 9 => all.difference(NumberSet::up_to(
+                most - 1,
+            )),
+            _ => NumberSet::empty(),
+        }
+    }
+}
+
 /// Steps that are told as one: why they strike, what they strike in each square, and the sentence that says so.
 #[derive(Debug, Drop)]
 pub struct ToldStep {
     pub reason: Reason,
     pub strikes: Vec<Strike>,
+    /// The bound that the sentence tells of the other end of a sign, if it tells one.
+    pub end: Option<SignEnd>,
     pub text: Vec<Line>,
 }

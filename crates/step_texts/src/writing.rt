@@ -130,7 +130,7 @@ impl fmt::Write for Writing {
     }
 }
 
-/// What was written, if there was memory.
+/// Success where the text was written, and otherwise that there was no memory.
 pub(crate) fn said(written: fmt::Result) -> Result<(), AllocError> {
     match written {
         Ok(()) => Ok(()),

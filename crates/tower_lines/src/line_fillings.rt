@@ -13,7 +13,7 @@ use number_sets::NumberSet;
 
 /// For each square of a line, from the clue on, the values that it has in some filling of the line:
 /// a filling takes each square's value from its candidates and from 1 to the line's length, has no
-/// value twice, and shows as many towers as the clue says. What is past the line is empty.
+/// value twice, and shows as many towers as the clue says. Places past the line are empty.
 ///
 /// Masks of used values stand for the starts of the line, by levels: how many towers a start shows. A first pass finds the masks
 /// of all starts, a second pass, from the whole line back, those of them that a filling begins with.

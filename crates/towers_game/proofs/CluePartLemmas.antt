@@ -1,4 +1,4 @@
--- What is known while the clue part of a Towers description is read field by field.
+-- The facts that are known while the clue part of a Towers description is read field by field.
 use Rattle.std.proofs.Common.{◌≡◌, ℕ, ◌+◌, ◌*◌, ◌≤◌, true, ◌==◌, List, [], ◌∷◌, length, map, refl, sym, ap, ◌∙◌, arith, ◌++◌, suc, count_by, take, set, Option, Some, None, append_assoc, append-nil}
 use Rattle.std.specs.List.{flat_map, list_all}
 use Rattle.std.proofs.lemmas.List.Splits.{length-slice_split}

@@ -1,4 +1,4 @@
--- What is kept of a row is kept of another one, where each has the other's fillings.
+-- The sets that are kept of a row are kept of another one, where each has the other's fillings.
 use Rattle.std.proofs.lemmas.Bool.Decides.{nat_tests}
 use Rattle.std.proofs.Common.{◌≡◌, ◌↔◌, ℕ, ◌<◌, true, List, length, take, slice_index, arith}
 use Rattle.std.proofs.lemmas.List.{get_or-take}

@@ -1,4 +1,4 @@
--- What the cache knows of rows: of none at first, and then of one more.
+-- The rows that the cache knows: none at first, and then one more.
 use Rattle.std.proofs.lemmas.Bool.Decides.{nat_tests}
 use Rattle.std.proofs.Common.{◌≡◌, ℕ, ◌<◌, ◌≤◌, false, [], List, length, replicate, set, take, slice_index, slice_index_or, refl, sym, ◌∙◌, subst, arith}
 use Rattle.std.proofs.lemmas.Bool.{both_ways}

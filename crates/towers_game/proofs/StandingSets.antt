@@ -1,4 +1,4 @@
--- What may stand in the squares from a place, as a row of sets: nothing, one value, or anything; and what is struck of it.
+-- Values that may stand in the squares from a place, as a row of sets: none, one, or any; and those struck.
 use Rattle.std.proofs.lemmas.Bool.Decides.{nat_tests}
 use Rattle.std.proofs.Common.{◌≡◌, ◌↔◌, ℕ, ◌+◌, ◌*◌, ◌<◌, ◌≤◌, true, inl, inr, List, set, take, slice_index, nat_le, ◌&&◌, not, refl, sym, ap, ◌∙◌, subst, arith}
 use Rattle.std.proofs.lemmas.Bool.{both_ways, and_parts, and_from, cases_lt, false_from_ne_true, leb-true, le-leb, not_from_false}

@@ -1,4 +1,4 @@
--- What clues strike, as sets.
+-- The strikes of clues, as sets.
 use Rattle.std.proofs.lemmas.Bool.Decides.{nat_tests}
 use Rattle.std.proofs.Common.{◌≡◌, ◌≢◌, ◌↔◌, ℕ, ◌*◌, ◌<◌, true, arith}
 use Rattle.number_sets.specs.Sets.{has_number}

@@ -1,4 +1,4 @@
--- What clues take away is struck by them, and where they take nothing they are settled.
+-- Values that clues take away are struck by them, and where they take nothing they are settled.
 use Rattle.std.proofs.lemmas.Bool.Decides.{nat_tests}
 use Rattle.std.proofs.Common.{◌≡◌, ◌≢◌, ℕ, ◌+◌, ◌*◌, ◌<◌, true, List, slice_index, sym, ap, ◌∙◌, subst, arith}
 use Rattle.number_sets.specs.Sets.{has_number}

@@ -1,4 +1,4 @@
--- What the contracts of Towers say. Each of the files here is one subject, and has definitions alone.
+-- The words of Towers' contracts. Each of the files here is one subject, and has definitions alone.
 
 -- the puzzles: what they are, which grids meet their clues, and their items
 pub mod Towers

@@ -1,4 +1,4 @@
--- What may stand in the squares from a clue, as rows of sets.
+-- The values that may stand in the squares from a clue, as rows of sets.
 use Rattle.std.specs.Prelude.{◌≡◌, ℕ, ◌<◌, List, length, slice_index, ◌↔◌, ◌≤◌, true}
 use Rattle.trail_solver.specs.Candidates.{CandidatesValue}
 use Rattle.number_sets.specs.Sets.{has_number, IsEmpty}

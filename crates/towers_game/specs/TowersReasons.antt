@@ -1,4 +1,4 @@
--- What each reason strikes in Towers.
+-- The strikes of each reason in Towers.
 use Rattle.std.specs.Prelude.{ℕ, ◌*◌, ◌<◌}
 use Rattle.trail_solver.specs.Candidates.{CandidatesValue}
 use Rattle.towers_game.specs.Towers.{TowersValue, clue_of, towers_puzzle}

@@ -1,4 +1,4 @@
--- What crowds rule out, and how narrowings by them follow one another.
+-- The pairs that crowds rule out, and how narrowings by them follow one another.
 use Rattle.std.proofs.lemmas.Bool.Decides.{nat_tests}
 use Rattle.std.proofs.Common.{◌≡◌, ℕ, ◌<◌, ◌≤◌, Bool, true, false, List, slice_index, subst, arith, count_ones}
 use Rattle.latin_board.specs.Squares.{GridValue}

@@ -1,4 +1,4 @@
--- What is gone when a square loses one value, or all values but one.
+-- The pairs that are gone when a square loses one value, or all values but one.
 use Rattle.std.proofs.Common.{arith}
 use Rattle.std.proofs.lemmas.Bool.Decides.{nat_tests}
 use Rattle.std.proofs.Common.{◌≡◌, ◌≢◌, ℕ, ◌*◌, ◌<◌, eqb, false, not, ◌&&◌, ◌||◌, ◌⊎◌, List, ◌++◌, sym, ap, ◌∙◌, subst, inl, inr, ⊎_elim}

@@ -1,4 +1,4 @@
--- What pairings of Latin squares say of the solutions of a puzzle.
+-- Narrowings by pairings keep the solutions of a puzzle, or show that there is none.
 use Rattle.std.proofs.Common.{◌≡◌, Bool, true, false, sym, ◌∙◌}
 use Rattle.std.specs.Bool.{OnFalse}
 use Rattle.latin_board.specs.Squares.{GridValue}

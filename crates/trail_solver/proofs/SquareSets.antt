@@ -1,4 +1,4 @@
--- What the set of a square's candidates says of the square.
+-- A square by the set of its candidates.
 use Rattle.std.proofs.Common.{arith}
 use Rattle.std.proofs.lemmas.Bool.Decides.{nat_tests}
 use Rattle.std.proofs.Common.{ℕ, ◌*◌, ◌<◌, Option, Some, None}

@@ -1,4 +1,4 @@
--- What is left of the candidates when values of a set go from a square.
+-- The candidates that are left when values of a set go from a square.
 use Rattle.std.proofs.Common.{arith}
 use Rattle.std.proofs.lemmas.Bool.Decides.{nat_tests}
 use Rattle.std.proofs.Common.{◌≡◌, ◌≢◌, ℕ, ◌^◌, ◌<◌, eqb, true, false, not, ◌&&◌, ◌||◌, ◌⊎◌, ◌++◌, refl, sym, ap, ◌∙◌, inl, inr, ⊎_elim}

@@ -1,4 +1,4 @@
--- What an answer says of a puzzle's solutions.
+-- The meaning of an answer for a puzzle's solutions.
 use Rattle.std.specs.Prelude.{◌≡◌, ◌≢◌}
 use Rattle.latin_board.specs.Squares.{GridValue}
 use Rattle.trail_solver.specs.declared.answer.Answer.{Answer}

@@ -1,4 +1,4 @@
--- What contracts see of the candidates of a puzzle's squares.
+-- The candidates of a puzzle's squares, as contracts see them.
 use Rattle.std.specs.Prelude.{◌≡◌, ◌↔◌, ℕ, ◌*◌, ◌<◌, ◌≤◌, Bool, true, not, List}
 use Rattle.latin_board.specs.Squares.{GridValue, number_at}
 use Rattle.number_sets.specs.Sets.{has_number}

@@ -1,4 +1,4 @@
--- What generic code knows of a puzzle, apart from its items, and what its solutions are.
+-- A puzzle as generic code knows it, apart from its items, and its solutions.
 use Rattle.std.specs.Prelude.{◌≡◌, ℕ, ◌*◌, ◌<◌, Bool, ◌==◌, ◌&&◌, ◌||◌, IsTrue}
 use Rattle.std.specs.List.{range_with_len, list_all}
 use Rattle.latin_board.specs.Squares.{GridValue, IsGrid, IsLatin, number_at, latin_test}

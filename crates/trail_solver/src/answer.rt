@@ -1,4 +1,4 @@
-//! What the solver answers: none, one or several solutions.
+//! The solver's answers: none, one or several solutions.
 ghost use Rattle.std.specs.Prelude.{◌≡◌};
 ghost use Rattle.trail_solver.specs.Inner.Added.{Adds};
 

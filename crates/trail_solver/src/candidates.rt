@@ -127,7 +127,7 @@ impl Candidates {
         self.pairs
     }
 
-    // What was removed, in that order.
+    // The removals, in their order.
     pub(crate) fn removals(&self) -> &[Removal] {
         self.removals.as_slice()
     }

@@ -8,7 +8,7 @@ use crate::candidates::Candidates;
 use crate::guessing::failures::Failures;
 use crate::guessing::proposal::best_proposal;
 
-/// What a search has left to do.
+/// The work that a search has left to do.
 #[derive(Clone, Copy)]
 pub(crate) enum Choice {
     /// Each square has just one candidate.

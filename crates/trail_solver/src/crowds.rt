@@ -1,5 +1,5 @@
-//! What the pairings of a Latin square rule out: lefts that have just as many rights as there are of them
-//! leave none of these rights to other lefts, and lefts that have fewer leave no Latin square.
+//! The pairs that a Latin square's pairings rule out: lefts that have just as many rights as there are of
+//! them leave none of these rights to other lefts, and lefts that have fewer leave no Latin square.
 
 ghost use Rattle.std.specs.Prelude.{◌≡◌, ℕ, ◌<◌, true, slice_index, count_ones};
 ghost use Rattle.std.specs.Bool.{OnTrue};

@@ -1,4 +1,5 @@
-//! What a Latin square pairs off: the places of each line with the values there, and the rows with the columns of each value.
+//! The pairings of a Latin square: the places of each line with the values there, and the rows with the
+//! columns of each value.
 
 ghost use Rattle.std.specs.Prelude.{◌≡◌, ℕ, ◌*◌, ◌<◌, ◌≤◌, true};
 ghost use Rattle.number_sets.specs.Sets.{has_number};
@@ -15,8 +16,8 @@ pub(crate) const SIDES: usize = 16;
 /// Which rights each left may have.
 pub(crate) type Sides = [NumberSet; SIDES];
 
-/// What is paired off: as many lefts and rights as the width, each numbered from 0. A Latin square gives each left a right
-/// of its own.
+/// A pairing: as many lefts and rights as the width, each numbered from 0. A Latin square gives each left a
+/// right of its own.
 #[derive(Clone, Copy)]
 pub(crate) enum Pairing {
     /// The places of a line, and the values that may stand there, less 1.

@@ -1,4 +1,4 @@
-//! What the rules of a game owe, and whether a grid is a solution.
+//! The duties of a game's rules, and whether a grid is a solution.
 ghost use Rattle.std.specs.Prelude.{◌≡◌, ℕ, ◌*◌, ◌<◌, ◌≤◌, ◌↔◌, ◌==◌, ◌&&◌, Bool, true, false, not, IsTrue};
 ghost use Rattle.std.specs.Bool.{OnFalse};
 ghost use Rattle.latin_board.specs.Squares.{GridValue, IsGrid, IsFull, IsLatin, number_at};
@@ -18,7 +18,7 @@ pub trait Rules: Copy {
     // The size, the givens, which grids meet the clues or signs, and where clues stand at the edge.
     ghost puzzle: { Self → Puzzle };
 
-    // What holds of every puzzle of the type.
+    // The fact that holds of every puzzle of the type.
     ghost valid: { Self → Type 0 };
 
     // How many items a puzzle of a size can have.

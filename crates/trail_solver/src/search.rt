@@ -98,8 +98,8 @@ impl<P: Rules> Search<P> {
     }
 
     // Adds the solutions among the candidates to those that were found, or leaves off where the failures reach the limit. It
-    // tells whether all were added. What was found isn't handed on by value, as there are calls within calls: their frames are
-    // to be small.
+    // tells whether all were added. The answer isn't handed on by value, as there are calls within calls:
+    // their frames are to be small.
     #[cycle(search)]
     #[tactic(auto, using(crate::proofs::Runs::left_limited, crate::proofs::Runs::left_anyhow))]
     fn run(&mut self, found: &mut Answer, limit: Option<u32>) -> bool
@@ -168,8 +168,8 @@ impl<P: Rules> Search<P> {
         self.shave()
     }
 
-    // What is known, with the solutions among the candidates, which stay as they are, or nothing where the failures reach the
-    // limit.
+    // The known answer with the solutions among the candidates, which stay as they are, or nothing where the
+    // failures reach the limit.
     fn attempt(&mut self, known: &Answer, limit: Option<u32>) -> Option<Answer>
         ensures same { self.new ≡ self.old }
         ensures adds { MatchOption result (limit ≢ None)
@@ -182,7 +182,7 @@ impl<P: Rules> Search<P> {
         if all { Some(found) } else { None }
     }
 
-    // What is known, with the solutions among the candidates, which stay as they are. It ends at the second one.
+    // The known answer with the solutions among the candidates, which stay as they are. Two solutions end it.
     fn answer_with(&mut self, known: &Answer) -> Answer
         ensures same { self.new ≡ self.old }
         ensures adds { Adds (IsAmong (P.puzzle self.old.rules) self.old.candidates) known.now result }
@@ -196,7 +196,7 @@ impl<P: Rules> Search<P> {
         self.last_answer(known)
     }
 
-    // What `answer_with` answers, of a search that had all its short runs: the candidates are shaved first.
+    // The answer of `answer_with`, after all short runs of a search: the candidates are shaved first.
     fn last_answer(&mut self, known: &Answer) -> Answer
         ensures same { self.new ≡ self.old }
         ensures adds { Adds (IsAmong (P.puzzle self.old.rules) self.old.candidates) known.now result }
@@ -207,7 +207,7 @@ impl<P: Rules> Search<P> {
         answer
     }
 
-    // What `last_answer` answers; what shaving takes away stays away.
+    // The answer of `last_answer`; candidates that shaving takes away stay away.
     #[tactic(auto, using(crate::proofs::JoinedAnswers::adds_same, crate::proofs::JoinedAnswers::adds_nothing))]
     fn shaved_answer(&mut self, known: &Answer) -> Answer
         ensures further { IsFurther self.old self.new }
@@ -220,7 +220,7 @@ impl<P: Rules> Search<P> {
         }
     }
 
-    // What `answer_with` answers, of shaved candidates: by one run with a limit, or otherwise by one without.
+    // The answer of `answer_with`, of shaved candidates: by a limited run, or otherwise by an unlimited one.
     fn thorough_answer(&mut self, known: &Answer) -> Answer
         ensures same { self.new ≡ self.old }
         ensures adds { Adds (IsAmong (P.puzzle self.old.rules) self.old.candidates) known.now result }
@@ -250,7 +250,7 @@ impl<P: Rules> Search<P> {
         self.settled_answer_with(&Answer::None)
     }
 
-    /// What is known, with the solutions among the candidates, which it narrows first.
+    /// The known answer with the solutions among the candidates, which it narrows first.
     #[tactic(auto, using(crate::proofs::JoinedAnswers::adds_same, crate::proofs::JoinedAnswers::adds_nothing))]
     pub fn settled_answer_with(&mut self, known: &Answer) -> Answer
         ensures { Adds (IsAmong (P.puzzle self.old.rules) self.old.candidates) known.now result }

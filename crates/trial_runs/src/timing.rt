@@ -25,7 +25,7 @@ const ENOUGH: u64 = 1_000_000;
 /// How many solutions are listed.
 const LISTED: u8 = 100;
 
-/// What is timed.
+/// A task that is timed.
 #[derive(Clone, Copy)]
 pub(crate) enum Task {
     Solve,

@@ -1,4 +1,4 @@
--- What signs take away is struck by them, and where they take nothing they strike nothing that is left.
+-- Values that signs take away are struck by them; where they take nothing they strike nothing that is left.
 use Rattle.std.proofs.Common.{◌≡◌, ◌↔◌, ◌⊎◌, ℕ, ◌*◌, ◌<◌, ◌≤◌, true, inl, inr, refl, sym, subst}
 use Rattle.number_sets.specs.Sets.{has_number}
 use Rattle.latin_board.proofs.LatinLines.{line_cell_inside}

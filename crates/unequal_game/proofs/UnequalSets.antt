@@ -1,4 +1,4 @@
--- What signs strike, as sets.
+-- The strikes of signs, as sets.
 use Rattle.std.proofs.Common.{arith, ◌≡◌, ◌↔◌, ℕ, ◌*◌, ◌<◌, ◌≤◌, true}
 use Rattle.std.proofs.lemmas.Bool.Decides.{nat_tests}
 use Rattle.number_sets.specs.Sets.{has_number}

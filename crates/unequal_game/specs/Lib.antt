@@ -1,4 +1,4 @@
--- What the contracts of Unequal say. Each of the files here is one subject, and has definitions alone.
+-- The words of Unequal's contracts. Each of the files here is one subject, and has definitions alone.
 
 -- the puzzles: what they are, which grids hold their signs, and their items
 pub mod Unequal

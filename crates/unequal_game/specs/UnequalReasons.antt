@@ -1,4 +1,4 @@
--- What each reason strikes in Unequal.
+-- The strikes of each reason in Unequal.
 use Rattle.std.specs.Prelude.{◌≡◌, ℕ, ◌≤◌, ◌⊎◌}
 use Rattle.trail_solver.specs.Candidates.{CandidatesValue}
 use Rattle.unequal_game.specs.Unequal.{UnequalValue, IsGreater, unequal_puzzle}

@@ -5,19 +5,19 @@ use Rattle.play_save.specs.declared.save_format.TheConstants.{MOST_BYTES}
 use Rattle.play_save.specs.SaveTexts.{SaveText}
 use Rattle.play_save.specs.Written.{save_of, record_text}
 use Rattle.play_save.specs.Laws.{SavesOneSession, FaultsWhereNone, SavesAreStorable, WrittenIsSaved, WrittenSavesNoOther}
-use Rattle.puzzle_cli.specs.declared.line.machine.Response.{Response}
-use Rattle.puzzle_cli.specs.declared.line.machine.Response.TheVariants.{Reply, Silence, Quit}
-use Rattle.puzzle_cli.specs.declared.start.start_fault.StartFault.{StartFault}
-use Rattle.puzzle_cli.specs.declared.start.start_fault.StartFault.TheVariants.{OutOfMemory}
-use Rattle.puzzle_cli.specs.Commands.{is_quit}
-use Rattle.puzzle_cli.specs.Formats.{LeavesAsAnswers}
-use Rattle.puzzle_cli.specs.GameFacts.{GameFacts}
-use Rattle.puzzle_cli.specs.Lines.{Line}
-use Rattle.puzzle_cli.specs.Machines.{IsResponse}
-use Rattle.puzzle_cli.specs.Programs.{GameReply, Begins}
-use Rattle.puzzle_cli.specs.Runs.{RepliesInTurn, has_quit}
-use Rattle.puzzle_cli.specs.RunLaws.{IsNoneOrStorable, AnswersStayStorable}
-use Rattle.puzzle_cli.specs.Starts.{saved_facts}
+use Rattle.line_replies.specs.declared.machine.Response.{Response}
+use Rattle.line_replies.specs.declared.machine.Response.TheVariants.{Reply, Silence, Quit}
+use Rattle.line_replies.specs.declared.start.start_fault.StartFault.{StartFault}
+use Rattle.line_replies.specs.declared.start.start_fault.StartFault.TheVariants.{OutOfMemory}
+use Rattle.line_replies.specs.Commands.{is_quit}
+use Rattle.line_replies.specs.Formats.{LeavesAsAnswers}
+use Rattle.line_replies.specs.GameFacts.{GameFacts}
+use Rattle.line_replies.specs.Lines.{Line}
+use Rattle.line_replies.specs.Machines.{IsResponse}
+use Rattle.line_replies.specs.Starts.{GameReply, Begins}
+use Rattle.line_replies.specs.InTurn.{RepliesInTurn, has_quit}
+use Rattle.line_replies.specs.RunLaws.{IsNoneOrStorable, AnswersStayStorable}
+use Rattle.line_replies.specs.Starts.{saved_facts}
 use Rattle.web_turn.specs.Turns.{IsTurn, IsUnread, file_of, said_text, is_end, saved_text}
 use Rattle.web_turn.specs.TurnRuns.{AreTurns, TurnsAreARun, TextsAreTaken}
 

@@ -2,11 +2,11 @@
 use Rattle.std.specs.Prelude.{◌≡◌, ◌≤◌, ℕ, List, [], ◌∷◌, ◌++◌, false, Option, None, Ok, length}
 use Rattle.play_midend.specs.Histories.{History}
 use Rattle.play_save.specs.declared.save_format.TheConstants.{MOST_BYTES}
-use Rattle.puzzle_cli.specs.Commands.{is_quit}
-use Rattle.puzzle_cli.specs.GameFacts.{GameFacts}
-use Rattle.puzzle_cli.specs.Lines.{Line}
-use Rattle.puzzle_cli.specs.Programs.{GameReply, Begins}
-use Rattle.puzzle_cli.specs.Runs.{RepliesInTurn, has_quit}
+use Rattle.line_replies.specs.Commands.{is_quit}
+use Rattle.line_replies.specs.GameFacts.{GameFacts}
+use Rattle.line_replies.specs.Lines.{Line}
+use Rattle.line_replies.specs.Starts.{GameReply, Begins}
+use Rattle.line_replies.specs.InTurn.{RepliesInTurn, has_quit}
 use Rattle.web_turn.specs.declared.outcome.Outcome.TheVariants.{Answered}
 use Rattle.web_turn.specs.Turns.{IsTurnOutcome, IsUnread, file_of, saved_text}
 

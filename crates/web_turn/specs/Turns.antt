@@ -2,19 +2,19 @@
 use Rattle.std.specs.Prelude.{◌≡◌, ◌≢◌, ◌⊎◌, ◌<◌, ℕ, List, [], Bool, true, false, Option, Some, None, Ok, Err, length}
 use Rattle.play_midend.specs.Histories.{History}
 use Rattle.play_save.specs.Written.{save_of}
-use Rattle.puzzle_cli.specs.declared.line.machine.Response.{Response}
-use Rattle.puzzle_cli.specs.declared.line.machine.Response.TheVariants.{Reply, Silence, Quit}
-use Rattle.puzzle_cli.specs.declared.start.command_line.GameName.{GameName}
-use Rattle.puzzle_cli.specs.declared.start.command_line.GameName.TheVariants.{Towers, Unequal}
-use Rattle.puzzle_cli.specs.declared.start.start_fault.StartFault.{StartFault}
-use Rattle.puzzle_cli.specs.declared.start.start_fault.StartFault.TheVariants.{OutOfMemory as NoMemoryToLoad}
-use Rattle.puzzle_cli.specs.Commands.{is_quit}
-use Rattle.puzzle_cli.specs.GameFacts.{GameFacts}
-use Rattle.puzzle_cli.specs.Lines.{Line, as_line, unless_long}
-use Rattle.puzzle_cli.specs.Machines.{IsResponse}
-use Rattle.puzzle_cli.specs.StartFault.{start_fault_line}
-use Rattle.puzzle_cli.specs.Programs.{GameReply, Begins}
-use Rattle.puzzle_cli.specs.Texts.{text_bytes}
+use Rattle.line_replies.specs.declared.machine.Response.{Response}
+use Rattle.line_replies.specs.declared.machine.Response.TheVariants.{Reply, Silence, Quit}
+use Rattle.line_replies.specs.declared.start.game_name.GameName.{GameName}
+use Rattle.line_replies.specs.declared.start.game_name.GameName.TheVariants.{Towers, Unequal}
+use Rattle.line_replies.specs.declared.start.start_fault.StartFault.{StartFault}
+use Rattle.line_replies.specs.declared.start.start_fault.StartFault.TheVariants.{OutOfMemory as NoMemoryToLoad}
+use Rattle.line_replies.specs.Commands.{is_quit}
+use Rattle.line_replies.specs.GameFacts.{GameFacts}
+use Rattle.line_replies.specs.Lines.{Line, as_line, unless_long}
+use Rattle.line_replies.specs.Machines.{IsResponse}
+use Rattle.line_replies.specs.StartFault.{start_fault_line}
+use Rattle.line_replies.specs.Starts.{GameReply, Begins}
+use Rattle.line_replies.specs.Texts.{text_bytes}
 use Rattle.web_turn.specs.declared.outcome.Outcome.{Outcome}
 use Rattle.web_turn.specs.declared.outcome.Outcome.TheVariants.{Answered, Ended, Unread, OutOfMemory, OutOfRoom}
 
@@ -90,7 +90,7 @@ IsTurnOutcome f reply before line said saved Unread = IsUnread f before said × 
 IsTurnOutcome f reply before line said saved OutOfMemory = ⊥
 IsTurnOutcome f reply before line said saved OutOfRoom = ⊥
 
--- What comes of the line has one text of so many bytes and one of so many, and one of both has no place in its room.
+-- The outcome has one text of so many bytes and one of so many, and one of them has no place in its room.
 pub record IsTooLong {P : Type 0} (f : GameFacts P) (reply : GameReply P) (before : List ℕ) (line : Line)
     (said_bytes saved_bytes : ℕ)
     (said_room saved_room : ℕ) : Type 0 where

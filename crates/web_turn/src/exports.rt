@@ -1,7 +1,7 @@
 //! The turn as a page calls it: bytes by address and length, the answer in rooms that the page gives.
 
 ghost use Rattle.std.specs.Prelude.{◌≡◌, ◌⊎◌, ◌≤◌, ◌<◌, length, take, true, false, Some, vec_items};
-ghost use Rattle.puzzle_cli.specs.Programs.{OfGame};
+ghost use Rattle.line_replies.specs.Starts.{OfGame};
 ghost use Rattle.web_turn.specs.declared.outcome.Outcome.{Outcome};
 ghost use Rattle.web_turn.specs.Turns.{IsTurnOutcome, IsTooLong, game_of, come_line, outcome_number};
 
@@ -9,7 +9,7 @@ use crate::outcome::Outcome;
 use crate::turn::{Answer, answer_line};
 use clue_rules::{Towers, Unequal};
 use json_replies::Json;
-use puzzle_cli::{Facts, Format, GameName};
+use line_replies::{Facts, Format, GameName};
 use std::alloc::Global;
 
 /// How a call ended, and how long its answer is.
@@ -27,9 +27,10 @@ pub struct Ending {
 
 /// Answers a line, in Unequal or otherwise in Towers, to the session of the text before, or to none where that is empty.
 ///
-/// What is said goes to the start of `said`, and the text of a save of the session after to the start of `saved`. Of a text that is no save
-/// the program's line on it is said, as `refused: BadState 3`, or there was no memory for it. Where one of both has no place in its room,
-/// their lengths alone are given. Where there was no memory nothing is said, and no clause says when that is.
+/// The reply goes to the start of `said`, and the text of a save of the session after to the start of
+/// `saved`. Of a text that is no save the program's line on it is said, as `refused: BadState 3`, or there
+/// was no memory for it. Where one of both has no place in its room, their lengths alone are given. Where
+/// there was no memory nothing is said, and no clause says when that is.
 #[unsafe(no_mangle)]
 pub extern "C" fn puzzles_turn(
     alloc: Global,

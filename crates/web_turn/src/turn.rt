@@ -2,22 +2,19 @@
 
 ghost use Rattle.std.specs.Prelude.{◌≡◌, ◌≢◌, ◌≤◌, length, vec_items, IfErr, IfOk, Some, None, Err};
 ghost use Rattle.std.specs.Option.{option_copied};
-ghost use Rattle.puzzle_cli.specs.declared.start.start_fault.StartFault.{StartFault};
-ghost use Rattle.puzzle_cli.specs.Programs.{Begins, OfGame};
+ghost use Rattle.line_replies.specs.declared.start.start_fault.StartFault.{StartFault};
+ghost use Rattle.line_replies.specs.Starts.{Begins, OfGame};
 ghost use Rattle.web_turn.specs.Turns.{IsTurnOutcome, IsTurn, file_of, is_end, come_line, said_text, saved_text};
 
 use crate::outcome::Outcome;
 use clue_rules::{Towers, Unequal};
 use json_replies::Json;
+use line_replies::{Draw, Facts, Format, GameName, LINE_BYTES, Response, StartFault, begin};
 use play_midend::Session;
 use play_save::save;
-use puzzle_cli::{Draw, Facts, Format, GameName, Response, StartFault, begin};
 use std::alloc::{AllocError, Global};
 
-/// The most bytes that a line may have: as many as the program's.
-const LINE_BYTES: usize = 1_024;
-
-/// What comes of a line.
+/// The outcome of a line.
 #[derive(Drop)]
 pub(crate) struct Answer {
     /// `Answered`, `Ended` or `Unread`.
@@ -37,7 +34,7 @@ struct Turn {
     ends: bool,
 }
 
-/// What comes of the bytes of a line, without their LF, in this game, to the session of the text before.
+/// The outcome of a line's bytes, without their LF, in this game, with the session of the text before.
 pub(crate) fn answer_line(
     alloc: Global,
     game: GameName,
@@ -56,7 +53,7 @@ pub(crate) fn answer_line(
     }
 }
 
-// What comes of the line in this game and format.
+// The outcome of the line in this game and format.
 fn answer_in<T: Format<P>, P: Draw>(
     alloc: Global,
     before: &[u8],
@@ -148,7 +145,7 @@ fn file(before: &[u8]) -> Option<&[u8]>
     }
 }
 
-// What the response says, and whether it ends the session.
+// The text of the response, and whether it ends the session.
 fn told(alloc: Global, response: Response) -> Result<(Vec<u8>, bool), StartFault>
     ensures said { IfOk result (λ told. vec_items told.0 ≡ said_text response) }
     ensures ends { IfOk result (λ told. told.1 ≡ is_end response) }

@@ -2,7 +2,7 @@
 
 ghost use Rattle.web_turn.specs.TurnRuns.{TurnsAreARun, TextsAreTaken};
 
-use puzzle_cli::{Draw, Facts, Format};
+use line_replies::{Draw, Facts, Format};
 
 /// The laws of turns, each with the text that the one before gave back, in any game and format.
 ///
@@ -12,6 +12,6 @@ pub fn laws<T: Format<P>, P: Draw>()
     ensures run { TurnsAreARun ⟦<P as Facts>⟧.facts T.reply }
     ensures taken { TextsAreTaken ⟦<P as Facts>⟧.facts T.reply }
 {
-    puzzle_cli::laws::<P>();
+    line_replies::laws::<P>();
     play_save::laws::<P>();
 }

@@ -68,7 +68,7 @@ PAIRS = [
     ({8: [b'MOVE    :6:R9,0,1'], 9: [b'MOVE    :1:H']}, 'Unsupported'),
     # So does a cut end.
     ({8: [b'MOVE    :6:R9,0,1'], 9: [b'']}, 'Missing'),
-    # What is missing comes before a description that can't be read, and that before a state.
+    # A missing record comes before a description that can't be read, and that before a state.
     ({1: [b''], 5: [b'DESC    :1:3']}, 'Missing'),
     ({5: [b'DESC    :1:3'], 8: [b'MOVE    :6:R9,0,1']}, 'BadDesc'),
     # The parameters stand before the game.

@@ -9,7 +9,7 @@ import {moduleOf, pagesOf} from './module.mjs';
 
 /** @typedef {import('./game.mjs').Answered} Answered */
 
-/** What is said where there was no memory: of the line, and of its object. */
+/** The answer if there was no memory: to the line, and as its object. */
 const REFUSED = '{"refused":"OutOfMemory"';
 const LOST = '{"lost":"OutOfMemory"}\n';
 

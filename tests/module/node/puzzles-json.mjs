@@ -124,7 +124,7 @@ function write(bytes) {
 }
 
 /**
- * What is done, or this end; of a file that is to be read with its name and why it isn't.
+ * Does something, or ends so; of a file that is to be read with its name and why it isn't.
  * @template T @param {string} line @param {() => T} does @param {string} [name] @returns {T}
  */
 function or(line, does, name) {

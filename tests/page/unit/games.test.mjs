@@ -26,7 +26,7 @@ test('names of kinds', () => {
   for (const name of ['towers-9-tricky', 'towers-3-hard', 'towers-2-easy', 'chess-5-easy', '__proto__-5-easy', 'towers-5-constructor']) equal(kindOfName(name), null, name);
 });
 
-test('what a text names', () => {
+test('the puzzle that a text names', () => {
   const fair = {game: 'towers', size: 9, letter: 'h', number: '20261127'};
   const rows = [
     ['#towers-9-hard-20261127', {fair}],

@@ -1,4 +1,4 @@
-// What a hint shows, part by part: from an object as docs/JSON.md has it.
+// The parts that a hint shows, one by one: from an object as docs/JSON.md has it.
 import {deepEqual, equal} from 'node:assert/strict';
 import {test} from 'node:test';
 import {WalkedHint, restsOn} from '../../../page/walked_hint.js';
@@ -22,7 +22,7 @@ test('a sentence of each step, and the last', () => {
   equal(walked.goal, '1,0');
 });
 
-test('what is left: in view, without what the steps above strike', () => {
+test('the numbers left: those in view, without those that the steps above strike', () => {
   const walked = new WalkedHint(hint, 3);
   deepEqual(walked.shown(0).left?.[1], all);
   deepEqual(walked.shown(1).left?.[1], [1, 2]);
@@ -42,6 +42,10 @@ test('steps of one sentence are shown together', () => {
   deepEqual(walked.shown(2).left?.[1], [2]);
 });
 
+test('all that the steps rule out in a square', () => {
+  deepEqual([...new WalkedHint(hint, 3).struck], [[1, [3, 1]]]);
+});
+
 test('where to look, and what a step rests on', () => {
   deepEqual(new WalkedHint(hint, 3).look().framed, ['2,0', '1,0']);
   deepEqual(new WalkedHint({...hint, steps: [], groups: []}, 3).look().framed, ['1,0']);
@@ -50,6 +54,16 @@ test('where to look, and what a step rests on', () => {
   deepEqual(restsOn(clue, 3), ['-1,1', '0,1', '1,1', '2,1']);
   deepEqual(restsOn({...clue, x: 2, y: 3}, 3), ['2,3', '2,0', '2,1', '2,2']);
   deepEqual(restsOn({...sign, greater: null, less: null, cells: [0, 5]}, 3), ['0,0', '2,1']);
+});
+
+test('of wrong marks it is said that one is missing, then where, then which one', () => {
+  const wrong = {...hint, kind: 'contradiction', cell: null, number: null, from: 'marks', unmarked: 5};
+  const told = (unmarked, number) => new WalkedHint({...wrong, unmarked}, 3).missing(number).map(({text, shown}) => [text, shown.framed]);
+  deepEqual([new WalkedHint(wrong, 3), new WalkedHint({...wrong, from: 'numbers'}, 3), new WalkedHint(hint, 3)].map((one) => one.hasWrongMarks), [true, false, false]);
+  const where = [['A mark is missing.', []], ['The marks of r2c3 leave out its number.', ['2,1']]];
+  deepEqual(told(5, 3), [...where, ['3 is missing among the marks of r2c3.', ['2,1']]]);
+  deepEqual(told(5, 0), where);
+  deepEqual(told(null, 0), [where[0]]);
 });
 
 test('a contradiction has no move, and leaves a square nothing', () => {

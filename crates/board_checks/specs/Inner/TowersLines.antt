@@ -1,4 +1,4 @@
--- What the squares of a line can hold, by what stands there.
+-- The numbers that the squares of a line can hold, by what stands there.
 use Rattle.std.specs.Prelude.{◌≡◌, ℕ, ◌<◌, ◌≤◌, ◌↔◌, true, List, length, slice_index}
 use Rattle.latin_board.specs.Squares.{GridValue, number_at}
 use Rattle.number_sets.specs.Sets.{has_number}

@@ -1,4 +1,4 @@
--- What holds of two squares holds all along the list of them.
+-- Facts of two squares hold all along the list of them.
 use Rattle.std.proofs.Common.{ℕ, zero, suc, ◌∷◌, [], arith}
 use Rattle.std.specs.List.{All, AllPairs}
 

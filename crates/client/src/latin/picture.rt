@@ -3,7 +3,7 @@
 use crate::latin::Latin;
 use crate::latin::game::digits_of;
 use latin_board::{Board, OutOfMemory};
-use puzzle_cli::Draw;
+use line_replies::Draw;
 use std::alloc::Global;
 
 impl Draw for Latin {

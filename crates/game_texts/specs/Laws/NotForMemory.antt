@@ -1,4 +1,4 @@
--- What is made of readings that memory can't refuse is no refusal for memory either.
+-- A result that is made of readings that memory can't refuse is no refusal for memory either.
 use Rattle.std.proofs.Common.{arith, ℕ, Bool, true, false, List, Result, Ok, Err, if◌then◌else◌}
 use Rattle.std.proofs.lemmas.Bool.Decides.{nat_tests}
 use Rattle.byte_text.specs.Reading.{◌>>=◌}

@@ -1,11 +1,11 @@
 -- The response that tells what `execute` answered, and what is told to a line that begins a game.
 use Rattle.std.specs.Prelude.{◌≡◌, ℕ, List, Option, Result, Ok, Err}
 use Rattle.play_midend.specs.Histories.{History}
-use Rattle.puzzle_cli.specs.declared.line.machine.Response.{Response}
-use Rattle.puzzle_cli.specs.declared.line.machine.Response.TheVariants.{Reply, Silence, Quit}
-use Rattle.puzzle_cli.specs.declared.reply.refusal.Refusal.{Refusal}
-use Rattle.puzzle_cli.specs.GameFacts.{GameFacts}
-use Rattle.puzzle_cli.specs.Texts.{text_bytes}
+use Rattle.line_replies.specs.declared.machine.Response.{Response}
+use Rattle.line_replies.specs.declared.machine.Response.TheVariants.{Reply, Silence, Quit}
+use Rattle.line_replies.specs.declared.reply.refusal.Refusal.{Refusal}
+use Rattle.line_replies.specs.GameFacts.{GameFacts}
+use Rattle.line_replies.specs.Texts.{text_bytes}
 use Rattle.json_replies.specs.ObjectLines.{OrLost}
 use Rattle.json_replies.specs.declared.begin_line.BeginLine.{BeginLine}
 use Rattle.json_replies.specs.Replies.{Answer, session_left, IsReplyLine}

@@ -11,7 +11,8 @@ use Rattle.serde_json.specs.Read.{of_json}
 use Rattle.serde_json.specs.Written.{outline}
 use Rattle.json_replies.specs.declared.hint_text.Said.{Said}
 use Rattle.json_replies.specs.Counts.{count_data}
-use Rattle.json_replies.specs.HintObjects.{SaidData}
+use Rattle.json_replies.specs.HintObjects.{SaidData, start_word}
+use Rattle.json_replies.specs.declared.start.Start.{Start}
 use Rattle.json_replies.specs.WrittenData.{Follow}
 
 -- a count, or null
@@ -66,7 +67,8 @@ said_data s =
     }
 
 -- the first members of a hint
-abbrev pub said_members : SaidData → Data → List (List ℕ × Data)
-said_members said groups =
-    (codes "by", said.by) ∷ (codes "cell", said.cell) ∷ (codes "grade", said.grade) ∷ (codes "groups", groups)
-    ∷ (codes "kind", string said.kind) ∷ (codes "line", said.line) ∷ (codes "number", said.number) ∷ []
+abbrev pub said_members : SaidData → Start → Data → List (List ℕ × Data)
+said_members said start groups =
+    (codes "by", said.by) ∷ (codes "cell", said.cell) ∷ (codes "from", string (start_word start))
+    ∷ (codes "grade", said.grade) ∷ (codes "groups", groups) ∷ (codes "kind", string said.kind)
+    ∷ (codes "line", said.line) ∷ (codes "number", said.number) ∷ []

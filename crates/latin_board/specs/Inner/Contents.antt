@@ -1,4 +1,4 @@
--- What the fields of a change stand for.
+-- The value that the fields of a change stand for.
 use Rattle.latin_board.specs.declared.change.Content.{Content}
 use Rattle.latin_board.specs.declared.change.Content.TheVariants.{Square, Whole}
 use Rattle.latin_board.specs.Changes.{ChangeValue, OneSquare, WholeBoard}

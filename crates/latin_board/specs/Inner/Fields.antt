@@ -1,4 +1,4 @@
--- What the fields of a grid and of a board keep: lists of `CELLS` places, of which those past the squares are empty.
+-- The fields of a grid and of a board: lists of `CELLS` places, of which those past the squares are empty.
 use Rattle.std.specs.Prelude.{◌≡◌, ℕ, ◌-◌, ◌*◌, ◌<◌, ◌≤◌, true, List, ◌++◌, length, take, drop, replicate, All}
 use Rattle.std.proofs.Common.{take-append-drop}
 use Rattle.latin_board.specs.declared.grid.TheConstants.{CELLS}

@@ -1,4 +1,4 @@
--- What the squares of a row or column strike in one another, and which lines can't hold their numbers.
+-- The strikes of the squares of a row or column in one another, and the lines that can't hold their numbers.
 use Rattle.std.specs.Prelude.{◌≡◌, ◌≢◌, ℕ, ◌<◌, ◌≤◌, ◌⊎◌, true, false}
 use Rattle.number_sets.specs.Sets.{has_number}
 use Rattle.latin_board.specs.Lines.{line_cell}

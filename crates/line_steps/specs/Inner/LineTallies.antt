@@ -1,4 +1,4 @@
--- What is left of the squares of a row or column, counted over all of them.
+-- The values that are left of the squares of a row or column, counted over all of them.
 use Rattle.std.specs.Prelude.{◌≡◌, ◌≢◌, ◌↔◌, ℕ, ◌<◌, ◌≤◌, ◌⊎◌, true, false, not, ◌&&◌}
 use Rattle.number_sets.specs.Sets.{has_number, IsSingle}
 use Rattle.latin_board.specs.Lines.{line_cell}

@@ -1,4 +1,4 @@
--- What a step keeps of the grids that are sought.
+-- The sought grids that a step keeps.
 use Rattle.latin_board.specs.Squares.{GridValue}
 use Rattle.trail_solver.specs.Candidates.{CandidatesValue, IsWithin}
 

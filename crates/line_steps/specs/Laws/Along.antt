@@ -1,4 +1,4 @@
--- What looks along lines in every game: a clue or a sign alone, and in the lowest grade nothing.
+-- The reasons that look along lines in every game: a clue or a sign alone, and in the lowest grade none.
 use Rattle.std.proofs.Common.{◌≡◌, ℕ, ◌*◌, ◌<◌, true, false, subst}
 use Rattle.std.proofs.lemmas.Bool.{both_ways, false_from_ne_true}
 use Rattle.trail_solver.specs.Pairs.{IsPair}

@@ -1,4 +1,4 @@
--- What a reason strikes in a cut of a puzzle it strikes in the whole.
+-- A reason that strikes a value in a cut of a puzzle strikes it in the whole.
 use Rattle.std.proofs.Common.{◌≡◌, ℕ, ◌<◌, sym, ◌∙◌, subst, arith}
 use Rattle.trail_solver.specs.Candidates.{CandidatesValue}
 use Rattle.trail_solver.specs.Puzzles.{Puzzle}

@@ -1,4 +1,4 @@
--- What a reason strikes from candidates it strikes from fewer.
+-- A reason that strikes a value from candidates strikes it from fewer.
 use Rattle.std.proofs.Common.{ℕ}
 use Rattle.trail_solver.specs.Candidates.{CandidatesValue}
 use Rattle.trail_solver.specs.Puzzles.{Puzzle}

@@ -1,4 +1,4 @@
--- What a reason strikes is in no solution whose numbers are all candidates.
+-- A value that a reason strikes is in no solution whose numbers are all candidates.
 use Rattle.std.proofs.Common.{◌≡◌, ◌≢◌, ℕ, ◌*◌, ◌<◌, ◌≤◌, true, inl, inr, sym, ap, ◌∙◌, subst, arith}
 use Rattle.std.proofs.lemmas.Bool.{cases_eq}
 use Rattle.number_sets.specs.Sets.{has_number}

@@ -1,4 +1,4 @@
-//! What givens, rows and columns rule out, for the `narrow` of a game of another crate.
+//! The strikes of givens, rows and columns, for the `narrow` of a game of another crate.
 
 ghost use Rattle.std.specs.Prelude.{◌≡◌};
 ghost use Rattle.std.specs.Bool.{OnFalse, OnTrue};

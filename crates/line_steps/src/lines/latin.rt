@@ -1,4 +1,4 @@
-//! What the squares of a row or column strike in one another.
+//! The strikes of the squares of a row or column in one another.
 
 ghost use Rattle.std.specs.Prelude.{◌≡◌, ◌↔◌, ℕ, ◌*◌, ◌<◌, true, slice_index, IfErr, IfNone, IfOk, IfSome};
 ghost use Rattle.number_sets.specs.Sets.{has_number, IsEmpty};
@@ -54,7 +54,7 @@ fn strike_dead(candidates: &mut Candidates, line: u8, places: NumberSet)
     strike_row(candidates, line, &row);
 }
 
-// What is left of the squares at some places of a line, and nothing for the others.
+// The numbers that are left of the squares at some places of a line, and none for the others.
 fn sets_at(candidates: &Candidates, line: u8, places: NumberSet) -> [NumberSet; 9]
     requires { line < 2 * candidates.now.size }
     ensures { (k v : ℕ) → k < candidates.now.size → (has_number (slice_index result k) v ≡ true)
@@ -69,8 +69,8 @@ fn sets_at(candidates: &Candidates, line: u8, places: NumberSet) -> [NumberSet; 
     sets
 }
 
-// What the sets of candidates of a line say together: the values of which one of them has one, of which two have one,
-// and those that are alone in one.
+// A tally of the sets of candidates of a line: the values of which one of them has one, of which two have
+// one, and those that are alone in one.
 #[derive(Clone, Copy)]
 struct LineTally {
     once: NumberSet,

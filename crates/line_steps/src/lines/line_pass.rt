@@ -1,4 +1,4 @@
-//! What a loop over the rows and columns asks of a puzzle.
+//! The parts of a puzzle that a loop over the rows and columns asks for.
 
 ghost use Rattle.std.specs.Prelude.{◌≡◌, ◌≢◌, ℕ, ◌*◌, ◌<◌, ◌≤◌};
 ghost use Rattle.number_sets.specs.Sets.{IsEmpty};
@@ -17,14 +17,15 @@ use trail_solver::Candidates;
 
 /// A puzzle whose reasons of a grade strike along rows and columns: its givens, and its clues or signs.
 pub trait LinePass {
-    /// What is kept while lines are looked along, so that nothing is looked through twice; it is right for any puzzle.
+    /// The cache that is kept while lines are looked along, so that nothing is looked through twice; it is
+    /// right for any puzzle.
     type Cache;
 
     ghost puzzle: { Self → Puzzle };
 
     ghost valid: { Self → Type 0 };
 
-    // What a clue or a sign strikes from candidates: pairs of a square and a value.
+    // The strikes of a clue or a sign from candidates: pairs of a square and a value.
     ghost own: { Self → Striking };
 
     ghost grade: { Self → Grade };
@@ -55,14 +56,14 @@ pub trait LinePass {
         ensures { LeadsTo (StruckBy puzzle own self.now) (grade self.now) candidates.old candidates.new }
     {}
 
-    // What a clue or a sign that looks along a line strikes, it struck before, if nothing went of the line's
-    // squares since then.
+    // A clue or a sign that looks along a line strikes nothing that it didn't strike before, if nothing went
+    // of the line's squares since then.
     ghost looks_along: { (p : Self) (c d : CandidatesValue) (reason : Reason) (cell value line : ℕ)
         → c.size ≡ (puzzle p).size
         → line < 2 * c.size → LooksAlong c.size line reason cell → StaysOn line c d
         → own p d reason cell value → own p c reason cell value };
 
-    // What a clue or a sign strikes from candidates it strikes from fewer.
+    // A clue or a sign that strikes a value from candidates strikes it from fewer.
     ghost own_less: { (p : Self) (c d : CandidatesValue) (reason : Reason) (cell value : ℕ) → IsFewer c d
         → own p c reason cell value → own p d reason cell value };
 

@@ -46,7 +46,7 @@ pub fn take_at(candidates: &mut Candidates, place: u8, cell: usize, values: Numb
     NumberSet::one(place)
 }
 
-/// What is left of each square of a line, as sets.
+/// The numbers that are left of each square of a line, as sets.
 pub(crate) fn line_sets(candidates: &Candidates, line: u8) -> [NumberSet; 9]
     requires { line < 2 * candidates.now.size }
     ensures { AreLineSets candidates.now line candidates.now.size result }

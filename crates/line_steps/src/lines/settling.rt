@@ -1,4 +1,4 @@
-//! What givens strike, and then rows and columns, line after line, until they strike nothing that is left.
+//! The strikes of givens, then of rows and columns, line after line, until they strike nothing that is left.
 
 ghost use Rattle.line_steps.specs.Reasons.{StruckBy};
 ghost use Rattle.std.specs.Prelude.{◌≡◌, ℕ, ◌*◌, ◌<◌, Bool, IfNone, IfSome};

@@ -5,8 +5,8 @@ ghost use Rattle.line_steps.specs.Inner.LineSets.{IsStandingSet};
 
 use number_sets::NumberSet;
 
-/// What may stand in a square of which `left` is left, if only lone values are seen: its only number, none
-/// where it is empty, and otherwise any of `all`.
+/// The numbers that may stand in a square of which `left` is left, if only lone values are seen: its only
+/// number, none where it is empty, and otherwise any of `all`.
 pub fn standing_set(all: NumberSet, left: NumberSet) -> NumberSet
     ensures { IsStandingSet all left result }
 {

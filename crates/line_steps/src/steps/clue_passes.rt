@@ -1,4 +1,4 @@
-//! What the clues and signs along a line strike, reason by reason: for games that have no quicker way.
+//! The strikes of the clues and signs along a line, reason by reason: for games that have no quicker way.
 ghost use Rattle.line_steps.specs.Reasons.{StruckBy};
 ghost use Rattle.std.specs.Prelude.{◌≡◌, ℕ, ◌+◌, ◌*◌, ◌<◌, true};
 ghost use Rattle.number_sets.specs.Sets.{IsEmpty};
@@ -68,7 +68,7 @@ fn strike_by_reason<P: Steps>(
     strike_row(candidates, line, &row)
 }
 
-// What a reason strikes in each square of a line.
+// The values that a reason strikes in each square of a line.
 fn reason_row<P: Steps>(
     p: &P,
     candidates: &Candidates,

@@ -1,4 +1,4 @@
-//! What groups of a line's squares strike: those of which only as many values are left as they have squares.
+//! The strikes of groups of a line's squares: those that have only as many values left as they have squares.
 ghost use Rattle.std.specs.Prelude.{◌≡◌, ◌↔◌, ℕ, ◌*◌, ◌^◌, ◌⊎◌, ◌<◌, ◌≤◌, Bool, true, false, length, slice_index, count_ones};
 ghost use Rattle.std.specs.Bool.{OnFalse, OnTrue};
 ghost use Rattle.number_sets.specs.Sets.{has_number, IsEmpty};
@@ -65,7 +65,8 @@ fn open_places(sets: &[NumberSet; 9], width: u8) -> NumberSet
     open
 }
 
-// What the groups among some places strike in each place. All sets of these places are gone through, as the numbers that stand for them.
+// The values that the groups among some places strike in each place. All sets of these places are gone
+// through, as the numbers that stand for them.
 fn struck_by_groups(sets: &[NumberSet; 9], several: NumberSet, width: u8) -> [NumberSet; 9]
     requires width { width ≤ 9 }
     requires inside { (k : ℕ) → has_number several k ≡ true → k < width }

@@ -1,4 +1,4 @@
-//! What givens, rows and columns strike in one square.
+//! The strikes of givens, rows and columns in one square.
 ghost use Rattle.std.specs.Prelude.{◌≡◌, ◌↔◌, ℕ, ◌*◌, ◌<◌, ◌≤◌, true, IsTrue};
 ghost use Rattle.number_sets.specs.Sets.{has_number};
 ghost use Rattle.latin_board.specs.Lines.{ArePeers, line_cell};
@@ -10,7 +10,7 @@ use latin_board::{Size, line_cell};
 use number_sets::NumberSet;
 use trail_solver::{Candidates, Rules};
 
-/// What a given strikes in a square, in every game: the sizes are equal, and the square is one of the grid's.
+/// The values that a given strikes in a square, in every game: the sizes are equal, the grid has the square.
 #[tactic(auto, using(crate::proofs::GivenSets::given_struck))]
 pub(crate) fn given_strikes<P: Rules>(
     p: &P,

@@ -1,4 +1,4 @@
-//! What a group of squares strikes in one square.
+//! The strikes of a group of squares in one square.
 ghost use Rattle.std.specs.Prelude.{◌≡◌, ◌↔◌, ℕ, ◌*◌, ◌<◌, true, IsTrue};
 ghost use Rattle.number_sets.specs.Sets.{has_number, IsSubset};
 ghost use Rattle.trail_solver.specs.Pairs.{IsPair};

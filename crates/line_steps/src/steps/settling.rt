@@ -1,4 +1,4 @@
-//! What a grade leaves of candidates.
+//! The candidates that a grade leaves.
 ghost use Rattle.line_steps.specs.Reasons.{StruckBy};
 ghost use Rattle.std.specs.Prelude.{◌≡◌};
 ghost use Rattle.std.specs.Bool.{OnTrue, OnFalse};

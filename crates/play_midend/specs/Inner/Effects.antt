@@ -1,4 +1,4 @@
--- What a move that isn't refused does to a board: to one square, or to the whole of it.
+-- The effect on a board of a move that isn't refused: on one square, or on the whole of it.
 use Rattle.std.specs.Prelude.{◌≡◌, ◌*◌, ◌<◌, ◌≤◌, false, None}
 use Rattle.latin_board.specs.Boards.{BoardValue}
 use Rattle.trail_solver.specs.Puzzles.{Puzzle}

@@ -1,5 +1,5 @@
--- What stands beside each move of a session: the change that takes it back while it is past, or makes it again while it
--- is later.
+-- The change that stands beside each move of a session: it takes the move back while that is past, and makes
+-- it again while that is later.
 use Rattle.std.specs.Prelude.{◌≡◌, ℕ, ◌+◌, ◌≤◌, false, List, [], ◌∷◌, length, take, drop, map, Ok}
 use Rattle.latin_board.specs.Boards.{BoardValue}
 use Rattle.latin_board.specs.Changes.{FitsBoard, board_after}

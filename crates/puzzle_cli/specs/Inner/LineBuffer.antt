@@ -1,7 +1,7 @@
 -- The lines byte by byte: a part is what has come of a line so far, or None where that is too long.
 use Rattle.std.specs.Prelude.{ℕ, ◌==◌, if◌then◌else◌, nat_lt, Some, None, List, [], ◌∷◌, ◌++◌, length}
-use Rattle.puzzle_cli.specs.declared.line.line_buffer.TheConstants.{LINE_BYTES}
-use Rattle.puzzle_cli.specs.Lines.{Line, as_line}
+use Rattle.line_replies.specs.declared.machine.TheConstants.{LINE_BYTES}
+use Rattle.line_replies.specs.Lines.{Line, as_line}
 use Rattle.byte_text.specs.Bytes.{line_feed}
 
 -- the part with one more byte

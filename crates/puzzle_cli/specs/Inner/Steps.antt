@@ -1,7 +1,8 @@
--- What the steps of a run do, one line, byte or piece at a time.
+-- The steps of a run, one line, byte or piece at a time.
 use Rattle.std.specs.Prelude.{◌≡◌, Bool, true, false, List}
-use Rattle.puzzle_cli.specs.Lines.{Line, ReplyRule}
-use Rattle.puzzle_cli.specs.Runs.{Progress, has_quit, before_quit, Served, BreaksOff}
+use Rattle.line_replies.specs.Lines.{Line, ReplyRule}
+use Rattle.puzzle_cli.specs.Runs.{Progress, Served, BreaksOff}
+use Rattle.line_replies.specs.InTurn.{has_quit, before_quit}
 use Rattle.puzzle_cli.specs.declared.line.line_loop.Flow.{Flow}
 use Rattle.puzzle_cli.specs.declared.line.line_loop.Flow.TheVariants.{More, Quit, Unsent}
 

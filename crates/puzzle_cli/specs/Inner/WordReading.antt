@@ -8,7 +8,8 @@ use Rattle.clap.specs.declared.parser.matches.Found.{Found}
 use Rattle.puzzle_cli.specs.declared.start.command_fault.CommandFault.{CommandFault}
 use Rattle.puzzle_cli.specs.declared.start.command_fault.CommandFault.TheVariants.{BadWords, HelpAsked, OutOfMemory as NoMemory}
 use Rattle.puzzle_cli.specs.declared.start.command_line.Args.{Args}
-use Rattle.puzzle_cli.specs.CommandLine.{AreRead, IsCommandLine, NotBoth, game_rule, game_word, word_texts}
+use Rattle.puzzle_cli.specs.CommandLine.{AreRead, IsCommandLine, game_rule, game_word, word_texts}
+use Rattle.line_replies.specs.Starts.{NotBoth}
 
 -- the rule asks for the word of one of the two games
 abbrev pub IsGameRule : Rule → Type 0

@@ -2,13 +2,11 @@
 
 ghost use Rattle.std.specs.Prelude.{◌≡◌, [], Some};
 ghost use Rattle.std.specs.Option.{option_copied};
-ghost use Rattle.puzzle_cli.specs.Lines.{as_line, without_cr};
+ghost use Rattle.line_replies.specs.Lines.{as_line, without_cr};
 ghost use Rattle.puzzle_cli.specs.Inner.LineBuffer.{pushed};
 
+use line_replies::LINE_BYTES;
 use std::marker::Model;
-
-/// The most bytes that a line may have, its LF not counted.
-pub(crate) const LINE_BYTES: usize = 1_024;
 
 /// A line, or the part of one that has come so far. Of one that is too long no byte is kept.
 #[derive(Drop)]
@@ -20,7 +18,7 @@ pub(crate) struct LineBuffer {
 
 impl Model for LineBuffer {
     ghost use Rattle.std.specs.Prelude.{ℕ, ◌≤◌, List, Option, Some, None, take, if◌then◌else◌};
-    ghost use Rattle.puzzle_cli.specs.declared.line.line_buffer.TheConstants.{LINE_BYTES};
+    ghost use Rattle.line_replies.specs.declared.machine.TheConstants.{LINE_BYTES};
 
     ghost Value = { Option (List ℕ) };
 

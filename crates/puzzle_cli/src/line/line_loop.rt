@@ -4,14 +4,14 @@ ghost use Rattle.std.specs.Prelude.{◌≡◌, ◌≢◌, ℕ, ◌+◌, ◌≤�
 ghost use Rattle.std.specs.Option.{option_copied};
 ghost use Rattle.std.specs.Io.KnownBytes.{Appends, Consumes, IsAtEnd, Keeps};
 ghost use Rattle.puzzle_io.specs.Device.{IsPassedOn};
-ghost use Rattle.puzzle_cli.specs.Lines.{as_line};
+ghost use Rattle.line_replies.specs.Lines.{as_line};
 ghost use Rattle.puzzle_cli.specs.Inner.LineBuffer.{ended_from, last_from};
 ghost use Rattle.puzzle_cli.specs.Runs.{point_at, progress_at, Ends};
 ghost use Rattle.puzzle_cli.specs.Inner.Steps.{ComeTo};
 
 use crate::line::line_buffer::LineBuffer;
-use crate::line::machine::{Machine, Response};
 use crate::run_end::End;
+use line_replies::{Machine, Response};
 use puzzle_io::{DeviceFault, Sink, Source};
 use std::alloc::Global;
 

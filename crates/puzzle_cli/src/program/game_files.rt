@@ -17,7 +17,7 @@ const MOST_READ: usize = MOST_BYTES + 1;
 /// Why a file wasn't written.
 #[derive(Debug, Drop)]
 pub enum Unwritten {
-    /// What the system said.
+    /// The system's error.
     Failed(io::Error),
     /// The bytes stand at this path, and couldn't take the place of the file.
     LeftAt(String),
@@ -25,13 +25,14 @@ pub enum Unwritten {
 
 /// Where a game is loaded from and saved to.
 pub trait GameFiles {
-    // What may come of a read of the file at a path, of no more bytes than that: its bytes or an error, and the files after it.
+    // The outcomes of a read of the file at a path, up to so many bytes: bytes or an error, and the new
+    // files.
     ghost reads: { Self → List ℕ → ℕ → Result (List ℕ) Error → Self → Type 0 };
 
-    // What may come of a write of bytes to the file at a path: nothing to tell or why they weren't written, and the files after it.
+    // The outcomes of a write of bytes to the file at a path: nothing, or why it failed, and the files after.
     ghost writes: { Self → List ℕ → List ℕ → Option Unwritten → Self → Type 0 };
 
-    /// What stands in the file at the path, no more than its first `most` bytes.
+    /// The bytes of the file at the path, no more than its first `most`.
     fn read(&mut self, path: &str, most: usize) -> io::Result<Vec<u8>>
         ensures bound { IfOk result (λ bytes. vec_len bytes ≤ most) }
         ensures ok { IfOk result (λ bytes. reads self.old path.now most (Ok bytes.items) self.new) }
@@ -42,7 +43,7 @@ pub trait GameFiles {
         ensures { writes self.old path.now bytes.now (result_err result) self.new };
 }
 
-/// What stands in the file to load, where there is one. `LoadFile` or `OutOfMemory` where it can't be read.
+/// The bytes of the file to load, where there is one. `LoadFile` or `OutOfMemory` where it can't be read.
 pub(crate) fn load_file<F: GameFiles>(
     files: &mut F,
     path: &Option<String>,

@@ -3,18 +3,15 @@
 ghost use Rattle.std.specs.Prelude.{◌≡◌, ◌≢◌, false, option_map, vec_items, Ok, Err, IfOk, IfErr, OnOk};
 ghost use Rattle.std.specs.Option.{option_copied};
 ghost use Rattle.puzzle_cli.specs.Faults.{fault_status};
-ghost use Rattle.puzzle_cli.specs.Programs.{Begins, Plays, Runs, Spells};
-ghost use Rattle.puzzle_cli.specs.RunLaws.{IsNoneOrStorable};
+ghost use Rattle.line_replies.specs.Starts.{Begins};
+ghost use Rattle.puzzle_cli.specs.Programs.{Plays, Runs, Spells};
+ghost use Rattle.line_replies.specs.RunLaws.{IsNoneOrStorable};
 
-use crate::draw::Draw;
 use crate::fault::Fault;
-use crate::format::Format;
-use crate::reply::facts::Facts;
 use crate::run_end::End;
 use crate::session_run::run_with;
-use crate::start::begin;
 use crate::start::command_line::Args;
-use crate::start::start_fault::StartFault;
+use line_replies::{Draw, Facts, Format, StartFault, begin};
 use play_midend::Session;
 use play_save::save;
 use puzzle_io::{Sink, Source};

@@ -5,8 +5,9 @@ ghost use Rattle.std.specs.Option.{option_copied};
 ghost use Rattle.std.specs.String.{string_bytes};
 ghost use Rattle.clap.specs.Values.{kind_of};
 ghost use Rattle.clap.specs.Words.{app_of, first_value, found_of, rule_of};
-ghost use Rattle.puzzle_cli.specs.declared.start.command_line.GameName.{GameName};
-ghost use Rattle.puzzle_cli.specs.CommandLine.{AreRead, AreUnfit, IsCommandLine, NotBoth, game_word, option_rule, program_line, word_texts};
+ghost use Rattle.line_replies.specs.declared.start.game_name.GameName.{GameName};
+ghost use Rattle.puzzle_cli.specs.CommandLine.{AreRead, AreUnfit, IsCommandLine, game_word, option_rule, program_line, word_texts};
+ghost use Rattle.line_replies.specs.Starts.{NotBoth};
 ghost use Rattle.puzzle_cli.specs.Inner.WordReading.{AreParsed, AreValuesFound, IsGameRule, IsParseFault, AreWordsRefused, IsToldOfKind};
 
 use crate::start::command_fault::CommandFault;
@@ -14,16 +15,10 @@ use crate::start::program_texts::{PUZZLES, ProgramTexts};
 use crate::start::refused_words::advised;
 use clap::error::ErrorKind;
 use clap::{Arg, ArgMatches, Command};
+use line_replies::GameName;
 use std::alloc::{AllocError, Global};
 
-/// A game that can be played.
-#[derive(Clone, Copy, Debug, PartialEq, Eq)]
-pub enum GameName {
-    Towers,
-    Unequal,
-}
-
-/// What a command line says.
+/// The arguments of a command line.
 #[derive(Debug, PartialEq, Eq, Drop)]
 pub struct Args {
     /// The game to play.
@@ -152,7 +147,7 @@ fn option<'a>(alloc: Global, name: &'a str, value: &'a str, help: &'a str) -> Ar
         .help(help)
 }
 
-// What the parsed words say, or their refusal.
+// The arguments that the parsed words give, or their refusal.
 #[tactic(auto, using(crate::proofs::CommandLines::found_is_read, crate::proofs::CommandLines::unfit_is_refused))]
 fn args_in(
     alloc: Global,
@@ -169,7 +164,7 @@ fn args_in(
     }
 }
 
-// What the words said, once they are parsed; none where that isn't one game with one way to begin.
+// The arguments of words that are parsed; none where they aren't one game with one way to begin.
 fn args_of(alloc: Global, matches: &ArgMatches<'_>) -> Result<Option<Args>, AllocError>
     ensures { IfOk result (λ args. MatchOption args
         (AreUnfit (first_value (found_of matches.now) (codes "game"))
@@ -233,7 +228,7 @@ fn fault_of(
     Ok(told_of(error, text))
 }
 
-// What is told of an error with this text.
+// The fault of an error of `clap` with this text.
 fn told_of(error: &clap::Error, text: String) -> CommandFault
     ensures { IsToldOfKind (kind_of error.now) result }
 {
@@ -244,7 +239,7 @@ fn told_of(error: &clap::Error, text: String) -> CommandFault
     }
 }
 
-// What `clap` says of words that are refused, or that ask for help: the whole text, its last LF included.
+// The whole text of `clap` on words that are refused, or that ask for help, its last LF included.
 fn refusal_text(alloc: Global, texts: &ProgramTexts, words: &[&str]) -> Result<String, AllocError> {
     match parse_strictly(alloc, texts, words) {
         Ok(_) => Ok(String::new(alloc)),

@@ -1,4 +1,4 @@
-//! What the program's help says below the options.
+//! The part of the program's help below the options.
 
 /// Game IDs, commands, moves, examples, statuses, and the other programs.
 pub(crate) const MORE_HELP: &str = "\

@@ -1,15 +1,15 @@
-//! What a program's help and version say of the program.
+//! The texts of a program's help and version.
 
 use crate::start::help::MORE_HELP;
 
-/// What the help and the version of a program say of it. The command line is the same for each.
+/// The texts of a program in its help and its version. The command line is the same for each program.
 #[derive(Clone, Copy)]
 pub struct ProgramTexts {
     /// The program's name.
     pub name: &'static str,
-    /// What it is, in a line.
+    /// A line that says what it is.
     pub about: &'static str,
-    /// What comes below the options.
+    /// The text below the options.
     pub more_help: &'static str,
 }
 

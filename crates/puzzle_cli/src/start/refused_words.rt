@@ -1,4 +1,4 @@
-//! What is said of refused words: the text of `clap`, with the tip that is of use here.
+//! The text on refused words: that of `clap`, with the tip that is of use here.
 
 use clap::error::ErrorKind;
 use std::alloc::{AllocError, Global};
@@ -9,7 +9,7 @@ const USAGE: &str = "\n\nUsage: ";
 /// Where `clap` says that a word may be written after `--`. That is of no use: the only word to be read there is the game.
 const AFTER_DASHES: &str = "\n\n  tip: to pass '";
 
-/// What is said where no game is named.
+/// The tip where no game is named.
 const BOARD: &str = "\n\n  tip: to play on a board, use puzzles-play";
 
 /// The text of words that `clap` refused, for a cause of this kind, in this text. The last LF stays.

@@ -1,4 +1,4 @@
--- What was found of the fillings of a row.
+-- The findings on the fillings of a row.
 use Rattle.std.specs.Prelude.{◌≡◌, ◌≢◌, ◌↔◌, ℕ, ◌<◌, ◌≤◌, true, List, length, slice_index, ◌==◌}
 use Rattle.number_sets.specs.Sets.{has_number}
 use Rattle.tower_lines.specs.LineFillings.{IsFilling, IsSupported}

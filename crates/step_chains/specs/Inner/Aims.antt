@@ -1,9 +1,9 @@
--- What the steps of a chain come to: a goal, or a square that is left nothing.
+-- The aims to which the steps of a chain come: a goal, or a square that is left nothing.
 use Rattle.std.specs.Prelude.{◌≡◌, ℕ, ◌*◌, ◌<◌, ◌⊎◌, List, []}
-use Rattle.latin_board.specs.Squares.{GridValue}
+use Rattle.step_chains.specs.Inner.Views.{SeenValue, IsSeen}
 use Rattle.trail_solver.specs.Candidates.{CandidatesValue}
 use Rattle.line_steps.specs.Left.{IsLeft}
-use Rattle.named_steps.specs.Chains.{IsGoalOf, IsView, Shows, IsTight}
+use Rattle.named_steps.specs.Chains.{IsGoalOf, Shows, IsTight}
 use Rattle.line_steps.specs.Chains.{StepValue, LeadsTo}
 use Rattle.line_steps.specs.Settled.{IsClosure}
 use Rattle.line_steps.specs.declared.grade.Grade.{Grade}
@@ -30,10 +30,10 @@ IsAimOf w (Number goal) = IsGoalOf w goal
 IsAimOf w (Nothing cell) = cell < w * w
 
 -- from what is in view of the grid the steps come to the goal, and none of them can be left out
-pub record IsReached (Struck : Striking) (grade : Grade) (g : GridValue) (steps : List StepValue)
+pub record IsReached (Struck : Striking) (grade : Grade) (g : SeenValue) (steps : List StepValue)
     (goal : Goal) : Type 0 where
   pub view : CandidatesValue
-  pub in_view : IsView g view
+  pub in_view : IsSeen g view
   pub shows : Shows Struck grade view steps goal
   pub tight : IsTight Struck grade view steps goal
 
@@ -46,33 +46,33 @@ abbrev pub IsAimOrNothing : CandidatesValue → Aim → Aim → Type 0
 IsAimOrNothing c aim end = ((cell : ℕ) × IsLeftNothing c cell × (end ≡ Nothing cell)) ⊎ (HasSome c × (end ≡ aim))
 
 -- the second aim is the first, or a square that steps of the grade leave nothing
-abbrev pub IsAimOrRefuted : Striking → Grade → GridValue → Aim → Aim → Type 0
+abbrev pub IsAimOrRefuted : Striking → Grade → SeenValue → Aim → Aim → Type 0
 IsAimOrRefuted Struck grade g aim end = ((cell : ℕ) × (end ≡ Nothing cell) × IsRefutedGrid Struck grade g) ⊎ (end ≡ aim)
 
 -- steps of the grade lead from what is in view of the grid to these candidates
-abbrev pub AreLeftBy : Striking → Grade → GridValue → CandidatesValue → Type 0
-AreLeftBy Struck grade g c = (view : CandidatesValue) × IsView g view × LeadsTo Struck grade view c
+abbrev pub AreLeftBy : Striking → Grade → SeenValue → CandidatesValue → Type 0
+AreLeftBy Struck grade g c = (view : CandidatesValue) × IsSeen g view × LeadsTo Struck grade view c
 
 -- these candidates are all that the grade leaves of what is in view, and something is left of each square
-abbrev pub IsOver : Striking → Grade → GridValue → CandidatesValue → Type 0
-IsOver Struck grade g c = (view : CandidatesValue) × IsView g view × IsClosure Struck grade view c × HasSome c
+abbrev pub IsOver : Striking → Grade → SeenValue → CandidatesValue → Type 0
+IsOver Struck grade g c = (view : CandidatesValue) × IsSeen g view × IsClosure Struck grade view c × HasSome c
 
 -- no steps show a number of an empty square, none refute the grid's numbers, and no square is forced
-pub record LeadNowhere (Struck : Striking) (g : GridValue) : Type 0 where
+pub record LeadNowhere (Struck : Striking) (g : SeenValue) : Type 0 where
   pub timely : IsTimelyFrom g []
   pub shown : NothingIsShown Struck Hard g
   pub holds : IsRefutedGrid Struck Hard g → ⊥
-  pub forced : (view : CandidatesValue) (cell : ℕ) → IsView g view → IsForcedSquare Struck g view cell → ⊥
+  pub forced : (view : CandidatesValue) (cell : ℕ) → IsSeen g view → IsForcedSquare Struck g.grid view cell → ⊥
 
 -- all steps of the grade together come to the aim, and those of no grade below to one of its kind; if the aim
 -- is a number, no steps refute the grid's numbers
-abbrev pub IsLeastBy : Striking → GridValue → Grade → Aim → Type 0
+abbrev pub IsLeastBy : Striking → SeenValue → Grade → Aim → Type 0
 IsLeastBy Struck g grade (Number goal) =
-    IsOfEmptySquare g goal × IsShownByAll Struck grade g goal × NoneBelowShows Struck grade g
+    IsOfEmptySquare g.grid goal × IsShownByAll Struck grade g goal × NoneBelowShows Struck grade g
     × (IsRefutedGrid Struck Hard g → ⊥)
 IsLeastBy Struck g grade (Nothing cell) =
-    (cell < g.size * g.size) × IsShownByAll Struck grade g (OnlyValue cell 0) × NoneBelowRefutes Struck grade g
+    (cell < g.grid.size * g.grid.size) × IsShownByAll Struck grade g (OnlyValue cell 0) × NoneBelowRefutes Struck grade g
 
 -- the grade is the least whose steps come to the aim, or to one of its kind
-abbrev pub IsLeastAim : Striking → GridValue → LeastAim → Type 0
+abbrev pub IsLeastAim : Striking → SeenValue → LeastAim → Type 0
 IsLeastAim Struck g least = IsLeastBy Struck g least.grade least.aim

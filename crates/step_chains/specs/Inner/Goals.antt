@@ -2,7 +2,8 @@
 use Rattle.std.specs.Prelude.{◌≡◌}
 use Rattle.latin_board.specs.Squares.{GridValue, number_at}
 use Rattle.trail_solver.specs.Candidates.{CandidatesValue}
-use Rattle.named_steps.specs.Chains.{IsGoalOf, IsShown, IsView, goal_cell}
+use Rattle.named_steps.specs.Chains.{IsGoalOf, IsShown, goal_cell}
+use Rattle.step_chains.specs.Inner.Views.{SeenValue, IsSeen}
 use Rattle.line_steps.specs.Settled.{IsClosure}
 use Rattle.line_steps.specs.declared.grade.Grade.{Grade}
 use Rattle.named_steps.specs.declared.goal.Goal.{Goal}
@@ -19,6 +20,6 @@ pub record IsOpenShown (g : GridValue) (c : CandidatesValue) (goal : Goal) : Typ
   pub shown : IsShown c goal
 
 -- from each view, the candidates that the grade leaves show the goal
-abbrev pub IsShownByAll : Striking → Grade → GridValue → Goal → Type 0
+abbrev pub IsShownByAll : Striking → Grade → SeenValue → Goal → Type 0
 IsShownByAll Struck grade g goal =
-    (view d : CandidatesValue) → IsView g view → IsClosure Struck grade view d → IsShown d goal
+    (view d : CandidatesValue) → IsSeen g view → IsClosure Struck grade view d → IsShown d goal

@@ -1,4 +1,4 @@
--- What a clue strikes is told by the counts: the clue isn't among them.
+-- A clue's strikes are told by the counts: the clue isn't among them.
 use Rattle.std.proofs.Common.{◌≡◌, ◌<◌, ℕ, zero, slice_index, sym, ap, ◌∙◌, subst, arith}
 use Rattle.towers_game.specs.Towers.{TowersValue, clue_of}
 use Rattle.unequal_game.specs.Unequal.{UnequalValue}

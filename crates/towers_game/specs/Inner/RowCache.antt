@@ -1,4 +1,4 @@
--- What was found of rows of sets, a row a slot.
+-- The findings on rows of sets, a row a slot.
 use Rattle.std.specs.Prelude.{◌≡◌, ◌≢◌, ℕ, ◌<◌, ◌≤◌, true, false, [], List, length, take, slice_index, slice_index_or}
 use Rattle.number_sets.specs.Sets.{has_number, IsSubset, IsSingle}
 use Rattle.towers_game.specs.declared.towers.row_cache.TheConstants.{SLOTS}

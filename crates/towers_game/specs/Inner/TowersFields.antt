@@ -1,4 +1,4 @@
--- What the fields of a Towers puzzle keep, and what they stand for.
+-- The fields of a Towers puzzle: their invariant, and the value that they stand for.
 use Rattle.std.specs.Prelude.{ℕ, zero, ◌*◌, ◌≤◌, List, take, All}
 use Rattle.latin_board.specs.Squares.{GridValue}
 use Rattle.line_steps.specs.Inner.Filled.{IsFilledTo}

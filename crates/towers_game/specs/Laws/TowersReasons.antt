@@ -1,5 +1,5 @@
--- What the clues of Towers strike: from fewer candidates too, in no solution, in the whole puzzle if in a cut, and along
--- which lines.
+-- The strikes of Towers' clues: from fewer candidates too, in no solution, in the whole puzzle if in a cut,
+-- and along which lines.
 use Rattle.std.proofs.lemmas.Bool.Decides.{nat_tests}
 use Rattle.std.proofs.Common.{◌≡◌, ◌≢◌, ℕ, ◌*◌, ◌<◌, Bool, slice_index, sym, ap, ◌∙◌, subst, arith}
 use Rattle.latin_board.specs.Squares.{GridValue, IsGrid, IsLatin, number_at}

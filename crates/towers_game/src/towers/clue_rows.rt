@@ -1,4 +1,4 @@
-//! What may stand in the squares from a clue, and what the clue strikes in each, as rows of sets.
+//! The numbers that may stand in the squares from a clue, and those that it strikes in each, as rows of sets.
 ghost use Rattle.std.specs.Prelude.{◌≡◌, ℕ, ◌-◌, ◌*◌, ◌<◌, ◌≤◌, if◌then◌else◌, MatchOption};
 ghost use Rattle.trail_solver.specs.Candidates.{CandidatesValue};
 ghost use Rattle.line_steps.specs.Views.{view_cell, view_index};
@@ -14,7 +14,7 @@ use line_steps::{standing_set, view_cell};
 use number_sets::NumberSet;
 use trail_solver::Candidates;
 
-/// What is seen of a line, when its clue is looked at.
+/// The part of a line that is seen, when its clue is looked at.
 #[derive(Clone, Copy, Debug)]
 pub enum Look {
     /// The clue alone.
@@ -74,7 +74,8 @@ pub(crate) fn unfilled_row<R: RowFillings>(
     missing_row(width, &kept)
 }
 
-/// What may stand in each square from the clue's place, as its line is looked at; empty sets after the last square.
+/// The numbers that may stand in each square from the clue's place, as its line is looked at; empty sets
+/// after the last square.
 pub fn looked_row(candidates: &Candidates, look: Look, place: u8) -> [NumberSet; 9]
     requires { place < 4 * candidates.now.size }
     ensures { AreMaySets candidates.now.size (May look candidates.now) place candidates.now.size result }
@@ -121,7 +122,7 @@ fn missing_row(width: u8, kept: &[NumberSet; 9]) -> [NumberSet; 9]
     row
 }
 
-// What is left of each square from a place.
+// The numbers that are left of each square from a place.
 fn left_row(candidates: &Candidates, place: u8) -> [NumberSet; 9]
     requires { place < 4 * candidates.now.size }
     ensures { AreMaySets candidates.now.size (IsLeft candidates.now) place candidates.now.size result }
@@ -134,7 +135,7 @@ fn left_row(candidates: &Candidates, place: u8) -> [NumberSet; 9]
     row
 }
 
-// What may stand in each square from a place, by what is left of it.
+// The numbers that may stand in each square from a place, by those that are left of it.
 fn may_row(look: Look, left: &[NumberSet; 9], width: u8) -> [NumberSet; 9]
     requires { width ≤ 9 }
     ensures { (c : CandidatesValue) (place : ℕ) → c.size ≡ width → place < 4 * c.size
@@ -161,7 +162,7 @@ fn full_row(all: NumberSet, width: u8) -> [NumberSet; 9]
     row
 }
 
-// What stands in each square of a row, by what is left of it.
+// The numbers that stand in each square of a row, by those that are left of it.
 fn standing_row(all: NumberSet, left: &[NumberSet; 9]) -> [NumberSet; 9]
     ensures { AreStandingSets all left.now 9 result }
 {

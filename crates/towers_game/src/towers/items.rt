@@ -1,4 +1,4 @@
-//! What the items of a Towers puzzle say: its clues and its givens.
+//! The items of a Towers puzzle, its clues and its givens, and the numbers that they say.
 
 ghost use Rattle.std.specs.Prelude.{◌≡◌, ◌*◌, ◌<◌, ◌≤◌, replicate};
 ghost use Rattle.towers_game.specs.Towers.{IsTowers, blank_towers, with_clue, with_towers_given};

@@ -1,4 +1,4 @@
-//! What the clues of Towers strike along a line.
+//! The strikes of Towers' clues along a line.
 
 ghost use Rattle.std.specs.Prelude.{◌≡◌, ◌*◌, ◌<◌};
 ghost use Rattle.number_sets.specs.Sets.{IsEmpty};

@@ -15,8 +15,8 @@ use number_sets::NumberSet;
 use trail_solver::Candidates;
 
 impl Towers {
-    /// Takes from the squares near each clue the values that are too great for it. What each line of candidates says as a whole would take
-    /// them too, but that is far dearer, and is then looked at less often.
+    /// Takes from the squares near each clue the values that are too great for it. A look at each line of
+    /// candidates as a whole would take them too, but that is far dearer, and is then done less often.
     pub(crate) fn keep_low_towers(&self, candidates: &mut Candidates)
         requires { candidates.old.size ≡ self.now.size }
         ensures { LeadsTo (IsTowersStruckBy self.now) Easy candidates.old candidates.new }

@@ -73,7 +73,7 @@ impl RowFillings for RowCache {
 }
 
 impl RowCache {
-    // What is kept of a row, where it is known in one of a bucket's slots.
+    // The sets that are kept of a row, where it is known in one of a bucket's slots.
     fn find(
         &self,
         bucket: usize,
@@ -94,7 +94,7 @@ impl RowCache {
         None
     }
 
-    // What is kept in a slot, where it is kept of this row, too.
+    // The sets that are kept in a slot, where they are kept of this row, too.
     fn find_in(
         &self,
         slot: usize,

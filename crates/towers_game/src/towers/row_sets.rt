@@ -1,6 +1,7 @@
 //! A row: a set for each square of a line, in the order in which a clue sees them, and whether one row is within another.
 //!
-//! What such a row's fillings have is in `row_fillings`, what of that is remembered is in `row_cache`, and `low_towers` uses no row.
+//! The values of such a row's fillings are in `row_fillings`, those that are remembered in `row_cache`, and
+//! `low_towers` uses no row.
 
 ghost use Rattle.std.specs.Bool.{MatchBool};
 ghost use Rattle.towers_game.specs.Inner.RowSets.{AreWithin};

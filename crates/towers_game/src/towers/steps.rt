@@ -90,7 +90,7 @@ impl Steps for Towers {
     ghost own_cut = { reasons.towers_whole };
 }
 
-// What a clue strikes in a square.
+// The values that a clue strikes in a square.
 #[tactic(auto, using(crate::proofs::TowersSets::clue_struck))]
 fn by_any_clue(
     p: &Towers,
@@ -116,7 +116,7 @@ fn by_any_clue(
     by_clue(candidates, look, place as u8, clue, cell, cache)
 }
 
-// What a clue strikes in each of the squares from a place, where it is the clue's own.
+// The values that a clue strikes in each of the squares from a place, where it is the clue's own.
 fn row_of_clue(
     p: &Towers,
     candidates: &Candidates,
@@ -136,7 +136,7 @@ fn row_of_clue(
     Some(clue_row(p, candidates, look, place, cache))
 }
 
-// What a clue strikes in each of the squares from its place.
+// The values that a clue strikes in each of the squares from its place.
 fn clue_row(
     p: &Towers,
     candidates: &Candidates,

@@ -1,4 +1,4 @@
--- What an answer becomes as more solutions join.
+-- The answer as more solutions join.
 use Rattle.std.specs.Prelude.{◌≡◌, ◌≢◌}
 use Rattle.latin_board.specs.Squares.{GridValue}
 use Rattle.trail_solver.specs.declared.answer.Answer.{Answer}

@@ -1,4 +1,4 @@
--- What holds of the fields of `Candidates`: the sets say what the trail says.
+-- The fields of `Candidates`: the sets say what the trail says.
 use Rattle.std.specs.Prelude.{◌≡◌, ℕ, ◌*◌, ◌^◌, ◌<◌, ◌≤◌, ◌==◌, nat_le, Bool, true, false, not, ◌&&◌, if◌then◌else◌}
 use Rattle.std.specs.Prelude.{List, length, slice_index, take, All}
 use Rattle.std.specs.List.{flat_map}

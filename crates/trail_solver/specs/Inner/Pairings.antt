@@ -1,5 +1,5 @@
--- What a Latin square pairs off three ways: the places of a line with the values there, and the rows with the columns
--- of a value.
+-- A Latin square makes pairs in three ways: of the places of a line with the values there, and of the rows
+-- with the columns of a value.
 use Rattle.std.specs.Prelude.{◌≡◌, ◌≢◌, ℕ, ◌+◌, ◌*◌, ◌<◌, ◌≤◌, Bool, true, false, List, slice_index}
 use Rattle.std.specs.Bool.{OnFalse}
 use Rattle.latin_board.specs.Squares.{GridValue, IsGrid, IsLatin, number_at}

@@ -1,4 +1,4 @@
--- What a run of a search says: one that was left says nothing, and only a limited one is left.
+-- The meaning of a run of a search: one that was left says nothing, and only a limited one is left.
 use Rattle.std.specs.Prelude.{ℕ, Bool, true, false, Option, None, Some}
 use Rattle.latin_board.specs.Squares.{GridValue}
 use Rattle.trail_solver.specs.declared.answer.Answer.{Answer}

@@ -1,4 +1,4 @@
--- What contracts see of a search.
+-- A search as contracts see it.
 use Rattle.std.specs.Prelude.{◌≡◌, ◌↔◌, Bool}
 use Rattle.std.specs.Bool.{OnFalse}
 use Rattle.latin_board.specs.Squares.{GridValue}

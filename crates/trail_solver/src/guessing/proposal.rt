@@ -12,7 +12,7 @@ use crate::guessing::place_counts::PlaceCounts;
 use latin_board::line_cell;
 use number_sets::NumberSet;
 
-/// What a square or a value weighs if nothing failed in its lines: so the first few failures change little.
+/// The weight of a square or a value if nothing failed in its lines: so the first few failures change little.
 const WEIGHT: u32 = 4;
 
 /// How many times as much as a failure in a line one in the square itself weighs.

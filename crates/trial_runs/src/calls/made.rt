@@ -1,4 +1,4 @@
-//! What a call makes, as text.
+//! The value that a call makes, as text.
 
 use latin_board::Grid;
 use play_midend::Session;
@@ -6,10 +6,10 @@ use play_save::{LoadFault, save};
 use puzzle_cli::{Args, Draw};
 use std::alloc::{AllocError, Global};
 
-/// What a call makes.
+/// The value that a call makes.
 #[derive(Drop)]
 pub(crate) enum Made<P: Draw> {
-    /// What it makes is in the session, or isn't shown.
+    /// The value is in the session, or isn't shown.
     Nothing,
     Text(Vec<u8>),
     Session(Session<P>),
@@ -19,7 +19,7 @@ pub(crate) enum Made<P: Draw> {
 }
 
 impl<P: Draw> Made<P> {
-    /// What the call made, as text: a session as its save.
+    /// The value as text: a session as its save.
     pub(crate) fn text(self, alloc: Global) -> Result<Vec<u8>, LoadFault> {
         match self {
             Made::Nothing => Ok(Vec::new(alloc)),

@@ -72,7 +72,8 @@ fn status_and_save<P: Game>(alloc: Global, session: &Session<P>) -> Result<Vec<u
     Ok(text)
 }
 
-/// What is kept of answers: how many there were, a digest of them in order, and by its number each one's name and how often it came.
+/// A tally of answers: how many there were, a digest of them in order, and by its number each one's name and
+/// how often it came.
 #[derive(Drop)]
 pub(crate) struct Tally {
     pub(crate) texts: u64,

@@ -59,7 +59,7 @@ impl<'a> SaveText<'a> {
 }
 
 impl Damage {
-    /// What the damage does, in words.
+    /// The damage in words.
     pub(crate) fn name(self) -> &'static str {
         match self {
             Damage::Whole => "the whole text",

@@ -1,4 +1,4 @@
-//! What is printed of a save: what becomes of it, or of the texts that damage makes of it.
+//! The lines that are printed of a save: what becomes of it, or of the texts that damage makes of it.
 
 use crate::requests::answers::{Answer, Tally};
 use crate::requests::damage::{DAMAGES, Damage, SaveText};
@@ -41,7 +41,7 @@ fn print_session<P: Game>(
     println!(rt; ";{respelled}")
 }
 
-// What is told where the session is written otherwise; None where memory is refused.
+// A remark where the session is written otherwise; None where memory is refused.
 fn respelled<P: Game>(alloc: Global, bytes: &[u8], session: &Session<P>) -> Option<&'static str> {
     match save(alloc, session) {
         Ok(again) if again.as_slice() == bytes => Some(""),

@@ -1,4 +1,4 @@
--- What the fields of an Unequal puzzle keep, and what they stand for.
+-- The fields of an Unequal puzzle: their invariant, and the value that they stand for.
 use Rattle.std.specs.Prelude.{◌≡◌, ℕ, ◌*◌, List, None, slice_index_or, take}
 use Rattle.latin_board.specs.declared.grid.TheConstants.{CELLS}
 use Rattle.latin_board.specs.Squares.{GridValue, IsGrid}

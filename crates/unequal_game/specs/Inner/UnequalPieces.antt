@@ -1,4 +1,4 @@
--- What the steps of reading pieces give.
+-- The results of the steps of reading pieces.
 use Rattle.std.specs.Prelude.{Bool, false, ◌≡◌, ◌≢◌, ◌⊎◌, ◌++◌, ℕ, ◌&&◌, List, [], ◌∷◌, map}
 use Rattle.std.specs.Borrow.{Bor}
 use Rattle.std.specs.Option.{option_map_or}

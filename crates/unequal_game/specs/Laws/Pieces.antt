@@ -1,4 +1,4 @@
--- What commas separate: pieces that are joined again, and a comma at the end.
+-- The pieces that commas separate: joined again, and with a comma at the end.
 use Rattle.std.proofs.Common.{◌≡◌, ℕ, ◌⊎◌, true, false, List, [], ◌∷◌, ◌++◌, Option, Some, None, refl, sym, ap, ◌∙◌}
 use Rattle.std.proofs.Common.{inl, inr, append_assoc, ◌==◌, if◌then◌else◌}
 use Rattle.std.specs.List.{slice_split, join_with_byte, onto_first}

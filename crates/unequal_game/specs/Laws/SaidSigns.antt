@@ -1,5 +1,5 @@
--- What the letters of pieces say of which of two squares is the greater, and that no two squares contradict each other
--- where no two neighbours do.
+-- The letters of pieces: which of two squares they make the greater, and that no two squares contradict each
+-- other where no two neighbours do.
 use Rattle.std.proofs.lemmas.Bool.Decides.{nat_tests}
 use Rattle.std.proofs.Common.{◌≡◌, ℕ, ◌*◌, ◌<◌, ◌≤◌, true, false, ◌&&◌, List, map, Option, Some, None, refl, sym, ◌∙◌, inl, inr, arith, ◌==◌}
 use Rattle.std.specs.Option.{option_map_or}

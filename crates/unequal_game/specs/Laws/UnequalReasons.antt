@@ -1,5 +1,5 @@
--- What the signs of Unequal strike: from fewer candidates too, in no solution, in the whole puzzle if in a cut, and along
--- which lines.
+-- The strikes of Unequal's signs: from fewer candidates too, in no solution, in the whole puzzle if in a cut,
+-- and along which lines.
 use Rattle.std.proofs.lemmas.Bool.Decides.{nat_tests}
 use Rattle.std.proofs.Common.{◌≡◌, ◌≢◌, ℕ, ◌*◌, ◌<◌, ◌≤◌, ◌⊎◌, Bool, inl, inr, arith}
 use Rattle.latin_board.specs.Squares.{GridValue, number_at}

@@ -1,4 +1,4 @@
-//! What the items of an Unequal puzzle say: its signs and its givens.
+//! The items of an Unequal puzzle, its signs and its givens, and the numbers that they say.
 
 ghost use Rattle.std.specs.Prelude.{◌≡◌, ℕ, IfSome, Some, ◌+◌, ◌*◌, ◌%◌, ◌<◌, ◌≤◌, replicate};
 ghost use Rattle.unequal_game.specs.Unequal.{IsUnequal, UnequalValue, blank_unequal, item_most, sign_between, sign_item, sign_number, unequal_items, unequal_says};

@@ -1,4 +1,4 @@
-//! What the signs of Unequal strike along a line.
+//! The strikes of Unequal's signs along a line.
 
 ghost use Rattle.std.specs.Prelude.{◌≡◌, ℕ, ◌+◌, ◌*◌, ◌<◌, ◌≤◌};
 ghost use Rattle.latin_board.specs.Lines.{line_cell};

@@ -18,7 +18,7 @@ use latin_board::{CELLS, Size};
 /// As many pieces as the largest grid has squares.
 pub(super) type Pieces<'a> = ArrayVec<&'a [u8], CELLS>;
 
-/// What commas separate, where it is as many pieces as are wanted; one comma at the end is dropped.
+/// The pieces that commas separate, where there are as many as are wanted; one comma at the end is dropped.
 ///
 /// Refused as `TooFew` or `TooMany`.
 #[tactic(auto, using(crate::proofs::PieceLemmas::pieces_without_comma))]
@@ -73,7 +73,7 @@ pub(super) fn number_in(size: Size, piece: &[u8]) -> Option<u8>
     }
 }
 
-// What stands after the digit.
+// The bytes after the digit.
 fn letters(piece: &[u8]) -> &[u8]
     ensures { result.now ≡ drop 1 piece.now }
 {

@@ -1,4 +1,4 @@
-//! What stands between neighbouring squares.
+//! The signs between neighbouring squares.
 
 ghost use Rattle.std.specs.Prelude.{◌≡◌};
 ghost use Rattle.unequal_game.specs.Inner.UnequalItems.{turned_sign};

@@ -1,4 +1,4 @@
-//! What a sign strikes in one of its squares.
+//! The values that a sign strikes in one of its squares.
 ghost use Rattle.std.specs.Prelude.{◌≡◌, ◌↔◌, ℕ, ◌*◌, ◌<◌, ◌≤◌, true};
 ghost use Rattle.number_sets.specs.Sets.{has_number};
 ghost use Rattle.line_steps.specs.Left.{IsLeft};

@@ -58,7 +58,7 @@ impl Steps for Unequal {
     ghost own_cut = { reasons.unequal_whole };
 }
 
-// What a sign strikes in a square.
+// The values that a sign strikes in a square.
 #[tactic(auto, using(crate::proofs::UnequalSets::greater_struck, crate::proofs::UnequalSets::lesser_struck, crate::proofs::UnequalSets::from_inside))]
 fn by_any_sign(
     p: &Unequal,

@@ -91,7 +91,8 @@ fn a_read_that_failed_is_the_last(rt: HostRuntime) {
     check(&rt, rt.alloc(), ROWS);
 }
 
-// What is written first, what a writer answers, how many calls it gets, and what comes of that write, a flush and one more write.
+// The bytes that are written first, a writer's answers, how many calls it gets, and the outcomes of that
+// write, a flush and one more write.
 struct FailedWrite(
     &'static [u8],
     &'static [Option<usize>],

@@ -11,7 +11,7 @@ use puzzle_gen::{generate, square};
 use std::alloc::Global;
 use trail_solver::{Answer, Rules, solutions, solve, solves};
 
-/// What a call says, or the name of its refusal.
+/// The value that a call gives, or the name of its refusal.
 pub(crate) type Said<T> = Result<T, &'static str>;
 
 const MEMORY: &str = "OutOfMemory";

@@ -6,7 +6,7 @@ use puzzle_cli::{End, run};
 use puzzle_io::{FromRead, MemorySink, MemorySource, ToWrite};
 use std::alloc::Global;
 
-// What is written, where the run ended as it should.
+// The output, where the run ended as it should.
 fn written(alloc: Global, bytes: &[u8], end: End) -> Said<Vec<u8>> {
     if end.status() == 0 && end.fault_line().is_empty() {
         copied(alloc, bytes)

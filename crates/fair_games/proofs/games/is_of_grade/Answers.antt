@@ -17,11 +17,11 @@ returns-in-Easy g c =
     let p = g.P.Rules.puzzle c.args.puzzle.now in
     let Struck = StruckBy g.P.Rules.puzzle g.P.Steps.own c.args.puzzle.now in
     is_graded p Struck Easy c.args.grade c.in-Easy.is c.requires
-    (λ follows. graded_tested p Struck Latin Easy c.follows_knowing.result refl follows c.follows_knowing.ensures)
+    (λ follows. graded_tested p Struck Latin Easy c.follows.result refl follows c.follows.ensures)
 
 pub returns-in-Hard : goal.returns-in-Hard
 returns-in-Hard g c =
     let p = g.P.Rules.puzzle c.args.puzzle.now in
     let Struck = StruckBy g.P.Rules.puzzle g.P.Steps.own c.args.puzzle.now in
     is_graded p Struck Hard c.args.grade c.in-Hard.is c.requires
-    (λ follows. graded_tested p Struck Easy Hard c.follows_knowing-in-Hard.result refl follows c.follows_knowing-in-Hard.ensures)
+    (λ follows. graded_tested p Struck Easy Hard c.follows-in-Hard.result refl follows c.follows-in-Hard.ensures)

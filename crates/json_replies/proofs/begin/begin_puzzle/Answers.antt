@@ -1,14 +1,14 @@
 use Rattle.std.proofs.Common.{Result, Ok, Err, Some, IfErr, refl, sym, ◌∙◌, ap, subst}
 use Rattle.std.proofs.lemmas.Result.{err_from_is_err_and}
-use Rattle.puzzle_cli.specs.declared.line.machine.Response.{Response}
-use Rattle.puzzle_cli.specs.declared.reply.refusal.Refusal.{Refusal}
-use Rattle.puzzle_cli.specs.GameFacts.{facts_of}
-use Rattle.puzzle_cli.specs.NewSessions.{new_game}
-use Rattle.puzzle_cli.specs.Refusals.{start_refusal}
-use Rattle.puzzle_cli.specs.Replies.{AmpleGives, LineGives}
-use Rattle.puzzle_cli.specs.RunLaws.{described_line}
-use Rattle.puzzle_cli.specs.Texts.{text_bytes}
-use Rattle.puzzle_cli.proofs.DescribedReplies.{begins, described_may_lack}
+use Rattle.line_replies.specs.declared.machine.Response.{Response}
+use Rattle.line_replies.specs.declared.reply.refusal.Refusal.{Refusal}
+use Rattle.line_replies.specs.GameFacts.{facts_of}
+use Rattle.line_replies.specs.NewSessions.{new_game}
+use Rattle.line_replies.specs.Refusals.{start_refusal}
+use Rattle.line_replies.specs.Replies.{AmpleGives, LineGives}
+use Rattle.line_replies.specs.RunLaws.{described_line}
+use Rattle.line_replies.specs.Texts.{text_bytes}
+use Rattle.line_replies.proofs.DescribedReplies.{begins, described_may_lack}
 use Rattle.json_replies.proofs.begin.begin_puzzle.Goals as goal
 
 pub returns-in_err-begin_game-clause-why : goal.returns-in_err-begin_game-clause-why

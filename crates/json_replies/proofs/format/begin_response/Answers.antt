@@ -1,8 +1,8 @@
 use Rattle.line_steps.specs.Reasons.{StruckBy}
 use Rattle.std.proofs.Common.{None, false, refl}
-use Rattle.puzzle_cli.specs.GameFacts.{GameFacts, facts_of}
-use Rattle.puzzle_cli.specs.RunLaws.{described_line}
-use Rattle.puzzle_cli.specs.Texts.{text_bytes}
+use Rattle.line_replies.specs.GameFacts.{GameFacts, facts_of}
+use Rattle.line_replies.specs.RunLaws.{described_line}
+use Rattle.line_replies.specs.Texts.{text_bytes}
 use Rattle.json_replies.specs.BeginLines.{begin_copied}
 use Rattle.json_replies.specs.FurtherLines.{BoardFacts}
 use Rattle.json_replies.specs.Inner.ToldResponses.{TellsBegun}

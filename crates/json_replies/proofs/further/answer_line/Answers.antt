@@ -1,7 +1,7 @@
 use Rattle.line_steps.specs.Reasons.{StruckBy}
 use Rattle.std.proofs.Common.{◌∙◌, Some, subst}
-use Rattle.puzzle_cli.specs.GameFacts.{facts_of}
-use Rattle.puzzle_cli.specs.SessionReplies.{shown_board}
+use Rattle.line_replies.specs.GameFacts.{facts_of}
+use Rattle.line_replies.specs.SessionReplies.{shown_board}
 use Rattle.json_replies.specs.FurtherLines.{BoardFacts}
 use Rattle.json_replies.specs.ObjectLines.{IsLineOfData}
 use Rattle.json_replies.specs.Inner.ObjectMembers.{further_list}

@@ -12,3 +12,6 @@ returns-in-Hint g c =
     (StruckBy g.P.Rules.puzzle g.P.Steps.own p) (g.P.StepNames.edge_clue_of p) (g.P.StepNames.says_greater_of p) grid)
     c.args.writer.now c.hint_answer.new.writer) in
     rw c.in-Hint.is (subst Told c.grid-in-Hint.ensures c.hint_answer.ensures)
+
+pub returns-in-HintMarks : goal.returns-in-HintMarks
+returns-in-HintMarks g c = rw c.in-HintMarks.is c.marks_answer.ensures

@@ -1,6 +1,6 @@
 use Rattle.line_steps.specs.Reasons.{StruckBy}
 use Rattle.std.proofs.Common.{◌∷◌, [], ℕ, List, subst}
-use Rattle.puzzle_cli.specs.GameFacts.{facts_of}
+use Rattle.line_replies.specs.GameFacts.{facts_of}
 use Rattle.json_replies.specs.FurtherLines.{BoardFacts}
 use Rattle.json_replies.specs.Inner.WrittenData.{MembersFollow}
 use Rattle.json_replies.proofs.ToldReplies.{answer_told}

@@ -11,7 +11,6 @@ use Rattle.json_replies.specs.Texts.{text_data, list_data}
 use Rattle.json_replies.specs.Steps.{steps_data}
 use Rattle.json_replies.specs.HintObjects.{IsHintValue, SaidData, said_of, view_data, hint_data}
 use Rattle.json_replies.specs.Inner.WrittenData.{MembersFollow, said_data, said_members}
-use Rattle.json_replies.proofs.ViewsAlike.{same_view}
 use Rattle.json_replies.proofs.WrittenData.{object_follows, more_members, key_follows, member_is}
 use Rattle.json_replies.proofs.hint_text.write_hint.Goals as goal
 
@@ -22,16 +21,14 @@ returns g c =
     let clue = g.P.StepNames.edge_clue_of c.args.p.now in
     let over = g.P.StepNames.says_greater_of c.args.p.now in
     let Struck = StruckBy g.P.Rules.puzzle g.P.Steps.own c.args.p.now in
-    let grid = c.args.grid.now in
     let hint = c.args.hint.now in
-    let view = c.view_of.result in
+    let start = c.args.start in
+    let view = c.args.view.now in
     let told = c.in_ok-told.told.items in
     let text = line_texts c.in_ok-lines.lines.items in
     let groups = c.in_ok-groups.groups.items in
-    let d : Data = hint_data (said_of w letter hint) (list_data count_data groups) (steps_data w clue over told) (list_data text_data text) (view_data view) in
-    let value : IsHintValue w letter clue over Struck grid hint d = record {
-      view = view;
-      in_view = c.view_of.ensures;
+    let d : Data = hint_data (said_of w letter hint) start (list_data count_data groups) (steps_data w clue over told) (list_data text_data text) (view_data view) in
+    let value : IsHintValue w letter clue over Struck start view hint d = record {
       steps = told;
       told = subst (λ (steps : List Step). AreTold Struck w view steps told) c.steps_in.ensures c.in_ok-told.ensures;
       groups = groups;
@@ -40,14 +37,14 @@ returns g c =
       lines = c.in_ok-lines.ensures;
       is = refl;
     } in
-    let said = subst (λ (s : SaidData). MembersFollow (said_members s (list_data count_data groups)) c.begin_object.new.self c.write_said.new.writer)
+    let said = subst (λ (s : SaidData). MembersFollow (said_members s start (list_data count_data groups)) c.begin_object.new.self c.write_said.new.writer)
     (c.said_of.ensures ∙ ap (λ v. said_of v letter hint) (c.size.ensures.value ∙ c.requires.size))
-    (subst (λ (ns : List ℕ). MembersFollow (said_members (said_data c.said_of.result) (list_data count_data ns)) c.begin_object.new.self c.write_said.new.writer)
+    (subst (λ (ns : List ℕ). MembersFollow (said_members (said_data c.said_of.result) start (list_data count_data ns)) c.begin_object.new.self c.write_said.new.writer)
     c.as_slice-3.ensures.value c.in_ok-write_said.ensures) in
     let steps = member_is (ap (steps_data w clue over) c.as_slice-4.ensures.value) (key_follows c.in_ok-key.ensures c.in_ok-write_steps.ensures) in
     let lines = member_is (ap (λ lines. list_data text_data (line_texts lines)) c.as_slice-5.ensures.value)
     (key_follows c.in_ok-key-2.ensures c.in_ok-write_lines.ensures) in
-    let written = c.in_ok-write_view.ensures in
-    let seen = member_is (same_view grid written.0 view written.1 c.view_of.ensures) (key_follows c.in_ok-key-3.ensures written.2) in
-    let follow = object_follows _ refl c.in_ok-begin_object.ensures (more_members said (more_members steps (more_members lines seen))) c.in_ok-end_object.ensures in
+    let unmarked = member_is c.unmarked.ensures c.in_ok-write_number_at.ensures in
+    let seen = key_follows c.in_ok-key-3.ensures c.in_ok-write_candidates.ensures in
+    let follow = object_follows _ refl c.in_ok-begin_object.ensures (more_members said (more_members steps (more_members lines (more_members unmarked seen)))) c.in_ok-end_object.ensures in
     (d, value, follow)

@@ -1,6 +1,6 @@
 use Rattle.std.proofs.Common.{refl, ◌∙◌}
 use Rattle.std.specs.Option.{option_copied}
-use Rattle.puzzle_cli.specs.GameFacts.{facts_of}
+use Rattle.line_replies.specs.GameFacts.{facts_of}
 use Rattle.json_replies.specs.Laws.Spellings.{name_fits, lines_fit}
 use Rattle.json_replies.proofs.Spellings.{session_fits}
 use Rattle.json_replies.proofs.WrittenData.{object_follows, more_members, key_follows}

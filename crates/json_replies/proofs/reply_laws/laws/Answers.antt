@@ -3,8 +3,8 @@ use Rattle.game_texts.specs.GameIds.{describes_at}
 use Rattle.game_texts.proofs.GameIdLemmas.{id_again, game_reads}
 use Rattle.needed_items.proofs.ItemLaws.{laws_of}
 use Rattle.fair_games.proofs.PruneSteps.{HasSteps, steps_of}
-use Rattle.puzzle_cli.specs.GameFacts.{GameFacts, facts_of}
-use Rattle.puzzle_cli.proofs.RepliesOnce.{IdsAreReadOnce, ids_once}
+use Rattle.line_replies.specs.GameFacts.{GameFacts, facts_of}
+use Rattle.line_replies.proofs.RepliesOnce.{IdsAreReadOnce, ids_once}
 use Rattle.json_replies.specs.FurtherLines.{BoardFacts}
 use Rattle.json_replies.proofs.WholeReplies.{lines_are_the_reply}
 use Rattle.json_replies.proofs.ToldOnce.{objects_tell_one_reply, objects_are_not_lost}
@@ -13,6 +13,9 @@ use Rattle.json_replies.proofs.BeginReading.{item_lines_ask}
 use Rattle.json_replies.proofs.FairStarts.{fair_lines_begin}
 use Rattle.json_replies.proofs.FairHints.{hints_lead_on}
 use Rattle.json_replies.proofs.HintsToEnd.{hints_lead_to_the_end}
+use Rattle.json_replies.proofs.MarkedHints.{marks_are_no_harder, marks_lead_on}
+use Rattle.json_replies.proofs.MarksToEnd.{marks_lead_to_the_end}
+use Rattle.json_replies.proofs.HintLines.{hint_lines_write, played_hints_solve}
 use Rattle.json_replies.proofs.reply_laws.laws.Given.{Over}
 use Rattle.json_replies.proofs.reply_laws.laws.Goals as goal
 
@@ -71,3 +74,18 @@ returns-clause-hints g c = hints_lead_on (facts g) (boards g) (steps g).less c.l
 
 pub returns-clause-hints_end : goal.returns-clause-hints_end
 returns-clause-hints_end g c = hints_lead_to_the_end (facts g) (boards g) (returns-clause-hints g c)
+
+pub returns-clause-marks : goal.returns-clause-marks
+returns-clause-marks g c = marks_lead_on (facts g) (boards g) (steps g).less c.laws.ensures.nested
+
+pub returns-clause-marks_end : goal.returns-clause-marks_end
+returns-clause-marks_end g c = marks_lead_to_the_end (facts g) (boards g) (steps g).less c.laws.ensures.nested
+
+pub returns-clause-marks_grade : goal.returns-clause-marks_grade
+returns-clause-marks_grade g c = marks_are_no_harder (facts g) (boards g) (steps g).less
+
+pub returns-clause-hint_lines : goal.returns-clause-hint_lines
+returns-clause-hint_lines g c = hint_lines_write (facts g) (boards g)
+
+pub returns-clause-hints_played : goal.returns-clause-hints_played
+returns-clause-hints_played g c = played_hints_solve (facts g) (boards g) (returns-clause-hints_end g c)

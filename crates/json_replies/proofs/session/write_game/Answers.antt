@@ -1,6 +1,6 @@
 use Rattle.std.proofs.Common.{refl, ap, ◌∙◌}
 use Rattle.serde_json.specs.Data.{string}
-use Rattle.puzzle_cli.specs.BoardTexts.{status_word}
+use Rattle.line_replies.specs.BoardTexts.{status_word}
 use Rattle.json_replies.specs.Counts.{count_data}
 use Rattle.json_replies.specs.Texts.{text_data}
 use Rattle.json_replies.proofs.WrittenData.{object_follows, more_members, key_follows, member_is}

@@ -1,5 +1,5 @@
 use Rattle.std.proofs.lemmas.Grind.{common_steps}
--- What was written is a save of the session alone.
+-- A text that was written is a save of the session alone.
 use Rattle.std.proofs.Common.{arith}
 use Rattle.std.proofs.lemmas.Bool.Decides.{nat_tests}
 use Rattle.play_save.proofs.SavedWritten.{round_same, round_board, round_refused}

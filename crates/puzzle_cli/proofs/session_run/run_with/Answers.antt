@@ -1,10 +1,10 @@
 use Rattle.std.proofs.Common.{Option, sym, subst}
 use Rattle.play_midend.specs.Histories.{History}
 use Rattle.needed_items.proofs.ItemLaws.{laws_of}
-use Rattle.puzzle_cli.specs.Commands.{is_quit}
-use Rattle.puzzle_cli.specs.GameFacts.{facts_of}
+use Rattle.line_replies.specs.Commands.{is_quit}
+use Rattle.line_replies.specs.GameFacts.{facts_of}
 use Rattle.puzzle_cli.specs.Runs.{point_at}
-use Rattle.puzzle_cli.specs.RunLaws.{IsNoneOrStorable}
+use Rattle.line_replies.specs.RunLaws.{IsNoneOrStorable}
 use Rattle.puzzle_cli.proofs.StorableRuns.{ends_storable}
 use Rattle.puzzle_cli.proofs.session_run.run_with.Goals as goal
 

@@ -1,5 +1,6 @@
 use Rattle.line_steps.specs.Laws.Less.{all_less}
 use Rattle.line_steps.specs.Reasons.{StruckBy}
+use Rattle.step_chains.specs.Inner.Views.{seen}
 use Rattle.std.proofs.Common.{Option, subst, arith}
 use Rattle.std.specs.Option.{MatchOption}
 use Rattle.trail_solver.specs.Candidates.{CandidatesValue}
@@ -13,17 +14,17 @@ use Rattle.step_chains.proofs.first_aims.first_aim.Goals as goal
 
 pub go_on-requires-2-clause-from : goal.go_on-requires-2-clause-from
 go_on-requires-2-clause-from g c =
-    left_up (StruckBy g.P.Rules.puzzle g.P.Steps.own c.args.p.now) Latin Easy c.args.grid.now c.go_on.new.settled (omega arith) c.go_on.ensures.left
+    left_up (StruckBy g.P.Rules.puzzle g.P.Steps.own c.args.p.now) Latin Easy (seen c.args.grid.now c.args.view.now) c.go_on.new.settled (omega arith) c.go_on.ensures.left
 
 pub go_on-requires-3-clause-from : goal.go_on-requires-3-clause-from
 go_on-requires-3-clause-from g c =
-    left_up (StruckBy g.P.Rules.puzzle g.P.Steps.own c.args.p.now) Easy Hard c.args.grid.now c.go_on-2.new.settled (omega arith) c.go_on-2.ensures.left
+    left_up (StruckBy g.P.Rules.puzzle g.P.Steps.own c.args.p.now) Easy Hard (seen c.args.grid.now c.args.view.now) c.go_on-2.new.settled (omega arith) c.go_on-2.ensures.left
 
 pub returns-in-Some : goal.returns-in-Some
 returns-in-Some g c =
     let Struck = StruckBy g.P.Rules.puzzle g.P.Steps.own c.args.p.now in
     let less = all_less (g.P.Rules.puzzle c.args.p.now) (g.P.Steps.own c.args.p.now) (g.met.P.Steps.own_less c.args.p.now) in
-    let b = c.args.grid.now in
+    let b = (seen c.args.grid.now c.args.view.now) in
     rw (c.emptied.ensures.grade, c.emptied.ensures.aim) (emptied_least Struck less Latin b c.go_on.new.settled c.in-Some.cell
     c.go_on.ensures.left c.in-Some.ensures.over (below_latin (λ lower. IsRefutedGrid Struck lower b → ⊥)))
 
@@ -31,7 +32,7 @@ pub returns-in-Some-go_on : goal.returns-in-Some-go_on
 returns-in-Some-go_on g c =
     let Struck = StruckBy g.P.Rules.puzzle g.P.Steps.own c.args.p.now in
     let less = all_less (g.P.Rules.puzzle c.args.p.now) (g.P.Steps.own c.args.p.now) (g.met.P.Steps.own_less c.args.p.now) in
-    let b = c.args.grid.now in
+    let b = (seen c.args.grid.now c.args.view.now) in
     let latin = c.go_on.new.settled in
     let easy = c.go_on-2.new.settled in
     let Holds : Grade → Type 0 = λ grade. IsRefutedGrid Struck grade b → ⊥ in
@@ -43,7 +44,7 @@ pub returns-in-Some-go_on-2 : goal.returns-in-Some-go_on-2
 returns-in-Some-go_on-2 g c =
     let Struck = StruckBy g.P.Rules.puzzle g.P.Steps.own c.args.p.now in
     let less = all_less (g.P.Rules.puzzle c.args.p.now) (g.P.Steps.own c.args.p.now) (g.met.P.Steps.own_less c.args.p.now) in
-    let b = c.args.grid.now in
+    let b = (seen c.args.grid.now c.args.view.now) in
     let latin = c.go_on.new.settled in
     let easy = c.go_on-2.new.settled in
     let hard = c.go_on-3.new.settled in
@@ -57,11 +58,11 @@ pub returns-in-Some-default-default : goal.returns-in-Some-default-default
 returns-in-Some-default-default g c =
     let Struck = StruckBy g.P.Rules.puzzle g.P.Steps.own c.args.p.now in
     let less = all_less (g.P.Rules.puzzle c.args.p.now) (g.P.Steps.own c.args.p.now) (g.met.P.Steps.own_less c.args.p.now) in
-    let b = c.args.grid.now in
+    let b = (seen c.args.grid.now c.args.view.now) in
     let latin = c.go_on.new.settled in
     let hard = c.go_on-3.new.settled in
     let Silent : Grade → Type 0 = λ grade. NothingIsShown Struck grade b in
-    let Says : CandidatesValue → Option Goal → Type 0 = λ d said. MatchOption said ((goal : Goal) → IsOpenShown b d goal → ⊥) (IsOpenShown b d) in
+    let Says : CandidatesValue → Option Goal → Type 0 = λ d said. MatchOption said ((goal : Goal) → IsOpenShown b.grid d goal → ⊥) (IsOpenShown b.grid d) in
     let shown = subst (Says latin) c.in-Some-default-default.is-0 c.shown_goal-by_latin.ensures in
     rw (c.shown.ensures.grade, c.shown.ensures.aim) (shown_least Struck less Latin b latin c.in-Some-default-default.goal c.go_on.ensures.left shown
     (below_latin Silent) (over_holds Struck less Hard b hard c.in_default-go_on-2.ensures.over))
@@ -70,12 +71,12 @@ pub returns-in-None-Some-default : goal.returns-in-None-Some-default
 returns-in-None-Some-default g c =
     let Struck = StruckBy g.P.Rules.puzzle g.P.Steps.own c.args.p.now in
     let less = all_less (g.P.Rules.puzzle c.args.p.now) (g.P.Steps.own c.args.p.now) (g.met.P.Steps.own_less c.args.p.now) in
-    let b = c.args.grid.now in
+    let b = (seen c.args.grid.now c.args.view.now) in
     let latin = c.go_on.new.settled in
     let easy = c.go_on-2.new.settled in
     let hard = c.go_on-3.new.settled in
     let Silent : Grade → Type 0 = λ grade. NothingIsShown Struck grade b in
-    let Says : CandidatesValue → Option Goal → Type 0 = λ d said. MatchOption said ((goal : Goal) → IsOpenShown b d goal → ⊥) (IsOpenShown b d) in
+    let Says : CandidatesValue → Option Goal → Type 0 = λ d said. MatchOption said ((goal : Goal) → IsOpenShown b.grid d goal → ⊥) (IsOpenShown b.grid d) in
     let found = c.in-None-Some-default in
     let none = subst (Says latin) found.is-0 c.shown_goal-by_latin.ensures in
     let shown = subst (Says easy) found.is-1 c.shown_goal-by_easy.ensures in
@@ -87,12 +88,12 @@ pub returns-in-None-None-Some : goal.returns-in-None-None-Some
 returns-in-None-None-Some g c =
     let Struck = StruckBy g.P.Rules.puzzle g.P.Steps.own c.args.p.now in
     let less = all_less (g.P.Rules.puzzle c.args.p.now) (g.P.Steps.own c.args.p.now) (g.met.P.Steps.own_less c.args.p.now) in
-    let b = c.args.grid.now in
+    let b = (seen c.args.grid.now c.args.view.now) in
     let latin = c.go_on.new.settled in
     let easy = c.go_on-2.new.settled in
     let hard = c.go_on-3.new.settled in
     let Silent : Grade → Type 0 = λ grade. NothingIsShown Struck grade b in
-    let Says : CandidatesValue → Option Goal → Type 0 = λ d said. MatchOption said ((goal : Goal) → IsOpenShown b d goal → ⊥) (IsOpenShown b d) in
+    let Says : CandidatesValue → Option Goal → Type 0 = λ d said. MatchOption said ((goal : Goal) → IsOpenShown b.grid d goal → ⊥) (IsOpenShown b.grid d) in
     let found = c.in-None-None-Some in
     let none = subst (Says latin) found.is-0 c.shown_goal-by_latin.ensures in
     let no_more = subst (Says easy) found.is-1 c.shown_goal-by_easy.ensures in
@@ -103,5 +104,5 @@ returns-in-None-None-Some g c =
 
 pub returns-in-None-None-None : goal.returns-in-None-None-None
 returns-in-None-None-None g c =
-    nowhere_left (StruckBy g.P.Rules.puzzle g.P.Steps.own c.args.p.now) (all_less (g.P.Rules.puzzle c.args.p.now) (g.P.Steps.own c.args.p.now) (g.met.P.Steps.own_less c.args.p.now)) c.args.grid.now c.go_on-3.new.settled
+    nowhere_left (StruckBy g.P.Rules.puzzle g.P.Steps.own c.args.p.now) (all_less (g.P.Rules.puzzle c.args.p.now) (g.P.Steps.own c.args.p.now) (g.met.P.Steps.own_less c.args.p.now)) (seen c.args.grid.now c.args.view.now) c.go_on-3.new.settled
     c.in_default-go_on-2.ensures.over c.in-None-None-None.ensures

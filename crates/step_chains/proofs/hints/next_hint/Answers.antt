@@ -1,12 +1,9 @@
-use Rattle.line_steps.specs.Laws.Less.{all_less}
 use Rattle.line_steps.specs.Reasons.{StruckBy}
-use Rattle.step_chains.proofs.BoundHints.{result_bound}
+use Rattle.step_chains.proofs.BoundHints.{result_of_grid}
 use Rattle.step_chains.proofs.hints.next_hint.Goals as goal
 
 pub returns : goal.returns
 returns g c =
     let p = c.args.p.now in
-    let is = c.hint_knowing.ensures in
-    result_bound (g.P.Rules.puzzle p) (StruckBy g.P.Rules.puzzle g.P.Steps.own p)
-    (all_less (g.P.Rules.puzzle p) (g.P.Steps.own p) (g.met.P.Steps.own_less p)) c.args.grid.now c.hint_knowing.result
-    is.least is.timely is.needed is.right is.forced
+    result_of_grid (g.P.Rules.puzzle p) (StruckBy g.P.Rules.puzzle g.P.Steps.own p) c.args.grid.now c.view_of.result c.next_hint_from.result
+    c.requires c.view_of.ensures c.next_hint_from.ensures

@@ -4,7 +4,7 @@ use Rattle.step_texts.proofs.LooksTold.{GoesOn}
 use Rattle.step_texts.proofs.telling.told_steps.Given as goal
 
 abbrev pub invariant-loop-first : goal.invariant-loop-first
-invariant-loop-first g l = GoesOn (StruckBy g.P.Rules.puzzle g.P.Steps.own l.p) (g.P.Rules.puzzle l.p).size l.fn.candidates l.candidates l.steps l.rest l.told.items
+invariant-loop-first g l = GoesOn (StruckBy g.P.Rules.puzzle g.P.Steps.own l.p) (g.P.Rules.puzzle l.p).size l.view l.candidates l.steps l.rest l.told.items
 
 abbrev pub decreases-loop-first : goal.decreases-loop-first
 decreases-loop-first g l = length l.rest

@@ -1,4 +1,4 @@
-use Rattle.puzzle_cli.specs.GameFacts.{facts_of}
+use Rattle.line_replies.specs.GameFacts.{facts_of}
 use Rattle.web_turn.proofs.TurnRuns.{turns_are_a_run, texts_are_taken}
 use Rattle.web_turn.proofs.turn_laws.laws.Goals as goal
 

@@ -1,9 +1,9 @@
 use Rattle.line_steps.specs.Reasons.{StruckBy}
 use Rattle.std.proofs.Common.{refl, sym}
 use Rattle.std.specs.Option.{option_copied}
-use Rattle.puzzle_cli.specs.Commands.{is_quit}
-use Rattle.puzzle_cli.specs.GameFacts.{GameFacts, facts_of}
-use Rattle.puzzle_cli.specs.Texts.{text_bytes}
+use Rattle.line_replies.specs.Commands.{is_quit}
+use Rattle.line_replies.specs.GameFacts.{GameFacts, facts_of}
+use Rattle.line_replies.specs.Texts.{text_bytes}
 use Rattle.json_replies.specs.FurtherLines.{BoardFacts, further_at}
 use Rattle.json_replies.specs.BeginLines.{begin_copied}
 use Rattle.json_replies.proofs.ToldReplies.{no_quit, further_told}

@@ -1,6 +1,6 @@
 use Rattle.std.specs.Option.{option_copied}
 use Rattle.puzzle_cli.specs.Runs.{progress_at}
-use Rattle.puzzle_cli.specs.Texts.{text_bytes}
+use Rattle.line_replies.specs.Texts.{text_bytes}
 use Rattle.puzzle_cli.proofs.LinesInTurn.{ComeTo-unsent}
 use Rattle.puzzle_cli.proofs.line.line_loop.answer_line.Goals as goal
 

@@ -1,0 +1,239 @@
+// Puzzles as people draw or copy them: what a text has, its IDs and its drawings. As in playing/drawings, and one table of rows in tests/drawings is for both.
+import {parts} from './drawn_parts.js';
+import {DRAWN, EMPTY, NUMBERS, fits, isBlank, towers, translated} from './drawn_tables.js';
+import {NAMED_BESIDE, noClue, sideTwice, sidesDiffer, sidesLacking} from './drawn_texts.js';
+import {MOST_LINES, called, meantBy, whyNot} from './drawn_why.js';
+import {readings} from './drawn_ways.js';
+import {SIZES} from './games.js';
+
+/** @typedef {import('./drawn_tables.js').Puzzle} Puzzle */
+/** @typedef {import('./drawn_ways.js').Meant} Meant */
+/**
+ * The finding at a line, counted from 1: a puzzle, with what could have been lost in it; an ID, with the game that is named before it; or why there is none, with a
+ * column, counted from 1, and the game of which a form is to be shown.
+ * @typedef {{line: number, puzzle: Puzzle | null, id: string, game: Meant, why: string, column: number, doubt: string}} Read
+ */
+
+/** A form of each game that would do. */
+const FORMS = {towers: ['  2 3 1', '2 . . . -', '- . . 1 -', '- . . . 3', '  - - -'], unequal: ['.<. .', '^ - -', '. . 2', '- - v', '. .>.']};
+
+/** @param {Puzzle} puzzle */
+export const calledOf = (puzzle) => called(puzzle);
+
+/** @param {Read} read */
+export const formOf = ({game}) => FORMS[game || 'towers'];
+
+// --- lines beside drawings ---
+
+// How the games are called: by the words of the programs, and as newspapers do.
+/** @type {Record<string, 'towers' | 'unequal'>} */
+const GAME_NAMES = {towers: 'towers', skyscrapers: 'towers', skyscraper: 'towers', unequal: 'unequal', futoshiki: 'unequal', hutosiki: 'unequal'};
+const SIDES = ['top', 'bottom', 'left', 'right'], NO_WORD = '[^\\p{L}\\p{N}_]';
+const NAMED = new RegExp(`^${NO_WORD}*(?:(?:clues?|from|on|at|the)${NO_WORD}+)*(?:(top|above|north|up)|(bottom|below|south|down)|(left|west)|(right|east))`
+  + `(?:${NO_WORD}+(?:clues?|side|row|column))*\\s*[:=]?\\s*([^A-Za-z:]*)$`, 'iu');
+const GAME = Object.keys(GAME_NAMES).join('|');
+const AFTER_GAME = `(${GAME})[\\s:]+["']?([0-9][^\\s"']*[:!#][^\\s"']*)`;
+const BY_FORM = '([0-9]+[a-z]*:[^\\s"\']*[/,][^\\s"\']*|[0-9]+[a-z]*[!#][^\\s"\']+|[3-9](?:d[a-z])?:\\w[^\\s"\']*)';
+const ID_FIRST = new RegExp(`^[\\s"'>]*(?:(?:[0-9]{1,3}[.)]|[-*•])\\s+)?["']?(?:${AFTER_GAME}|${BY_FORM})`, 'i');
+const ID_INSIDE = new RegExp(`(?:(${GAME}):)?(?<![\\w./,])([3-9](?:d[a-z])?(?::[\\w/,]*[/,][\\w/,]*|![0-9]+))`, 'i');
+const TITLE = /^(#\s*[0-9]*$|#.*\p{L}{2}|\s*\/\/.*\p{L}{2}|\s*\(?[0-9]{1,3}[):]\s*$|\s*(```|~~~)|\s*[=#~]{3,}\s*$)/u;
+/** With nothing directly above and below a line may also be that. */
+const ALONE = /^\s*([0-9]{1,3}\.|-{3,}|\*{3,}|_{3,})\s*$/;
+/** The first and the last line of what `show` prints of Towers, and one between. */
+const CLOSING = /^\+( [1-9-])+ \+$/, BETWEEN = /^[1-9-]( [1-9.])+ [1-9-]$/;
+
+/** @param {string} text @returns {Meant} */
+function gameIn(text) {
+  const games = new Set((text.toLowerCase().match(/[a-z]+/g) ?? []).flatMap((word) => (Object.hasOwn(GAME_NAMES, word) ? [GAME_NAMES[word]] : [])));
+  return games.size === 1 ? [...games][0] : '';
+}
+
+// The ID of a line, and the game that is named before it, if one is.
+/** @param {string} line @returns {{game: Meant, text: string} | null} */
+function idIn(line) {
+  const first = ID_FIRST.exec(line), inside = first ? null : ID_INSIDE.exec(line);
+  if (first) return {game: GAME_NAMES[first[1]?.toLowerCase()] ?? '', text: first[2] ?? first[3]};
+  return inside ? {game: inside[1] ? GAME_NAMES[inside[1].toLowerCase()] : gameIn(line.slice(0, inside.index)), text: inside[2]} : null;
+}
+
+// Whether the line has words, and isn't drawn.
+/** @param {string} line */
+function isTitle(line) {
+  if (TITLE.test(line)) return true;
+  const runs = line.match(/\p{L}+/gu) ?? [], first = line.trim().split(/\s+/).slice(0, 3);
+  // Pencil marks, as the board has them.
+  if (runs.length && runs.every((run) => run === 'all') && (line.match(/[|│┃]/g) ?? []).length > 2) return false;
+  return runs.some((run) => [...run].filter((letter) => !'xXvVAΛoO'.includes(letter)).length > 1) && !(first.length === 3 && first.every((word) => DRAWN.has(word)));
+}
+
+// --- a text ---
+
+/** So many blank lines are in no drawing; so many letters a line has at most. */
+const GAP = 12, LONGEST = 400;
+
+// The findings in a text, in its order.
+/** @param {string} text @returns {Read[]} */
+export function read(text) {
+  const reader = new Reader();
+  for (const line of text.replace(/^\ufeff|(\r\n|\r|\n)$/g, '').split(/\r\n|\r|\n/)) reader.take(line);
+  reader.end();
+  return reader.found;
+}
+
+/** @param {string} line */
+const isEmpty = (line) => !line.replace(/^ +| +$/g, '');
+
+// Without the marks of a mail's quotation, where each line has one: no line of a drawing begins so.
+/** @param {string[]} lines */
+const unquoted = (lines) => (lines.every((line) => isEmpty(line) || line.startsWith('>')) ? lines.map((line) => line.replace(/^> ?/, '')) : lines);
+
+/** A text so far: `lines` are those that are drawn since the last other one, `block` is where the last ones of them begin. */
+class Reader {
+  constructor() {
+    /** @type {Read[]} */
+    this.found = [];
+    this.number = 0;
+    /** @type {Meant} */
+    this.game = '';
+    /** @type {string[]} */
+    this.lines = [];
+    this.begun = 1;
+    this.block = -1;
+    /** @type {Map<string, string>} */
+    this.named = new Map();
+    this.isLong = false;
+  }
+
+  /** @param {number} line @param {Partial<Read>} read */
+  tell(line, read) { this.found.push({line, puzzle: null, id: '', game: '', why: '', column: 0, doubt: '', ...read}); }
+
+  /** @param {string} line */
+  take(line) {
+    this.number++;
+    const side = NAMED.exec(line), id = side ? null : idIn(line);
+    if (side) {
+      this.drawings(this.block >= 0);
+      this.side(SIDES[side.slice(1, 5).findIndex(Boolean)], side[5]);
+    } else if (id) {
+      this.end();
+      this.tell(this.number, {id: id.text, game: id.game || this.game});
+    } else if (isTitle(line)) {
+      this.end();
+      this.game = gameIn(line) || this.game;
+    } else {
+      this.draw(translated(line.slice(0, LONGEST + 1)));
+    }
+  }
+
+  end() {
+    this.drawings();
+    if (this.named.size) this.tell(this.number, {game: 'towers', why: sidesLacking([...this.named.keys()])});
+    this.named.clear();
+  }
+
+  /** @param {string} line */
+  draw(line) {
+    if (!isEmpty(line)) {
+      if (!this.isLong) this.add(line);
+      return;
+    }
+    this.endBlock();
+    if (!this.lines.length) this.begun = this.number;
+    this.lines.push(line);
+    if (this.lines.length >= GAP && this.lines.slice(-GAP).every(isEmpty)) this.drawings();
+  }
+
+  /** @param {string} line */
+  add(line) {
+    if (!this.lines.length) this.begun = this.number;
+    if (this.block < 0) this.block = this.lines.length;
+    this.lines.push(line);
+    const {block, begun} = this, puzzle = CLOSING.test(line.trim()) && !this.named.size ? this.closed() : null;
+    if (puzzle) {
+      this.told(this.lines.slice(0, block), begun);
+      this.tell(begun + block, {puzzle});
+      this.forget();
+    } else if (this.lines.length - block > 2 * MOST_LINES) {
+      this.isLong = true;
+      this.drawings();
+    }
+  }
+
+  // The puzzle of this block, where it is just what `show` prints of Towers.
+  closed() {
+    const rows = this.lines.slice(this.block).map((line) => line.trim()), size = rows.length - 2;
+    const isShown = SIZES.includes(size) && CLOSING.test(rows[0]) && rows.slice(1, -1).every((row) => BETWEEN.test(row)) && rows.every((row) => row.length === 2 * size + 3);
+    const found = isShown && this.game !== 'unequal' ? towers(rows.map((row) => [...row].filter((_, x) => x % 2 === 0)), true, true).filter(({puzzle}) => fits(puzzle)) : [];
+    return found.length === 1 ? found[0].puzzle : null;
+  }
+
+  // A blank line comes after a block: a drawing to which nothing more can belong is taken.
+  endBlock() {
+    const {block, lines, begun} = this;
+    this.isLong = false;
+    this.block = -1;
+    if (block < 0) return;
+    if (lines.length - block === 1 && ALONE.test(lines[block])) {
+      lines.pop();
+      this.drawings();
+    } else if (!this.named.size && lines.slice(0, block).every(isEmpty)) {
+      const found = readings(unquoted(lines), this.game);
+      if (found.length !== 1 || !found[0].isWhole) return;
+      this.tell(begun + block, {puzzle: found[0].puzzle, doubt: found[0].doubt});
+      this.forget();
+    }
+  }
+
+  // Clues that are named may belong to what is drawn, if some are missing above it or they stand just below it.
+  drawings(isBeside = false) {
+    const {lines, begun} = this;
+    this.lines = [];
+    this.block = -1;
+    if (lines.every(isBlank)) return;
+    if (this.named.size || isBeside) this.tell(begun + lines.findIndex((line) => !isEmpty(line)), {game: 'towers', why: NAMED_BESIDE});
+    else this.told(unquoted(lines), begun);
+    this.forget();
+  }
+
+  // The game that is named above is that of one drawing.
+  forget() {
+    this.lines = [];
+    this.block = -1;
+    this.game = '';
+  }
+
+  /** @param {string[]} lines @param {number} begun */
+  told(lines, begun) {
+    for (const {begin, end, found} of parts(lines, this.game)) {
+      const own = lines.slice(begin, end), first = own.findIndex((line) => !isEmpty(line));
+      if (found.length === 1) this.tell(begun + begin + first, {puzzle: found[0].puzzle, doubt: found[0].doubt});
+      else {
+        const {line, ...why} = whyNot(own, this.game, found);
+        this.tell(begun + begin + line, {game: found[0]?.puzzle.game ?? meantBy(own, this.game), ...why});
+      }
+    }
+  }
+
+  /** @param {string} side @param {string} text */
+  side(side, text) {
+    if (this.named.has(side)) this.tell(this.number, {game: 'towers', why: sideTwice(side)});
+    this.named.set(side, text);
+    if (this.named.size < SIDES.length) return;
+    this.tell(this.number, ofSides(this.named));
+    this.named.clear();
+  }
+}
+
+// Four lines of clues, by their names.
+/** @param {Map<string, string>} named @returns {Partial<Read>} */
+function ofSides(named) {
+  const texts = [...named].map(([name, text]) => /** @type {[string, string[]]} */ ([name, [...translated(text).replace(/[\s,;|()[\]{}]/g, '')]]));
+  const size = texts.find(([name]) => name === 'top')?.[1].length ?? 0, items = [];
+  if (!SIZES.includes(size) || texts.some(([, own]) => own.length !== size)) return {game: 'towers', why: sidesDiffer(texts.map(([name, own]) => [name, own.length]))};
+  for (const [name, own] of texts) for (const [at, symbol] of own.entries()) {
+    const place = {top: [at, -1], bottom: [at, size], left: [-1, at], right: [size, at]}[name];
+    if (NUMBERS.slice(0, size).includes(symbol)) items.push(`item ${place},${symbol}`);
+    else if (symbol !== EMPTY && symbol !== '-') return {game: 'towers', why: noClue(symbol, size)};
+  }
+  return {puzzle: {game: 'towers', size, items}};
+}

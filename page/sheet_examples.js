@@ -1,0 +1,53 @@
+// A first lesson: the cards of the course, each with its board and the step that shows the number.
+import {drawn, edgeOf, extentOf, nameOf, penOf} from './sheet_drawing.js';
+import {rulesOf} from './sheet_layout.js';
+import {linesOf} from './sheet_letters.js';
+import {TABLES} from './sheet_tables.js';
+import {lengths, tag} from './sheet_tree.js';
+
+/** @typedef {import('./turns.js').Game} Game */
+/** @typedef {import('./objects.js').Board} Board */
+/** @typedef {import('./sheet_layout.js').Paper} Paper */
+/** @typedef {{head: string, board: Board, texts: string[], cell: number | null}} Lesson */
+/** @typedef {{game: Game, lessons: Lesson[]}} Example */
+/** @typedef {{lesson: Lesson, height: number, width: number}} Row */
+
+const {STEP, BESIDE, BELOW} = TABLES.LESSONS;
+
+// The part between head and foot, on as few sheets of paper as can be: with squares as large as there is room for.
+/** @param {Paper} paper @param {Example} told */
+export function exampleOn(paper, {game, lessons}) {
+  const [most, least] = paper.print.lesson_sides, fewest = sheets(paper, game, lessons, least).length;
+  let side = most;
+  while (sheets(paper, game, lessons, side).length > fewest) side -= STEP;
+  const rules = tag('p', {class: 'rules'}, tag('b', {}, TABLES.CALLED[game]), ` ${rulesOf(game, TABLES.ANY_SIZE)}`);
+  return sheets(paper, game, lessons, side).map((rows) =>
+    [rules, '\n', tag('div', {class: 'lessons'}, '\n', ...rows.flatMap((row) => [drawnRow(paper, game, side, row), '\n'])), '\n']);
+}
+
+/** @param {Paper} paper @param {Game} game @param {Lesson[]} lessons @param {number} side */
+function sheets(paper, game, lessons, side) {
+  const room = paper.room([game]), font = paper.print.lesson, pen = penOf(game, side, paper.print.strength);
+  /** @type {Row[][]} */
+  const found = [[]];
+  let left = room;
+  for (const lesson of lessons) {
+    const full = extentOf(game, lesson.board.size, pen) + edgeOf(side), width = paper.width - full - BESIDE;
+    const text = Math.floor(lesson.texts.reduce((sum, each) => sum + linesOf(each, width, font), 1) * font * 27 / 20);
+    const height = Math.max(full, text) + BELOW;
+    if (height > left && found[found.length - 1].length) {
+      found.push([]);
+      left = room;
+    }
+    found[found.length - 1].push({lesson, height, width});
+    left -= height;
+  }
+  return found;
+}
+
+/** @param {Paper} paper @param {Game} game @param {number} side @param {Row} row */
+function drawnRow(paper, game, side, {lesson: {head, board, texts, cell}, height, width}) {
+  const picture = drawn(game, board, penOf(game, side, paper.print.strength), nameOf(head, game, board.size, ''), {hinted: cell, hasEdges: true});
+  const words = [tag('p', {}, tag('b', {}, head)), ...texts.map((text) => tag('p', {}, text))];
+  return tag('div', {class: 'example', style: lengths({height})}, picture, tag('div', {style: lengths({width})}, ...words));
+}
