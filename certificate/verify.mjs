@@ -175,26 +175,38 @@ function drawn({w, lines, clues, signs, givens}) {
     `      ${row.map((s) => sign(s, s + w, '^', 'v')).join('   ')}`]);
   return [`      ${edge(0).join('   ')}`, ...out.slice(0, -1), `      ${edge(w).join('   ')}`].map((line) => line.trimEnd()).filter((line) => line || signs.size).join('\n');
 }
+// Of each certificate of a file, in turn, its status and what is to be said of it.
+/** @param {string} name @param {any} read @returns {Generator<[number, string]>} */
+function* told(name, read) {
+  let place = 0, lines = [''], why = 'there is none';
+  try {
+    lines = read(name === '-' ? 0 : name, 'latin1').split(/(?<=\n)/);
+  } catch (error) {
+    why = /** @type {any} */ (error).message;
+  }
+  for (const line of lines.filter((text) => text.length > MOST_BYTES || /[^ \t\n\v\f\r]/.test(text))) {
+    const is = verify(line);
+    [place, why] = [place + 1, is.status === 2 ? is.told : ''];
+    if (why) break;
+    yield [is.status, is.puzzle ? `${drawn(is.puzzle)}\n${is.told}` : `NOT SHOWN by certificate ${place} of '${name}': ${is.told}.`];
+  }
+  if (why) yield [2, `NO CERTIFICATE is number ${place} of '${name}': ${why}.`];
+}
 const node = /** @type {any} */ (globalThis).process, library = 'node:fs', names = node?.argv.slice(2) ?? [];
 if (/(^|[/\\])verify[.]mjs$/.test(node?.argv[1])) {
-  const {readFileSync} = await import(library);
+  const {readFileSync, writeFileSync} = await import(library);
   node.exitCode = 0;
-  for (const name of names.length ? names : ['-']) {
-    let place = 0, lines = [''];
-    /** @type {ReturnType<typeof verify>} */
-    let is = {status: 2, told: 'there is none', puzzle: null};
-    try {
-      lines = readFileSync(name === '-' ? 0 : name, 'latin1').split(/(?<=\n)/);
-    } catch (error) {
-      is.told = /** @type {any} */ (error).message;
+  try {
+    for (const name of names.length ? names : ['-']) {
+      for (const [status, text] of told(name, readFileSync)) {
+        node.exitCode = Math.max(node.exitCode, status);
+        writeFileSync(1, `${text}\n`);
+      }
     }
-    for (const line of lines.filter((text) => text.length > MOST_BYTES || /[^ \t\n\v\f\r]/.test(text))) {
-      [place, is] = [place + 1, verify(line)];
-      if (is.status < 2) console.log(is.status ? `NOT SHOWN by certificate ${place} of '${name}': ${is.told}.` : `${is.puzzle && drawn(is.puzzle)}\n${is.told}`);
-      node.exitCode = Math.max(node.exitCode, is.status);
-      if (is.status === 2) break;
-    }
-    if (is.status === 2) console.log(`NO CERTIFICATE is number ${place} of '${name}': ${is.told}.`);
-    node.exitCode = Math.max(node.exitCode, is.status);
+  } catch (error) {
+    // If nobody reads on, as behind `head`, it is no fault, and the status is that of `cat`.
+    const {code, message} = /** @type {any} */ (error);
+    node.exitCode = code === 'EPIPE' ? 141 : 2;
+    if (code !== 'EPIPE') console.error(`Standard output: ${message}`);
   }
 }
