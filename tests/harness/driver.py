@@ -32,8 +32,15 @@ LEFT, RIGHT = 0, 2
 LONG = 1400
 
 
+#: So many seconds an answer or something that is waited for may take: a limit is for what hangs, and a busy machine is slow.
+SECONDS = 300
+
 #: So many seconds a browser may take to begin, on a machine that has much else to do.
-BEGINS = 240
+BEGINS = 600
+
+
+#: How WebDriver and BiDi name it where a page goes away before a question to it is answered.
+GONE = 'no such frame'
 
 
 class PageLeft(AssertionError):
@@ -49,7 +56,7 @@ class Driver:
     #: Whether it can be touched with a finger.
     has_touch = True
 
-    def __init__(self, seconds: float = 60) -> None:
+    def __init__(self, seconds: float = SECONDS) -> None:
         self._seconds = seconds
 
     # --- how it is asked ---
@@ -108,7 +115,8 @@ class Driver:
         """Loads the page again, until an expression is true in it. It sees what stands in the browser's store: to a page that is opened anew Chromium may give
         an empty one, where the machine is busy.
         """
-        self.value('location.reload()')
+        with contextlib.suppress(PageLeft):
+            self.value('location.reload()')
         self.wait_for(f'performance.getEntriesByType("navigation")[0].type === "reload" && {condition}')
 
     def back(self) -> None:
@@ -230,13 +238,13 @@ class Told(Driver):
             raise ConnectionError(f'{method}: the browser has ended') from error
         return self._number
 
-    def _answer(self, number: int) -> Mapping[str, Any]:
-        """The answer to a message. Events come before it."""
+    def _answer(self, *numbers: int) -> Mapping[str, Any]:
+        """The answer to a message, or to that one of several which comes first. Events come before it."""
         while True:
             try:
                 came: Mapping[str, Any] = json.loads(self._socket.recv())
             except (websocket.WebSocketException, ValueError) as error:
                 raise ConnectionError('the browser has ended, or says nothing') from error
             self._note(came)
-            if came.get('id') == number:
+            if came.get('id') in numbers:
                 return came
