@@ -93,7 +93,7 @@ class Browser(Told):
         self._ask_at_once('Input.dispatchMouseEvent', [{'type': kind, 'x': x, 'y': y, 'button': pressed, 'clickCount': count} for kind, pressed, count in parts])
 
     def tap(self, selector: str, milliseconds: int = 0) -> None:
-        x, y = self.middle(selector)
+        x, y = self.middle(selector, milliseconds == 0)
         begins, ends = {'type': 'touchStart', 'touchPoints': [{'x': x, 'y': y}]}, {'type': 'touchEnd', 'touchPoints': []}
         if not milliseconds:
             self._ask_at_once('Input.dispatchTouchEvent', [begins, ends])

@@ -31,6 +31,9 @@ LEFT, RIGHT = 0, 2
 #: A long press lasts so many milliseconds: three times as long as it must, since a busy machine begins to count late.
 LONG = 1400
 
+#: A press is a long one to our page after 450 milliseconds. While a short one is made that clock stands still: a busy machine may take longer for it.
+SHORT = 'window.setTimeout = Object.assign((act, time, ...words) => plain(act, time === 450 ? 2 ** 30 : time, ...words), {plain})'
+CLOCK = f'((isShort, plain = window.setTimeout.plain ?? window.setTimeout) => {{ if (isShort) {SHORT}; else window.setTimeout = plain; }})'
 
 #: So many seconds an answer or something that is waited for may take: a limit is for what hangs, and a busy machine is slow.
 SECONDS = 300
@@ -147,10 +150,10 @@ class Driver:
     def type(self, text: str) -> None:
         self.press(*text)
 
-    def middle(self, selector: str) -> Point:
-        """Of an element, which is scrolled to."""
+    def middle(self, selector: str, is_short: bool = True) -> Point:
+        """Of an element, which is scrolled to, to be pressed shortly or for long."""
         found = self.value(
-            f'(node => {{ node.scrollIntoView({{block: "nearest"}}); const box = node.getBoundingClientRect();'
+            f'(node => {{ {CLOCK}({json.dumps(is_short)}); node.scrollIntoView({{block: "nearest"}}); const box = node.getBoundingClientRect();'
             f' return [box.left + box.width / 2, box.top + box.height / 2] }})(document.querySelector({json.dumps(selector)}))'
         )
         return found[0], found[1]
@@ -170,7 +173,7 @@ class Driver:
             self._point('mouse', selector, LEFT, LONG)
 
     def _point(self, kind: str, selector: str, button: int, milliseconds: int) -> None:
-        x, y = self.middle(selector)
+        x, y = self.middle(selector, milliseconds == 0)
         actions: List[Dict[str, Any]] = [
             {'type': 'pointerMove', 'x': round(x), 'y': round(y), 'origin': 'viewport', 'duration': 0},
             {'type': 'pointerDown', 'button': button},
