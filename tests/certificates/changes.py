@@ -2,7 +2,7 @@
 
 import copy
 import random
-from typing import Any, Callable, Dict, List
+from typing import Any, Callable, Dict, List, Tuple
 
 Certificate = Dict[str, Any]
 
@@ -14,6 +14,12 @@ def _is_branch(step: Any) -> bool:
 def _branches(steps: List[Any]) -> List[List[Any]]:
     """All lists of steps, those below suppositions and lemmas too."""
     return [steps, *(each for step in steps if _is_branch(step) for each in _branches(step[-1]))]
+
+
+def _some(made: Certificate, chance: random.Random) -> Tuple[List[Any], int]:
+    """A list of steps and a place in it."""
+    steps = chance.choice([steps for steps in _branches(made['steps']) if steps])
+    return steps, chance.randrange(len(steps))
 
 
 def _leaf(made: Certificate, chance: random.Random) -> Any:
@@ -39,39 +45,42 @@ def _square(made: Certificate, chance: random.Random) -> int:
     return chance.randrange(_size(made) ** 2)
 
 
+def _number(made: Certificate, chance: random.Random) -> int:
+    return chance.randint(1, _size(made))
+
+
+def _item(made: Certificate, change: Callable[[List[str]], None]) -> None:
+    """The puzzle with another clue of Towers, or another square of Unequal."""
+    head, _, text = made['id'].partition(':')
+    edge, comma, squares = text.partition(',') if made['game'] == 'towers' else (text, '', '')
+    between = '/' if made['game'] == 'towers' else ','
+    fields = edge.split(between)
+    change(fields)
+    made['id'] = f'{head}:{between.join(fields)}{comma}{squares}'
+
+
 def item_less(made: Certificate, chance: random.Random) -> None:
     """The puzzle without a clue or a sign."""
-    head, _, text = made['id'].partition(':')
-    if made['game'] == 'towers':
-        edge, comma, squares = text.partition(',')
-        clues = edge.split('/')
-        clues[chance.choice([place for place, clue in enumerate(clues) if clue])] = ''
-        made['id'] = f'{head}:{"/".join(clues)}{comma}{squares}'
-    else:
-        fields = text.split(',')
-        square = chance.choice([square for square, field in enumerate(fields) if len(field) > 1])
-        fields[square] = fields[square][:-1]
-        made['id'] = f'{head}:{",".join(fields)}'
+
+    def change(fields: List[str]) -> None:
+        place = chance.choice([place for place, field in enumerate(fields) if len(field) > (made['game'] == 'unequal')])
+        fields[place] = fields[place][:-1]
+
+    _item(made, change)
 
 
 def item_more(made: Certificate, chance: random.Random) -> None:
     """The puzzle with another clue or given."""
-    head, _, text = made['id'].partition(':')
-    if made['game'] == 'towers':
-        edge, comma, squares = text.partition(',')
-        clues = edge.split('/')
-        clues[chance.randrange(len(clues))] = str(chance.randint(1, _size(made)))
-        made['id'] = f'{head}:{"/".join(clues)}{comma}{squares}'
-    else:
-        fields = text.split(',')
-        square = _square(made, chance)
-        fields[square] = str(chance.randint(1, _size(made))) + fields[square][1:]
-        made['id'] = f'{head}:{",".join(fields)}'
+
+    def change(fields: List[str]) -> None:
+        place = chance.randrange(len(fields)) if made['game'] == 'towers' else _square(made, chance)
+        fields[place] = str(_number(made, chance)) + fields[place][1:]
+
+    _item(made, change)
 
 
 def other_number(made: Certificate, chance: random.Random) -> None:
-    grid = chance.choice(made['solutions'])
-    square = _square(made, chance)
+    grid, square = chance.choice(made['solutions']), _square(made, chance)
     grid[square] = grid[square] % _size(made) + 1
 
 
@@ -81,18 +90,9 @@ def rows_swapped(made: Certificate, chance: random.Random) -> None:
     grid[one * w : one * w + w], grid[other * w : other * w + w] = grid[other * w : other * w + w], grid[one * w : one * w + w]
 
 
-def step_less(made: Certificate, chance: random.Random) -> None:
-    steps = chance.choice([steps for steps in _branches(made['steps']) if steps])
-    steps.pop(chance.randrange(len(steps)))
-
-
-def last_steps_less(made: Certificate, chance: random.Random) -> None:
-    steps = chance.choice([steps for steps in _branches(made['steps']) if steps])
-    del steps[chance.randrange(len(steps)) :]
-
-
-def last_step_first(made: Certificate, chance: random.Random) -> None:
-    made['steps'].insert(0, made['steps'].pop())
+def steps_less(made: Certificate, chance: random.Random, count: int = 1 << 20) -> None:
+    steps, place = _some(made, chance)
+    del steps[place : place + count]
 
 
 def solution_struck(made: Certificate, chance: random.Random) -> None:
@@ -101,14 +101,9 @@ def solution_struck(made: Certificate, chance: random.Random) -> None:
     _leaf(made, chance)[2].append([square, [made['solutions'][0][square]]])
 
 
-def number_struck(made: Certificate, chance: random.Random) -> None:
-    """A step strikes some number of some square, too."""
-    _leaf(made, chance)[2].append([_square(made, chance), [chance.randint(1, _size(made))]])
-
-
 def other_look(made: Certificate, chance: random.Random) -> None:
-    step = _leaf(made, chance)
-    step[0], step[1] = chance.choice([('line', chance.randrange(2 * _size(made))), ('clue', chance.randrange(4 * _size(made))), ('number', chance.randint(1, _size(made)))])
+    step, w = _leaf(made, chance), _size(made)
+    step[:2] = chance.choice([('line', chance.randrange(2 * w)), ('clue', chance.randrange(4 * w)), ('number', chance.randint(1, w))])
 
 
 def other_supposed(made: Certificate, chance: random.Random) -> None:
@@ -132,7 +127,7 @@ def lemma_wider(made: Certificate, chance: random.Random) -> None:
     steps, place = _of_kind(made, 'lemma', chance)
     numbers = steps[place][1]
     if chance.random() < 0.5:
-        chance.choice(numbers)[1].append(chance.randint(1, _size(made)))
+        chance.choice(numbers)[1].append(_number(made, chance))
     else:
         numbers.pop(chance.randrange(len(numbers)))
 
@@ -146,36 +141,25 @@ def lemma_later(made: Certificate, chance: random.Random) -> None:
 def lemma_used(made: Certificate, chance: random.Random) -> None:
     """A lemma strikes some number of some square, first or anywhere."""
     steps = chance.choice(_branches(made['steps']))
-    steps.insert(chance.randint(0, len(steps)), ['kept', 0, [[_square(made, chance), [chance.randint(1, _size(made))]]]])
+    steps.insert(chance.randint(0, len(steps)), ['kept', 0, [[_square(made, chance), [_number(made, chance)]]]])
 
 
-def none_at_all(made: Certificate, chance: random.Random) -> None:
-    made['answer'], made['solutions'] = 'none', []
-
-
-def one_of_several(made: Certificate, chance: random.Random) -> None:
-    made['answer'], made['solutions'] = 'one', made['solutions'][:1]
-
-
-def one_twice(made: Certificate, chance: random.Random) -> None:
-    made['answer'], made['solutions'] = 'several', made['solutions'][:1] * 2
-
-
-def emptied(made: Certificate, chance: random.Random) -> None:
-    """A first step strikes all numbers of a square."""
-    made['steps'].insert(0, ['line', 0, [[0, list(range(1, _size(made) + 1))]]])
-
-
-def grid_exchanged(made: Certificate, chance: random.Random) -> None:
-    """A second grid that shows that an item is needed stands for another item."""
-    chance.shuffle(made['needed'])
-
-
-def grid_less(made: Certificate, chance: random.Random) -> None:
-    made['needed'].pop(chance.randrange(len(made['needed'])))
-
-
-CHANGES: List[Callable[[Certificate, random.Random], None]] = [
-    item_less, item_more, other_number, rows_swapped, step_less, last_steps_less, last_step_first, solution_struck, number_struck, other_look, other_supposed,
-    solution_supposed, branch_left, lemma_wider, lemma_later, lemma_used, none_at_all, one_of_several, one_twice, emptied, grid_exchanged, grid_less,
+CHANGES: List[Callable[[Certificate, random.Random], object]] = [
+    item_less, item_more, other_number, rows_swapped,
+    lambda made, chance: steps_less(made, chance, 1),
+    steps_less,
+    # The last step comes first.
+    lambda made, chance: made['steps'].insert(0, made['steps'].pop()),
+    solution_struck,
+    # A step strikes some number of some square, too.
+    lambda made, chance: _leaf(made, chance)[2].append([_square(made, chance), [_number(made, chance)]]),
+    other_look, other_supposed, solution_supposed, branch_left, lemma_wider, lemma_later, lemma_used,
+    lambda made, chance: made.update(answer='none', solutions=[]),
+    lambda made, chance: made.update(answer='one', solutions=made['solutions'][:1]),
+    lambda made, chance: made.update(answer='several', solutions=made['solutions'][:1] * 2),
+    # A first step strikes all numbers of a square.
+    lambda made, chance: made['steps'].insert(0, ['line', 0, [[0, list(range(1, _size(made) + 1))]]]),
+    # A second grid that shows that an item is needed stands for another item; and one is lacking.
+    lambda made, chance: chance.shuffle(made['needed']),
+    lambda made, chance: made['needed'].pop(chance.randrange(len(made['needed']))),
 ]  # fmt: skip
