@@ -7,6 +7,7 @@ use Rattle.number_sets.specs.Sets.{has_number}
 use Rattle.latin_board.specs.Edges.{edge_xy}
 use Rattle.step_texts.specs.declared.told.Strike.{Strike}
 use Rattle.step_texts.specs.declared.told.ToldStep.{ToldStep}
+use Rattle.step_texts.specs.Headings.{step_name}
 use Rattle.step_texts.specs.Lines.{line_texts}
 use Rattle.json_replies.specs.declared.reason_parts.Ends.{Ends}
 use Rattle.json_replies.specs.Boards.{listed_data, when, mark_set_data}
@@ -63,27 +64,28 @@ strike_data strike = object
 
 -- ---- steps
 
--- the parts of a reason, with what is struck and the sentence, of a puzzle of a width with these clues
-abbrev pub look_data : ℕ → (ℕ → ℕ) → ReasonParts → Data → Data → Data
-look_data w clue parts strikes text = object
+-- the parts of a reason, with the step's name, what is struck and the sentence, of a puzzle of a width with these clues
+abbrev pub look_data : ℕ → (ℕ → ℕ) → ReasonParts → List ℕ → Data → Data → Data
+look_data w clue parts name strikes text = object
     (member (codes "cells") parts.cells
     (member (codes "clue") (edge_clue_data clue parts.edge)
     (member (codes "greater") (greater_data parts.ends)
     (member (codes "less") (less_data parts.ends)
     (member (codes "line") parts.line
+    (member (codes "name") (string name)
     (member (codes "numbers") parts.numbers
     (member (codes "reason") (string parts.word)
     (member (codes "strikes") strikes
     (member (codes "text") text
     (member (codes "x") (x_data w parts.edge)
     (member (codes "y") (y_data w parts.edge)
-    no_members)))))))))))
+    no_members))))))))))))
 
 -- a step as it is told, of a puzzle of a width with these clues and signs
 abbrev pub step_data : ℕ → (ℕ → ℕ) → (ℕ → ℕ → Bool) → ToldStep → Data
 step_data w clue is_over told =
-    look_data w clue (parts_of w is_over told.reason) (list_data strike_data told.strikes.items)
-    (list_data text_data (line_texts told.text.items))
+    look_data w clue (parts_of w is_over told.reason) (step_name w clue told)
+    (list_data strike_data told.strikes.items) (list_data text_data (line_texts told.text.items))
 
 -- steps as they are told
 abbrev pub steps_data : ℕ → (ℕ → ℕ) → (ℕ → ℕ → Bool) → List ToldStep → Data

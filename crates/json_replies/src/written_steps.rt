@@ -18,7 +18,7 @@ use crate::written::{
 use json::Writer;
 use number_sets::NumberSet;
 use std::alloc::{AllocError, Global};
-use step_texts::{StepNames, Strike, ToldStep};
+use step_texts::{StepNames, Strike, ToldStep, step_name};
 use trail_solver::Rules;
 
 /// Writes steps of a hint, in their order.
@@ -59,6 +59,7 @@ fn write_step<P: StepNames>(
     write_number_at(writer, "greater", greater_of(ends))?;
     write_number_at(writer, "less", less_of(ends))?;
     write_number_at(writer, "line", line_of(step.reason))?;
+    write_word_at(writer, "name", Some(step_name(p, step)))?;
     writer.key("numbers")?;
     write_numbers_of(writer, step.reason)?;
     write_word_at(writer, "reason", Some(word_of(step.reason)))?;

@@ -1,6 +1,7 @@
 //! The sentence of a step.
 
 use crate::clue_sentences::{Knowing, say_clue};
+use crate::headings::clue_at;
 use crate::left::{left_of, left_on, one};
 use crate::names::{EdgeClue, GridLine, Joined, Losses, Square, numbers};
 use crate::set_sentences::say_set;
@@ -185,11 +186,7 @@ pub(crate) fn end_of<P: StepNames>(
 /// The clue at a place of the edge; 0 of any other.
 pub(crate) fn edge_clue<P: StepNames>(p: &P, place: usize) -> EdgeClue {
     let size = p.size();
-    let clue = if place < 4 * size.get() as usize {
-        p.edge_clue(place as u8)
-    } else {
-        0
-    };
+    let clue = clue_at(p, place);
     EdgeClue { size, place, clue }
 }
 

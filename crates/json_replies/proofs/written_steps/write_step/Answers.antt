@@ -27,9 +27,10 @@ returns g c =
     (more_members (member_is (c.greater_of.ensures ∙ ap greater_data c.ends_of-ends.ensures) c.in_ok-write_number_at-2.ensures)
     (more_members (member_is (c.less_of.ensures ∙ ap less_data c.ends_of-ends.ensures) c.in_ok-write_number_at-3.ensures)
     (more_members (member_is (c.line_of.ensures w over) c.in_ok-write_number_at-4.ensures)
+    (more_members (member_is (ap string c.step_name.ensures) c.in_ok-write_word_at.ensures)
     (more_members (key_follows c.in_ok-key-2.ensures (c.in_ok-write_numbers_of.ensures w over))
-    (more_members (member_is (ap string (c.word_of.ensures w over)) c.in_ok-write_word_at.ensures)
+    (more_members (member_is (ap string (c.word_of.ensures w over)) c.in_ok-write_word_at-2.ensures)
     (more_members (member_is (ap (list_data strike_data) c.as_slice.ensures.value) (key_follows c.in_ok-key-3.ensures c.in_ok-write_strikes.ensures))
     (more_members (member_is (ap (λ lines. list_data text_data (line_texts lines)) c.as_slice-2.ensures.value) (key_follows c.in_ok-key-4.ensures c.in_ok-write_lines.ensures))
-    at)))))))))
+    at))))))))))
     c.in_ok-end_object.ensures
