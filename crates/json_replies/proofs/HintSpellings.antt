@@ -15,6 +15,9 @@ use Rattle.line_steps.specs.declared.grade.Grade.{Grade}
 use Rattle.line_steps.specs.Reasons.{Striking}
 use Rattle.step_chains.specs.declared.hints.NextHint.{NextHint}
 use Rattle.step_chains.specs.declared.hints.NextHint.TheVariants.{Follows, Refuted, Nothing}
+use Rattle.step_texts.specs.declared.told.KnownSquare.{KnownSquare}
+use Rattle.step_texts.specs.declared.told.SignEnd.{SignEnd}
+use Rattle.step_texts.specs.declared.told.SignEnd.TheVariants.{AtLeast, AtMost}
 use Rattle.step_texts.specs.declared.told.Strike.{Strike}
 use Rattle.step_texts.specs.declared.told.ToldStep.{ToldStep}
 use Rattle.step_texts.specs.Lines.{line_texts}
@@ -24,7 +27,7 @@ use Rattle.json_replies.specs.Texts.{text_data}
 use Rattle.json_replies.specs.Boards.{listed_data, when, mark_set_data, squares}
 use Rattle.json_replies.specs.ObjectLines.{IsShallow}
 use Rattle.json_replies.specs.Reasons.{ReasonParts, one_data, line_cells_data, parts_of}
-use Rattle.json_replies.specs.Steps.{x_data, y_data, edge_clue_data, greater_data, less_data, shows_data, strike_data, step_data}
+use Rattle.json_replies.specs.Steps.{x_data, y_data, edge_clue_data, greater_data, less_data, known_data, least_data, most_data, shows_data, strike_data, step_data}
 use Rattle.json_replies.specs.HintObjects.{SaidData, goal_line_data, grade_data, refuted_data, left_data, unmarked_data, IsSaidOf, IsHintValue}
 use Rattle.step_texts.specs.declared.dead_ends.DeadEnd.{DeadEnd}
 use Rattle.step_texts.specs.declared.dead_ends.DeadEnd.TheVariants.{Square, Line}
@@ -107,19 +110,36 @@ shows_fit values (Some shows) =
 strike_fits : (strike : Strike) → IsShallow 3 (strike_data strike)
 strike_fits strike = (refl, (set_fits 1 strike.values, (shows_fit strike.values strike.shows, tt)))
 
+least_fits : (alone : Bool) (end : Option SignEnd) → IsShallow 4 (least_data alone end)
+least_fits alone None = tt
+least_fits alone (Some (AtLeast n)) = refl
+least_fits alone (Some (AtMost n)) = either (IsShallow 4) alone (count_data n) null refl tt
+
+most_fits : (alone : Bool) (end : Option SignEnd) → IsShallow 4 (most_data alone end)
+most_fits alone None = tt
+most_fits alone (Some (AtLeast n)) = either (IsShallow 4) alone (count_data n) null refl tt
+most_fits alone (Some (AtMost n)) = refl
+
+-- a known square can be written
+known_fits : (square : KnownSquare) → IsShallow 3 (known_data square)
+known_fits square = (refl, (set_fits 1 square.numbers, tt))
+
 -- a step can be written
 step_fits : (w : ℕ) (clue : ℕ → ℕ) (is_over : ℕ → ℕ → Bool) (told : ToldStep) → IsShallow 5 (step_data w clue is_over told)
 step_fits w clue is_over told =
     let parts = parts_of w is_over told.reason in
     let fit = parts_fit w is_over told.reason in
     let strikes = list_fits 3 strike_data strike_fits told.strikes.items in
+    let known = list_fits 3 known_data known_fits told.known.items in
     let text = list_fits 3 text_data (λ line. tt) (line_texts told.text.items) in
     let edge = clue_fits clue parts.edge in
     let more = greater_fits parts.ends in
     let less = less_fits parts.ends in
+    let least = least_fits told.is_alone told.end in
+    let most = most_fits told.is_alone told.end in
     let x = x_fits w parts.edge in
     let y = y_fits w parts.edge in
-    (fit.cells, (edge, (more, (less, (fit.line, (tt, (fit.numbers, (tt, (strikes, (text, (x, (y, tt))))))))))))
+    (fit.cells, (edge, (more, (known, (least, (less, (fit.line, (most, (tt, (fit.numbers, (tt, (strikes, (text, (x, (y, tt)))))))))))))))
 
 -- ---- a hint
 

@@ -3,6 +3,7 @@ pub mod JoinedSteps
 pub mod ToldAlike
 pub mod LooksTold
 pub mod DeadEnds
+pub mod KnownSquares
 pub mod HeadingTests
 pub mod Grouped
 pub mod Held

@@ -14,6 +14,13 @@ pub struct Strike {
     pub shows: Option<[NumberSet; 10]>,
 }
 
+/// A square that a sentence names as known, and the numbers that are left of it before its step.
+#[derive(Clone, Copy, Debug)]
+pub struct KnownSquare {
+    pub cell: u8,
+    pub numbers: NumberSet,
+}
+
 /// The bound that is told of the other end of a sign.
 #[derive(Clone, Copy, PartialEq, Eq, Debug)]
 pub enum SignEnd {
@@ -61,5 +68,9 @@ pub struct ToldStep {
     pub strikes: Vec<Strike>,
     /// The bound that the sentence tells of the other end of a sign, if it tells one.
     pub end: Option<SignEnd>,
+    /// Whether that end has this number alone.
+    pub is_alone: bool,
+    /// The squares that the sentence names as known, in reading order.
+    pub known: Vec<KnownSquare>,
     pub text: Vec<Line>,
 }
