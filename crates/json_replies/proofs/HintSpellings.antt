@@ -20,6 +20,9 @@ use Rattle.step_texts.specs.declared.told.SignEnd.{SignEnd}
 use Rattle.step_texts.specs.declared.told.SignEnd.TheVariants.{AtLeast, AtMost}
 use Rattle.step_texts.specs.declared.told.Strike.{Strike}
 use Rattle.step_texts.specs.declared.told.ToldStep.{ToldStep}
+use Rattle.step_texts.specs.declared.told.Seen.{Seen}
+use Rattle.step_texts.specs.declared.told.Seen.TheVariants.{Fewer, More, Open}
+use Rattle.step_texts.specs.declared.told.TowerSquare.{TowerSquare}
 use Rattle.step_texts.specs.Lines.{line_texts}
 use Rattle.json_replies.specs.declared.reason_parts.Ends.{Ends}
 use Rattle.json_replies.specs.Counts.{count_data}
@@ -27,7 +30,7 @@ use Rattle.json_replies.specs.Texts.{text_data}
 use Rattle.json_replies.specs.Boards.{listed_data, when, mark_set_data, squares}
 use Rattle.json_replies.specs.ObjectLines.{IsShallow}
 use Rattle.json_replies.specs.Reasons.{ReasonParts, one_data, line_cells_data, parts_of}
-use Rattle.json_replies.specs.Steps.{x_data, y_data, edge_clue_data, greater_data, less_data, known_data, least_data, most_data, shows_data, strike_data, step_data}
+use Rattle.json_replies.specs.Steps.{x_data, y_data, edge_clue_data, greater_data, less_data, known_data, least_data, most_data, seen_data, shows_data, strike_data, step_data, tower_data}
 use Rattle.json_replies.specs.HintObjects.{SaidData, goal_line_data, grade_data, refuted_data, left_data, unmarked_data, IsSaidOf, IsHintValue}
 use Rattle.step_texts.specs.declared.dead_ends.DeadEnd.{DeadEnd}
 use Rattle.step_texts.specs.declared.dead_ends.DeadEnd.TheVariants.{Square, Line}
@@ -124,6 +127,15 @@ most_fits alone (Some (AtMost n)) = refl
 known_fits : (square : KnownSquare) → IsShallow 3 (known_data square)
 known_fits square = (refl, (set_fits 1 square.numbers, tt))
 
+seen_fits : (seen : Seen) → IsShallow 2 (seen_data seen)
+seen_fits Fewer = tt
+seen_fits More = tt
+seen_fits Open = tt
+
+-- a square of which it is told whether a tall tower is there can be written
+tower_fits : (tower : TowerSquare) → IsShallow 3 (tower_data tower)
+tower_fits tower = (refl, (refl, (tt, (seen_fits tower.seen, tt))))
+
 -- a step can be written
 step_fits : (w : ℕ) (clue : ℕ → ℕ) (is_over : ℕ → ℕ → Bool) (told : ToldStep) → IsShallow 5 (step_data w clue is_over told)
 step_fits w clue is_over told =
@@ -131,6 +143,7 @@ step_fits w clue is_over told =
     let fit = parts_fit w is_over told.reason in
     let strikes = list_fits 3 strike_data strike_fits told.strikes.items in
     let known = list_fits 3 known_data known_fits told.known.items in
+    let split = list_fits 3 tower_data tower_fits told.towers.items in
     let text = list_fits 3 text_data (λ line. tt) (line_texts told.text.items) in
     let edge = clue_fits clue parts.edge in
     let more = greater_fits parts.ends in
@@ -139,7 +152,7 @@ step_fits w clue is_over told =
     let most = most_fits told.is_alone told.end in
     let x = x_fits w parts.edge in
     let y = y_fits w parts.edge in
-    (fit.cells, (edge, (more, (known, (least, (less, (fit.line, (most, (tt, (fit.numbers, (tt, (strikes, (text, (x, (y, tt)))))))))))))))
+    (fit.cells, (edge, (more, (known, (least, (less, (fit.line, (most, (tt, (fit.numbers, (tt, (split, (strikes, (text, (x, (y, tt))))))))))))))))
 
 -- ---- a hint
 

@@ -10,6 +10,11 @@ use Rattle.step_texts.specs.declared.told.SignEnd.{SignEnd}
 use Rattle.step_texts.specs.declared.told.SignEnd.TheVariants.{AtLeast, AtMost}
 use Rattle.step_texts.specs.declared.told.Strike.{Strike}
 use Rattle.step_texts.specs.declared.told.ToldStep.{ToldStep}
+use Rattle.step_texts.specs.declared.told.Seen.{Seen}
+use Rattle.step_texts.specs.declared.told.Seen.TheVariants.{Fewer, More, Open}
+use Rattle.step_texts.specs.declared.told.TowerPlace.{TowerPlace}
+use Rattle.step_texts.specs.declared.told.TowerPlace.TheVariants.{There, Elsewhere, Only, Either}
+use Rattle.step_texts.specs.declared.told.TowerSquare.{TowerSquare}
 use Rattle.step_texts.specs.Headings.{step_name}
 use Rattle.step_texts.specs.Lines.{line_texts}
 use Rattle.json_replies.specs.declared.reason_parts.Ends.{Ends}
@@ -86,6 +91,30 @@ known_data square = object
     (member (codes "numbers") (mark_set_data square.numbers)
     no_members))
 
+-- ---- where tall towers are
+
+-- whether a tall tower is in a square, as a word
+abbrev pub place_word : TowerPlace → List ℕ
+place_word There = codes "in"
+place_word Elsewhere = codes "not"
+place_word Only = codes "only"
+place_word Either = codes "either"
+
+-- the towers that would be seen beside a clue, as a word, or null
+abbrev pub seen_data : Seen → Data
+seen_data Fewer = string (codes "fewer")
+seen_data More = string (codes "more")
+seen_data Open = null
+
+-- a square of which a sentence tells whether a tall tower is there
+abbrev pub tower_data : TowerSquare → Data
+tower_data tower = object
+    (member (codes "cell") (count_data tower.cell)
+    (member (codes "number") (count_data tower.number)
+    (member (codes "place") (string (place_word tower.place))
+    (member (codes "seen") (seen_data tower.seen)
+    no_members))))
+
 -- ---- steps
 
 -- the squares that are known and the bounds of a sign's other square that a told step has, its name, what it strikes and
@@ -95,6 +124,7 @@ pub record ToldData : Type 0 where
   pub least : Data
   pub most : Data
   pub name : List ℕ
+  pub split : Data
   pub strikes : Data
   pub text : Data
 
@@ -112,11 +142,12 @@ look_data w clue parts told = object
     (member (codes "name") (string told.name)
     (member (codes "numbers") parts.numbers
     (member (codes "reason") (string parts.word)
+    (member (codes "split") told.split
     (member (codes "strikes") told.strikes
     (member (codes "text") told.text
     (member (codes "x") (x_data w parts.edge)
     (member (codes "y") (y_data w parts.edge)
-    no_members)))))))))))))))
+    no_members))))))))))))))))
 
 -- a step as it is told, of a puzzle of a width with these clues and signs
 abbrev pub step_data : ℕ → (ℕ → ℕ) → (ℕ → ℕ → Bool) → ToldStep → Data
@@ -126,6 +157,7 @@ step_data w clue is_over told =
       least = least_data told.is_alone told.end;
       most = most_data told.is_alone told.end;
       name = step_name w clue told;
+      split = list_data tower_data told.towers.items;
       strikes = list_data strike_data told.strikes.items;
       text = list_data text_data (line_texts told.text.items);
     })

@@ -1,12 +1,12 @@
 //! The steps of a hint, written as objects: where each looks, what it strikes, and its sentence.
 
-ghost use Rattle.std.specs.Prelude.{◌≡◌, ◌*◌, ◌<◌, ◌∷◌, [], slice_index, OnOk, IfSome};
+ghost use Rattle.std.specs.Prelude.{◌≡◌, ◌*◌, ◌<◌, ◌∷◌, [], codes, slice_index, OnOk, IfSome};
 ghost use Rattle.number_sets.specs.Sets.{has_number};
 ghost use Rattle.json_replies.specs.Boards.{when, mark_set_data};
 ghost use Rattle.json_replies.specs.Texts.{list_data};
-ghost use Rattle.json_replies.specs.Steps.{edge_clue_data, greater_data, known_data, least_data, less_data, most_data, shows_data, strike_data, step_data, steps_data};
+ghost use Rattle.json_replies.specs.Steps.{edge_clue_data, greater_data, known_data, least_data, less_data, most_data, place_word, seen_data, shows_data, strike_data, step_data, steps_data, tower_data};
 ghost use Rattle.json_replies.specs.WrittenData.{Follow};
-ghost use Rattle.json_replies.specs.Inner.WrittenData.{count_or_null};
+ghost use Rattle.json_replies.specs.Inner.WrittenData.{count_or_null, MembersFollow};
 
 use crate::reason_parts::{
     Ends, edge_of, ends_of, line_of, word_of, write_cells_of, write_numbers_of,
@@ -18,7 +18,9 @@ use crate::written::{
 use json::Writer;
 use number_sets::NumberSet;
 use std::alloc::{AllocError, Global};
-use step_texts::{KnownSquare, SignEnd, StepNames, Strike, ToldStep, step_name};
+use step_texts::{
+    KnownSquare, Seen, SignEnd, StepNames, Strike, ToldStep, TowerPlace, TowerSquare, step_name,
+};
 use trail_solver::Rules;
 
 /// Writes steps of a hint, in their order.
@@ -67,6 +69,8 @@ fn write_step<P: StepNames>(
     writer.key("numbers")?;
     write_numbers_of(writer, step.reason)?;
     write_word_at(writer, "reason", Some(word_of(step.reason)))?;
+    writer.key("split")?;
+    write_split(writer, step.towers.as_slice())?;
     writer.key("strikes")?;
     write_strikes(writer, step.strikes.as_slice())?;
     writer.key("text")?;
@@ -149,6 +153,54 @@ fn write_known_square(writer: &mut Writer, square: &KnownSquare) -> Result<(), A
     write_numbers(writer, square.numbers)?;
     writer.end_object()?;
     Ok(())
+}
+
+// Writes the squares of which a sentence tells whether a tall tower is there.
+fn write_split(writer: &mut Writer, towers: &[TowerSquare]) -> Result<(), AllocError>
+    ensures { OnOk result (Follow (list_data tower_data towers.now ∷ []) writer.old writer.new) }
+{
+    writer.begin_array()?;
+    for tower in towers {
+        write_tower(writer, tower)?;
+    }
+    writer.end_array()?;
+    Ok(())
+}
+
+// Writes a square, and whether a tall tower is there.
+fn write_tower(writer: &mut Writer, tower: &TowerSquare) -> Result<(), AllocError>
+    ensures { OnOk result (Follow (tower_data tower.now ∷ []) writer.old writer.new) }
+{
+    writer.begin_object()?;
+    write_number_at(writer, "cell", Some(usize::from(tower.cell)))?;
+    write_number_at(writer, "number", Some(usize::from(tower.number)))?;
+    write_word_at(writer, "place", Some(place_word(tower.place)))?;
+    write_seen_at(writer, tower.seen)?;
+    writer.end_object()?;
+    Ok(())
+}
+
+// Whether a tall tower is in a square, as a word.
+fn place_word(place: TowerPlace) -> &'static str
+    ensures { result.now ≡ place_word place }
+{
+    match place {
+        TowerPlace::There => "in",
+        TowerPlace::Elsewhere => "not",
+        TowerPlace::Only => "only",
+        TowerPlace::Either => "either",
+    }
+}
+
+// Writes the towers that would be seen, as a member.
+fn write_seen_at(writer: &mut Writer, seen: Seen) -> Result<(), AllocError>
+    ensures { OnOk result (MembersFollow ((codes "seen", seen_data seen) ∷ []) writer.old writer.new) }
+{
+    match seen {
+        Seen::Fewer => write_word_at(writer, "seen", Some("fewer")),
+        Seen::More => write_word_at(writer, "seen", Some("more")),
+        Seen::Open => write_word_at(writer, "seen", None),
+    }
 }
 
 // Writes what is struck, square by square.

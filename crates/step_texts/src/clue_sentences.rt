@@ -1,15 +1,18 @@
 //! The sentence of a clue: what would be seen with the numbers that it strikes.
 ghost use Rattle.std.specs.Prelude.{◌<◌, length};
 
-use crate::known_squares::{facts_in, needed_places, say_known, say_settled, squares_from};
+use crate::known_squares::{
+    cells_from, facts_in, needed_places, say_known, say_settled, squares_from,
+};
 use crate::names::{EdgeClue, GridLine, Joined, List, Losses, Square, Squares, numbers};
 use crate::sentences::Look;
 use crate::showing::{AllSettled, Settled, Showing, ShownStrike, shown_strikes};
-use crate::told::Strike;
+use crate::told::{Seen, Strike, TowerPlace, TowerSquare};
 use crate::writing::Writing;
 use arrayvec::ArrayVec;
 use number_sets::NumberSet;
 use shown_counts::ClueCounts;
+use std::alloc::{AllocError, Global};
 use std::fmt::{self, Write};
 
 /// The knowledge of the other squares of a clue's line, when it is looked at.
@@ -26,6 +29,7 @@ pub(crate) enum Knowing {
 /// All that is told of a clue that isn't enough alone.
 #[derive(Drop)]
 pub(crate) struct Shown {
+    at: EdgeClue,
     strikes: ArrayVec<ShownStrike, 9>,
     // The places of the line whose numbers are told, where they are few.
     places: Option<NumberSet>,
@@ -59,22 +63,72 @@ impl Shown {
             }
         }
         Some(Shown {
+            at: *at,
             strikes,
             places,
             settled,
         })
     }
 
-    /// The places of the line that are named before what would be seen.
+    /// The places of the line whose numbers are told.
     pub(crate) fn named(&self) -> NumberSet {
-        let Some(places) = self.places else {
-            return NumberSet::empty();
-        };
-        let mut named = places;
-        for said in self.settled.as_slice() {
-            named = named.union(said.stands).union(said.lacks).union(said.only);
+        self.places.unwrap_or(NumberSet::empty())
+    }
+
+    /// The squares of which it is told whether a tall tower is there: where its place is settled, and where both cases are told.
+    pub(crate) fn towers(&self, alloc: Global) -> Result<Vec<TowerSquare>, AllocError> {
+        let mut towers = Vec::new(alloc);
+        if self.places.is_some() {
+            for said in self.settled.as_slice() {
+                let number = said.number;
+                self.add(
+                    &mut towers,
+                    said.stands,
+                    number,
+                    TowerPlace::There,
+                    said.seen,
+                )?;
+                self.add(
+                    &mut towers,
+                    said.lacks,
+                    number,
+                    TowerPlace::Elsewhere,
+                    said.seen,
+                )?;
+                self.add(&mut towers, said.only, number, TowerPlace::Only, said.seen)?;
+            }
         }
-        named
+        for strike in self.strikes.as_slice() {
+            for struck in 1..10 {
+                if let Showing::Split { number, places } = strike.with(struck) {
+                    self.add(&mut towers, places, number, TowerPlace::Either, Seen::Open)?;
+                }
+            }
+        }
+        Ok(towers)
+    }
+
+    // Adds the squares at some places, of which this is told, but for those of which it is told already.
+    fn add(
+        &self,
+        towers: &mut Vec<TowerSquare>,
+        places: NumberSet,
+        number: u8,
+        place: TowerPlace,
+        seen: Seen,
+    ) -> Result<(), AllocError> {
+        for cell in cells_from(&self.at, places).as_slice() {
+            let tower = TowerSquare {
+                cell: *cell,
+                number,
+                place,
+                seen,
+            };
+            if !towers.as_slice().contains(&tower) {
+                towers.push(tower)?;
+            }
+        }
+        Ok(())
     }
 }
 

@@ -42,6 +42,6 @@ pub use groups::told_groups;
 pub use headings::step_name;
 pub use step_names::StepNames;
 pub use telling::told_steps;
-pub use told::{KnownSquare, SignEnd, Strike, ToldStep};
+pub use told::{KnownSquare, Seen, SignEnd, Strike, ToldStep, TowerPlace, TowerSquare};
 pub use told_laws::laws;
 pub use writing::{LINE, Line};

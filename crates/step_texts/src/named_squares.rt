@@ -5,7 +5,7 @@ ghost use Rattle.step_texts.specs.Told.{AreKnown};
 use crate::clue_sentences::Shown;
 use crate::sentences::Look;
 use crate::set_sentences::has_cell;
-use crate::told::KnownSquare;
+use crate::told::{KnownSquare, TowerSquare};
 use latin_board::Size;
 use named_steps::Reason;
 use number_sets::NumberSet;
@@ -34,6 +34,17 @@ pub(crate) fn known_squares(
         }
     }
     Ok(known)
+}
+
+/// The squares of which a sentence tells whether a tall tower is there.
+pub(crate) fn tower_squares(
+    alloc: Global,
+    shown: &Option<Shown>,
+) -> Result<Vec<TowerSquare>, AllocError> {
+    match shown {
+        Some(shown) => shown.towers(alloc),
+        None => Ok(Vec::new(alloc)),
+    }
 }
 
 // The places of a clue's line that a sentence names.

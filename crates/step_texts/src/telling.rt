@@ -8,7 +8,7 @@ ghost use Rattle.step_texts.specs.Told.{AreToldCounts, AreToldStrikes, IsToldOf,
 
 use crate::groups::Why;
 use crate::looks::joined_steps;
-use crate::named_squares::known_squares;
+use crate::named_squares::{known_squares, tower_squares};
 use crate::said_before::SaidBefore;
 use crate::sentences::{Look, end_of, say_step, shown_of};
 use crate::step_names::StepNames;
@@ -82,6 +82,7 @@ fn told_step<P: StepNames>(
     };
     let shown = shown_of(p, &told);
     let known = known_squares(alloc, candidates, &told, &shown)?;
+    let towers = tower_squares(alloc, &shown)?;
     let mut text = Writing::new(alloc);
     said(say_step(&mut text, p, candidates, &told, &shown))?;
     text.end()?;
@@ -91,6 +92,7 @@ fn told_step<P: StepNames>(
         end,
         is_alone: other.is_single(),
         known,
+        towers,
         text: text.into_lines(),
     })
 }
