@@ -8,8 +8,8 @@ from tests.objects.clue_sentences import clue_sentence
 from tests.objects.ends import End, Told, end_of, said_after
 from tests.objects.groups import grouped, sentence_of_group
 from tests.objects.reading import Object
-from tests.objects.words import capital, joined, line_name, losses, square, squares
 from tests.second_implementation.puzzles import Numbers, Puzzle, cells_of
+from tests.second_implementation.sentence_words import capital, joined, line_name, losses, square, squares
 from tests.second_implementation.steps import Left, Step, after, each, in_view
 from tests.second_implementation.towers import TowersPuzzle
 
@@ -62,7 +62,7 @@ def sentence_of(puzzle: Puzzle, left: Left, step: Step, end: Optional[End], name
         return clue_sentence(puzzle, left, step, names_squares)
     if reason.kind == 'place' and min(reason.numbers) not in left[reason.cells[0]] == step.strikes[reason.cells[0]]:
         return f'No other square of {line_name(size, reason.line)} can be {min(reason.numbers)}, nor can {squares(size, reason.cells)}.'
-    return f'{capital(why_of(size, left, step, end))}: {losses(size, step)}.'
+    return f'{capital(why_of(size, left, step, end))}: {losses(size, step.strikes)}.'
 
 
 def why_of(size: int, left: Left, step: Step, end: Optional[End]) -> str:
