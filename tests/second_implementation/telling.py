@@ -55,9 +55,8 @@ def why_of(size: int, left: Left, step: Object) -> str:
     if step['reason'] == 'sign':
         ends = [step['greater'], step['less']]
         to, other = ends if direction(step) == 'greater' else ends[::-1]
-        is_alone = step['known'] and len(step['known'][0]['numbers']) == 1
-        what = f", which is {step['known'][0]['numbers'][0] if is_alone else bound([step])}" if step['known'] else ''
-        return f'{square(size, to)} is {direction(step)} than {square(size, other)}{what}'
+        what = step['least'] if step['least'] == step['most'] else bound([step])
+        return f"{square(size, to)} is {direction(step)} than {square(size, other)}{f', which is {what}' if what else ''}"
     if step['reason'] in ('peer', 'set') and len(step['cells']) == 1:
         return f"{squares(size, step['cells'])} is {min(left[step['cells'][0]])}"
     if step['reason'] == 'set':
@@ -84,15 +83,15 @@ def direction(step: Object) -> str:
 
 
 def bound(steps: Sequence[Object]) -> str:
-    """The bound of each of the other ends that are told."""
-    told = [number for step in steps for known in step['known'] for number in known['numbers']]
-    return f'at least {min(told)}' if direction(steps[0]) == 'greater' else f'at most {max(told)}'
+    """The bound of all the other ends, if one is told."""
+    least, most = [step['least'] for step in steps if step['least']], [step['most'] for step in steps if step['most']]
+    return f'at least {min(least)}' if direction(steps[0]) == 'greater' and least else f'at most {max(most)}' if most else ''
 
 
 def sentence_of_several(size: int, steps: Sequence[Object]) -> str:
     if steps[0]['clue'] is not None:
         return clues_sentence(size, steps)
-    that = f' that is {bound(steps)}' if steps[0]['known'] else ''
+    that = f' that is {bound(steps)}' if bound(steps) else ''
     cells = squares(size, [strike['cell'] for step in steps for strike in step['strikes']])
     return f"{capital(cells)} are each {direction(steps[0])} than a neighbour{that}: they are not {steps[0]['strikes'][0]['numbers'][0]}."
 

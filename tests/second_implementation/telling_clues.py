@@ -51,9 +51,10 @@ def known_words(size: int, step: Object) -> str:
     if step['reason'] != 'bound' and not step['known']:
         line = line_name(size, size + step['x'] if step['y'] in (-1, size) else step['y'])
         return f", {'by what is left' if facts or step['reason'] == 'clue' else 'with the numbers'} in {line}"
-    # Squares with one number come first, and then the nearer ones.
+    # Squares with one number come first, and then the nearer ones. Those that are known for the tallest tower come behind them.
     nearest = step['known'][::-1 if size in (step['x'], step['y']) else 1]
-    together = alike(sorted(nearest, key=lambda known: len(known['numbers']) > 1))
+    of_tower = {cell for split in step['split'] if split['seen'] for cell in split['cells']}
+    together = alike(sorted((known for known in nearest if known['cell'] not in of_tower), key=lambda known: len(known['numbers']) > 1))
     named = [f"{squares(size, sorted(cells))} {is_or_are(cells)} {joined(numbers, 'or')}" for numbers, cells in together.items()]
     return f", where {joined(named + facts, 'and')}" if named or facts else ''
 
