@@ -7,6 +7,7 @@ import pytest
 
 from playing.program import Program
 from tests.harness import in_the_gate
+from tests.objects.forms import sentences
 from tests.objects.marked import kept_lines
 from tests.objects.reading import Object
 from tests.second_implementation.grades import HARD, LETTERS
@@ -35,30 +36,48 @@ def test_games(objects: str, game: str, size: int, letter: str, seeds: Sequence[
 
 def expect_told(board: Object, hint: Object) -> None:
     without = {**hint, 'steps': [{**step, 'text': None} for step in hint['steps']], 'text': None}
-    assert tell(without, board['numbers']) == ([step['text'] for step in hint['steps']], hint['text'])
+    alone, whole = tell(without, board['numbers'])
+    assert [step['text'] for step, text in zip(hint['steps'], alone) if text != step['text'] and not is_open(step)] == []
+    assert whole == hint['text'] or any(map(is_open, hint['steps']))
+
+
+def is_open(step: Object) -> bool:
+    """Whether its sentence tells of counts on both sides of the clue by what is left in a line: of which of them one side is told, the object lacks."""
+    if step['reason'] not in ('stand', 'clue') or step['known']:
+        return False
+    return any(counts and min(counts) < step['clue'] < max(counts) for strike in step['strikes'] for counts in strike['shows'])
+
+
+def test_manual(objects: str) -> None:
+    """Each form that the manual has."""
+    for sentence in sentences():
+        with Program(objects, sentence.game) as program:
+            for line in sentence.lines:
+                program.object(line)
+            for board, hint in asked(program):
+                expect_told(board, hint)
+
+
+def asked(program: Program) -> Iterator[Tuple[Object, Object]]:
+    """The board, with its hint from numbers, and with that from marks."""
+    board = program.object('board')['board']
+    for line in ('hint', 'hint marks'):
+        yield board, program.object(line)['hint']
 
 
 def hints(program: Program, random: Random, size: int) -> Iterator[Tuple[Object, Object]]:
     """Boards with their hints. What these rule out is kept as marks, and now and then a number is tried, or a single mark."""
     while True:
-        board = program.object('board')['board']
+        (board, by_numbers), (_, hint) = asked(program)
         if 0 not in board['numbers']:
             return
-        yield board, program.object('hint')['hint']
-        hint = program.object('hint marks')['hint']
+        yield board, by_numbers
         yield board, hint
         if random.random() < TRIED:
             cell = random.choice([cell for cell, number in enumerate(board['numbers']) if not number])
             number = random.choice(hint['view'][cell])
-            yield from hints_after(program, f"move {random.choice('PR')}{cell % size},{cell // size},{number}")
+            program.object(f"move {random.choice('PR')}{cell % size},{cell // size},{number}")
+            yield from asked(program)
+            program.object('undo')
         for line in [*kept_lines(size, board, hint), f"move R{hint['cell'] % size},{hint['cell'] // size},{hint['number']}"]:
             program.object(line)
-
-
-def hints_after(program: Program, move: str) -> Iterator[Tuple[Object, Object]]:
-    """Those after a move, which is taken back."""
-    program.object(move)
-    board = program.object('board')['board']
-    for line in ('hint', 'hint marks'):
-        yield board, program.object(line)['hint']
-    program.object('undo')

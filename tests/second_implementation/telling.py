@@ -3,12 +3,12 @@
 import textwrap
 from itertools import islice
 from math import isqrt
-from typing import Dict, FrozenSet, List, Sequence, Tuple
+from typing import List, Sequence, Tuple
 
 from tests.second_implementation.puzzles import cells_of
 from tests.second_implementation.sentence_words import capital, joined, line_name, losses, square, squares
 from tests.second_implementation.steps import NONE, Left, each, peers
-from tests.second_implementation.telling_clues import Object, clue_sentence, clues_sentence
+from tests.second_implementation.telling_clues import Object, clue_sentence, clues_sentence, strikes_of
 
 #: How many characters a line of text has at most.
 WIDTH = 100
@@ -26,16 +26,12 @@ def tell(hint: Object, numbers: Sequence[int]) -> Tuple[List[List[str]], List[st
     for at, count in enumerate(hint['groups']):
         steps, sentences = zip(*islice(told, count))
         whole += cut(f'{at + 1}. {sentences[0] if count == 1 else sentence_of_several(size, steps)}')
-    end = cut(f'So {ending(size, hint, numbers)}.') if hint['kind'] != 'nothing' else []
-    return [cut(sentence) for sentence in alone], whole + end
+    whole += cut(f'So {ending(size, hint, numbers)}.') if hint['kind'] != 'nothing' else []
+    return [cut(sentence) for sentence in alone], whole
 
 
 def cut(sentence: str) -> List[str]:
     return textwrap.wrap(sentence, WIDTH, subsequent_indent='   ')
-
-
-def strikes_of(step: Object) -> Dict[int, FrozenSet[int]]:
-    return {strike['cell']: frozenset(strike['numbers']) for strike in step['strikes']}
 
 
 # ---- a step
