@@ -42,7 +42,7 @@ def expect_told(board: Object, hint: Object) -> None:
 
 
 def is_open(step: Object) -> bool:
-    """Whether its sentence tells of counts on both sides of the clue by what is left in a line: of which of them one side is told, the object lacks."""
+    """Whether it tells of counts on both sides of the clue by what is left in a line: the object lacks of which of them one side is told."""
     if step['reason'] not in ('stand', 'clue') or step['known']:
         return False
     return any(counts and min(counts) < step['clue'] < max(counts) for strike in step['strikes'] for counts in strike['shows'])
