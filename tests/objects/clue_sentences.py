@@ -2,7 +2,7 @@
 
 from typing import Dict, FrozenSet, List, NamedTuple, Optional, Sequence, Set, Tuple
 
-from tests.second_implementation.sentence_words import is_or_are, joined, line_name, losses, square, squares
+from tests.objects.words import is_or_are, joined, line_name, losses, square, squares
 from tests.second_implementation.steps import Left, Step, each, looked_at, seen_squares
 from tests.second_implementation.towers import TowersPuzzle, counts_in_fillings
 

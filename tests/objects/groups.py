@@ -5,8 +5,8 @@ from typing import Iterator, List, NamedTuple, Optional, Sequence
 
 from tests.objects.clue_sentences import SIDES, all_seen, numbers_in_words
 from tests.objects.ends import Told, weakest
+from tests.objects.words import capital, joined, squares
 from tests.second_implementation.puzzles import Puzzle
-from tests.second_implementation.sentence_words import capital, joined, squares
 from tests.second_implementation.steps import Left, Step, each, held, seen_squares
 from tests.second_implementation.towers import TowersPuzzle
 

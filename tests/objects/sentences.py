@@ -8,8 +8,8 @@ from tests.objects.clue_sentences import clue_sentence
 from tests.objects.ends import End, Told, end_of, said_after
 from tests.objects.groups import grouped, sentence_of_group
 from tests.objects.reading import Object
+from tests.objects.words import capital, joined, line_name, losses, square, squares
 from tests.second_implementation.puzzles import Numbers, Puzzle, cells_of
-from tests.second_implementation.sentence_words import capital, joined, line_name, losses, square, squares
 from tests.second_implementation.steps import Left, Step, after, each, in_view
 from tests.second_implementation.towers import TowersPuzzle
 

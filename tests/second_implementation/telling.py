@@ -5,8 +5,8 @@ from itertools import islice
 from math import isqrt
 from typing import List, Sequence, Tuple
 
+from tests.objects.words import capital, joined, line_name, losses, square, squares
 from tests.second_implementation.puzzles import cells_of
-from tests.second_implementation.sentence_words import capital, joined, line_name, losses, square, squares
 from tests.second_implementation.steps import NONE, Left, each, peers
 from tests.second_implementation.telling_clues import Object, clue_sentence, clues_sentence, strikes_of
 

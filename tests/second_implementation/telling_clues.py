@@ -2,7 +2,7 @@
 
 from typing import Any, Dict, FrozenSet, List, NamedTuple, Sequence, Tuple
 
-from tests.second_implementation.sentence_words import is_or_are, joined, line_name, losses, squares
+from tests.objects.words import is_or_are, joined, line_name, losses, squares
 
 Object = Dict[str, Any]
 
