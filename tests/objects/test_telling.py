@@ -42,7 +42,11 @@ def expect_told(board: Object, hint: Object) -> None:
 
 
 def is_open(step: Object) -> bool:
-    """Whether it tells of counts on both sides of the clue by what is left in a line: the object lacks of which of them one side is told."""
+    """Whether the object lacks of which struck numbers one side is told: of counts on both sides of the clue by what is left in a line, and of a tower
+    that is told in two ways."""
+    either, settled = ({split['number'] for split in step['split'] if (split['seen'] is None) == is_either} for is_either in (True, False))
+    if not either.isdisjoint(settled):
+        return True
     if step['reason'] not in ('stand', 'clue') or step['known']:
         return False
     return any(counts and min(counts) < step['clue'] < max(counts) for strike in step['strikes'] for counts in strike['shows'])
