@@ -42,7 +42,7 @@ def expect_told(board: Object, hint: Object) -> None:
 
 
 def is_open(step: Object) -> bool:
-    """Whether the object lacks of which struck numbers one side is told: of counts on both sides of the clue by what is left in a line, and of a tower
+    """Whether the object lacks of which struck numbers one side is told: of counts on both sides of the clue by what is left in a line, or of a tower
     that is told in two ways."""
     either, settled = ({split['number'] for split in step['split'] if (split['seen'] is None) == is_either} for is_either in (True, False))
     if not either.isdisjoint(settled):
