@@ -1,8 +1,8 @@
 """The sentence of a clue: which numbers in which squares would show too few or too many towers, and what has to be known for that (docs/HINTS.md)."""
 
-from typing import Collection, Dict, FrozenSet, List, NamedTuple, Optional, Sequence, Set, Tuple
+from typing import Dict, FrozenSet, List, NamedTuple, Optional, Sequence, Set, Tuple
 
-from tests.objects.words import joined, line_name, losses, square, squares
+from tests.objects.words import is_or_are, joined, line_name, losses, square, squares
 from tests.second_implementation.steps import Left, Step, each, looked_at, seen_squares
 from tests.second_implementation.towers import TowersPuzzle, counts_in_fillings
 
@@ -34,7 +34,7 @@ def clue_sentence(puzzle: TowersPuzzle, left: Left, step: Step, names_squares: b
     named = f"Clue {clue} {SIDES[side]} {at + 1}"
     plain = {1: 'the nearest tower is the tallest', size: 'all towers are seen and rise'}
     if kind == 'bound' and clue in plain:
-        return f'{named}: {plain[clue]}, so {losses(size, step)}.'
+        return f'{named}: {plain[clue]}, so {losses(size, step.strikes)}.'
     line = {cell: looked_at(kind, size, left[cell]) for cell in seen_squares(size, step.reason.place)}
     seen = all_seen(clue, line, step)
     known = [] if kind == 'bound' else known_squares(size, clue, line, step, seen) if names_squares else None
@@ -161,10 +161,6 @@ def seen_with(size: int, clue: int, what: Seen, where: Dict[int, List[int]]) -> 
         where_fewer = joined([square(size, cell) for cell in what.fewer_in], 'or')
         return f'{with_them} fewer {towers} if {what.tallest} is in {where_fewer}, and more if it is elsewhere'
     return f'{with_them} {what.word} {towers}'
-
-
-def is_or_are(cells: Collection[int]) -> str:
-    return 'is' if len(cells) == 1 else 'are'
 
 
 def numbers_in_words(numbers: Sequence[int]) -> str:

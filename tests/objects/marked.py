@@ -49,3 +49,16 @@ def first_lacking(view: Left, solution: Numbers) -> Optional[int]:
     """The first square whose number isn't in view."""
     lacking: List[int] = [cell for cell, number in enumerate(solution) if number not in view[cell]]
     return lacking[0] if lacking else None
+
+
+def kept_lines(size: int, board: Object, hint: Object) -> List[str]:
+    """Moves that leave the marks of what is left after the hint's steps: those of the squares where they strike."""
+    left = {strike['cell']: set(hint['view'][strike['cell']]) for step in hint['steps'] for strike in step['strikes']}
+    for step in hint['steps']:
+        for strike in step['strikes']:
+            left[strike['cell']] -= set(strike['numbers'])
+    return [
+        f'move P{cell % size},{cell // size},{number}'
+        for cell, numbers in left.items() if numbers and not board['numbers'][cell]
+        for number in sorted(numbers ^ set(board['marks'][cell]))
+    ]

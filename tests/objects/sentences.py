@@ -62,7 +62,7 @@ def sentence_of(puzzle: Puzzle, left: Left, step: Step, end: Optional[End], name
         return clue_sentence(puzzle, left, step, names_squares)
     if reason.kind == 'place' and min(reason.numbers) not in left[reason.cells[0]] == step.strikes[reason.cells[0]]:
         return f'No other square of {line_name(size, reason.line)} can be {min(reason.numbers)}, nor can {squares(size, reason.cells)}.'
-    return f'{capital(why_of(size, left, step, end))}: {losses(size, step)}.'
+    return f'{capital(why_of(size, left, step, end))}: {losses(size, step.strikes)}.'
 
 
 def why_of(size: int, left: Left, step: Step, end: Optional[End]) -> str:

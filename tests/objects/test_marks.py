@@ -8,7 +8,7 @@ import pytest
 from tests.harness import Room, in_the_gate
 from tests.objects.boards import puzzle_of
 from tests.objects.forms import expect_known
-from tests.objects.marked import expect_marks_hint
+from tests.objects.marked import expect_marks_hint, kept_lines
 from tests.objects.reading import Object, told
 from tests.second_implementation.grades import HARD, LETTERS
 
@@ -113,16 +113,3 @@ def test_kept(objects: str, room: Room, game: str, size: int, letter: str) -> No
         expect_hint_of(game, board, hint)
         lines += [*kept_lines(size, board['board'], found), f"move R{found['cell'] % size},{found['cell'] // size},{found['number']}"]
     assert board['session']['status'] == 'solved'
-
-
-def kept_lines(size: int, board: Object, hint: Object) -> List[str]:
-    """Moves that leave the marks of what is left after the hint's steps: those of the squares where they strike."""
-    left = {strike['cell']: set(hint['view'][strike['cell']]) for step in hint['steps'] for strike in step['strikes']}
-    for step in hint['steps']:
-        for strike in step['strikes']:
-            left[strike['cell']] -= set(strike['numbers'])
-    return [
-        f'move P{cell % size},{cell // size},{number}'
-        for cell, numbers in left.items() if numbers and not board['numbers'][cell]
-        for number in sorted(numbers ^ set(board['marks'][cell]))
-    ]

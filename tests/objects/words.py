@@ -1,8 +1,6 @@
-"""Words for squares, lines and lists, as sentences have them."""
+"""Words for squares, lines and lists, as the sentences of hints have them."""
 
-from typing import Dict, FrozenSet, List, Sequence
-
-from tests.second_implementation.steps import Step
+from typing import Collection, Dict, FrozenSet, List, Mapping, Sequence
 
 
 def square(size: int, cell: int) -> str:
@@ -26,9 +24,13 @@ def capital(text: str) -> str:
     return text[0].upper() + text[1:]
 
 
-def losses(size: int, step: Step) -> str:
+def is_or_are(cells: Collection[int]) -> str:
+    return 'is' if len(cells) == 1 else 'are'
+
+
+def losses(size: int, strikes: Mapping[int, FrozenSet[int]]) -> str:
     """The struck numbers: squares that lose the same ones together."""
     lost: Dict[FrozenSet[int], List[int]] = {}
-    for cell, numbers in step.strikes.items():
+    for cell, numbers in strikes.items():
         lost.setdefault(numbers, []).append(cell)
-    return '; '.join(f"{squares(size, cells)} {'is' if len(cells) == 1 else 'are'} not {joined(sorted(numbers), 'or')}" for numbers, cells in lost.items())
+    return '; '.join(f"{squares(size, cells)} {is_or_are(cells)} not {joined(sorted(numbers), 'or')}" for numbers, cells in lost.items())

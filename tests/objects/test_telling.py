@@ -1,0 +1,87 @@
+"""Each sentence of a hint is told anew, to the letter, of its object alone (docs/JSON.md, hint), as a program tells it in another language."""
+
+from random import Random
+from typing import Iterator, Sequence, Tuple
+
+import pytest
+
+from playing.program import Program
+from tests.harness import in_the_gate
+from tests.objects.forms import sentences
+from tests.objects.marked import kept_lines
+from tests.objects.reading import Object
+from tests.second_implementation.grades import HARD, LETTERS
+from tests.second_implementation.telling import tell
+
+#: Game, size and letter of each class of fair games, with the seeds that are played: one, and those that the gate plays, which makes 600 games.
+CLASSES = [
+    (game, size, letter, seeds)
+    for seeds in (range(1), range(1, 19))
+    for game, letters in LETTERS.items() for size in range(3, 10) for letter, grade in letters.items() if grade < HARD or size > 3
+]
+
+#: How often a move is tried that may be wrong.
+TRIED = 0.4
+
+
+@pytest.mark.parametrize(('game', 'size', 'letter', 'seeds'), in_the_gate(CLASSES, lambda row: len(row[3]) > 1))
+def test_games(objects: str, game: str, size: int, letter: str, seeds: Sequence[int]) -> None:
+    """Games to their end, by hints from the board and from marks."""
+    for seed in seeds:
+        with Program(objects, game) as program:
+            program.object(f'fair {size} {letter} {seed}')
+            for board, hint in hints(program, Random(seed), size):
+                expect_told(board, hint)
+
+
+def expect_told(board: Object, hint: Object) -> None:
+    without = {**hint, 'steps': [{**step, 'text': None} for step in hint['steps']], 'text': None}
+    alone, whole = tell(without, board['numbers'])
+    assert [step['text'] for step, text in zip(hint['steps'], alone) if text != step['text'] and not is_open(step)] == []
+    assert whole == hint['text'] or any(map(is_open, hint['steps']))
+
+
+def is_open(step: Object) -> bool:
+    """Whether the object lacks of which struck numbers one side is told: of counts on both sides of the clue by what is left in a line, or of a tower
+    that is told in two ways."""
+    either, settled = ({split['number'] for split in step['split'] if (split['seen'] is None) == is_either} for is_either in (True, False))
+    if not either.isdisjoint(settled):
+        return True
+    if step['reason'] not in ('stand', 'clue') or step['known']:
+        return False
+    return any(counts and min(counts) < step['clue'] < max(counts) for strike in step['strikes'] for counts in strike['shows'])
+
+
+def test_manual(objects: str) -> None:
+    """Each form that the manual has."""
+    for sentence in sentences():
+        with Program(objects, sentence.game) as program:
+            for line in sentence.lines:
+                program.object(line)
+            for board, hint in asked(program):
+                expect_told(board, hint)
+
+
+def asked(program: Program) -> Iterator[Tuple[Object, Object]]:
+    """The board, with its hint from numbers, and with that from marks."""
+    board = program.object('board')['board']
+    for line in ('hint', 'hint marks'):
+        yield board, program.object(line)['hint']
+
+
+def hints(program: Program, random: Random, size: int) -> Iterator[Tuple[Object, Object]]:
+    """Boards with their hints. What these rule out is kept as marks, and now and then a number is tried, or a single mark."""
+    while True:
+        (board, by_numbers), (_, hint) = asked(program)
+        if 0 not in board['numbers']:
+            return
+        yield board, by_numbers
+        yield board, hint
+        if random.random() < TRIED:
+            cell = random.choice([cell for cell, number in enumerate(board['numbers']) if not number])
+            number = random.choice(hint['view'][cell])
+            program.object(f"move {random.choice('PR')}{cell % size},{cell // size},{number}")
+            yield from asked(program)
+            program.object('undo')
+        for line in [*kept_lines(size, board, hint), f"move R{hint['cell'] % size},{hint['cell'] // size},{hint['number']}"]:
+            program.object(line)
