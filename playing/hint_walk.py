@@ -9,7 +9,7 @@ from typing import Dict, FrozenSet, Iterator, List, Mapping, NamedTuple, Optiona
 from playing import shared_texts
 from playing.board import Board, Hint
 from playing.naming import Place, line_name, name
-from playing.steps import Shown, Step, line_squares, look_at
+from playing.steps import Sentence, Shown, Step, line_squares, look_at
 
 
 class HintPart(NamedTuple):
@@ -19,6 +19,8 @@ class HintPart(NamedTuple):
     shown: Shown
     #: The square where the number follows; nothing where none does.
     place: Optional[Place]
+    #: The sentence without its name.
+    plain: str = ''
 
 
 class Press(Enum):
@@ -149,12 +151,12 @@ class HintWalk:
             steps = self.groups[at]
             rests_on = frozenset(chain.from_iterable(step.speaks_of(self._size) for step in steps))
             struck = {strike.place: strike.numbers for step in steps for strike in step.strikes}
-            return HintPart(self.sentences[at].headed, Shown(rests_on, self.left(at), struck), self.place)
-        return HintPart(self._end(), Shown(self._end_squares(), self.left(at)), self.place)
+            return HintPart(self.sentences[at].headed, Shown(rests_on, self.left(at), struck), self.place, self.sentences[at].text)
+        return HintPart(self._end().headed, Shown(self._end_squares(), self.left(at)), self.place, self._end().text)
 
     def whole(self) -> List[str]:
         """All sentences, those of steps numbered."""
-        return [sentence.whole for sentence in self.sentences] or [self._look_at_square(), self._end()]
+        return [sentence.whole for sentence in self.sentences] or [self._look_at_square(), self._end().text]
 
     def left(self, at: int) -> Optional[Dict[Place, List[int]]]:
         """The numbers that are left in each empty square before a sentence; nothing where the program doesn't say what is in view."""
@@ -174,9 +176,9 @@ class HintWalk:
             struck.setdefault(strike.place, set()).update(strike.numbers)
         return struck
 
-    def _end(self) -> str:
+    def _end(self) -> Sentence:
         """The answer with the steps."""
-        return self.sentences[-1].headed if self.sentences else f'It is a {self.hint.number}.'
+        return self.sentences[-1] if self.sentences else Sentence(f'It is a {self.hint.number}.')
 
     def _end_squares(self) -> FrozenSet[Place]:
         """The row or column in which the number has one square left, or none; or the square where one number is left, or none."""
