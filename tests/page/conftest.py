@@ -17,6 +17,10 @@ from tests.page.playing import Player
 
 PAGE = TOP / 'programs' / 'web' / 'puzzles.html'
 
+#: Complaints that scripts of the tests bring about, whenever they come: Chromium doesn't ask where nobody has touched the page, and says so;
+#: and a worker is given a module that is none.
+MEANT = ['beforeunload', 'Compressed input was truncated']
+
 #: The word of --browsers for all of them; and by which command it is seen that one is there.
 ALL = 'all'
 BROWSERS = {'chromium': 'chromium', 'firefox': 'firefox-esr', 'webkit': 'WebKitWebDriver'}
@@ -104,8 +108,7 @@ def scripted(piped: Player, browser: Browser) -> Iterator[Callable[[str], Player
     for identifier in known:
         browser.ask('Page.removeScriptToEvaluateOnNewDocument', identifier=identifier)
     piped.load()
-    # Chromium doesn't ask where nobody has touched the page, and says so.
-    browser.complaints[:] = [text for text in browser.complaints if 'beforeunload' not in text]
+    browser.complaints[:] = [text for text in browser.complaints if not any(word in text for word in MEANT)]
 
 
 @pytest.fixture

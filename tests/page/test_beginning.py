@@ -112,14 +112,12 @@ WORKERLESS = {
 
 
 @pytest.mark.parametrize('script', WORKERLESS.values(), ids=list(WORKERLESS))
-def test_no_worker(scripted: Scripted, browser: Browser, script: str) -> None:
+def test_no_worker(scripted: Scripted, script: str) -> None:
     """A sentence says so, in the place of an empty page."""
     player = scripted(script)
     player.driver.go(BLANK)
     player.driver.go(player.address)
     player.driver.wait_for('document.querySelector("#told")?.textContent.startsWith("This browser can’t run the game")')
-    # The worker without a module complains of that.
-    browser.complaints.clear()
 
 
 def test_fault_of_the_page(piped: Player, browser: Browser) -> None:

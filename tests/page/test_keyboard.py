@@ -20,6 +20,8 @@ class Pressed(NamedTuple):
     called: str
     before: str = '1'
     more: Dict[str, bool] = {}
+    #: A part of the sentence that is said before the key: a hint that comes later than it would choose another square.
+    said: str = ''
 
 
 SHIFT, CONTROL, COMMAND = {'shiftKey': True}, {'ctrlKey': True}, {'metaKey': True}
@@ -34,7 +36,7 @@ PRESSED: List[Pressed] = [
     Pressed('2 where another layout has it', '2', 'Digit7', TWO),
     Pressed('u in Greek', 'υ', 'KeyU', EMPTY),
     Pressed('u where French has it', 'u', 'KeyU', EMPTY),
-    Pressed('x in Russian, after the steps of a hint', 'ч', 'KeyX', f'{EMPTY}, marks 1', '1uhh'),
+    Pressed('x in Russian, after the steps of a hint', 'ч', 'KeyX', f'{EMPTY}, marks 1', '1uhh', said='So r1c1 is 1'),
     Pressed('Ctrl-Z', 'z', 'KeyZ', EMPTY, more=CONTROL),
     Pressed('Ctrl-Z with capitals locked', 'Z', 'KeyZ', EMPTY, more=CONTROL),
     Pressed('Ctrl-Z in Russian', 'я', 'KeyZ', EMPTY, more=CONTROL),
@@ -52,7 +54,7 @@ PRESSED: List[Pressed] = [
 def test_other_keyboards(player: Player, pressed: Pressed) -> None:
     """A digit counts by the place of its key where the key has another sign; undo and redo have the keys of each system."""
     player.sit(TOWERS, LAPTOP)
-    player.look(pressed.before, EMPTY if 'u' in pressed.before else ONE)
+    player.look(pressed.before, EMPTY if 'u' in pressed.before else ONE, told=pressed.said)
     send(player, {'key': pressed.key, 'code': pressed.code, **pressed.more})
     # A mark in the next square comes after whatever that key has done.
     player.look('<right>p3', 'row 1, column 2, empty, marks 3')

@@ -43,7 +43,8 @@ WAYS = [
     Way('a link in a linked folder', [('way', 'sub/inner'), ('sub/inner/link', '../s.sav')], 'way/link', 'sub/s.sav'),
     Way('a link with many slashes', [('link', './/sub///s.sav')], 'link', 'sub/s.sav'),
     Way('a link with a long text', [('sub/link', './' * 2000 + 's.sav')], 'sub/link', 'sub/s.sav'),
-    Way('39 links', chain(39), 'l39', 's.sav'),
+    # Where names change meanwhile, Linux begins a walk anew and counts its links twice, and it follows 40.
+    Way('20 links', chain(20), 'l20', 's.sav'),
 ]
 
 #: Links that lead to no file, though some could lead to one if there weren't so many. `sub` is a folder.
