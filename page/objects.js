@@ -9,7 +9,7 @@
 /**
  * @typedef {{reason: string, x: number | null, y: number | null, clue: number | null, greater: number | null, less: number | null,
  *   cells: number[] | null, line: number | null, strikes: Strike[], text: string[],
- *   name?: string, known?: Strike[], split?: {cells: number[], number: number} | null}} Step
+ *   name?: string, known?: {cell: number}[], split?: {cell: number}[]}} Step
  */
 /**
  * @typedef {{kind: 'follows' | 'nothing' | 'contradiction', cell: number | null, number: number | null, line: number | null, grade: string | null,

@@ -21,8 +21,8 @@ export const line = (line, size) => Array.from({length: size}, (_, at) => (line 
 // The clue and the squares that the sentence of a step names; all that it looks at where it names none, or the module doesn't tell which.
 /** @param {Step} step @param {number} size @returns {Place[]} */
 export function speaksOf(step, size) {
-  const {clue, known = [], split, x, y} = step, named = [...known.map(({cell}) => cell), ...split?.cells ?? []];
-  return clue === null || !named.length ? restsOn(step, size) : [placeAt(Number(x), Number(y)), ...named.map((cell) => placeOf(cell, size))];
+  const {clue, known = [], split = [], x, y} = step, named = [...known, ...split].map(({cell}) => placeOf(cell, size));
+  return clue === null || !named.length ? restsOn(step, size) : [placeAt(Number(x), Number(y)), ...named];
 }
 
 // The clue and the squares that a step looks at.

@@ -119,7 +119,7 @@ def steps_of(data: List[Mapping[str, Any]], size: int) -> List[Step]:
             numbers=step['numbers'] or [],
             strikes=[Strike((strike['cell'] % size, strike['cell'] // size), strike['numbers']) for strike in step['strikes']],
             text=joined(step['text']),
-            named=[(cell % size, cell // size) for cell in [*(known['cell'] for known in step.get('known', [])), *(step.get('split') or {}).get('cells', [])]],
+            named=[(told['cell'] % size, told['cell'] // size) for told in [*step.get('known', []), *step.get('split', [])]],
         )
 
     return [one(step) for step in data]

@@ -44,9 +44,9 @@ def test_name_of_several() -> None:
 #: The members of a step, and the squares beside its clue that are shown with it.
 NAMED: List[Tuple[Dict[str, Any], Any]] = [
     ({}, ROW),
-    ({'known': [], 'split': None}, ROW),
-    ({'known': [{'cell': 5, 'numbers': [3]}], 'split': None}, {(2, 1)}),
-    ({'known': [], 'split': {'cells': [4], 'number': 3}}, {(1, 1)}),
+    ({'known': [], 'split': []}, ROW),
+    ({'known': [{'cell': 5, 'numbers': [3]}], 'split': []}, {(2, 1)}),
+    ({'known': [{'cell': 5, 'numbers': [3]}], 'split': [{'cell': 4, 'number': 3, 'place': 'in', 'seen': 'more'}]}, {(1, 1), (2, 1)}),
 ]
 
 

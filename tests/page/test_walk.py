@@ -39,7 +39,7 @@ def tinted(step: Mapping[str, Any], size: int) -> Set[str]:
     places = {(cell % size, cell // size) for cell in cells}
     if step['clue'] is not None:
         x, y = step['x'], step['y']
-        named = {known['cell'] for known in step.get('known') or []} | set((step.get('split') or {}).get('cells', []))
+        named = {told['cell'] for told in [*step.get('known', []), *step.get('split', [])]}
         line = {(x, at) if y in (-1, size) else (at, y) for at in range(size)}
         places |= {(x, y)} | ({(cell % size, cell // size) for cell in named} or line)
     return {f'{x},{y}' for x, y in places}

@@ -74,12 +74,12 @@ test('where to look, and what a step rests on', () => {
 });
 
 test('of a clue the squares that its sentence names, and the whole line where that names none', () => {
-  const clue = {...sign, reason: 'clue', greater: null, less: null, clue: 2, x: -1, y: 1}, known = [{cell: 5, numbers: [3]}], split = {cells: [3], number: 3};
-  deepEqual(speaksOf({...clue, known, split: null}, 3), ['-1,1', '2,1']);
+  const clue = {...sign, reason: 'clue', greater: null, less: null, clue: 2, x: -1, y: 1}, known = [{cell: 5, numbers: [3]}], split = [{cell: 3, number: 3, place: 'not', seen: 'fewer'}];
+  deepEqual(speaksOf({...clue, known, split: []}, 3), ['-1,1', '2,1']);
   deepEqual(speaksOf({...clue, known: [], split}, 3), ['-1,1', '0,1']);
-  for (const more of [{}, {known: [], split: null}]) deepEqual(speaksOf({...clue, ...more}, 3), ['-1,1', '0,1', '1,1', '2,1']);
-  deepEqual(speaksOf({...sign, known: [{cell: 1, numbers: [2, 3]}], split: null}, 3), ['2,0', '1,0']);
-  const walked = new WalkedHint({...hint, steps: [{...clue, known, split: null}, other]}, 3);
+  for (const more of [{}, {known: [], split: []}]) deepEqual(speaksOf({...clue, ...more}, 3), ['-1,1', '0,1', '1,1', '2,1']);
+  deepEqual(speaksOf({...sign, known: [{cell: 1, numbers: [2, 3]}], split: []}, 3), ['2,0', '1,0']);
+  const walked = new WalkedHint({...hint, steps: [{...clue, known, split: []}, other]}, 3);
   deepEqual([walked.shown(0).rests, walked.look().framed.length], [['-1,1', '2,1'], 4]);
 });
 
