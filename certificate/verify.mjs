@@ -8,7 +8,6 @@ const ANSWERS = {none: [0, 'No solution'], one: [1, 'Exactly one solution'], sev
 const SUPPOSE = ['suppose', 'lemma'];
 const NO_ID = 'its ID is none that this program can read';
 /** @typedef {{w: number, lines: number[][], views: number[][], clues: Map<number, number>, signs: Set<string>, givens: number[]}} Puzzle */
-
 /** @typedef {Map<number, number[]>} Lemma */
 
 /** @type {(isSo: unknown, why: string, status?: 1 | 2) => asserts isSo} */
@@ -25,39 +24,29 @@ function digit(text, least, most) {
 /** @param {string} game @param {any} text @returns {Puzzle} */
 function puzzleOf(game, text) {
   expect(typeof text === 'string' && text.length <= 1024, NO_ID);
-  const [head, description] = text.split(/:(.*)/s), w = Number(head[0]), back = (/** @type {number[]} */ line) => [...line].reverse();
+  const [head, description = ''] = text.split(/:(.*)/s), w = Number(head[0]), back = (/** @type {number[]} */ line) => [...line].reverse();
   expect(HEADS[game].test(head), NO_ID);
   const rows = range(1, w).map((y) => range(y * w - w, y * w - 1)), columns = rows.map((_, x) => rows.map((row) => row[x]));
-  const views = [...columns, ...columns.map(back), ...rows, ...rows.map(back)];
-  /** @type {Puzzle} */
-  const puzzle = {w, lines: [...rows, ...columns], views, clues: new Map(), signs: new Set(), givens: []};
-  if (game === 'towers') towers(puzzle, description ?? '');
-  else unequal(puzzle, description ?? '');
-  expect(puzzle.givens.length === w * w, NO_ID);
-  return puzzle;
-}
-/** @param {Puzzle} puzzle @param {string} description */
-function towers(puzzle, description) {
-  const {w} = puzzle, [edge, squares] = description.split(/,(.*)/s), clues = edge.split('/');
-  expect(clues.length === 4 * w && !squares?.includes('0'), NO_ID);
-  clues.forEach((clue, place) => { if (clue) puzzle.clues.set(place, digit(clue, 1, w)); });
-  const marks = squares?.replace(/[a-z]/g, (letter) => `_${'0_'.repeat(letter.charCodeAt(0) - 96)}`).split('_').filter(Boolean);
-  puzzle.givens = marks?.map((mark) => digit(mark, 0, w)) ?? range(1, w * w).map(() => 0);
-}
-/** @param {Puzzle} puzzle @param {string} description */
-function unequal({w, signs, givens}, description) {
-  description.split(',').filter((field, square, {length}) => field || square < length - 1).forEach((field, square) => {
-    givens.push(digit(field.slice(0, 1), 0, w));
-    for (const letter of field.slice(1)) {
+  const views = [...columns, ...columns.map(back), ...rows, ...rows.map(back)], clues = new Map(), signs = new Set(), givens = range(1, w * w).map(() => 0);
+  if (game === 'towers') {
+    const [edge, squares] = description.split(/,(.*)/s), fields = edge.split('/');
+    expect(fields.length === 4 * w && !squares?.includes('0'), NO_ID);
+    fields.forEach((clue, place) => { if (clue) clues.set(place, digit(clue, 1, w)); });
+    const marks = squares?.replace(/[a-z]/g, (letter) => `_${'0_'.repeat(letter.charCodeAt(0) - 96)}`).split('_').filter(Boolean) ?? givens.map(String);
+    givens.splice(0, w * w, ...marks.map((mark) => digit(mark, 0, w)));
+  } else {
+    const fields = description.split(',').filter((field, square, {length}) => field || square < length - 1);
+    givens.splice(0, w * w, ...fields.map((field) => digit(field.slice(0, 1), 0, w)));
+    for (const [square, field] of fields.entries()) for (const letter of field.slice(1)) {
       const y = Math.floor(square / w) + Number(letter === 'D') - Number(letter === 'U'), x = square % w + Number(letter === 'R') - Number(letter === 'L');
-      const isGood = 'URDL'.includes(letter) && y >= 0 && y < w && x >= 0 && x < w && !signs.has(`${y * w + x},${square}`);
-      expect(isGood, NO_ID);
+      expect('URDL'.includes(letter) && y >= 0 && y < w && x >= 0 && x < w && !signs.has(`${y * w + x},${square}`), NO_ID);
       signs.add(`${square},${y * w + x}`);
     }
-  });
+  }
+  expect(givens.length === w * w, NO_ID);
+  return {w, lines: [...rows, ...columns], views, clues, signs, givens};
 }
-// The rules: 0 if a row or column has a number twice; each clue, given and sign, from 1 on, that a grid breaks.
-/** @param {Puzzle} puzzle @param {number[]} grid */
+/** The rules: 0 if a row or column has a number twice; each clue, given and sign, from 1 on, that a grid breaks. @param {Puzzle} puzzle @param {number[]} grid */
 function broken({lines, views, clues, givens, signs}, grid) {
   const along = (/** @type {number[]} */ line) => line.map((square) => [grid[square]]), pairs = [...signs].map((sign) => sign.split(',').map(Number));
   const met = [lines.every((line) => possible(along(line))), ...[...clues].map(([place, clue]) => possible(along(views[place]), clue)),
@@ -154,8 +143,7 @@ function shown(text) {
   const more = needed.length ? ', and each clue, sign and given is needed' : '';
   return {puzzle, told: `${words}${more}. Steps: ${all}. Suppositions among them: ${counts[0] + counts[1]}.`};
 }
-// The answer of a certificate; or, with the status 1, why it doesn't, and with 2, why it is none.
-/** @param {string} text */
+/** The answer of a certificate; or, with the status 1, why it doesn't, and with 2, why it is none. @param {string} text */
 export function verify(text) {
   try {
     return {status: 0, ...shown(text)};
@@ -164,8 +152,7 @@ export function verify(text) {
     return {status, told: error instanceof SyntaxError ? 'it is no JSON, or nested too deep' : String(message), puzzle: null};
   }
 }
-// For node alone.
-/** @param {Puzzle} puzzle */
+/** For node alone. @param {Puzzle} puzzle */
 function drawn({w, lines, clues, signs, givens}) {
   const edge = (/** @type {number} */ from) => range(from, from + w - 1).map((place) => clues.get(place) ?? ' ');
   /** @type {(one: number, other: number, less: string, greater: string) => string} */
@@ -177,24 +164,32 @@ function drawn({w, lines, clues, signs, givens}) {
 }
 const node = /** @type {any} */ (globalThis).process, library = 'node:fs', names = node?.argv.slice(2) ?? [];
 if (/(^|[/\\])verify[.]mjs$/.test(node?.argv[1])) {
-  const {readFileSync} = await import(library);
-  node.exitCode = 0;
-  for (const name of names.length ? names : ['-']) {
-    let place = 0, lines = [''];
-    /** @type {ReturnType<typeof verify>} */
-    let is = {status: 2, told: 'there is none', puzzle: null};
-    try {
-      lines = readFileSync(name === '-' ? 0 : name, 'latin1').split(/(?<=\n)/);
-    } catch (error) {
-      is.told = /** @type {any} */ (error).message;
+  const {readFileSync, writeFileSync} = await import(library);
+  /** @param {number} status @param {string} text */
+  const say = (status, text) => {
+    node.exitCode = Math.max(node.exitCode ?? 0, status);
+    writeFileSync(1, `${text}\n`);
+  };
+  try {
+    for (const name of names.length ? names : ['-']) {
+      let place = 0, lines = [''], why = 'there is none';
+      try {
+        lines = readFileSync(name === '-' ? 0 : name, 'latin1').split(/(?<=\n)/);
+      } catch (error) {
+        why = /** @type {any} */ (error).message;
+      }
+      for (const line of lines.filter((text) => text.length > MOST_BYTES || /[^ \t\n\v\f\r]/.test(text))) {
+        const {status, told, puzzle} = verify(line);
+        [place, why] = [place + 1, status === 2 ? told : ''];
+        if (why) break;
+        say(status, puzzle ? `${drawn(puzzle)}\n${told}` : `NOT SHOWN by certificate ${place} of '${name}': ${told}.`);
+      }
+      if (why) say(2, `NO CERTIFICATE is number ${place} of '${name}': ${why}.`);
     }
-    for (const line of lines.filter((text) => text.length > MOST_BYTES || /[^ \t\n\v\f\r]/.test(text))) {
-      [place, is] = [place + 1, verify(line)];
-      if (is.status < 2) console.log(is.status ? `NOT SHOWN by certificate ${place} of '${name}': ${is.told}.` : `${is.puzzle && drawn(is.puzzle)}\n${is.told}`);
-      node.exitCode = Math.max(node.exitCode, is.status);
-      if (is.status === 2) break;
-    }
-    if (is.status === 2) console.log(`NO CERTIFICATE is number ${place} of '${name}': ${is.told}.`);
-    node.exitCode = Math.max(node.exitCode, is.status);
+  } catch (error) {
+    // If nobody reads on, as behind `head`, it is no fault, and the status is that of `cat`.
+    const {code, message} = /** @type {any} */ (error);
+    node.exitCode = code === 'EPIPE' ? 141 : 2;
+    if (code !== 'EPIPE') console.error(`Standard output: ${message}`);
   }
 }

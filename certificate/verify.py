@@ -37,8 +37,7 @@ class Puzzle:
             edge, comma, squares = description.partition(',')
             expect(edge.count('/') == 4 * w - 1 and '0' not in squares, NO_ID)
             self.clues = {place: digit(clue, 1, w) for place, clue in enumerate(edge.split('/')) if clue}
-            for count, letter in enumerate('abcdefghijklmnopqrstuvwxyz', 1):  # So many empty squares a letter stands for.
-                squares = squares.replace(letter, '_' + '0_' * count)
+            squares = squares.translate({96 + count: '_' + '0_' * count for count in range(1, 27)})  # A letter stands for so many empty squares.
             self.givens = [digit(mark, 0, w) for mark in squares.split('_') if mark] if comma else [0] * w * w
         else:
             fields = description.split(',')
@@ -64,8 +63,7 @@ class Puzzle:
         for y, row in enumerate(self.lines[:w]):
             squares = ''.join(str(self.givens[s] or '.') + (' %s ' % sign(s, s + 1, '<', '>') if s < row[-1] else '') for s in row)
             out += ['  %s | %s | %s' % (clue(2 * w + y), squares, clue(3 * w + y)), '      ' + '   '.join(sign(s, s + w, '^', 'v') for s in row)]
-        out[-1] = '      ' + '   '.join(map(clue, range(w, 2 * w)))
-        return '\n'.join(line.rstrip() for line in out if line.strip() or self.signs)
+        return '\n'.join(line.rstrip() for line in out[:-1] + ['      ' + '   '.join(map(clue, range(w, 2 * w)))] if line.strip() or self.signs)
 
 def possible(choices, clue=None):
     """Whether numbers can be taken, one of each list, none twice, so that `clue` of them are seen, which are above all before them. All ways are
@@ -80,14 +78,12 @@ def rules_out(puzzle, left, lemmas, kind, what, square, number):
     if kind == 'line' or kind == 'clue' and what in puzzle.clues:  # A line has no number twice, and shows what its clue says.
         line, clue = (puzzle.lines[what], None) if kind == 'line' else (puzzle.views[what], puzzle.clues[what])
         return square in line and not possible([[number] if s == square else left[s] for s in line], clue)
-    if kind == 'number' and what == number:  # A number stands once in each row, each time in another column.
-        w, rows = puzzle.size, puzzle.lines[:puzzle.size]
-        return not possible([[square % w] if square in row else [s % w for s in row if number in left[s]] for row in rows])
+    if kind == 'number' and what == number:  # A number stands once in each row, each time in another column x.
+        return not possible([[x for x, s in enumerate(row) if s == square or square not in row and number in left[s]] for row in puzzle.lines[:puzzle.size]])
     if kind == 'kept' and what < len(lemmas) and number in lemmas[what].get(square, []):  # All other squares of the lemma have its numbers alone.
         return all(set(left[other]) <= set(numbers) for other, numbers in lemmas[what].items() if other != square)
-    if kind == 'sign' and tuple(what) in puzzle.signs and square in what:  # At one end a number fits one that is left at the other.
-        return not any(n < number for n in left[what[1]]) if square == what[0] else not any(n > number for n in left[what[0]])
-    return False
+    is_end = kind == 'sign' and tuple(what) in puzzle.signs and square in what  # There a number fits one that is left at the other end.
+    return is_end and not (any(n < number for n in left[what[1]]) if square == what[0] else any(n > number for n in left[what[0]]))
 
 def follow(puzzle, left, lemmas, steps, above=''):
     """Takes away what the steps say, and complains of the first that doesn't follow. A lemma holds for the steps after it, and for those in them."""
@@ -100,9 +96,8 @@ def follow(puzzle, left, lemmas, steps, above=''):
             expect(not all(branch), 'step %s leads to no contradiction' % name, NotShown)
             lemmas, strikes = (lemmas, lemma.items()) if kind == 'suppose' else (lemmas + [lemma], [])
         else:
-            for square, number in ((square, number) for square, numbers in strikes for number in numbers):
-                told = 'step %s (%s) does not rule out %d in square %d' % (name, kind, number, square)
-                expect(rules_out(puzzle, left, lemmas, kind, what, square, number), told, NotShown)
+            for square, number in ((s, n) for s, numbers in strikes for n in numbers if not rules_out(puzzle, left, lemmas, kind, what, s, n)):
+                raise NotShown('step %s (%s) does not rule out %d in square %d' % (name, kind, number, square))
         for square, numbers in strikes:
             left[square] = [number for number in left[square] if number not in numbers]
 
@@ -119,11 +114,10 @@ def formed(steps, forms, deep=MOST_DEEP):
 def parsed(line):
     """The values of MEMBERS, of which none is there twice. There are no words but texts without escapes, and no numbers but whole ones."""
     expect(len(line) <= MOST_BYTES and b'\\' not in line, 'it has a backslash, or more than 16 MiB')
-    text = line.decode('latin-1')
-    expect(text.isascii() and set(''.join(text.split('"')[::2])) <= set('0123456789[]{},: \t\r\n'), 'it has a word or a number that means nothing')
-    found = json.loads(text, object_pairs_hook=tuple, parse_int=lambda digits: int(digits[:9]))  # Longer ones are too great, too.
+    expect(line.isascii() and set(b''.join(line.split(b'"')[::2])) <= set(b'0123456789[]{},: \t\r\n'), 'it has a word or a number that means nothing')
+    found = json.loads(line.decode(), object_pairs_hook=tuple, parse_int=lambda digits: int(digits[:9]))  # Longer ones are too great, too.
     names = [name for name, _ in found] if type(found) is tuple else []
-    expect(text.count('{') == 1 and sorted(names + ['needed'] * ('needed' not in names)) == MEMBERS, 'it has not the members of one, each once')
+    expect(line.count(b'{') == 1 and sorted(names + ['needed'] * ('needed' not in names)) == MEMBERS, 'it has not the members of one, each once')
     return [dict(found).get(name, []) for name in MEMBERS]
 
 def shown(line):
@@ -148,22 +142,28 @@ def shown(line):
     words += '' if not needed else ', and each clue, sign and given is needed'
     return '%s\n%s. Steps: %d. Suppositions among them: %d.' % (puzzle.drawn(), words, sum(counts), counts[0] + counts[1])
 
+def told(name, place=0):
+    """Of each certificate of a file, in turn, its status and what is to be said of it."""
+    try:
+        with open(0 if name == '-' else name, 'rb') as file:
+            for place, line in enumerate((line for line in iter(lambda: file.readline(MOST_BYTES + 1), b'') if line.strip() or len(line) > MOST_BYTES), 1):
+                try:
+                    yield 0, shown(line)
+                except NotShown as why:
+                    yield 1, 'NOT SHOWN by certificate %d of %s: %s.' % (place, ascii(name), why)
+        expect(place, 'there is none')
+    except (OSError, ValueError, RecursionError) as why:
+        why = 'it is no JSON, or nested too deep' if type(why) in (json.JSONDecodeError, RecursionError) else why
+        yield 2, 'NO CERTIFICATE is number %d of %s: %s.' % (place, ascii(name), why)
+
 def main(names, status=0):
-    for name in names or ['-']:
-        place = 0
-        try:
-            with open(0 if name == '-' else name, 'rb') as file:
-                for place, line in enumerate(filter(lambda line: line.strip() or len(line) > MOST_BYTES, iter(lambda: file.readline(MOST_BYTES + 1), b'')), 1):
-                    try:
-                        print(shown(line))
-                    except NotShown as why:
-                        status = status or 1
-                        print('NOT SHOWN by certificate %d of %s: %s.' % (place, ascii(name), why))
-            expect(place, 'there is none')
-        except (OSError, ValueError, RecursionError) as why:
-            why = 'it is no JSON, or nested too deep' if type(why) in (json.JSONDecodeError, RecursionError) else why
-            print('NO CERTIFICATE is number %d of %s: %s.' % (place, ascii(name), why))
-            status = 2
+    try:
+        for found, text in (each for name in names or ['-'] for each in told(name)):
+            status = max(status, found)
+            print(text, flush=True)
+    except OSError as why:  # Of the output: if nobody reads on, as behind `head`, it is no fault, and the status is that of `cat`.
+        status, sys.stdout = 141 if type(why) is BrokenPipeError else 2, None
+        print('' if status == 141 else 'Standard output: %s\n' % why, end='', file=sys.stderr)
     return status
 
 if __name__ == '__main__':

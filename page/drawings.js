@@ -1,6 +1,6 @@
 // Puzzles as people draw or copy them: what a text has, its IDs and its drawings. As in playing/drawings, and one table of rows in tests/drawings is for both.
 import {parts} from './drawn_parts.js';
-import {DRAWN, EMPTY, NUMBERS, fits, isBlank, towers, translated} from './drawn_tables.js';
+import {DRAWN, EMPTY, NUMBERS, fits, isBare, isBlank, towers, translated} from './drawn_tables.js';
 import {NAMED_BESIDE, noClue, sideTwice, sidesDiffer, sidesLacking} from './drawn_texts.js';
 import {MOST_LINES, called, meantBy, whyNot} from './drawn_why.js';
 import {readings} from './drawn_ways.js';
@@ -87,7 +87,10 @@ const isEmpty = (line) => !line.replace(/^ +| +$/g, '');
 /** @param {string[]} lines */
 const unquoted = (lines) => (lines.every((line) => isEmpty(line) || line.startsWith('>')) ? lines.map((line) => line.replace(/^> ?/, '')) : lines);
 
-/** A text so far: `lines` are those that are drawn since the last other one, `block` is where the last ones of them begin. */
+/**
+ * A text so far: `lines` are those that are drawn since the last other one, `block` is where the last ones of them begin, and `sides` is the puzzle of four sides
+ * that were named, until it is known whether squares stand below them.
+ */
 class Reader {
   constructor() {
     /** @type {Read[]} */
@@ -101,6 +104,8 @@ class Reader {
     this.block = -1;
     /** @type {Map<string, string>} */
     this.named = new Map();
+    /** @type {Partial<Read> & {line: number} | null} */
+    this.sides = null;
     this.isLong = false;
   }
 
@@ -150,6 +155,7 @@ class Reader {
     this.lines.push(line);
     const {block, begun} = this, puzzle = CLOSING.test(line.trim()) && !this.named.size ? this.closed() : null;
     if (puzzle) {
+      this.ofSides();
       this.told(this.lines.slice(0, block), begun);
       this.tell(begun + block, {puzzle});
       this.forget();
@@ -173,6 +179,8 @@ class Reader {
     this.isLong = false;
     this.block = -1;
     if (block < 0) return;
+    this.ofSides();
+    if (!this.lines.length) return;
     if (lines.length - block === 1 && ALONE.test(lines[block])) {
       lines.pop();
       this.drawings();
@@ -186,6 +194,7 @@ class Reader {
 
   // Clues that are named may belong to what is drawn, if some are missing above it or they stand just below it.
   drawings(isBeside = false) {
+    this.ofSides();
     const {lines, begun} = this;
     this.lines = [];
     this.block = -1;
@@ -219,8 +228,23 @@ class Reader {
     if (this.named.has(side)) this.tell(this.number, {game: 'towers', why: sideTwice(side)});
     this.named.set(side, text);
     if (this.named.size < SIDES.length) return;
-    this.tell(this.number, ofSides(this.named));
+    this.sides = {line: this.number, ...ofSides(this.named)};
     this.named.clear();
+  }
+
+  // The puzzle of four sides, with the squares below it: alone these would belong to any game.
+  ofSides() {
+    const {sides, begun} = this, own = sides?.puzzle;
+    this.sides = null;
+    if (!sides) return;
+    const found = this.lines.every(isBlank) ? [] : readings(unquoted(this.lines), '').map(({puzzle}) => puzzle);
+    const squares = found.filter((puzzle) => puzzle.size === own?.size && isBare(puzzle));
+    if (!own || !squares.length) this.tell(sides.line, sides);
+    else {
+      if (squares.length === found.length) this.tell(sides.line, {puzzle: {...own, items: [...own.items, ...squares[0].items]}});
+      else this.tell(begun + this.lines.findIndex((line) => !isEmpty(line)), {game: 'towers', why: NAMED_BESIDE});
+      this.forget();
+    }
   }
 }
 

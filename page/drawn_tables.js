@@ -56,6 +56,10 @@ export function isGiven({size}, item) {
   return others.length === 1 && Math.min(x, y) >= 0 && Math.max(x, y) < size;
 }
 
+// Whether it has nothing but numbers in squares.
+/** @param {Puzzle} puzzle */
+export const isBare = (puzzle) => puzzle.items.every((item) => isGiven(puzzle, item));
+
 /** @param {Puzzle} puzzle */
 export const fits = ({size, items}) => items.every((item) => Number(item[item.length - 1]) <= size);
 

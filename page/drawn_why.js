@@ -1,6 +1,6 @@
 // Why lines are no drawing, or not that of one puzzle: the first reason that there is, and where. As in playing/drawings/sentences.py.
 import {NAMES, SIZES} from './games.js';
-import {BLANK, NUMBERS, SIGNS, hasAny, isBlank, isGiven} from './drawn_tables.js';
+import {BLANK, NUMBERS, SIGNS, hasAny, isBare, isBlank, isGiven} from './drawn_tables.js';
 import {
   FOUR_LINES, MIXED, NO_WALL, NUMBERS_ALONE, OF_BOTH, PLACE_LOST, SIDE_LOST, aboveSize, calledText, edgeSign, endsHere, foreignSign, lineMore, noSize, noSquare, otherCells,
   otherLength, strangeLetter, straySign, tooFew, tooMany, twoWays,
@@ -55,9 +55,8 @@ export function whyNot(lines, game, found) {
 
 /** @param {Puzzle[]} puzzles */
 function two(puzzles) {
-  const isBare = puzzles.every((puzzle) => puzzle.items.every((item) => isGiven(puzzle, item)));
   const [sizes, games] = [new Set(puzzles.map(({size}) => size)), new Set(puzzles.map(({game}) => game))];
-  return isBare && sizes.size === 1 && games.size === 2 ? OF_BOTH : twoWays(puzzles.map(called));
+  return puzzles.every(isBare) && sizes.size === 1 && games.size === 2 ? OF_BOTH : twoWays(puzzles.map(called));
 }
 
 /** @param {Lines} own @returns {Why | null} */

@@ -37,11 +37,11 @@ export class Journal {
     this.isOpening = true;
     try {
       const database = await opened();
+      // Another page that deletes the database, or makes another one of it, need not wait for this one, not even while it is read.
+      database.onversionchange = () => this.leave(database);
       await this.readOnce(database);
       // The page has come back meanwhile, and has opened it anew.
       if (this.database) return database.close();
-      // Another page that deletes the database, or makes another one of it, need not wait for this one.
-      database.onversionchange = () => this.leave(database);
       database.onclose = () => {
         this.leave(database);
         this.open();

@@ -53,8 +53,8 @@ const front = {
   tell(text, how) { messages.tell(text, how); },
   /** @param {boolean} isBusy */
   busy(isBusy) {
-    if (isBusy) messages.tell(AT_WORK, {offer: {text: STOP, run: () => turns.stop()}});
-    else if (part('told').textContent === AT_WORK) messages.clear();
+    if (isBusy) messages.hold(AT_WORK, {offer: {text: STOP, run: () => turns.stop()}});
+    else messages.release(AT_WORK);
   },
 };
 

@@ -16,6 +16,8 @@ export class Messages {
     // The text that is seen where there is nothing else to say.
     /** @type {{text: string, how: How}} */
     this.rest = {text: '', how: {}};
+    // The text that is seen now, and the one in whose place another one is told for a while.
+    this.last = this.before = this.rest;
     part('offer').addEventListener('click', () => this.offered?.run());
   }
 
@@ -27,6 +29,19 @@ export class Messages {
     clearTimeout(this.timer);
     this.write(text, how);
     if (text && !how.lasting && !how.offer) this.timer = setTimeout(() => this.fade(), STAYS + A_LETTER * text.length);
+  }
+
+  // Says something for as long as it holds.
+  /** @param {string} text @param {How} how */
+  hold(text, how) {
+    this.before = part('message').classList.contains('fading') ? this.rest : this.last;
+    this.tell(text, how);
+  }
+
+  // That holds no more: what was told before is seen again, where nothing else was told meanwhile.
+  /** @param {string} text */
+  release(text) {
+    if (this.text === text) this.tell(this.before.text, this.before.how);
   }
 
   fade() {
@@ -50,8 +65,9 @@ export class Messages {
 
   // The same sentence once more is announced only where it was gone in between.
   /** @param {string} text @param {How} how */
-  write(text, {bad = false, offer = null}) {
-    const message = part('message'), told = part('told');
+  write(text, how) {
+    const {bad = false, offer = null} = how, message = part('message'), told = part('told');
+    this.last = {text, how};
     this.offered = offer;
     message.classList.remove('fading');
     told.replaceChildren();

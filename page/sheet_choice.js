@@ -11,7 +11,7 @@ import {NOT_ONE, noKindText, noneFoundText} from './sheet_texts.js';
 /** The answers to lines in a new session, or in one that was saved. */
 /** @typedef {(game: Game, lines: string[], saved?: import('./bytes.js').ByteText) => Promise<import('./worker.js').Answered>} Ask */
 
-const {ALIKE, TRIES, UNEVEN, LIKE, REPEATED, FEWER} = TABLES.CHOICE, STRIDE = BigInt(TABLES.CHOICE.STRIDE), SEEDS = 2n ** 64n;
+const {ALIKE, TRIES, UNEVEN, LIKE, REPEATED, FEWER, ONE} = TABLES.CHOICE, STRIDE = BigInt(TABLES.CHOICE.STRIDE), SEEDS = 2n ** 64n;
 
 /** No sheet can be made of what is asked. The text says why. */
 export class Unfit extends Error {}
@@ -100,16 +100,16 @@ export async function chosen(ask, {kinds, count, pupils, series, ahead}, progres
   return {sheets, told: [...uneven(kinds, own), ...found.told(sheets, count)]};
 }
 
-// A text with some words in their places.
-/** @param {string} text @param {Record<string, string | number>} words */
-const filled = (text, words) => text.replace(/\{(\w+)\}/g, (_, name) => String(words[name]));
+// A sentence on so many puzzles, with some words in their places.
+/** @param {string} text @param {number} number @param {Record<string, string | number>} words */
+const sentence = (text, number, words) => text.replace(/\{(\w+)\}/g, (_, name) => String(words[name] ?? (number === 1 ? ONE[name] : name)));
 
 /** @param {Kind[]} kinds @param {Kind[]} own */
 function uneven(kinds, own) {
   const counts = kinds.map((kind) => own.filter((each) => each === kind).length);
   if (new Set(counts).size === 1) return [];
   const shares = kinds.map((kind, at) => `${counts[at]} of size ${kind.size} ${gradeOf(kind)}`).join(', ');
-  return [filled(UNEVEN, {count: own.length, kinds: kinds.length, shares})];
+  return [sentence(UNEVEN, own.length, {count: own.length, kinds: kinds.length, shares})];
 }
 
 class Chosen {
@@ -160,8 +160,8 @@ class Chosen {
   /** @param {Puzzle[][]} sheets @param {number} each */
   told(sheets, each) {
     const {alike, repeated} = this, count = sheets.flat().length, wanted = sheets.length * each;
-    const lacks = [[LIKE, alike], [REPEATED, repeated], [FEWER, wanted - count]].filter(([, lack]) => lack);
-    return lacks.map(([text]) => filled(text, {alike, repeated, count, wanted, tries: ALIKE}));
+    const told = [[LIKE, alike], [REPEATED, repeated], [FEWER, count < wanted ? count : 0]].filter(([, number]) => number);
+    return told.map(([text, number]) => sentence(text, number, {alike, repeated, count, wanted, tries: ALIKE}));
   }
 }
 

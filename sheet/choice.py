@@ -8,7 +8,7 @@ from typing import Dict, Iterator, List, NamedTuple, Optional, Protocol, Sequenc
 from sheet.likeness import Form, form
 from sheet.lists import Line, puzzle_of
 from sheet.puzzles import Programs, Puzzle, Unfit
-from sheet.seeds import Kind, Seeds
+from sheet.seeds import Kind, Seeds, sentence
 
 #: A sheet has no more puzzles, and of a list no more lines are told that are wrong.
 MOST = 200
@@ -20,9 +20,9 @@ MOST_OF_CLASS = 1000
 ALIKE = 60
 
 #: The sentence if there aren't so many different puzzles.
-LIKE = '{alike} of the {count} puzzles have the solution of an earlier one, perhaps turned over: {tries} in a row had no new one'
-REPEATED = '{repeated} of the {count} puzzles stand on an earlier sheet, too: {tries} in a row were there already'
-FEWER = 'there are {count} puzzles, not {wanted}: {tries} in a row were there already'
+LIKE = '{alike} of the {count} puzzles {have} the solution of an earlier one, perhaps turned over: {tries} in a row had no new one'
+REPEATED = '{repeated} of the {count} puzzles {stand} on an earlier sheet, too: {tries} in a row were there already'
+FEWER = 'there {are} {count} {puzzles}, not {wanted}: {tries} in a row were there already'
 TOO_MANY = '{pupils} names with {count} puzzles each are {all} puzzles: a class has {most} at most.'
 
 
@@ -118,8 +118,8 @@ def of_seeds(seeds: Seeds, wanted: Sequence[Kind], pupils: int, progress: Progre
                 sheets[-1].append(puzzle)
             progress(sum(map(len, sheets)))
     counts = {'alike': found.alike, 'repeated': found.repeated, 'count': sum(map(len, sheets)), 'wanted': len(wanted) * pupils, 'tries': ALIKE}
-    lacks = {LIKE: found.alike, REPEATED: found.repeated, FEWER: counts['wanted'] - counts['count']}
-    return Choice(sheets, [text.format(**counts) for text, lack in lacks.items() if lack])
+    told = [(LIKE, found.alike), (REPEATED, found.repeated), (FEWER, counts['count'] if counts['count'] < counts['wanted'] else 0)]
+    return Choice(sheets, [sentence(text, number, **counts) for text, number in told if number])
 
 
 class Entry(NamedTuple):

@@ -19,7 +19,9 @@ TRIES = 100
 REFUSED = {'BadLetter': '{game} of size {size} has no {grade} puzzles: --ids prints the puzzles of a list.'}
 OTHERWISE = 'The program refuses that: {name}.'
 OF_THE_SEED = ('BadSeed', 'NoneFound')
-UNEVEN = '{count} puzzles of {kinds} kinds: {shares}'
+UNEVEN = '{count} {puzzles} of {kinds} kinds: {shares}'
+#: Words of sentences on several puzzles, as they are of one.
+ONE = {'puzzles': 'puzzle', 'have': 'has', 'stand': 'stands', 'are': 'is'}
 NONE_FOUND = 'No {grade} puzzle of {game} of size {size} was found with {tries:,} seeds, from {first} to {last}.'
 
 
@@ -42,13 +44,18 @@ def shared(every: Sequence[Kind], count: int) -> List[Kind]:
     return [every[at * len(every) // count] for at in range(count)]
 
 
+def sentence(text: str, number: int, **more: object) -> str:
+    """It speaks of so many puzzles."""
+    return text.format(**{word: one if number == 1 else word for word, one in ONE.items()}, **more)
+
+
 def uneven(every: Sequence[Kind], wanted: Sequence[Kind]) -> List[str]:
     """The sentence if there aren't as many puzzles of one kind as of another."""
     counts = [(wanted.count(kind), kind) for kind in every]
     if len({count for count, _ in counts}) == 1:
         return []
     shares = ', '.join(f'{count} of size {kind.size} {GRADES[kind.game][kind.letter]}' for count, kind in counts)
-    return [UNEVEN.format(count=len(wanted), kinds=len(every), shares=shares)]
+    return [sentence(UNEVEN, len(wanted), count=len(wanted), kinds=len(every), shares=shares)]
 
 
 class Seeds:

@@ -133,6 +133,10 @@ def read(words: Sequence[str]) -> Asked:
     """Raises `Wrong`."""
     found = _parser().parse_args(words)
     found.games = [game_called(word) or word for word in found.games]
+    for word in found.games:
+        option = 'size' if NUMBER.match(word) else 'grade' if any(word in grades.values() for grades in GRADES.values()) else ''
+        if option:
+            raise Wrong(f"'{word}' is no game: write --{option} {word}")
     if len(found.games) > 1 or not set(found.games) <= set(GAMES) or not (found.games or found.ids is not None):
         raise Wrong(f'GAME is {" or ".join(GAMES)}')
     found.game = found.games[0] if found.games else None

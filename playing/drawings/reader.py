@@ -64,6 +64,8 @@ class Reader:
         self._begun = 1
         self._block: Optional[int] = None
         self._named: Dict[str, str] = {}
+        #: The puzzle of four sides that were named, until it is known whether squares stand below them.
+        self._sides: Optional[Read] = None
         #: Whether this block has too many lines, so that the rest of it is passed over.
         self._is_long = False
 
@@ -113,6 +115,7 @@ class Reader:
         self._lines.append(line)
         closed = self._closed() if CLOSING.fullmatch(line.strip()) and not self._named else None
         if closed:
+            yield from self._of_sides()
             begin, block = self._begun, self._block
             rest, self._lines = self._lines[:block], []
             yield from self._told(parts(rest, self._game), rest, begin)
@@ -137,6 +140,9 @@ class Reader:
         self._block = None
         if block is None:
             return
+        yield from self._of_sides()
+        if not self._lines:
+            return
         if len(self._lines) - block == 1 and ALONE.fullmatch(self._lines[block]):
             del self._lines[block]
             yield from self._drawings()
@@ -159,6 +165,7 @@ class Reader:
 
     def _drawings(self, is_beside: bool = False) -> Iterator[Read]:
         """All that is drawn so far. Clues that are named may belong to it, if some are missing above it or they stand just below it."""
+        yield from self._of_sides()
         lines, begun, self._block = _unquoted(self._lines), self._begun, None
         self._lines = []
         if not any(map(str.strip, lines)):
@@ -190,8 +197,21 @@ class Reader:
             yield Read(self._number, game='towers', why=f"'{side}' stands here twice")
         self._named[side] = text
         if len(self._named) == len(SIDES):
-            yield _of_sides(self._number, self._named)
-            self._named = {}
+            self._sides, self._named = _of_sides(self._number, self._named), {}
+
+    def _of_sides(self) -> Iterator[Read]:
+        """The puzzle of four sides, with the squares below it: alone these would belong to any game."""
+        told, self._sides = self._sides, None
+        if told is None:
+            return
+        own, found = told.puzzle, [reading.puzzle for reading in readings(_unquoted(self._lines), '')] if any(map(str.strip, self._lines)) else []
+        squares = [each for each in found if own and each.size == own.size and each.is_bare]
+        if own and squares:
+            told = told._replace(puzzle=own._replace(items=own.items + squares[0].items))
+            yield told if len(squares) == len(found) else Read(self._begun + first_of(self._lines), game='towers', why=NAMED_BESIDE)
+            self._forget()
+        else:
+            yield told
 
 
 def first_of(lines: Sequence[str]) -> int:

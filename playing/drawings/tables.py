@@ -32,6 +32,11 @@ class Puzzle(NamedTuple):
         others, thing = len(self.items) - given, 'clue' if self.game == 'towers' else 'sign'
         return f'{self.game.title()} {self.size}x{self.size}, {others} {thing}{"" if others == 1 else "s"}, {given} given'
 
+    @property
+    def is_bare(self) -> bool:
+        """Whether it has nothing but numbers in squares."""
+        return all(map(self.is_given, self.items))
+
     def is_given(self, item: str) -> bool:
         """Whether an item is a number in a square."""
         x, y, *others = item.partition(' ')[2].split(',')

@@ -95,7 +95,7 @@ def test_bank(program: str, room: Room, game: str) -> None:
     for first in range(0, len(ids), PIECE):
         piece = ids[first : first + PIECE]
         text = ''.join(f'new {id}\nlist 2\n' for id in piece)
-        replies = run([program, game], room, input=text.encode(), seconds=120).output.decode().split('ok\n')[1:]
+        replies = run([program, game], room, input=text.encode()).output.decode().split('ok\n')[1:]
         assert len(replies) == len(piece)
         assert [(id, reply) for id, reply in zip(piece, replies) if len(reply.split()) != 1 or not reply.strip().isdigit()] == []
 

@@ -61,7 +61,7 @@ def test_key(front: BoardFront, room: Room, face: Face) -> None:
     with full_disk(front, room, face) as (window, disk):
         disk.remove('filler')
         window.look(face.other[0], [face.other[1]])
-        assert disk.read(KEPT) == save_text(2), 'what is kept'
+        assert eventually(lambda: disk.read(KEPT) == save_text(2)), 'what is kept'
 
 
 def test_no_key(front: BoardFront, room: Room) -> None:

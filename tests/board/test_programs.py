@@ -14,7 +14,7 @@ from tests.harness.program import eventually
 KEPT = 'state/puzzles/towers.sav'
 
 #: A program that never answers.
-SILENT = b'#!/bin/sh\nexec sleep 100\n'
+SILENT = b'#!/bin/sh\nexec sleep 600\n'
 
 #: A program that answers by plain lines.
 PLAIN = b'#!/bin/sh\nwhile read -r line; do echo ok; done\n'
@@ -23,7 +23,7 @@ PLAIN = b'#!/bin/sh\nwhile read -r line; do echo ok; done\n'
 #: refused.
 BETWEEN = """\
     if line in (b'completable\\n', b'move R0,1,3\\n'):
-        time.sleep(100)
+        time.sleep(600)
     reply = answer(b'board\\n' if line == b'move R2,0,3\\n' else line)
     if line == b'move R1,0,2\\n':
         reply = dict(lost='OutOfMemory')
@@ -34,7 +34,7 @@ BETWEEN = """\
 #: Takes long to fill in all clues.
 SLOW_FILL = """\
     if line == b'fill\\n':
-        time.sleep(100)
+        time.sleep(600)
     reply = answer(line)
 """
 
@@ -53,11 +53,11 @@ WITHOUT_SAVES = """\
         reply.update(refused='OutOfMemory', reply=[])
 """
 
-#: Stands before the program, and takes over the first save longer than a player has to wait for anything else.
+#: Stands before the program, and takes over the first save until there is a file.
 SLOW_SAVE = """\
 #!/usr/bin/env bash
 while read -r line; do
-    if [[ $line = save && ! $saved ]]; then saved=1; sleep 4; fi
+    if [[ $line = save ]]; then until [[ -e '{room}/goes on' ]]; do sleep 0.1; done; fi
     echo "$line"
 done | exec -a puzzles-json '{program}' "$@"
 """
@@ -127,9 +127,8 @@ def test_no_answer(front: BoardFront, room: Room) -> None:
         window.look('<down>3', ['The program is at work. Any key stops it.'])
         window.look('x', ['Stopped. Nothing has changed.', '1 of 9'])
         window.look('2', ['2 of 9', 'move 2/2'])
-        # A key that was pressed before the offer to stop stops nothing, and is heard afterwards.
-        window.press('3')
-        window.press('u')
+        # A key that was pressed before the offer to stop stops nothing, and is heard afterwards. Both come at once: the offer comes after a while.
+        window.send('3u')
         window.look('', ['The program is at work. Any key stops it.'])
         assert not window.wait_until(lambda screen: 'Stopped.' in screen.text(), 0.5), 'the key before the offer has stopped it'
         window.look('x', ['1 of 9', 'move 1/2'])
@@ -179,14 +178,20 @@ def wait_for_program(window: Terminal) -> bool:
 
 def test_first_save(front: BoardFront, room: Room) -> None:
     """A key that is pressed while a game is saved for the first time stops nothing, and is heard then. A card of the course is waited for, too."""
-    room.put('between', SLOW_SAVE.format(program=front.program).encode(), 0o755)
+    room.put('between', SLOW_SAVE.format(program=front.program, room=room.path).encode(), 0o755)
     env = front.env(PUZZLES_JSON=os.path.join(room.path, 'between'))
     with front.window(['learn', 'towers'], env=env, leave='q') as window:
         window.look('', ['The program is at work ..'])
+        room.put('goes on', b'')
         window.look('', ['Card 1/9.'])
+    room.remove('goes on')
     with front.window(['towers', ID], env=env, leave='q') as window:
+        # Longer than a player has to wait for anything else.
         window.look('', ['move 0/0', 'The program is at work ..'])
-        window.look('1', ['1 of 9', 'move 1/1'])
+        assert not window.wait_until(lambda screen: 'Any key stops it' in ' '.join(screen.text()), 4), 'it can be stopped'
+        window.press('1')
+        room.put('goes on', b'')
+        window.look('', ['1 of 9', 'move 1/1'])
     assert room.read(KEPT) == save_text(1), 'what is kept'
 
 

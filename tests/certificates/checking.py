@@ -62,5 +62,5 @@ def by_node(lines: List[str], room: Room) -> List[int]:
 
 def both(name: str, room: Room, limits: Optional[Mapping[int, int]] = None) -> Tuple[Ended, Ended]:
     """The answers of the two commands on a file; that of Python may have limits."""
-    seconds = 600
+    seconds = 3600
     return run([sys.executable, '-I', str(PYTHON), name], room, seconds=seconds, limits=limits), run([node(), str(NODE), name], room, seconds=seconds)

@@ -46,10 +46,10 @@ class Writer:
     def __init__(self, program: str, room: Room) -> None:
         self.program, self.room = program, room
 
-    def write(self, ids: Iterable[str], name: str = 'certificates', words: Sequence[str] = ('--quick',)) -> Certified:
+    def write(self, ids: Iterable[str], name: str = 'certificates', words: Sequence[str] = ('--quick', '--seconds', '3600')) -> Certified:
         """Certificates of lines with a game and an ID, in a file of the room."""
         listed = ''.join(f'{id}\n' for id in ids).encode()
-        ended = run([CHECK, *words, '--certificate', name], self.room, input=listed, env={'PUZZLES_JSON': self.program}, seconds=1200)
+        ended = run([CHECK, *words, '--certificate', name], self.room, input=listed, env={'PUZZLES_JSON': self.program}, seconds=7200)
         assert (ended.error, ended.status in (0, 1, 4)) == (b'', True), ended.said[-500:]
         lines = (self.room.read(name) or b'').decode().splitlines()
         return Certified([Row(*row.split('\t')) for row in ended.output.decode().splitlines()], [json.loads(line) for line in lines], lines)

@@ -3,12 +3,13 @@
 import json
 import os
 import resource
+import sys
 from typing import Any, Dict, List
 
 import pytest
 
-from tests.certificates.checking import PYTHON, both
-from tests.harness import ID, TOP, Room, named
+from tests.certificates.checking import NODE, PYTHON, both, node
+from tests.harness import ID, TOP, Room, named, run
 
 #: A certificate of the small game, by hand: by its clues 3 the first row and column are 1 2 3, and the rest follows line by line.
 STEPS: List[Any] = [
@@ -168,9 +169,9 @@ INPUTS = [
 def test_input(room: Room, text: str, status: int) -> None:
     """Word for word alike, but where Python doesn't read what is nested too deep."""
     room.put('certificate', text.encode())
-    python, node = both('certificate', room)
-    assert python.output == node.output or text.count('[') > DEEP
-    for ended in python, node:
+    python, twin = both('certificate', room)
+    assert python.output == twin.output or text.count('[') > DEEP
+    for ended in python, twin:
         assert (ended.status, ended.error) == (status, b''), ended.said[-500:]
         told = ended.output.decode()
         assert told.startswith({1: 'NOT SHOWN by certificate 1 of ', 2: 'NO CERTIFICATE is number '}.get(status, '      3'))
@@ -212,8 +213,17 @@ LINES = [
 @pytest.mark.parametrize(('before', 'after', 'status'), named(LINES))
 def test_lines(room: Room, before: bytes, after: bytes, status: int) -> None:
     room.put('certificate', before + TEXT.encode() + after)
-    python, node = both('certificate', room)
-    assert (python, python.status, python.error) == (node, status, b''), node.said[-500:]
+    python, twin = both('certificate', room)
+    assert (python, python.status, python.error) == (twin, status, b''), twin.said[-500:]
+
+
+def test_closed_output(room: Room) -> None:
+    """Behind a pipe that nobody reads they say nothing, with the status that `cat` has there; on a full disk they say so."""
+    room.put('three', '\n'.join([TEXT, other(steps=[]), TEXT]).encode())
+    for words in [sys.executable, '-I', str(PYTHON)], [node(), str(NODE)]:
+        told = run(['bash', '-c', 'exec 3> >(:); wait $!; "$@" >&3; echo $?; "$@" > /dev/full; echo $?', '-', *words, 'three'], room)
+        assert (told.status, told.output) == (0, b'141\n2\n'), told.said
+        assert told.error.startswith(b'Standard output: ') and told.error.count(b'\n') == 1, told.error
 
 
 def test_length() -> None:

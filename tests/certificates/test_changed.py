@@ -50,7 +50,7 @@ def test_changed(writer: Writer, is_whole: bool) -> None:
     small = [id for path in ('playing/bank/towers.txt', 'playing/bank/unequal.txt') for id in stored(path) if id.split()[1][0] in '34'][::12]
     several = ['towers 3:///////////', 'unequal 4:1,2,3,4,0,0,0,0,0,0,0,0,0,0,0,0,', 'towers 3:3///////////', 'towers 4:///////////////,1c4k']
     none = ['towers 3:3/3//////////', 'unequal 3:1,1,0,0,0,0,0,0,0,', 'towers 4:4/4//////////////', 'unequal 4:4,4,0,0,0,0,0,0,0,0,0,0,0,0,0,0,']
-    bases = writer.write([*small, *several, *none, *LEARNED, *(id for id in seeds(8) if id.split()[1][0] in '34')], words=['--needed']).certificates
+    bases = writer.write([*small, *several, *none, *LEARNED, *(id for id in seeds(8) if id.split()[1][0] in '34')], words=['--needed', '--seconds', '3600']).certificates
     assert all(map(is_so, bases)) and all(any(kind in str(made['steps']) for made in bases) for kind in ('suppose', 'lemma'))
     tried = changed(bases, WHOLE if is_whole else SAMPLE)
     lines = [json.dumps(made) for made in tried]

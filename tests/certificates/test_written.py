@@ -45,7 +45,7 @@ def expect_supposed(made: Certified) -> None:
 @pytest.mark.parametrize(('path', 'part', 'parts', 'count'), named(LISTS))
 def test_stored(writer: Writer, is_whole: bool, path: str, part: int, parts: int, count: int) -> None:
     ids = stored(path)[part::parts]
-    made = writer.write(ids if is_whole else some(ids, count), words=['--quick', '--seconds', '600'])
+    made = writer.write(ids if is_whole else some(ids, count), words=['--quick', '--seconds', '3600'])
     assert NONE_MADE not in {row.suppositions for row in made.rows}
     expect_shown(made, writer.room)
     expect_supposed(made)
@@ -77,7 +77,7 @@ def test_hardest(writer: Writer, is_whole: bool, path: str) -> None:
 def test_needed(writer: Writer, is_whole: bool) -> None:
     """By a second grid for each item, exactly if none could go. A puzzle with a grade counts items by that: one may be needed for it alone."""
     ids = [*seeds(20 if is_whole else 1), *some(stored('bench/puzzles.txt'), 60 if is_whole else 4)]
-    made = writer.write(ids, words=['--needed'])
+    made = writer.write(ids, words=['--needed', '--seconds', '3600'])
     expect_shown(made, writer.room)
     needs = ['needed' in each for each in made.certificates]
     assert all(row.spare == '0' for row, each in zip(made.rows, needs) if each)

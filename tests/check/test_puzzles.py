@@ -151,7 +151,7 @@ STREAMS = [
 @pytest.mark.parametrize(('typed', 'lines'), named(STREAMS))
 def test_saves_in_a_row(checker: Checker, typed: bytes, lines: Sequence[int]) -> None:
     """Each is checked, and none is taken for a title."""
-    ended = checker.run(['--quick'], typed, seconds=300)
+    ended = checker.run(['--quick'], typed)
     assert (ended.status, ended.error) == (0, b'')
     assert [line.split('\t')[0] for line in ended.output.decode().splitlines()] == [f'-:{line}' for line in lines]
 

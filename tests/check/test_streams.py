@@ -54,7 +54,7 @@ def test_large(checker: Checker, room: Room, begins: bytes) -> None:
 def test_as_they_come(checker: Checker, room: Room) -> None:
     """Each is answered before the next one is there, however short it is; a drawing that isn't closed with the empty line after it."""
     env = {**os.environ, 'PUZZLES_JSON': checker.program}
-    with subprocess.Popen(['timeout', '60', PATH, '--quick'], env=env, cwd=room.path, stdin=subprocess.PIPE, stdout=subprocess.PIPE) as process:
+    with subprocess.Popen(['timeout', '600', PATH, '--quick'], env=env, cwd=room.path, stdin=subprocess.PIPE, stdout=subprocess.PIPE) as process:
         assert process.stdin and process.stdout
         drawn = PICTURE.decode()
         typed = ((1, 'towers 3!7\n', ''), (2, drawn, LINE), (7, drawn.replace('+', ' ') + '\n', LINE), (13, f'{ID}\n', LINE))
@@ -95,6 +95,6 @@ def test_progress(checker: Checker, room: Room) -> None:
 def test_many(checker: Checker, room: Room) -> None:
     """Thousands of them are one run of the program for each game, so two seconds are enough where little else is at work."""
     room.put('counted', f'#!/bin/bash\necho >> "{room.path}/runs"\nexec -a puzzles-json "{checker.program}" "$@"\n'.encode(), 0o755)
-    ended = checker.run(['--quick'], f'{ID}\n'.encode() * 10_000, env={'PUZZLES_JSON': f'{room.path}/counted'}, seconds=300)
+    ended = checker.run(['--quick'], f'{ID}\n'.encode() * 10_000, env={'PUZZLES_JSON': f'{room.path}/counted'})
     assert (ended.status, ended.output.count(b'\n'), ended.error) == (0, 10_000, b'')
     assert room.read('runs') == b'\n' * 2

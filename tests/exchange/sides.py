@@ -13,7 +13,7 @@ from tests.harness import Ended, Room, Skip, run
 PATH = f'{os.environ.get("PATH", os.defpath)}:/usr/games'
 
 #: How long a program may take, for a few puzzles.
-SECONDS = 300
+SECONDS = 600
 
 
 class Sides:

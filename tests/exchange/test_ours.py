@@ -99,7 +99,7 @@ CLASSES = [(game, size, letter) for game in fair.OFFERED for size in fair.SIZES 
 def test_fair(sides: Sides, objects: str, game: str, size: int, letter: str) -> None:
     """The usual program opens the ID of each as a puzzle of its own, and finds the solution that ours finds."""
     lines = ''.join(f'{fair.line(size, letter, seed)}\nsolve\n' for seed in range(FAIR))
-    answers = [json.loads(line) for line in run([objects, game], sides.room, input=lines.encode(), seconds=120).output.splitlines()]
+    answers = [json.loads(line) for line in run([objects, game], sides.room, input=lines.encode()).output.splitlines()]
     assert [answer['refused'] for answer in answers] == [None] * 2 * FAIR
     ids = [answer['session']['id'] for answer in answers[::2]]
     assert {id.partition(':')[0] for id in ids} == {f'{size}d{letter}'}

@@ -67,7 +67,7 @@ class Calls:
 
     def answer(self, game: str, call: str, at: int, is_on: bool) -> Answer:
         env = self.library.env('memory', at, on=is_on)
-        ended = run([self.program, 'call', game, call], self.room, env=env, seconds=60)
+        ended = run([self.program, 'call', game, call], self.room, env=env)
         return Answer(ended.status, ended.output, self.library.met().calls)
 
 

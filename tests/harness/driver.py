@@ -31,9 +31,19 @@ LEFT, RIGHT = 0, 2
 #: A long press lasts so many milliseconds: three times as long as it must, since a busy machine begins to count late.
 LONG = 1400
 
+#: A press is a long one to our page after 450 milliseconds. While a short one is made that clock stands still: a busy machine may take longer for it.
+SHORT = 'window.setTimeout = Object.assign((act, time, ...words) => plain(act, time === 450 ? 2 ** 30 : time, ...words), {plain})'
+CLOCK = f'((isShort, plain = window.setTimeout.plain ?? window.setTimeout) => {{ if (isShort) {SHORT}; else window.setTimeout = plain; }})'
+
+#: So many seconds an answer or something that is waited for may take: a limit is for what hangs, and a busy machine is slow.
+SECONDS = 300
 
 #: So many seconds a browser may take to begin, on a machine that has much else to do.
-BEGINS = 240
+BEGINS = 600
+
+
+#: How WebDriver and BiDi name it where a page goes away before a question to it is answered.
+GONE = 'no such frame'
 
 
 class PageLeft(AssertionError):
@@ -49,7 +59,7 @@ class Driver:
     #: Whether it can be touched with a finger.
     has_touch = True
 
-    def __init__(self, seconds: float = 60) -> None:
+    def __init__(self, seconds: float = SECONDS) -> None:
         self._seconds = seconds
 
     # --- how it is asked ---
@@ -108,7 +118,8 @@ class Driver:
         """Loads the page again, until an expression is true in it. It sees what stands in the browser's store: to a page that is opened anew Chromium may give
         an empty one, where the machine is busy.
         """
-        self.value('location.reload()')
+        with contextlib.suppress(PageLeft):
+            self.value('location.reload()')
         self.wait_for(f'performance.getEntriesByType("navigation")[0].type === "reload" && {condition}')
 
     def back(self) -> None:
@@ -139,10 +150,10 @@ class Driver:
     def type(self, text: str) -> None:
         self.press(*text)
 
-    def middle(self, selector: str) -> Point:
-        """Of an element, which is scrolled to."""
+    def middle(self, selector: str, is_short: bool = True) -> Point:
+        """Of an element, which is scrolled to, to be pressed shortly or for long."""
         found = self.value(
-            f'(node => {{ node.scrollIntoView({{block: "nearest"}}); const box = node.getBoundingClientRect();'
+            f'(node => {{ {CLOCK}({json.dumps(is_short)}); node.scrollIntoView({{block: "nearest"}}); const box = node.getBoundingClientRect();'
             f' return [box.left + box.width / 2, box.top + box.height / 2] }})(document.querySelector({json.dumps(selector)}))'
         )
         return found[0], found[1]
@@ -162,7 +173,7 @@ class Driver:
             self._point('mouse', selector, LEFT, LONG)
 
     def _point(self, kind: str, selector: str, button: int, milliseconds: int) -> None:
-        x, y = self.middle(selector)
+        x, y = self.middle(selector, milliseconds == 0)
         actions: List[Dict[str, Any]] = [
             {'type': 'pointerMove', 'x': round(x), 'y': round(y), 'origin': 'viewport', 'duration': 0},
             {'type': 'pointerDown', 'button': button},
@@ -230,13 +241,13 @@ class Told(Driver):
             raise ConnectionError(f'{method}: the browser has ended') from error
         return self._number
 
-    def _answer(self, number: int) -> Mapping[str, Any]:
-        """The answer to a message. Events come before it."""
+    def _answer(self, *numbers: int) -> Mapping[str, Any]:
+        """The answer to a message, or to that one of several which comes first. Events come before it."""
         while True:
             try:
                 came: Mapping[str, Any] = json.loads(self._socket.recv())
             except (websocket.WebSocketException, ValueError) as error:
                 raise ConnectionError('the browser has ended, or says nothing') from error
             self._note(came)
-            if came.get('id') == number:
+            if came.get('id') in numbers:
                 return came

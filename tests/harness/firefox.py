@@ -6,7 +6,7 @@ import os
 import shutil
 from typing import Any, Dict, Mapping, Sequence
 
-from tests.harness.driver import Told
+from tests.harness.driver import GONE, SECONDS, PageLeft, Told
 from tests.harness.room import Room, Skip
 
 #: It asks nobody for anything.
@@ -25,7 +25,7 @@ class Firefox(Told):
 
     way = '/session'
 
-    def __init__(self, room: Room, path: str, seconds: float = 60) -> None:
+    def __init__(self, room: Room, path: str, seconds: float = SECONDS) -> None:
         profile = f'{room.path}/firefox'
         os.makedirs(profile, exist_ok=True)
         with open(f'{profile}/user.js', 'w', encoding='utf-8') as file:
@@ -74,6 +74,8 @@ class Firefox(Told):
 
     def _ask(self, method: str, **parameters: Any) -> Mapping[str, Any]:
         answer = self._answer(self._tell(method, parameters))
+        if answer.get('error') == GONE:
+            raise PageLeft(f'{method}: {answer}')
         assert answer['type'] == 'success', f'{method}: {answer}'
         result: Mapping[str, Any] = answer['result']
         return result

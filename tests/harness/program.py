@@ -43,7 +43,7 @@ class Ended(NamedTuple):
         return self
 
 
-def eventually(holds: Callable[[], object], seconds: float = 20) -> bool:
+def eventually(holds: Callable[[], object], seconds: float = 300) -> bool:
     """Whether something comes to hold in time."""
     end = time.monotonic() + seconds * SLOWNESS
     while not holds() and time.monotonic() < end:
@@ -76,7 +76,7 @@ def run(  # pylint: disable=too-many-arguments
     stderr: int = subprocess.PIPE,
     kept: Sequence[int] = (),
     closed: Sequence[int] = (),
-    seconds: float = 120,
+    seconds: float = 600,
 ) -> Ended:
     """Runs a program in a folder until it ends. The first word is where it lies.
 

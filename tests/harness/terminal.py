@@ -56,7 +56,7 @@ class Terminal:
         *,
         cwd: str,
         user: Optional[User] = None,
-        seconds: float = 60,
+        seconds: float = 300,
     ) -> None:
         def begin() -> None:
             make_usual()

@@ -11,7 +11,7 @@ import subprocess
 import time
 from typing import Any, Dict, Mapping, Sequence, Tuple
 
-from tests.harness.driver import LEFT, RIGHT, Driver
+from tests.harness.driver import GONE, LEFT, RIGHT, SECONDS, Driver, PageLeft
 from tests.harness.room import Room, Skip
 
 #: The small browser that comes with WebKitGTK; it needs a screen.
@@ -23,7 +23,7 @@ SCREEN = ['-screen', '0', '1400x1000x24', '-nolisten', 'tcp']
 OURS = ('XDG_DATA_HOME', 'XDG_CACHE_HOME', 'XDG_CONFIG_HOME', 'XDG_RUNTIME_DIR', 'WAYLAND_DISPLAY')
 
 #: So many seconds it may take to begin, on a machine that has much else to do.
-BEGINS = 120
+BEGINS = 600
 
 #: Of an error a driver has to say what it was.
 BAD = 400
@@ -61,7 +61,7 @@ class WebKit(Driver):
     # For it the right button stays pressed for ever, and then a page hears of no other press.
     _is_stuck = False
 
-    def __init__(self, room: Room, browser: str, seconds: float = 60) -> None:
+    def __init__(self, room: Room, browser: str, seconds: float = SECONDS) -> None:
         super().__init__(seconds)
         screen, env = on_screen(room)
         self._processes = [screen]
@@ -135,6 +135,8 @@ class WebKit(Driver):
     def _begin(self) -> None:
         options = {'webkitgtk:browserOptions': {'binary': self._browser, 'args': ['--automation']}}
         self._session = self._request('POST', '/session', {'capabilities': {'alwaysMatch': options}})['sessionId']
+        # By itself the driver gives up a script after half a minute.
+        self._do('timeouts', script=int(1000 * self._seconds), pageLoad=int(1000 * self._seconds))
 
     def _leave(self) -> None:
         self._request('DELETE', f'/session/{self._session}')
@@ -158,8 +160,11 @@ class WebKit(Driver):
             connection.request(method, way, body, {'Content-Type': 'application/json'})
             answer = connection.getresponse()
             told: Mapping[str, Any] = json.loads(answer.read() or b'{}')
+        value = told.get('value')
+        if answer.status >= BAD and isinstance(value, dict) and value.get('error') == GONE:
+            raise PageLeft(f'{way}: {told}')
         assert answer.status < BAD, f'{way}: {told}'
-        return told.get('value')
+        return value
 
 
 def webkit(room: Room) -> WebKit:

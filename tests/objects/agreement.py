@@ -59,7 +59,7 @@ def left(program: str, words: Sequence[str], input: bytes, save: bytes) -> Left:
     with Room() as room:
         if save:
             room.put('old.sav', save)
-        ended = run([program, *words], room, input=input, seconds=100)
+        ended = run([program, *words], room, input=input)
         return Left(ended, room.read('new.sav'))
 
 

@@ -139,6 +139,6 @@ def shortened(line: bytes) -> str:
 def told(program: str, room: Room, game: str, lines: Sequence[str]) -> List[Object]:
     """The objects that answer lines of a run that ends well."""
     script = ''.join(f'{line}\n' for line in lines).encode('latin-1')
-    ended = run([program, game], room, input=script, seconds=100)
+    ended = run([program, game], room, input=script)
     assert (ended.status, ended.error) == (0, b'')
     return [answer.found for answer in read_answers(script, ended.output)]

@@ -77,13 +77,13 @@ def test_line_by_line(pair: Pair) -> None:
             process.stdin.write(line + b'\n')
             read_answers(line, first_line(process.stdout.fileno()) if line else b'')
         process.stdin.write(b'quit\n')
-        assert process.wait(20) == 0
+        assert process.wait(300) == 0
 
 
 def first_line(fd: int) -> bytes:
-    """The text that has come up to the end of a line, or within twenty seconds."""
+    """The text that has come up to the end of a line, or until it is seen that none comes."""
     came = b''
-    while not came.endswith(b'\n') and select.select([fd], [], [], 20)[0]:
+    while not came.endswith(b'\n') and select.select([fd], [], [], 300)[0]:
         more = os.read(fd, 1 << 16)
         if not more:
             break
@@ -106,6 +106,6 @@ def test_memory(objects: str, room: Room) -> None:
     room.put('long.sav', text)
     session = b'{"game":"Towers","id":"%s","position":1,"states":1,"status":"playing"}' % ID.encode()
     wanted = b'{"refused":null,"reply":["%s"],"session":%s}\n' % (b'","'.join(text.split(b'\n')[:-1]), session)
-    ended = run([objects, 'towers', '--load', 'long.sav'], room, input=b'save\n', limits={resource.RLIMIT_AS: 4 * len(wanted)}, seconds=100)
+    ended = run([objects, 'towers', '--load', 'long.sav'], room, input=b'save\n', limits={resource.RLIMIT_AS: 4 * len(wanted)})
     assert ended.status == 0, 'the status'
     assert ended.output == wanted, f'the object has {len(ended.output)} bytes and begins with {ended.output[:60]!r}'

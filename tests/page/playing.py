@@ -43,6 +43,7 @@ NO_JOURNAL = """new Promise((done) => {
   request.onupgradeneeded = () => request.result.createObjectStore("texts");
   request.onerror = () => done(true);
   request.onsuccess = () => {
+    if (!request.result.objectStoreNames.contains("texts")) { request.result.close(); done(true); return; }
     const cleared = request.result.transaction("texts", "readwrite");
     cleared.objectStore("texts").clear();
     cleared.oncomplete = cleared.onabort = () => { request.result.close(); done(true); };
@@ -60,19 +61,20 @@ class Player(Seen):
             self.driver.press(*(control or names), control=bool(control))
 
     def _target(self, what: str) -> str:
-        """The selector of a place, a number of the pad, or a button by its text; or that selector itself."""
-        if re.fullmatch(r'-?\d,-?\d', what):
-            return f'[data-place="{what}"]'
-        return f'[data-number="{what}"]' if what.isdigit() else what if what[0] in '#.[' else self._button(what)
+        """The selector of a place, a number of the pad, or a button by its text; or that selector itself. Waits until it is seen: an answer brings it, maybe."""
+        if what[0] not in '#.[' and not re.fullmatch(r'-?\d(,-?\d)?', what):
+            return self._button(what)
+        selector = what if what[0] in '#.[' else f'[data-{"place" if "," in what else "number"}="{what}"]'
+        self.is_shown(selector)
+        return selector
 
     def _button(self, text: str, among: str = 'button') -> str:
-        """The selector of a button with that text, among those that are seen."""
-        found = self.value(
+        """The selector of a button with that text, among those that are seen, once it is there."""
+        self.driver.wait_for(
             f'((all, node = all("{among}").find((one) => one.textContent.trim() === {json.dumps(text)} && one.getClientRects().length)) => {{'
             ' if (node) { all("[data-test]").forEach((one) => one.removeAttribute("data-test")); node.dataset.test = "it"; } return Boolean(node); })'
             '((selector) => [...document.querySelectorAll(selector)])'
         )
-        assert found, f'no button {text}'
         return '[data-test=it]'
 
     def write(self, selector: str, text: str) -> None:
@@ -83,10 +85,10 @@ class Player(Seen):
         )
 
     def drop(self, content: Union[bytes, int], name: str = 'a.sav', **waits: str) -> None:
-        """Drops a file onto the page, or one of so many bytes; and waits as `look` does."""
+        """Drops a file onto the page, or one of so many bytes; and waits as `look` does. What was told before is gone, as it may be told once more."""
         parts = f'new Uint8Array({content})' if isinstance(content, int) else f'Uint8Array.from({json.dumps(list(content))})'
         script = f'const data = new DataTransfer(); data.items.add(new File([{parts}], {json.dumps(name)}));'
-        self.value(f'(() => {{ {script} document.dispatchEvent(new DragEvent("drop", {{dataTransfer: data, cancelable: true}})); return true; }})()')
+        self.value(f'(() => {{ {script} document.querySelector("#told").replaceChildren(); document.dispatchEvent(new DragEvent("drop", {{dataTransfer: data, cancelable: true}})); return true; }})()')
         self.look('', **waits)
 
     def caught(self, does: str, **waits: str) -> bytes:

@@ -10,7 +10,7 @@ from tests.harness import Browser, Driver, Room, save_text
 from tests.page.playing import PHONE, TOWERS, UNEQUAL, Player
 
 #: Before and after the text of the worker: some lines fail as the engine fails, one in the worker itself, one takes forever, and what is put in at the
-#: desk takes a while.
+#: desk takes a while, as does the grade of a game.
 BEFORE = """
 const make = WebAssembly.instantiate;
 let line = '';
@@ -26,7 +26,7 @@ self.onmessage = (event) => {
   const end = Date.now() + 700;
   [line = ''] = event.data.lines ?? [];
   if (line === 'move R2,0,2') throw new Error('the worker fails');
-  while (line === 'completable' || line.startsWith('item') && Date.now() < end) Math.random();
+  while (line === 'completable' || /^(item|grade)/.test(line) && Date.now() < end) Math.random();
   return answer(event);
 };
 """
@@ -66,6 +66,13 @@ def test_stopped(failing: Player) -> None:
     failing.look('<right>', chose='1,0')
     failing.look('{#offer}', told='Stopped. Nothing has changed.')
     failing.look('3', 'row 1, column 2, 3')
+
+
+def test_slow_grade(failing: Player) -> None:
+    """The page asks for it by itself, and says that the program is at work: what was told before is seen again then."""
+    failing.sit(TOWERS, PHONE)
+    failing.look('1', 'row 1, column 1, 1')
+    failing.look(f'{{load {TOWERS}}}', counts='easy by our steps', told='You have begun this game before.')
 
 
 def test_slow_desk(failing: Player) -> None:

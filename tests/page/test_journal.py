@@ -1,12 +1,16 @@
 """The database beside the browser's store: it comes back after each failure, has what the store has lost or has no room for, and nothing that was deleted."""
 
+import base64
+import hashlib
 import json
-from typing import List
+from pathlib import Path
+from typing import Iterator, List, Optional
 
 import pytest
 
-from tests.harness import Browser
-from tests.page.playing import BESIDE, NOTHING_MORE, PHONE, TOWERS, UNEQUAL, Player, Scripted
+from tests.harness import Browser, Driver, Room
+from tests.page.conftest import serving
+from tests.page.playing import NO_JOURNAL, NOTHING_MORE, PHONE, TOWERS, UNEQUAL, Player, Scripted
 from tests.page.seen import JOURNAL
 from tests.page.test_keeping import FULL
 
@@ -34,6 +38,13 @@ IDBFactory.prototype.open = function (...words) {
 };
 """
 
+#: How long the page waits for its database: a busy machine has it later. And before a page from a disk: it waits as long as it takes.
+PATIENCE, LONG = 'const PATIENCE = 2000;', 'const PATIENCE = 2000000;'
+PATIENT = """
+const {setTimeout: plain} = window;
+window.setTimeout = (act, time, ...words) => plain(act, time === 2000 ? 2000000 : time, ...words);
+"""
+
 #: Makes a database, which is another page's; or one with all that the store has, as an earlier page has made it.
 MADE = """new Promise((done) => {{
   const request = indexedDB.open('{name}');
@@ -45,31 +56,50 @@ MADE = """new Promise((done) => {{
   }};
 }})"""
 
-#: There is none of a name any more.
-GONE = """new Promise((done) => {{ const request = indexedDB.deleteDatabase('{name}'); request.onsuccess = request.onerror = () => done(true); }})"""
-
-#: How many moves each game in the database has.
+#: All texts in the database.
 IN_JOURNAL = """new Promise((done) => {
   const request = indexedDB.open('NAME');
   request.onerror = () => done([]);
   request.onsuccess = ({target: {result}}) => {
     if (!result.objectStoreNames.contains('texts')) { result.close(); done([]); return; }
     const all = result.transaction('texts').objectStore('texts').getAll();
-    all.onsuccess = () => { result.close(); done(all.result.filter((text) => text.includes('"save"')).map((text) => text.split('\\\\nMOVE ').length - 1)); };
+    all.onsuccess = () => { result.close(); done(all.result); };
   };
 })""".replace('NAME', JOURNAL)
 
 NO_ROOM = 'has no room left'
 
 
-def journals(player: Player, moves: int) -> None:
-    """Waits until a game in the database has so many moves."""
-    player.driver.wait_for(f'{IN_JOURNAL}.then((counts) => counts.includes({moves}))')
+@pytest.fixture
+def patient(driver: Driver, page: Path, room: Room) -> Iterator[Player]:
+    """At a page that waits for its database as long as it takes, from a server of its own: there is no database of any page yet, and none is deleted. For
+    that WebKit would wait until it has left the pages before.
+    """
+    text = page.read_text(encoding='utf-8')
+    script = text.rpartition('<script>')[2].partition('</script>')[0]
+    assert PATIENCE in script and digest(script) in text
+    longer = script.replace(PATIENCE, LONG)
+    room.put('index.html', text.replace(script, longer).replace(digest(script), digest(longer)).encode())
+    room.put('beside.html', b'<!doctype html>')
+    with serving(room.path) as address, Player(driver, address) as player:
+        yield player
+
+
+def digest(script: str) -> str:
+    """As the page's policy names a script."""
+    return base64.b64encode(hashlib.sha256(script.encode()).digest()).decode()
+
+
+def journals(player: Player, moves: int, at: Optional[int] = None) -> None:
+    """Waits until a game in the database has so many moves, and so many of them done, all if that isn't told."""
+    position = f'STATEPOS:1:{moves + 1 if at is None else at + 1}\\n'
+    wanted = f'text.split("\\\\nMOVE ").length === {moves + 1} && text.includes({json.dumps(position)})'
+    player.driver.wait_for(f'{IN_JOURNAL}.then((texts) => texts.some((text) => {wanted}))')
 
 
 def forgets(player: Player, script: str) -> None:
-    """The store is as a browser leaves it that was killed: as it was before, or otherwise by a script; and the page writes nothing more into it."""
-    player.value(f'(localStorage.clear(), sessionStorage.clear(), {script}, Storage.prototype.setItem = () => undefined, true)')
+    """The store is as a browser leaves it that was killed: as it was before, or otherwise by a script; and the page writes nothing more, whatever it finds."""
+    player.value(f'(localStorage.clear(), sessionStorage.clear(), {script}, {NOTHING_MORE}, true)')
 
 
 @pytest.mark.always
@@ -108,32 +138,32 @@ def test_back(player: Player, served: str) -> None:
     away.forget()
 
 
-def test_of_another_page(player: Player) -> None:
+def test_of_another_page(patient: Player) -> None:
     """Another page of the same origin may have made a database of this name without our texts."""
-    player.driver.go(BESIDE)
-    player.value(f'({GONE.format(name=JOURNAL)}).then(() => {MADE.format(name=JOURNAL, store="others")})')
-    player.load(TOWERS)
-    player.look('1', 'row 1, column 1, 1')
-    journals(player, 1)
-    player.value(f'({NOTHING_MORE}, {GONE.format(name=JOURNAL)})')
+    patient.driver.go(f'{patient.address}beside.html')
+    patient.value(MADE.format(name=JOURNAL, store='others'))
+    patient.load(TOWERS)
+    patient.look('1', 'row 1, column 1, 1')
+    journals(patient, 1)
 
 
-def test_of_an_earlier_page(player: Player) -> None:
+def test_of_an_earlier_page(patient: Player) -> None:
     """The games that it has kept in its database go on here, once."""
-    player.sit(TOWERS, PHONE)
-    player.look('1<right>2', 'row 1, column 2, 2')
-    journals(player, 2)
-    player.value(MADE.format(name='puzzles', store='texts'))
-    player.value(f'({GONE.format(name=JOURNAL)})')
-    forgets(player, 'true')
-    player.load()
-    player.look('', 'row 1, column 2, 2..')
-    journals(player, 2)
-    player.look('u', 'row 1, column 2, empty')
-    forgets(player, 'true')
-    player.load()
-    player.look('', 'row 1, column 2, empty..')
-    player.value(f'({GONE.format(name="puzzles")})')
+    patient.sit(TOWERS, PHONE)
+    patient.look('1<right>2', 'row 1, column 2, 2')
+    journals(patient, 2)
+    patient.value(MADE.format(name='puzzles', store='texts'))
+    # Nothing is in ours, as if it were new.
+    patient.value(f'({NOTHING_MORE}, {NO_JOURNAL})')
+    forgets(patient, 'true')
+    patient.load()
+    patient.look('', 'row 1, column 2, 2..')
+    journals(patient, 2)
+    patient.look('u', 'row 1, column 2, empty')
+    journals(patient, 2, 1)
+    forgets(patient, 'true')
+    patient.load()
+    patient.look('', 'row 1, column 2, empty..')
 
 
 def test_deleted(player: Player) -> None:
@@ -147,7 +177,7 @@ def test_deleted(player: Player) -> None:
     player.look('{#games-list li:nth-child(2) [data-gone]}', answer_once='Yes')
     player.has(1, '#games-list li')
     player.driver.wait_for('!Object.values(localStorage).some((text) => text.includes("Towers"))')
-    player.settles()
+    player.driver.wait_for(f'{IN_JOURNAL}.then((texts) => texts.some((text) => text.includes(\'"gone"\')))')
     forgets(player, 'Object.assign(localStorage, window.before)')
     player.load()
     player.look('', called='Unequal 3×3')
@@ -156,7 +186,7 @@ def test_deleted(player: Player) -> None:
 
 def test_no_room(scripted: Scripted, browser: Browser) -> None:
     """A text for which the store has no room is in the database, and then nothing is lost, and nothing is said."""
-    player = scripted(FULL)
+    player = scripted(PATIENT + FULL)
     player.load(TOWERS)
     player.look('1<right>2', 'row 1, column 2, 2')
     journals(player, 2)

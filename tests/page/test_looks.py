@@ -18,7 +18,7 @@ from playing.games import SIZES, stored
 from tests.harness import BLANK, TOP, Browser, by_name
 from tests.harness.noted import expect_noted
 from tests.page.conftest import ALL
-from tests.page.playing import LAPTOP, PHONE, SMALL, TOWERS, UNEQUAL, Player
+from tests.page.playing import LAPTOP, PHONE, SMALL, TOWERS, UNEQUAL, Player, Scripted
 
 PICTURES = Path(__file__).resolve().parent / 'pictures'
 
@@ -115,11 +115,13 @@ def test_tree(piped: Player, browser: Browser) -> None:
     assert [role for role, _ in named].count('status') == 2
 
 
-def test_tab(piped: Player) -> None:
+def test_tab(scripted: Scripted) -> None:
     """The head, the board, the numbers, the buttons; and an arrow leaves the one tab stop of the board where it goes."""
+    piped = scripted(ASKED)
     piped.sit('unequal:4!7', LAPTOP)
-    # The second time nothing is offered between the two.
+    # The second time nothing is offered between the two, not even to stop what the page asks by itself.
     piped.load('unequal:4!7')
+    answered(piped)
     piped.press('<down><tab>')
     assert piped.value('document.activeElement.dataset.number') == '1'
     piped.press('<tab>' * 4)
@@ -139,9 +141,11 @@ def test_announced(piped: Player) -> None:
         piped.driver.wait_for(f'document.querySelector("#said").textContent === {json.dumps(said)}')
 
 
-def test_messages_cover_nothing(piped: Player) -> None:
+def test_messages_cover_nothing(scripted: Scripted) -> None:
     """A sentence stands beside the buttons, fades, and a long one moves none of them."""
+    piped = scripted(ASKED)
     piped.sit('towers:5!7', PHONE)
+    answered(piped)
     tops = '[...document.querySelectorAll("#play button")].map((node) => node.getBoundingClientRect().top)'
     before = piped.value(tops)
     piped.look('hh', told='Clue 4 left of row 2')
@@ -186,15 +190,31 @@ class Picture(NamedTuple):
     folder: Path = PICTURES
 
 
+#: Before the page: how many questions its workers haven't answered yet.
+ASKED = """
+window.asked = 0;
+const Plain = window.Worker;
+window.Worker = class extends Plain {
+  constructor(...words) { super(...words); this.addEventListener('message', () => { window.asked--; }); }
+  postMessage(...words) { window.asked++; super.postMessage(...words); }
+};
+"""
+
+
 def play(keys: str) -> Callable[[Player], object]:
-    """Presses keys, a moment after each other."""
+    """Presses keys, each once what came before it is answered and seen."""
 
     def act(player: Player) -> None:
         for key in re.findall('<[a-z]+>|.', keys):
             player.press(key)
-            player.settles()
+            answered(player)
 
     return act
+
+
+def answered(player: Player) -> None:
+    player.driver.wait_for('window.asked === 0')
+    player.settles()
 
 
 def paper(player: Player) -> None:
@@ -281,21 +301,23 @@ COMPARE = """
 
 
 @pytest.mark.parametrize('picture', ALL_PICTURES, ids=by_name)
-def test_picture(piped: Player, browser: Browser, picture: Picture) -> None:
+def test_picture(scripted: Scripted, browser: Browser, picture: Picture) -> None:
     """With PICTURES=new in the environment they are stored anew."""
-    piped.sit(picture.link, picture.window)
+    player = scripted(ASKED)
+    player.sit(picture.link, picture.window)
+    # The grade by our steps comes late.
+    answered(player)
     # The time stands in the head.
-    piped.switch('Time and statistics')
+    player.switch('Time and statistics')
     browser.media(picture.kind, picture.features)
-    picture.act(piped)
-    piped.settles()
+    picture.act(player)
+    answered(player)
     shown = browser.picture()
     path = picture.folder / f'{picture.name}.png'
     if picture.folder is not PICTURES:
-        expect_noted(path, ' '.join(' '.join(piped.value(TO_BE_SEEN)).split()), lambda: shown)
+        expect_noted(path, ' '.join(' '.join(player.value(TO_BE_SEEN)).split()), lambda: shown)
     elif os.environ.get('PICTURES') == 'new':
         path.write_bytes(shown)
     browser.go(BLANK)
     data = [json.dumps(base64.b64encode(content).decode()) for content in (shown, path.read_bytes())]
     assert browser.value(COMPARE.replace('ONE', data[0]).replace('OTHER', data[1])) < MOST_OTHER
-    piped.load()

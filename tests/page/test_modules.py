@@ -44,7 +44,7 @@ def modules() -> List[Path]:
 
 def test_types(room: Room) -> None:
     room.put('tsconfig.json', json.dumps({'compilerOptions': OPTIONS, 'files': [str(path) for path in modules()]}).encode())
-    ended = subprocess.run([found('tsc'), '-p', room.path], capture_output=True, check=False, timeout=120)
+    ended = subprocess.run([found('tsc'), '-p', room.path], capture_output=True, check=False, timeout=600)
     assert (ended.stdout.decode(), ended.returncode) == ('', 0)
 
 
@@ -52,7 +52,7 @@ def test_types(room: Room) -> None:
 def test_units() -> None:
     """By node's own runner."""
     names = sorted(str(path) for path in UNITS.glob('*.test.mjs'))
-    ended = subprocess.run([found('node', 'nodejs'), '--test', *names], capture_output=True, check=False, timeout=120)
+    ended = subprocess.run([found('node', 'nodejs'), '--test', *names], capture_output=True, check=False, timeout=600)
     told = ended.stdout.decode()
     assert ended.returncode == 0, told[-3000:]
     assert re.search(r'^# fail 0$', told, re.MULTILINE) and not re.search(r'^# pass 0$', told, re.MULTILINE)

@@ -6,7 +6,7 @@ from typing import List
 import pytest
 
 from tests.harness import HEAD, Browser
-from tests.page.playing import PHONE, TOWERS, UNEQUAL, Player, Scripted
+from tests.page.playing import NOTHING_MORE, PHONE, TOWERS, UNEQUAL, Player, Scripted
 from tests.page.seen import JOURNAL, at
 from tests.page.test_keeping import FULL, NO_DATABASE, REFUSED
 
@@ -92,7 +92,7 @@ def test_lost_by_the_store(player: Player) -> None:
     player.begin('Unequal 3×3', id=UNEQUAL)
     player.look('1', 'row 1, column 1, 1..')
     player.driver.wait_for(f'{TEXTS}.then((texts) => texts.some((text) => text.includes("Unequal") && text.includes("R0,0,1")))')
-    player.value('(localStorage.clear(), sessionStorage.clear(), Object.assign(localStorage, window.before), Storage.prototype.setItem = () => undefined, true)')
+    player.value(f'(localStorage.clear(), sessionStorage.clear(), Object.assign(localStorage, window.before), {NOTHING_MORE}, true)')
     player.load()
     if player.text('#title') != 'Unequal 3×3' or player.name('row 1, column 1') == 'row 1, column 1, empty, less than right, less than below':
         # The page waits two seconds for its database, and begins without it where that is late, as on a busy machine. The texts of the database come into the

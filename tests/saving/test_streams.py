@@ -196,7 +196,7 @@ def test_fifo(saver: Saver, path: str) -> None:
     room = saver.room
     os.mkfifo('fifo', dir_fd=room.fd)
     room.link('link', 'fifo')
-    reader = subprocess.Popen(['timeout', '20', 'cat', f'{room.path}/fifo'], stdout=subprocess.PIPE)
+    reader = subprocess.Popen(['timeout', '600', 'cat', f'{room.path}/fifo'], stdout=subprocess.PIPE)
     expect_saved(saver.save(room, path, 1), 1)
     assert reader.communicate()[0] == save_text(1), 'what came through'
     assert room.names() == ['fifo', 'link'], 'what lies there'

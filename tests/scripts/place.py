@@ -92,7 +92,7 @@ class Place:
     def run(self, words: Sequence[str], *, cwd: str = '', input: bytes = b'', env: Optional[Mapping[str, str]] = None) -> Ended:
         """Runs a command, there or in a folder named from there, with what else the environment has."""
         with Folder(os.path.join(self.path, cwd)) as folder:
-            return run(words, folder, input=input, user=self.user, env=self.env(env or {}), seconds=300)
+            return run(words, folder, input=input, user=self.user, env=self.env(env or {}))
 
     def terminal(self, *words: str, **env: str) -> Terminal:
         """A command in a terminal. The named words are what else the environment has."""

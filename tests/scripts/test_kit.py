@@ -36,14 +36,14 @@ def form(ended: Ended) -> Tuple[int, bool, bool]:
 
 @pytest.mark.parametrize('word', ASKED)
 def test_stand_in(rt: str, room: Room, word: str) -> None:
-    ours, real = run([str(STAND_INS / 'rt'), word], room), run([rt, word], room, seconds=60)
+    ours, real = run([str(STAND_INS / 'rt'), word], room), run([rt, word], room)
     assert form(ours) == form(real)
     assert set(re.findall(ALL_ANEW, real.said)) <= set(re.findall(ALL_ANEW, ours.said))
 
 
 def test_anew(rt: str, room: Room) -> None:
     """All is proved anew in the gate, with ANEW=1: by a word that the kit's help has, or since the kit does nothing else, as its help says."""
-    said = ' '.join(run([rt, 'help'], room, seconds=60).said.split())
+    said = ' '.join(run([rt, 'help'], room).said.split())
     assert knows(rt, ALL_ANEW) or NEVER_KEPT in said
     assert not knows(rt, '--nothing-of-the-kind')
 

@@ -1,4 +1,5 @@
-// Makes a sheet by the page's modules, without a page: `node of_the_page.mjs ASKED.json` prints the file, or says on standard error why there is none.
+// Makes a sheet by the page's modules, without a page: `node of_the_page.mjs ASKED.json` prints the file, and on standard error what is told of it, or why
+// there is none.
 import {readFileSync} from 'node:fs';
 import {NO_BYTES, bytesOf, textOf} from '../../page/bytes.js';
 import {Module} from '../../page/module.js';
@@ -25,18 +26,22 @@ async function ask(game, lines, saved = NO_BYTES) {
   return {answers, saved: textOf(bytes)};
 }
 
-// The puzzles of a list, or those of a series for each name.
+// The puzzles of a list, or those of a series for each name; and what is told of them.
 async function puzzlesOf({list, game, sizes, letters, count, series, form}) {
-  if (!list) return (await chosen(ask, {kinds: kindsOf(game, sizes, letters), count, pupils: form.names.length || 1, series, ahead: 1}, () => {})).sheets;
-  return [await Promise.all(list.map(async ([own, id, caption]) => ({...await provedBy(ask, own, `new ${id}`), caption: plainText(caption)})))];
+  if (!list) return chosen(ask, {kinds: kindsOf(game, sizes, letters), count, pupils: form.names.length || 1, series, ahead: 1}, () => {});
+  const sheets = [await Promise.all(list.map(async ([own, id, caption]) => ({...await provedBy(ask, own, `new ${id}`), caption: plainText(caption)})))];
+  return {sheets, told: []};
 }
 
 try {
-  const form = {...asked.form, names: asked.form.names.map(plainText), title: plainText(asked.form.title)}, puzzles = await puzzlesOf({...asked, form});
+  const form = {...asked.form, names: asked.form.names.map(plainText), title: plainText(asked.form.title)};
+  const {sheets: puzzles, told} = await puzzlesOf({...asked, form});
   const games = [...new Set(puzzles.flat().map(({game}) => game))];
   const moves = form.steps ? await movesBy(ask, puzzles.flat()) : [];
   const examples = form.example ? await Promise.all(games.map((game) => lessonsBy(ask, game))) : [];
-  process.stdout.write(new Sheets(form, {puzzles, moves, examples}).file);
+  const made = new Sheets(form, {puzzles, moves, examples});
+  process.stdout.write(made.file);
+  for (const text of [...told, ...made.cut]) console.error(text);
 } catch (fault) {
   if (!(fault instanceof NoRoom || fault instanceof Unfit)) throw fault;
   console.error(fault.message);

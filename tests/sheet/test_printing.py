@@ -160,7 +160,7 @@ def test_margins(maker: Maker, room: Room, margin: str) -> None:
     pdf = os.path.join(room.path, 'page.pdf')
     screen, env = on_screen(room)
     try:
-        subprocess.run([sys.executable, str(WEBKIT), os.path.join(room.path, 'page.html'), pdf, margin], env=env, check=True, timeout=300)
+        subprocess.run([sys.executable, str(WEBKIT), os.path.join(room.path, 'page.html'), pdf, margin], env=env, check=True, timeout=600)
     finally:
         screen.kill()
         screen.wait()
@@ -174,7 +174,7 @@ def test_pdf(maker: Maker, room: Room) -> None:
     if not any(map(shutil.which, BROWSERS)):
         raise Skip('there is no Chromium')
     need_tools()
-    ended = maker.run(['towers', '--count', '8', '--paper', 'letter', '--pdf', 'sheet.pdf', '--output', 'page.html'], seconds=120)
+    ended = maker.run(['towers', '--count', '8', '--paper', 'letter', '--pdf', 'sheet.pdf', '--output', 'page.html'])
     if b'No usable sandbox' in ended.error:
         raise Skip('Chromium runs here for root alone. To try it: apt-get install chromium-sandbox')
     assert (ended.status, ended.output, ended.error) == (0, b'', b'')

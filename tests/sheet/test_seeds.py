@@ -48,6 +48,7 @@ SHEETS = [
         ['4 Easy', '4 Tricky', '5 Easy'],
         '3 puzzles of 4 kinds: 1 of size 4 easy, 1 of size 4 tricky, 1 of size 5 easy, 0 of size 5 tricky',
     ),
+    (['towers', '--size', '4-5', '--count', '1'], ['4 Easy'], '1 puzzle of 2 kinds: 1 of size 4 easy, 0 of size 5 easy'),
     (
         ['towers', '--size', '5-7', '--grade', 'easy,hard', '--seed', '20261126'],
         [f'{size} {grade}' for size in (5, 6, 7) for grade in ('Easy', 'Easy', 'Hard', 'Hard')],
@@ -117,12 +118,13 @@ def test_number(maker: Maker) -> None:
     assert ids(again) == ids(page) and f'Sheet {sheet}, number' in again
 
 
-def test_few(maker: Maker) -> None:
+@pytest.mark.parametrize(('game', 'count', 'told'), [('unequal', 9, '[78] of the 9 puzzles have'), ('towers', 4, '1 of the 4 puzzles has')])
+def test_few(maker: Maker, game: str, count: int, told: str) -> None:
     """Of the twelve Latin squares of size 3 few are left when those that turn into each other count once."""
-    ended = maker.run(['unequal', '--size', '3', '--count', '9', '--answers', 'none'])
+    ended = maker.run([game, '--size', '3', '--count', str(count), '--answers', 'none'])
     assert ended.status == 0
-    assert re.fullmatch(rb'[78] of the 9 puzzles have the solution of an earlier one, perhaps turned over: 60 in a row had no new one\n', ended.error)
-    assert len(set(ids(ended.output.decode()))) == 9
+    assert re.fullmatch(f'{told} the solution of an earlier one, perhaps turned over: 60 in a row had no new one\n', ended.error.decode())
+    assert len(set(ids(ended.output.decode()))) == count
 
 
 REFUSED = [

@@ -102,6 +102,8 @@ def test_same(maker: Maker, room: Room, seed: int) -> None:
     assert made.returncode in (0, 2), made.stderr.decode()
     assert (ended.status == 0) == (made.returncode == 0), (asked.words, ended.error, made.stderr)
     assert ended.output == made.stdout, asked.words
+    if ended.status == 0 and 'list' not in asked.page:
+        assert ended.error.decode().replace('puzzles-sheet: ', '') == made.stderr.decode()
 
 
 def again(words: List[str]) -> Tuple[str, str]:

@@ -9,7 +9,7 @@ import time
 from typing import Any, Dict, List
 
 #: So many seconds it may take, on a machine that has much else to do.
-PATIENCE = 120
+PATIENCE = 600
 
 #: The word of GTK for millimetres.
 MILLIMETRES = 3

@@ -46,7 +46,7 @@ def tables() -> Dict[str, Any]:
             **of(examples, 'STEP BESIDE BELOW FRAMED'),
             'TITLES': {game: [[card.title, card.text] for card in cards] for game, cards in CARDS.items()},
         },
-        'CHOICE': {**of(choice, 'MOST ALIKE LIKE REPEATED FEWER'), **of(seeds, 'STRIDE TRIES UNEVEN')},
+        'CHOICE': {**of(choice, 'MOST ALIKE LIKE REPEATED FEWER'), **of(seeds, 'STRIDE TRIES UNEVEN ONE')},
         **of(layout, 'CALLED RULES ANY_SIZE MOST_NOTES'),
         **of(pages, 'KINDS CUT_CAPTION LONG_NAME POLICY'),
         'STYLE': style.STYLE.template,

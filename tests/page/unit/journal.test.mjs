@@ -114,6 +114,20 @@ test('one that closes by itself, or has closed silently, is opened again, and al
   deepEqual([databases.texts(), databases.opens], [{'puzzles:now': '4'}, 6]);
 });
 
+test('one that another page wants while it is read is left at once, and opened again by the next text', async () => {
+  const databases = new Databases(), journal = new Journal(() => undefined);
+  globalThis.indexedDB = databases;
+  const opening = journal.open();
+  while (!databases.there) await new Promise((done) => setImmediate(done));
+  databases.there.onversionchange();
+  equal(databases.there.isClosed, true);
+  await opening;
+  journal.put('puzzles:now', '1');
+  later();
+  await rests();
+  deepEqual([databases.texts(), journal.isThere], [{'puzzles:now': '1'}, true]);
+});
+
 test('a write that is undone waits, but for what was put meanwhile, and is told', async () => {
   const databases = new Databases(), {journal} = await begun(databases);
   databases.aborts = 1;
