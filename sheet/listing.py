@@ -5,8 +5,8 @@ from __future__ import annotations
 from string import Template
 from typing import Iterator, List, NamedTuple, Sequence
 
-from sheet.layout import Numbered, Paper
 from playing.steps import Sentence
+from sheet.layout import Numbered, Paper
 from sheet.markup import Markup, fill, joined, safe
 from sheet.measures import length
 from sheet.steps import Move, explained_words

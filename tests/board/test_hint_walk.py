@@ -10,8 +10,9 @@ from playing.hint_walk import HintWalk
 BOARD = Board(Session('towers', '3:', 1, 1, 'playing'), 3, {}, frozenset(), {}, {}, [], frozenset())
 
 STEP: Dict[str, Any] = {'reason': 'clue', 'x': -1, 'y': 1, 'clue': 2, 'greater': None, 'less': None, 'cells': None, 'line': None, 'numbers': None}
-STRIKE: Dict[str, Any] = {'strikes': [{'cell': 3, 'numbers': [1], 'shows': [[3]]}], 'text': ['Clue 2 left of row 2, where r2c3 is 3:', '   with a 1 in r2c1 more than 2 towers would be seen.']}
-TEXT = ['1. Clue 2 left of row 2, where r2c3 is 3:', '   with a 1 in r2c1 more than 2 towers would be seen.', 'So r2c1 is 2: 1 is ruled out above.']
+SENTENCE = ['Clue 2 left of row 2, where r2c3 is 3:', '   with a 1 in r2c1 more than 2 towers would be seen.']
+STRIKE: Dict[str, Any] = {'strikes': [{'cell': 3, 'numbers': [1], 'shows': [[3]]}], 'text': SENTENCE}
+TEXT = [f'1. {SENTENCE[0]}', SENTENCE[1], 'So r2c1 is 2: 1 is ruled out above.']
 HINT: Dict[str, Any] = {'kind': 'follows', 'cell': 3, 'number': 2, 'line': None, 'grade': 'h', 'groups': [1], 'text': TEXT}
 
 #: All squares of the clue's row.

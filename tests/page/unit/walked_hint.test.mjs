@@ -74,7 +74,8 @@ test('where to look, and what a step rests on', () => {
 });
 
 test('of a clue the squares that its sentence names, and the whole line where that names none', () => {
-  const clue = {...sign, reason: 'clue', greater: null, less: null, clue: 2, x: -1, y: 1}, known = [{cell: 5, numbers: [3]}], split = [{cell: 3, number: 3, place: 'not', seen: 'fewer'}];
+  const clue = {...sign, reason: 'clue', greater: null, less: null, clue: 2, x: -1, y: 1};
+  const known = [{cell: 5, numbers: [3]}], split = [{cell: 3, number: 3, place: 'not', seen: 'fewer'}];
   deepEqual(speaksOf({...clue, known, split: []}, 3), ['-1,1', '2,1']);
   deepEqual(speaksOf({...clue, known: [], split}, 3), ['-1,1', '0,1']);
   for (const more of [{}, {known: [], split: []}]) deepEqual(speaksOf({...clue, ...more}, 3), ['-1,1', '0,1', '1,1', '2,1']);
