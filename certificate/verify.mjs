@@ -46,7 +46,8 @@ function puzzleOf(game, text) {
   expect(givens.length === w * w, NO_ID);
   return {w, lines: [...rows, ...columns], views, clues, signs, givens};
 }
-/** The rules: 0 if a row or column has a number twice; each clue, given and sign, from 1 on, that a grid breaks. @param {Puzzle} puzzle @param {number[]} grid */
+// The rules: 0 if a row or column has a number twice; each clue, given and sign, from 1 on, that a grid breaks.
+/** @param {Puzzle} puzzle @param {number[]} grid */
 function broken({lines, views, clues, givens, signs}, grid) {
   const along = (/** @type {number[]} */ line) => line.map((square) => [grid[square]]), pairs = [...signs].map((sign) => sign.split(',').map(Number));
   const met = [lines.every((line) => possible(along(line))), ...[...clues].map(([place, clue]) => possible(along(views[place]), clue)),
@@ -143,7 +144,8 @@ function shown(text) {
   const more = needed.length ? ', and each clue, sign and given is needed' : '';
   return {puzzle, told: `${words}${more}. Steps: ${all}. Suppositions among them: ${counts[0] + counts[1]}.`};
 }
-/** The answer of a certificate; or, with the status 1, why it doesn't, and with 2, why it is none. @param {string} text */
+// The answer of a certificate; or, with the status 1, why it doesn't, and with 2, why it is none.
+/** @param {string} text */
 export function verify(text) {
   try {
     return {status: 0, ...shown(text)};
@@ -152,7 +154,8 @@ export function verify(text) {
     return {status, told: error instanceof SyntaxError ? 'it is no JSON, or nested too deep' : String(message), puzzle: null};
   }
 }
-/** For node alone. @param {Puzzle} puzzle */
+// For node alone.
+/** @param {Puzzle} puzzle */
 function drawn({w, lines, clues, signs, givens}) {
   const edge = (/** @type {number} */ from) => range(from, from + w - 1).map((place) => clues.get(place) ?? ' ');
   /** @type {(one: number, other: number, less: string, greater: string) => string} */

@@ -8,8 +8,8 @@ import {noLineOfClues} from './drawn_texts.js';
 /** A puzzle by its items, as lines of the program have them. */
 /** @typedef {{game: Game, size: number, items: string[]}} Puzzle */
 /**
- * A puzzle that lines may mean: what could have been lost in it, whether nothing above or below could belong to it, too, and whether no other way counts.
- * @typedef {{puzzle: Puzzle, doubt: string, isWhole: boolean, isExact: boolean}} Reading
+ * A puzzle that lines may mean: what could have been lost in it, and whether nothing above or below could belong to it, too.
+ * @typedef {{puzzle: Puzzle, doubt: string, isWhole: boolean}} Reading
  */
 
 export const EMPTY = '.';
@@ -64,7 +64,7 @@ export const isBare = (puzzle) => puzzle.items.every((item) => isGiven(puzzle, i
 export const fits = ({size, items}) => items.every((item) => Number(item[item.length - 1]) <= size);
 
 /** @param {Game} game @param {number} size @param {string[]} items @param {Partial<Reading>} [more] @returns {Reading} */
-export const readingOf = (game, size, items, more) => ({puzzle: {game, size, items: items.filter(Boolean)}, doubt: '', isWhole: true, isExact: false, ...more});
+export const readingOf = (game, size, items, more) => ({puzzle: {game, size, items: items.filter(Boolean)}, doubt: '', isWhole: true, ...more});
 
 // --- tables ---
 

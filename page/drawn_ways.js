@@ -36,7 +36,7 @@ export function readings(lines, game, {isStrict = true, isFitting = true} = {}) 
 /** @param {string[]} lines @param {Meant} game @returns {Reading[] | null} */
 export function exactReadings(lines, game) {
   const table = game === 'unequal' ? null : exact(lines);
-  return table && towers(table, true, false).filter(({puzzle}) => fits(puzzle)).map((reading) => ({...reading, doubt: '', isExact: true}));
+  return table && towers(table, true, false).filter(({puzzle}) => fits(puzzle)).map((reading) => ({...reading, doubt: ''}));
 }
 
 /** @param {Reading} reading */

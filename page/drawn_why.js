@@ -59,109 +59,74 @@ function two(puzzles) {
   return puzzles.every(isBare) && sizes.size === 1 && games.size === 2 ? OF_BOTH : twoWays(puzzles.map(called));
 }
 
-/** @param {Lines} own @returns {Why | null} */
-function strange({lines}) {
-  for (const [y, line] of lines.entries()) {
-    // The board has this word for pencil marks of all numbers.
-    const letters = [...(line.split('|').length > 3 ? line.replaceAll('all', '   ') : line)], x = letters.findIndex((letter) => !KNOWN.includes(letter));
-    if (x < 0) continue;
-    const [letter] = letters.slice(x), code = (letter.codePointAt(0) ?? 0).toString(16).toUpperCase().padStart(4, '0');
-    return {line: y, column: x + 1, why: strangeLetter(/[\p{C}\p{Z}]/u.test(letter) ? `U+${code}` : `'${letter}'`)};
-  }
-  return null;
-}
-
-/** @param {Lines} own @returns {Why | null} */
-function leftOut({lines, game, first}) {
-  const found = readings(lines, game, {isStrict: false});
-  return found.length ? {line: first, column: 0, why: found.every(({isWhole}) => isWhole) ? PLACE_LOST : SIDE_LOST} : null;
-}
-
-/** @param {Lines} own @returns {Why | null} */
-function tooGreat({lines, game, first}) {
-  const found = readings(lines, game, {isFitting: false}), size = Math.max(...found.map(({puzzle}) => puzzle.size));
-  if (!found.length) return null;
-  const y = lines.findIndex((line) => [...line].some((letter) => NUMBERS.includes(letter) && Number(letter) > size));
-  const x = y < 0 ? -1 : [...lines[y]].findIndex((letter) => NUMBERS.includes(letter) && Number(letter) > size);
-  return {line: y < 0 ? first : y, column: x + 1, why: aboveSize(size)};
-}
-
-/** @param {Lines} own @returns {Why | null} */
-function tabs({lines}) {
-  const y = lines.findIndex((line) => line.includes('\t'));
-  if (y < 0) return null;
-  const cells = lines.flatMap((line, at) => (line.replace(/^ +| +$/g, '') ? [{at, count: line.split('\t').length}] : [])), other = cells.find(({count}) => count !== cells[0].count);
-  if (lines.some((line) => line.includes('\t') && line.trim().includes(' '))) return {line: y, column: lines[y].indexOf('\t') + 1, why: MIXED};
-  return other ? {line: other.at, column: 0, why: otherCells(other.count, cells[0].count)} : null;
-}
-
-// A sign in a drawing that would be one of Towers without it.
-/** @param {Lines} own @returns {Why | null} */
-function foreign({lines, game}) {
-  const places = lines.flatMap((line, y) => [...line].flatMap((letter, x) => (SIGNS.includes(letter) ? [{y, x}] : [])));
-  if (places.length !== 1 || game === 'unequal') return null;
-  const [{y, x}] = places, without = lines.map((line, at) => (at === y ? `${line.slice(0, x)} ${line.slice(x + 1)}` : line));
-  return readings(without, game).some(({puzzle}) => puzzle.game === 'towers') ? {line: y, column: x + 1, why: foreignSign(lines[y][x])} : null;
-}
-
-/** @param {Lines} own @returns {Why | null} */
-function atEdge({lines}) {
-  for (const [y, line] of lines.entries()) {
-    const text = line.trim(), isFirst = '<>'.includes(text[0] ?? '-');
-    if (!text || line.includes('|') || !(isFirst || '<>'.includes(text[text.length - 1]))) continue;
-    const column = line.indexOf(text) + (isFirst ? 1 : text.length);
-    return {line: y, column, why: edgeSign(line[column - 1])};
-  }
-  return null;
-}
-
-/** @param {Lines} own @returns {Why | null} */
-function stray({lines}) {
-  const place = strayIn(lines);
-  return place ? {line: place.y, column: place.x + 1, why: straySign(lines[place.y][place.x])} : null;
-}
-
-/** @param {Lines} own @returns {Why | null} */
-function openWall({lines}) {
-  const place = gapIn(lines);
-  return place && {line: place.y, column: place.x + 1, why: NO_WALL};
-}
-
-/** @param {Lines} own @returns {Why | null} */
-const four = ({rows, usual, first}) => (rows.length === 4 && SIZES.includes(usual) && rows.every(({count}) => count === usual) ? {line: first, column: 0, why: FOUR_LINES} : null);
-
-// Numbers alone, in lines of which several have fewer than others.
-/** @param {Lines} own @returns {Why | null} */
-function numbersAlone({lines, rows, middle, first}) {
-  const most = Math.max(...rows.map(({count}) => count)), isOdd = middle.filter(({count}) => count < most).length > 1;
-  return isOdd && [...lines.join('')].every((letter) => `${NUMBERS}${BLANK}`.includes(letter)) ? {line: first, column: 0, why: NUMBERS_ALONE} : null;
-}
-
-/** @param {Lines} own @returns {Why | null} */
-function otherHeight({lines, first}) {
-  const height = lines.filter((line) => !isBlank(line)).length;
-  if (height < 3) return {line: first, column: 0, why: tooFew(height)};
-  return height > MOST_LINES ? {line: first, column: 0, why: tooMany(height, MOST_LINES)} : null;
-}
-
-// As high as wide, and too small or too large. A clue of a size that is too large may have two digits.
-/** @param {Lines} own @returns {Why | null} */
-function otherSize({rows, usual, isSigned, odd, first}) {
-  const isLarge = !isSigned && usual === rows.length && usual > LARGEST + 2, size = usual - (isLarge ? 2 : 0);
-  return (!odd || isLarge) && !SIZES.includes(size) && (size > LARGEST || usual < SMALLEST) ? {line: first, column: 0, why: noSize(size)} : null;
-}
-
-/** @param {Lines} own @returns {Why | null} */
-const otherWidth = ({odd, usual}) => (odd ? {line: odd.y, column: 0, why: otherLength(odd.count, usual)} : null);
-
-// The lines are as long as one another, and too few or too many.
-/** @param {Lines} own @returns {Why | null} */
-function lacking({rows, usual, isSigned}) {
-  if (usual < SMALLEST || usual > LARGEST + 2) return null;
-  const height = rows.length;
-  if (height < usual && (isSigned || usual >= SMALLEST + 2)) return {line: rows[height - 1].y, column: 0, why: endsHere(height, isSigned ? 'rows' : 'lines', usual)};
-  return height > usual ? {line: rows[usual].y, column: 0, why: lineMore(usual)} : null;
-}
-
-/** In this order. */
-const REASONS = [strange, leftOut, tooGreat, tabs, foreign, atEdge, stray, openWall, four, numbersAlone, otherHeight, otherSize, otherWidth, lacking];
+// The reasons, in their order: a letter of no meaning; a place or a side that was left out; a number above the size; cells of tabs; signs and walls; all lines
+// together; lines of another length, and too few or too many of them.
+/** @type {((own: Lines) => Why | null)[]} */
+const REASONS = [
+  ({lines}) => {
+    for (const [y, line] of lines.entries()) {
+      // The board has this word for pencil marks of all numbers.
+      const letters = [...(line.split('|').length > 3 ? line.replaceAll('all', '   ') : line)], x = letters.findIndex((letter) => !KNOWN.includes(letter));
+      if (x < 0) continue;
+      const [letter] = letters.slice(x), code = (letter.codePointAt(0) ?? 0).toString(16).toUpperCase().padStart(4, '0');
+      return {line: y, column: x + 1, why: strangeLetter(/[\p{C}\p{Z}]/u.test(letter) ? `U+${code}` : `'${letter}'`)};
+    }
+    return null;
+  },
+  ({lines, game, first}) => {
+    const found = readings(lines, game, {isStrict: false});
+    return found.length ? {line: first, column: 0, why: found.every(({isWhole}) => isWhole) ? PLACE_LOST : SIDE_LOST} : null;
+  },
+  ({lines, game, first}) => {
+    const found = readings(lines, game, {isFitting: false}), size = Math.max(...found.map(({puzzle}) => puzzle.size));
+    const places = lines.flatMap((line, y) => [...line].flatMap((letter, x) => (NUMBERS.includes(letter) && Number(letter) > size ? [{line: y, column: x + 1}] : [])));
+    return found.length ? {...places[0] ?? {line: first, column: 0}, why: aboveSize(size)} : null;
+  },
+  ({lines}) => {
+    const y = lines.findIndex((line) => line.includes('\t'));
+    if (y < 0) return null;
+    if (lines.some((line) => line.includes('\t') && line.trim().includes(' '))) return {line: y, column: lines[y].indexOf('\t') + 1, why: MIXED};
+    const cells = lines.flatMap((line, at) => (line.replace(/^ +| +$/g, '') ? [{at, count: line.split('\t').length}] : [])), other = cells.find(({count}) => count !== cells[0].count);
+    return other ? {line: other.at, column: 0, why: otherCells(other.count, cells[0].count)} : null;
+  },
+  // A sign in a drawing that would be one of Towers without it.
+  ({lines, game}) => {
+    const places = lines.flatMap((line, y) => [...line].flatMap((letter, x) => (SIGNS.includes(letter) ? [{y, x}] : [])));
+    if (places.length !== 1 || game === 'unequal') return null;
+    const [{y, x}] = places, without = lines.map((line, at) => (at === y ? `${line.slice(0, x)} ${line.slice(x + 1)}` : line));
+    return readings(without, game).some(({puzzle}) => puzzle.game === 'towers') ? {line: y, column: x + 1, why: foreignSign(lines[y][x])} : null;
+  },
+  ({lines}) => {
+    for (const [y, line] of lines.entries()) {
+      const text = line.trim(), isFirst = '<>'.includes(text[0] ?? '-');
+      if (!text || line.includes('|') || !(isFirst || '<>'.includes(text[text.length - 1]))) continue;
+      const column = line.indexOf(text) + (isFirst ? 1 : text.length);
+      return {line: y, column, why: edgeSign(line[column - 1])};
+    }
+    return null;
+  },
+  ({lines}) => {
+    const odd = strayIn(lines), gap = odd ? null : gapIn(lines);
+    return odd ? {line: odd.y, column: odd.x + 1, why: straySign(lines[odd.y][odd.x])} : gap && {line: gap.y, column: gap.x + 1, why: NO_WALL};
+  },
+  ({lines, rows, middle, usual, isSigned, odd, first}) => {
+    const height = lines.filter((line) => !isBlank(line)).length, most = Math.max(...rows.map(({count}) => count)), isShort = middle.filter(({count}) => count < most).length > 1;
+    // As high as wide, and too small or too large. A clue of a size that is too large may have two digits.
+    const isLarge = !isSigned && usual === rows.length && usual > LARGEST + 2, size = usual - (isLarge ? 2 : 0);
+    const told = [
+      rows.length === 4 && SIZES.includes(usual) && rows.every(({count}) => count === usual) && FOUR_LINES,
+      isShort && [...lines.join('')].every((letter) => `${NUMBERS}${BLANK}`.includes(letter)) && NUMBERS_ALONE,
+      height < 3 && tooFew(height), height > MOST_LINES && tooMany(height, MOST_LINES),
+      (!odd || isLarge) && !SIZES.includes(size) && (size > LARGEST || usual < SMALLEST) && noSize(size),
+    ].find(Boolean);
+    return told ? {line: first, column: 0, why: told} : null;
+  },
+  ({odd, usual}) => (odd ? {line: odd.y, column: 0, why: otherLength(odd.count, usual)} : null),
+  // The lines are as long as one another, and too few or too many.
+  ({rows, usual, isSigned}) => {
+    const height = rows.length;
+    if (usual < SMALLEST || usual > LARGEST + 2) return null;
+    if (height < usual && (isSigned || usual >= SMALLEST + 2)) return {line: rows[height - 1].y, column: 0, why: endsHere(height, isSigned ? 'rows' : 'lines', usual)};
+    return height > usual ? {line: rows[usual].y, column: 0, why: lineMore(usual)} : null;
+  },
+];

@@ -9,7 +9,7 @@ from playing.drawings import sentences
 from playing.drawings.splitting import MOST_LINES, Part, parts
 from playing.drawings.readings import readings
 from playing.drawings.symbols import EMPTY, NUMBERS, SAME
-from playing.drawings.tables import Puzzle, Reading, towers
+from playing.drawings.tables import Puzzle, towers
 from playing.drawings.titles import ALONE, SIDES, game_in, id_in, is_title, side_of
 from playing.fair import SIZES
 
@@ -184,7 +184,7 @@ class Reader:
         for part in found:
             own = lines[part.begin : part.end]
             if len(part.found) == 1:
-                yield _of(part.found[0], begun + part.begin + first_of(own))
+                yield Read(begun + part.begin + first_of(own), part.found[0].puzzle, doubt=part.found[0].doubt)
             else:
                 told = sentences.why(own, self._game, part.found)
                 game = part.found[0].puzzle.game if part.found else sentences.Lines(own, self._game).meant
@@ -217,10 +217,6 @@ class Reader:
 def first_of(lines: Sequence[str]) -> int:
     """The first line that isn't blank."""
     return [bool(line.strip(' ')) for line in lines].index(True)
-
-
-def _of(reading: Reading, line: int) -> Read:
-    return Read(line, reading.puzzle, doubt=reading.doubt)
 
 
 def _unquoted(lines: Sequence[str]) -> List[str]:

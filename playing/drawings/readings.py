@@ -47,7 +47,7 @@ def exact_readings(lines: Sequence[str], game: str) -> Optional[List[Reading]]:
     table = exact(lines) if game != 'unequal' else None
     if table is None:
         return None
-    return [reading._replace(doubt='', is_exact=True) for reading in towers(table, True, False) if reading.puzzle.fits()]
+    return [reading._replace(doubt='') for reading in towers(table, True, False) if reading.puzzle.fits()]
 
 
 def _of_symbols(lines: Sequence[str], has_tabs: bool, game: str, is_strict: bool) -> List[Reading]:

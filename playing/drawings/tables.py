@@ -55,8 +55,6 @@ class Reading(NamedTuple):
     doubt: str = ''
     #: Whether nothing that stands above or below could belong to it, too.
     is_whole: bool = True
-    #: Whether it is so in each letter that no other way to read it counts.
-    is_exact: bool = False
 
 
 def towers(table: Table, is_told: bool, is_strict: bool = True) -> Iterator[Reading]:

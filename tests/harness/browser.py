@@ -2,7 +2,7 @@
 
 import base64
 import json
-from typing import Any, Dict, List, Mapping, Optional, Sequence
+from typing import Any, Dict, List, Mapping, Optional
 
 from tests.harness.driver import BLANK, LEFT, RIGHT, SECONDS, PageLeft, Told
 from tests.harness.room import Room
@@ -89,18 +89,15 @@ class Browser(Told):
 
     def click(self, selector: str, button: int = LEFT) -> None:
         x, y = self.middle(selector)
-        parts = (('mouseMoved', 'none', 0), ('mousePressed', BUTTONS[button], 1), ('mouseReleased', BUTTONS[button], 1))
-        self._ask_at_once('Input.dispatchMouseEvent', [{'type': kind, 'x': x, 'y': y, 'button': pressed, 'clickCount': count} for kind, pressed, count in parts])
+        for kind, pressed, count in (('mouseMoved', 'none', 0), ('mousePressed', BUTTONS[button], 1), ('mouseReleased', BUTTONS[button], 1)):
+            self.ask('Input.dispatchMouseEvent', type=kind, x=x, y=y, button=pressed, clickCount=count)
 
     def tap(self, selector: str, milliseconds: int = 0) -> None:
         x, y = self.middle(selector, milliseconds == 0)
-        begins, ends = {'type': 'touchStart', 'touchPoints': [{'x': x, 'y': y}]}, {'type': 'touchEnd', 'touchPoints': []}
-        if not milliseconds:
-            self._ask_at_once('Input.dispatchTouchEvent', [begins, ends])
-            return
-        self.ask('Input.dispatchTouchEvent', **begins)
-        self.value(f'new Promise((done) => setTimeout(done, {milliseconds}))')
-        self.ask('Input.dispatchTouchEvent', **ends)
+        self.ask('Input.dispatchTouchEvent', type='touchStart', touchPoints=[{'x': x, 'y': y}])
+        if milliseconds:
+            self.value(f'new Promise((done) => setTimeout(done, {milliseconds}))')
+        self.ask('Input.dispatchTouchEvent', type='touchEnd', touchPoints=[])
 
     # --- how it looks ---
 
@@ -136,18 +133,8 @@ class Browser(Told):
         """Has the window do something, by the names of Chromium's protocol."""
         return self._ask(method, self._session, parameters)
 
-    def _ask_at_once(self, method: str, all_parameters: Sequence[Mapping[str, Any]]) -> None:
-        """The same several times, without an answer in between: a busy machine may take so long for one that a short press becomes a long one."""
-        numbers = {self._tell(method, parameters, **self._session) for parameters in all_parameters}
-        while numbers:
-            answer = self._answer(*numbers)
-            numbers.remove(answer['id'])
-            self._result(method, answer)
-
     def _ask(self, method: str, session: Mapping[str, str], parameters: Mapping[str, Any]) -> Mapping[str, Any]:
-        return self._result(method, self._answer(self._tell(method, parameters, **session)))
-
-    def _result(self, method: str, answer: Mapping[str, Any]) -> Mapping[str, Any]:
+        answer = self._answer(self._tell(method, parameters, **session))
         if answer.get('error', {}).get('message') in LEAVING:
             raise PageLeft(f'{method}: {answer["error"]}')
         assert 'error' not in answer, f'{method}: {answer["error"]}'

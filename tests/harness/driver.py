@@ -241,13 +241,13 @@ class Told(Driver):
             raise ConnectionError(f'{method}: the browser has ended') from error
         return self._number
 
-    def _answer(self, *numbers: int) -> Mapping[str, Any]:
-        """The answer to a message, or to that one of several which comes first. Events come before it."""
+    def _answer(self, number: int) -> Mapping[str, Any]:
+        """The answer to a message. Events come before it."""
         while True:
             try:
                 came: Mapping[str, Any] = json.loads(self._socket.recv())
             except (websocket.WebSocketException, ValueError) as error:
                 raise ConnectionError('the browser has ended, or says nothing') from error
             self._note(came)
-            if came.get('id') in numbers:
+            if came.get('id') == number:
                 return came

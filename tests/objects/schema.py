@@ -28,6 +28,15 @@ KINDS = ('follows', 'nothing', 'contradiction')
 STARTS = ('numbers', 'marks')
 REASONS = ('given', 'peer', 'place', 'bound', 'stand', 'clue', 'sign', 'set')
 GRADES = ('t', 'e', 'h', 'k')
+PLACES = ('in', 'not', 'only', 'either')
+STEP_NAMES = (
+    'A clue 1', "A clue of the board's size", 'Too few towers', 'Too many towers', 'A number in no order', 'Too few or too many towers',
+    'A number that a square takes', 'The only square for a number', 'Squares that share numbers', 'A sign',
+)
+HINT_NAMES = (
+    'The last free square', 'The only number left', 'The only mark left', 'The only square left',
+    'A square without a number', 'A square whose marks are too few', 'A number without a square',
+)
 
 #: The keys of the objects within an object.
 SESSION: Dict[str, Any] = {
@@ -50,15 +59,22 @@ BOARD: Dict[str, Any] = {
     'signs': [SIGN],
     'size': range(3, 10),
 }
+KNOWN: Dict[str, Any] = {'cell': CELL, 'numbers': [NUMBER]}
+TOWER: Dict[str, Any] = {'cell': CELL, 'number': NUMBER, 'place': PLACES, 'seen': (None, 'fewer', 'more')}
 STRIKE: Dict[str, Any] = {'cell': CELL, 'numbers': [NUMBER], 'shows': (None, [[NUMBER]])}
 STEP: Dict[str, Any] = {
     'cells': (None, [CELL]),
     'clue': (None, NUMBER),
     'greater': (None, CELL),
+    'known': [KNOWN],
+    'least': (None, NUMBER),
     'less': (None, CELL),
     'line': (None, LINE),
+    'most': (None, NUMBER),
+    'name': STEP_NAMES,
     'numbers': (None, [NUMBER]),
     'reason': REASONS,
+    'split': [TOWER],
     'strikes': [STRIKE],
     'text': [short],
     'x': (None, PLACE),
@@ -72,6 +88,7 @@ HINT: Dict[str, Any] = {
     'groups': [range(1, 730)],
     'kind': KINDS,
     'line': (None, LINE),
+    'name': (None, *HINT_NAMES),
     'number': (None, NUMBER),
     'steps': [STEP],
     'text': [short],
@@ -95,7 +112,7 @@ LOST: Dict[str, Any] = {'lost': 'OutOfMemory'}
 
 def names() -> Set[str]:
     """All keys that there are."""
-    return {key for table in (COMMON, ANSWERS, SESSION, BOARD, CLUE, SIGN, HINT, STEP, STRIKE, SPARE, LOST) for key in table}
+    return {key for table in (COMMON, ANSWERS, SESSION, BOARD, CLUE, SIGN, HINT, STEP, KNOWN, TOWER, STRIKE, SPARE, LOST) for key in table}
 
 
 def unfit(place: str, value: object, shape: Any) -> Iterator[str]:

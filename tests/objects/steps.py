@@ -2,6 +2,7 @@
 
 from typing import Any, Dict, Iterator, Sequence
 
+from tests.objects.names import end_of_contradiction, expect_known, hint_name, step_name
 from tests.objects.reading import Object
 from tests.objects.sentences import emptied, expect_text
 from tests.second_implementation.grades import KINDS, leads_on, letters_of
@@ -26,11 +27,12 @@ def expect_steps_from(puzzle: Puzzle, numbers: Numbers, view: Left, hint: Object
     """The account that a hint gives of its steps from some numbers in view is true."""
     expect_grade(puzzle, numbers, view, hint)
     assert hint['view'] == [sorted(left) for left in view]
+    assert hint['name'] == hint_name(hint)
     if hint['kind'] == 'nothing':
         assert (hint['by'], hint['line'], hint['steps'], hint['text']) == (None, None, [], [])
         return
     if hint['kind'] == 'contradiction':
-        assert (hint['by'], hint['line'], hint['cell'], hint['number']) == (None, None, None, None)
+        assert hint['by'] is None and (hint['cell'], hint['line'], hint['number']) == end_of_contradiction(puzzle.size, hint)
     else:
         assert hint['by'] == ('value' if hint['line'] is None else 'line')
     for step in hint['steps']:
@@ -55,7 +57,9 @@ def expect_members(puzzle: Puzzle, letter: str, step: Object) -> None:
     """The kind is one of the grade, the members of others are null, lists rise, a sign strikes at one end, and the clue is the one at its place."""
     kind, strikes = step['reason'], step['strikes']
     assert KINDS[kind] <= letters_of(puzzle)[letter]
-    assert {key for key, value in step.items() if value is not None} == MEMBERS[kind] | {'reason', 'strikes', 'text'}
+    bounds = {'least', 'most'} if kind == 'sign' else set()
+    assert {key for key, value in step.items() if value is not None} - bounds == MEMBERS[kind] | {'known', 'name', 'reason', 'split', 'strikes', 'text'}
+    assert step['name'] == step_name(puzzle.size, step)
     lists = [step['cells'], step['numbers'], *(strike['numbers'] for strike in strikes), [strike['cell'] for strike in strikes]]
     assert all(rises(values or []) for values in lists) and all(strike['numbers'] for strike in strikes)
     assert strikes and (kind != 'sign' or len(strikes) == 1)
@@ -90,6 +94,7 @@ def expect_held(puzzle: Puzzle, view: Left, chain: Sequence[Step], told: Sequenc
         for cell, numbers in step.strikes.items():
             assert numbers <= held(puzzle, left, step.reason, cell), f'step {at + 1}: {sorted(numbers)} at {cell}, where {sorted(left[cell])} are left'
         expect_shows(puzzle, left, step, one)
+        expect_known(left, one)
         assert at + 1 == len(chain) or not is_told_with(puzzle, left, step, chain[at + 1]), f'step {at + 2} is told alone'
         left = [numbers - step.strikes.get(cell, frozenset()) for cell, numbers in enumerate(left)]
 

@@ -88,7 +88,8 @@ class Player(Seen):
         """Drops a file onto the page, or one of so many bytes; and waits as `look` does. What was told before is gone, as it may be told once more."""
         parts = f'new Uint8Array({content})' if isinstance(content, int) else f'Uint8Array.from({json.dumps(list(content))})'
         script = f'const data = new DataTransfer(); data.items.add(new File([{parts}], {json.dumps(name)}));'
-        self.value(f'(() => {{ {script} document.querySelector("#told").replaceChildren(); document.dispatchEvent(new DragEvent("drop", {{dataTransfer: data, cancelable: true}})); return true; }})()')
+        script += ' document.querySelector("#told").replaceChildren();'
+        self.value(f'(() => {{ {script} document.dispatchEvent(new DragEvent("drop", {{dataTransfer: data, cancelable: true}})); return true; }})()')
         self.look('', **waits)
 
     def caught(self, does: str, **waits: str) -> bytes:

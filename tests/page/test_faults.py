@@ -62,7 +62,9 @@ def test_worker_fails(failing: Player) -> None:
 def test_stopped(failing: Player) -> None:
     """A search that takes long is said to, the page isn't stopped by it, and its player ends it."""
     failing.sit(TOWERS, PHONE)
-    failing.look('1c', told='The program is at work.')
+    # Nothing else is at work, as for the grade.
+    failing.look('1', 'row 1, column 1, 1', counts='easy by our steps')
+    failing.look('c', told='The program is at work.')
     failing.look('<right>', chose='1,0')
     failing.look('{#offer}', told='Stopped. Nothing has changed.')
     failing.look('3', 'row 1, column 2, 3')
@@ -82,7 +84,7 @@ def test_slow_desk(failing: Player) -> None:
     failing.go_to(0, 0)
     for key in ('1', '<right>', '2', '<right>', '3', '<down>', '1'):
         failing.press(key)
-        failing.value('new Promise((done) => setTimeout(done, 450))')
+        failing.value('new Promise((done) => setTimeout(done, 440))')
     failing.look('', counts='4 given')
 
 

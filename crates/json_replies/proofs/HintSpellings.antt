@@ -15,8 +15,14 @@ use Rattle.line_steps.specs.declared.grade.Grade.{Grade}
 use Rattle.line_steps.specs.Reasons.{Striking}
 use Rattle.step_chains.specs.declared.hints.NextHint.{NextHint}
 use Rattle.step_chains.specs.declared.hints.NextHint.TheVariants.{Follows, Refuted, Nothing}
+use Rattle.step_texts.specs.declared.told.KnownSquare.{KnownSquare}
+use Rattle.step_texts.specs.declared.told.SignEnd.{SignEnd}
+use Rattle.step_texts.specs.declared.told.SignEnd.TheVariants.{AtLeast, AtMost}
 use Rattle.step_texts.specs.declared.told.Strike.{Strike}
 use Rattle.step_texts.specs.declared.told.ToldStep.{ToldStep}
+use Rattle.step_texts.specs.declared.told.Seen.{Seen}
+use Rattle.step_texts.specs.declared.told.Seen.TheVariants.{Fewer, More, Open}
+use Rattle.step_texts.specs.declared.told.TowerSquare.{TowerSquare}
 use Rattle.step_texts.specs.Lines.{line_texts}
 use Rattle.json_replies.specs.declared.reason_parts.Ends.{Ends}
 use Rattle.json_replies.specs.Counts.{count_data}
@@ -24,8 +30,10 @@ use Rattle.json_replies.specs.Texts.{text_data}
 use Rattle.json_replies.specs.Boards.{listed_data, when, mark_set_data, squares}
 use Rattle.json_replies.specs.ObjectLines.{IsShallow}
 use Rattle.json_replies.specs.Reasons.{ReasonParts, one_data, line_cells_data, parts_of}
-use Rattle.json_replies.specs.Steps.{x_data, y_data, edge_clue_data, greater_data, less_data, shows_data, strike_data, step_data}
-use Rattle.json_replies.specs.HintObjects.{SaidData, goal_line_data, grade_data, said_of, left_data, unmarked_data, IsHintValue}
+use Rattle.json_replies.specs.Steps.{x_data, y_data, edge_clue_data, greater_data, less_data, known_data, least_data, most_data, seen_data, shows_data, strike_data, step_data, tower_data}
+use Rattle.json_replies.specs.HintObjects.{SaidData, goal_line_data, grade_data, refuted_data, left_data, unmarked_data, IsSaidOf, IsHintValue}
+use Rattle.step_texts.specs.declared.dead_ends.DeadEnd.{DeadEnd}
+use Rattle.step_texts.specs.declared.dead_ends.DeadEnd.TheVariants.{Square, Line}
 use Rattle.json_replies.specs.declared.start.Start.{Start}
 use Rattle.json_replies.specs.declared.start.Start.TheVariants.{Numbers, Marks}
 use Rattle.json_replies.specs.Laws.Spellings.{either, integer_whole, list_fits, listed_fits, when_fits}
@@ -105,19 +113,46 @@ shows_fit values (Some shows) =
 strike_fits : (strike : Strike) → IsShallow 3 (strike_data strike)
 strike_fits strike = (refl, (set_fits 1 strike.values, (shows_fit strike.values strike.shows, tt)))
 
+least_fits : (alone : Bool) (end : Option SignEnd) → IsShallow 4 (least_data alone end)
+least_fits alone None = tt
+least_fits alone (Some (AtLeast n)) = refl
+least_fits alone (Some (AtMost n)) = either (IsShallow 4) alone (count_data n) null refl tt
+
+most_fits : (alone : Bool) (end : Option SignEnd) → IsShallow 4 (most_data alone end)
+most_fits alone None = tt
+most_fits alone (Some (AtLeast n)) = either (IsShallow 4) alone (count_data n) null refl tt
+most_fits alone (Some (AtMost n)) = refl
+
+-- a known square can be written
+known_fits : (square : KnownSquare) → IsShallow 3 (known_data square)
+known_fits square = (refl, (set_fits 1 square.numbers, tt))
+
+seen_fits : (seen : Seen) → IsShallow 2 (seen_data seen)
+seen_fits Fewer = tt
+seen_fits More = tt
+seen_fits Open = tt
+
+-- a square of which it is told whether a tall tower is there can be written
+tower_fits : (tower : TowerSquare) → IsShallow 3 (tower_data tower)
+tower_fits tower = (refl, (refl, (tt, (seen_fits tower.seen, tt))))
+
 -- a step can be written
 step_fits : (w : ℕ) (clue : ℕ → ℕ) (is_over : ℕ → ℕ → Bool) (told : ToldStep) → IsShallow 5 (step_data w clue is_over told)
 step_fits w clue is_over told =
     let parts = parts_of w is_over told.reason in
     let fit = parts_fit w is_over told.reason in
     let strikes = list_fits 3 strike_data strike_fits told.strikes.items in
+    let known = list_fits 3 known_data known_fits told.known.items in
+    let split = list_fits 3 tower_data tower_fits told.towers.items in
     let text = list_fits 3 text_data (λ line. tt) (line_texts told.text.items) in
     let edge = clue_fits clue parts.edge in
     let more = greater_fits parts.ends in
     let less = less_fits parts.ends in
+    let least = least_fits told.is_alone told.end in
+    let most = most_fits told.is_alone told.end in
     let x = x_fits w parts.edge in
     let y = y_fits w parts.edge in
-    (fit.cells, (edge, (more, (less, (fit.line, (fit.numbers, (tt, (strikes, (text, (x, (y, tt)))))))))))
+    (fit.cells, (edge, (more, (known, (least, (less, (fit.line, (most, (tt, (fit.numbers, (tt, (split, (strikes, (text, (x, (y, tt))))))))))))))))
 
 -- ---- a hint
 
@@ -138,13 +173,22 @@ record SaidFits (said : SaidData) : Type 0 where
   cell : IsShallow 6 said.cell
   grade : IsShallow 6 said.grade
   line : IsShallow 6 said.line
+  name : IsShallow 6 said.name
   number : IsShallow 6 said.number
 
-said_fits : (w : ℕ) (letter : Grade → List ℕ) (hint : NextHint) → SaidFits (said_of w letter hint)
-said_fits w letter (Follows grade chain) =
-    record { by = tt; cell = refl; grade = tt; line = goal_line_fits chain.goal; number = refl }
-said_fits w letter (Refuted grade refutation) = record { by = tt; cell = tt; grade = tt; line = tt; number = tt }
-said_fits w letter Nothing = record { by = tt; cell = tt; grade = tt; line = tt; number = tt }
+refuted_fits : (letter name : List ℕ) (end : DeadEnd) → SaidFits (refuted_data letter name end)
+refuted_fits letter name (Square cell) = record { by = tt; cell = refl; grade = tt; line = tt; name = tt; number = tt }
+refuted_fits letter name (Line line value) = record { by = tt; cell = tt; grade = tt; line = refl; name = tt; number = refl }
+
+said_fits : (w : ℕ) (letter : Grade → List ℕ) (view : CandidatesValue) (hint : NextHint) (said : SaidData)
+    → IsSaidOf w letter view hint said → SaidFits said
+said_fits w letter view (Follows grade chain) said (name, named, is) =
+    subst SaidFits (sym is)
+    (record { by = tt; cell = refl; grade = tt; line = goal_line_fits chain.goal; name = tt; number = refl })
+said_fits w letter view (Refuted grade refutation) said (end, name, ends, named, is) =
+    subst SaidFits (sym is) (refuted_fits (letter grade) name end)
+said_fits w letter view Nothing said says =
+    subst SaidFits (sym says) (record { by = tt; cell = tt; grade = tt; line = tt; name = tt; number = tt })
 
 -- the square whose marks lack its number can be written
 unmarked_fits : (start : Start) → IsShallow 6 (unmarked_data start)
@@ -157,7 +201,7 @@ pub hint_value_fits : (w : ℕ) (letter : Grade → List ℕ) (clue : ℕ → �
     (start : Start) (view : CandidatesValue) (hint : NextHint) (value : Data)
     → IsHintValue w letter clue is_over Struck start view hint value → IsShallow 7 value
 hint_value_fits w letter clue is_over Struck start view hint value told =
-    let said = said_fits w letter hint in
+    let said = said_fits w letter view hint told.said told.says in
     let groups = list_fits 5 count_data (λ n. refl) told.groups in
     let steps = list_fits 5 (step_data w clue is_over) (step_fits w clue is_over) told.steps in
     let text = list_fits 5 text_data (λ line. tt) told.text in
@@ -178,8 +222,11 @@ hint_value_fits w letter clue is_over Struck start view hint value told =
                 (
                   said.line,
                   (
-                    said.number,
-                    (steps, (text, (unmarked_fits start, (seen, tt)))),
+                    said.name,
+                    (
+                      said.number,
+                      (steps, (text, (unmarked_fits start, (seen, tt)))),
+                    ),
                   ),
                 ),
               ),

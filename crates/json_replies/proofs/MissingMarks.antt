@@ -1,4 +1,4 @@
--- What a hint from the marks of a board tells of a missing mark.
+-- The missing mark that a hint from the marks of a board tells.
 use Rattle.std.proofs.Common.{◌≡◌, ℕ, Bool, true, false, true≢false, MatchBool, Option, sym, ◌∙◌}
 use Rattle.latin_board.specs.Squares.{GridValue}
 use Rattle.trail_solver.specs.declared.answer.Answer.{Answer}

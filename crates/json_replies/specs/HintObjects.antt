@@ -10,8 +10,12 @@ use Rattle.line_steps.specs.declared.grade.Grade.{Grade}
 use Rattle.step_chains.specs.declared.chain.Step.{Step}
 use Rattle.step_chains.specs.declared.hints.NextHint.{NextHint}
 use Rattle.step_chains.specs.declared.hints.NextHint.TheVariants.{Follows, Refuted, Nothing}
+use Rattle.step_texts.specs.declared.dead_ends.DeadEnd.{DeadEnd}
+use Rattle.step_texts.specs.declared.dead_ends.DeadEnd.TheVariants.{Square, Line}
 use Rattle.step_texts.specs.declared.told.ToldStep.{ToldStep}
+use Rattle.step_texts.specs.DeadEnds.{IsDeadEnd}
 use Rattle.step_texts.specs.Groups.{AreGroups}
+use Rattle.step_texts.specs.Headings.{IsGoalName, IsEndName}
 use Rattle.step_texts.specs.Lines.{AreShort}
 use Rattle.step_texts.specs.Told.{AreTold}
 use Rattle.json_replies.specs.Boards.{listed_data, when, squares}
@@ -31,6 +35,7 @@ pub record SaidData : Type 0 where
   pub grade : Data
   pub kind : List ℕ
   pub line : Data
+  pub name : Data
   pub number : Data
 
 -- by what a goal is shown: the only value left of its square, or the only place in a row or column
@@ -48,22 +53,52 @@ abbrev pub grade_data : (Grade → List ℕ) → Option Grade → Data
 grade_data letter None = null
 grade_data letter (Some grade) = string (letter grade)
 
--- a hint without a number: its kind and its grade
-abbrev pub without_number : List ℕ → Data → SaidData
-without_number kind grade = record { by = null; cell = null; grade = grade; kind = kind; line = null; number = null }
-
--- what a hint says, of a grid of a width, with these letters of grades
-abbrev pub said_of : ℕ → (Grade → List ℕ) → NextHint → SaidData
-said_of w letter (Follows grade chain) = record {
-  by = string (by_word chain.goal);
-  cell = count_data (goal_cell w chain.goal);
-  grade = string (letter grade);
+-- what a hint of a name says that shows a number, of a grid of a width
+abbrev pub follows_data : ℕ → List ℕ → List ℕ → Goal → SaidData
+follows_data w letter name goal = record {
+  by = string (by_word goal);
+  cell = count_data (goal_cell w goal);
+  grade = string letter;
   kind = codes "follows";
-  line = goal_line_data chain.goal;
-  number = count_data (goal_value chain.goal);
+  line = goal_line_data goal;
+  name = string name;
+  number = count_data (goal_value goal);
 }
-said_of w letter (Refuted grade refutation) = without_number (codes "contradiction") (string (letter grade))
-said_of w letter Nothing = without_number (codes "nothing") null
+
+-- what a contradiction of a name says that ends there: its square, or its row or column and the number without a square
+abbrev pub refuted_data : List ℕ → List ℕ → DeadEnd → SaidData
+refuted_data letter name (Square cell) = record {
+  by = null;
+  cell = count_data cell;
+  grade = string letter;
+  kind = codes "contradiction";
+  line = null;
+  name = string name;
+  number = null;
+}
+refuted_data letter name (Line line value) = record {
+  by = null;
+  cell = null;
+  grade = string letter;
+  kind = codes "contradiction";
+  line = count_data line;
+  name = string name;
+  number = count_data value;
+}
+
+-- a hint that says nothing
+abbrev pub nothing_data : SaidData
+nothing_data =
+    record { by = null; cell = null; grade = null; kind = codes "nothing"; line = null; name = null; number = null }
+
+-- what a hint from some candidates says, of a grid of a width, with these letters of grades
+abbrev pub IsSaidOf : ℕ → (Grade → List ℕ) → CandidatesValue → NextHint → SaidData → Type 0
+IsSaidOf w letter view (Follows grade chain) said =
+    (name : List ℕ) × IsGoalName chain.goal name × (said ≡ follows_data w (letter grade) name chain.goal)
+IsSaidOf w letter view (Refuted grade refutation) said =
+    (end : DeadEnd) × (name : List ℕ) × IsDeadEnd view refutation.steps.items refutation.cell end
+    × IsEndName end name × (said ≡ refuted_data (letter grade) name end)
+IsSaidOf w letter view Nothing said = said ≡ nothing_data
 
 -- ---- the object
 
@@ -103,12 +138,13 @@ hint_data said start groups steps text view = object
     (member (codes "groups") groups
     (member (codes "kind") (string said.kind)
     (member (codes "line") said.line
+    (member (codes "name") said.name
     (member (codes "number") said.number
     (member (codes "steps") steps
     (member (codes "text") text
     (member (codes "unmarked") (unmarked_data start)
     (member (codes "view") view
-    no_members))))))))))))
+    no_members)))))))))))))
 
 -- sentences in short lines, one at least, and none where nothing is said
 abbrev pub IsTextOf : NextHint → List (List ℕ) → Type 0
@@ -126,8 +162,10 @@ pub record IsHintValue (w : ℕ) (letter : Grade → List ℕ) (clue : ℕ → �
   pub grouped : AreGroups (length steps) groups
   pub text : List (List ℕ)
   pub lines : IsTextOf hint text
+  pub said : SaidData
+  pub says : IsSaidOf w letter view hint said
   pub is : value
-      ≡ hint_data (said_of w letter hint) start (list_data count_data groups) (steps_data w clue is_over steps)
+      ≡ hint_data said start (list_data count_data groups) (steps_data w clue is_over steps)
       (list_data text_data text) (view_data view)
 
 -- the goal of a hint's chain, if the hint has one, is a goal of a grid of the width

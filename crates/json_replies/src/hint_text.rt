@@ -2,7 +2,6 @@
 
 ghost use Rattle.line_steps.specs.Reasons.{StruckBy};
 ghost use Rattle.std.specs.Prelude.{◌≡◌, ◌*◌, ◌<◌, ◌∷◌, [], codes, OnOk, IfOk};
-ghost use Rattle.std.specs.Option.{option_copied};
 ghost use Rattle.step_texts.specs.Lines.{line_texts};
 ghost use Rattle.trail_solver.specs.Candidates.{may_be};
 ghost use Rattle.trail_solver.specs.Pairs.{IsPair};
@@ -10,8 +9,9 @@ ghost use Rattle.json_replies.specs.Boards.{when};
 ghost use Rattle.json_replies.specs.Counts.{count_data};
 ghost use Rattle.json_replies.specs.Texts.{list_data};
 ghost use Rattle.json_replies.specs.HintObjects.{IsGoalTold, IsHintValue, IsTextOf, by_word, goal_line_data};
-ghost use Rattle.json_replies.specs.HintObjects.{left_data, said_of, steps_in, view_data, without_number};
-ghost use Rattle.json_replies.specs.Inner.WrittenData.{count_or_null, said_data, said_members, word_or_null, FollowsWhere, MembersFollow};
+ghost use Rattle.json_replies.specs.HintObjects.{left_data, follows_data, refuted_data, steps_in, view_data, IsSaidOf};
+ghost use Rattle.named_steps.specs.Chains.{IsGoalOf};
+ghost use Rattle.json_replies.specs.Inner.WrittenData.{count_or_null, said_data, said_members, FollowsWhere, MembersFollow};
 ghost use Rattle.json_replies.specs.WrittenData.{Follow};
 
 use crate::start::Start;
@@ -26,7 +26,8 @@ use named_steps::Goal;
 use std::alloc::{AllocError, Global};
 use step_chains::{NextHint, Step};
 use step_texts::{
-    Line, StepNames, ToldStep, chain_lines, refutation_lines, told_groups, told_steps,
+    DeadEnd, Line, StepNames, ToldStep, chain_lines, dead_end, end_name, goal_name,
+    refutation_lines, told_groups, told_steps,
 };
 use trail_solver::Candidates;
 
@@ -49,13 +50,9 @@ pub(crate) fn write_hint<P: StepNames>(
     let told = told_steps(alloc, p, view, steps_in(hint))?;
     let groups = told_groups(alloc, p, told.as_slice())?;
     let lines = text_of(alloc, p, grid, view, told.as_slice(), hint)?;
+    let said = said_of::<P>(grid, view, hint);
     writer.begin_object()?;
-    write_said(
-        writer,
-        said_of::<P>(grid.size(), hint),
-        start,
-        groups.as_slice(),
-    )?;
+    write_said(writer, said, start, groups.as_slice())?;
     writer.key("steps")?;
     write_steps(alloc, writer, p, told.as_slice())?;
     writer.key("text")?;
@@ -75,39 +72,75 @@ struct Said {
     grade: Option<&'static str>,
     kind: &'static str,
     line: Option<usize>,
+    name: Option<&'static str>,
     number: Option<usize>,
 }
 
-// The parts of a hint of a grid of a size.
-fn said_of<P: StepNames>(size: Size, hint: &NextHint) -> Said
-    requires { IsGoalTold size hint.now }
-    ensures { said_data result ≡ said_of size P.grade_letter hint.now }
+// The parts of a hint of a grid from some candidates.
+fn said_of<P: StepNames>(grid: &Grid, view: &Candidates, hint: &NextHint) -> Said
+    requires { IsGoalTold grid.now.size hint.now }
+    ensures { IsSaidOf grid.now.size P.grade_letter view.now hint.now (said_data result) }
 {
     match hint {
-        NextHint::Follows { grade, chain } => Said {
-            by: Some(by_word(chain.goal)),
-            cell: Some(chain.goal.cell(size)),
-            grade: Some(P::letter(*grade)),
-            kind: "follows",
-            line: goal_line(chain.goal),
-            number: Some(usize::from(chain.goal.value())),
+        NextHint::Follows { grade, chain } => {
+            let name = goal_name(grid, view, chain.goal);
+            follows(grid.size(), P::letter(*grade), name, chain.goal)
+        }
+        NextHint::Refuted { grade, refutation } => {
+            let end = dead_end(view, refutation.steps.as_slice(), refutation.cell);
+            refuted(P::letter(*grade), end_name(grid, view, end), end)
+        }
+        NextHint::Nothing => Said {
+            by: None,
+            cell: None,
+            grade: None,
+            kind: "nothing",
+            line: None,
+            name: None,
+            number: None,
         },
-        NextHint::Refuted { grade, .. } => without_number("contradiction", Some(P::letter(*grade))),
-        NextHint::Nothing => without_number("nothing", None),
     }
 }
 
-// The parts of a hint that has no number.
-fn without_number(kind: &'static str, grade: Option<&'static str>) -> Said
-    ensures { said_data result ≡ without_number kind.now (word_or_null (option_copied grade.entry)) }
+// The parts of a hint that shows a number.
+fn follows(size: Size, letter: &'static str, name: &'static str, goal: Goal) -> Said
+    requires { IsGoalOf size goal }
+    ensures { said_data result ≡ follows_data size letter.now name.now goal }
 {
     Said {
-        by: None,
-        cell: None,
-        grade,
-        kind,
-        line: None,
-        number: None,
+        by: Some(by_word(goal)),
+        cell: Some(goal.cell(size)),
+        grade: Some(letter),
+        kind: "follows",
+        line: goal_line(goal),
+        name: Some(name),
+        number: Some(usize::from(goal.value())),
+    }
+}
+
+// The parts of a contradiction that ends there.
+fn refuted(letter: &'static str, name: &'static str, end: DeadEnd) -> Said
+    ensures { said_data result ≡ refuted_data letter.now name.now end }
+{
+    match end {
+        DeadEnd::Square { cell } => Said {
+            by: None,
+            cell: Some(cell),
+            grade: Some(letter),
+            kind: "contradiction",
+            line: None,
+            name: Some(name),
+            number: None,
+        },
+        DeadEnd::Line { line, value } => Said {
+            by: None,
+            cell: None,
+            grade: Some(letter),
+            kind: "contradiction",
+            line: Some(line),
+            name: Some(name),
+            number: Some(usize::from(value)),
+        },
     }
 }
 
@@ -161,7 +194,7 @@ fn text_of<P: StepNames>(
             grid,
             view,
             told,
-            refutation.cell,
+            dead_end(view, refutation.steps.as_slice(), refutation.cell),
         ),
         NextHint::Nothing => Ok(Vec::new(alloc)),
     }
@@ -184,6 +217,7 @@ fn write_said(
     write_groups_at(writer, groups)?;
     write_word_at(writer, "kind", Some(said.kind))?;
     write_number_at(writer, "line", said.line)?;
+    write_word_at(writer, "name", said.name)?;
     write_number_at(writer, "number", said.number)?;
     Ok(())
 }

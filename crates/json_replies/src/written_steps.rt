@@ -1,12 +1,12 @@
 //! The steps of a hint, written as objects: where each looks, what it strikes, and its sentence.
 
-ghost use Rattle.std.specs.Prelude.{◌≡◌, ◌*◌, ◌<◌, ◌∷◌, [], slice_index, OnOk, IfSome};
+ghost use Rattle.std.specs.Prelude.{◌≡◌, ◌*◌, ◌<◌, ◌∷◌, [], codes, slice_index, OnOk, IfSome};
 ghost use Rattle.number_sets.specs.Sets.{has_number};
 ghost use Rattle.json_replies.specs.Boards.{when, mark_set_data};
 ghost use Rattle.json_replies.specs.Texts.{list_data};
-ghost use Rattle.json_replies.specs.Steps.{edge_clue_data, greater_data, less_data, shows_data, strike_data, step_data, steps_data};
+ghost use Rattle.json_replies.specs.Steps.{edge_clue_data, greater_data, known_data, least_data, less_data, most_data, place_word, seen_data, shows_data, strike_data, step_data, steps_data, tower_data};
 ghost use Rattle.json_replies.specs.WrittenData.{Follow};
-ghost use Rattle.json_replies.specs.Inner.WrittenData.{count_or_null};
+ghost use Rattle.json_replies.specs.Inner.WrittenData.{count_or_null, MembersFollow};
 
 use crate::reason_parts::{
     Ends, edge_of, ends_of, line_of, word_of, write_cells_of, write_numbers_of,
@@ -18,7 +18,9 @@ use crate::written::{
 use json::Writer;
 use number_sets::NumberSet;
 use std::alloc::{AllocError, Global};
-use step_texts::{StepNames, Strike, ToldStep};
+use step_texts::{
+    KnownSquare, Seen, SignEnd, StepNames, Strike, ToldStep, TowerPlace, TowerSquare, step_name,
+};
 use trail_solver::Rules;
 
 /// Writes steps of a hint, in their order.
@@ -57,11 +59,18 @@ fn write_step<P: StepNames>(
     write_cells_of(writer, size, step.reason)?;
     write_number_at(writer, "clue", clue_at(p, edge))?;
     write_number_at(writer, "greater", greater_of(ends))?;
+    writer.key("known")?;
+    write_known(writer, step.known.as_slice())?;
+    write_number_at(writer, "least", least_of(step.end, step.is_alone))?;
     write_number_at(writer, "less", less_of(ends))?;
     write_number_at(writer, "line", line_of(step.reason))?;
+    write_number_at(writer, "most", most_of(step.end, step.is_alone))?;
+    write_word_at(writer, "name", Some(step_name(p, step)))?;
     writer.key("numbers")?;
     write_numbers_of(writer, step.reason)?;
     write_word_at(writer, "reason", Some(word_of(step.reason)))?;
+    writer.key("split")?;
+    write_split(writer, step.towers.as_slice())?;
     writer.key("strikes")?;
     write_strikes(writer, step.strikes.as_slice())?;
     writer.key("text")?;
@@ -97,6 +106,100 @@ fn less_of(ends: Option<Ends>) -> Option<usize>
     match ends {
         Some(ends) => Some(ends.less),
         None => None,
+    }
+}
+
+// The least number that is told of the other square of a sign.
+fn least_of(end: Option<SignEnd>, is_alone: bool) -> Option<usize>
+    ensures { count_or_null result ≡ least_data is_alone end }
+{
+    match end {
+        Some(SignEnd::AtLeast(number)) => Some(usize::from(number)),
+        Some(SignEnd::AtMost(number)) if is_alone => Some(usize::from(number)),
+        _ => None,
+    }
+}
+
+// The greatest number that is told of it.
+fn most_of(end: Option<SignEnd>, is_alone: bool) -> Option<usize>
+    ensures { count_or_null result ≡ most_data is_alone end }
+{
+    match end {
+        Some(SignEnd::AtMost(number)) => Some(usize::from(number)),
+        Some(SignEnd::AtLeast(number)) if is_alone => Some(usize::from(number)),
+        _ => None,
+    }
+}
+
+// Writes the squares that a sentence names as known.
+fn write_known(writer: &mut Writer, known: &[KnownSquare]) -> Result<(), AllocError>
+    ensures { OnOk result (Follow (list_data known_data known.now ∷ []) writer.old writer.new) }
+{
+    writer.begin_array()?;
+    for square in known {
+        write_known_square(writer, square)?;
+    }
+    writer.end_array()?;
+    Ok(())
+}
+
+// Writes a square and the numbers that are left of it.
+fn write_known_square(writer: &mut Writer, square: &KnownSquare) -> Result<(), AllocError>
+    ensures { OnOk result (Follow (known_data square.now ∷ []) writer.old writer.new) }
+{
+    writer.begin_object()?;
+    write_number_at(writer, "cell", Some(usize::from(square.cell)))?;
+    writer.key("numbers")?;
+    write_numbers(writer, square.numbers)?;
+    writer.end_object()?;
+    Ok(())
+}
+
+// Writes the squares of which a sentence tells whether a tall tower is there.
+fn write_split(writer: &mut Writer, towers: &[TowerSquare]) -> Result<(), AllocError>
+    ensures { OnOk result (Follow (list_data tower_data towers.now ∷ []) writer.old writer.new) }
+{
+    writer.begin_array()?;
+    for tower in towers {
+        write_tower(writer, tower)?;
+    }
+    writer.end_array()?;
+    Ok(())
+}
+
+// Writes a square, and whether a tall tower is there.
+fn write_tower(writer: &mut Writer, tower: &TowerSquare) -> Result<(), AllocError>
+    ensures { OnOk result (Follow (tower_data tower.now ∷ []) writer.old writer.new) }
+{
+    writer.begin_object()?;
+    write_number_at(writer, "cell", Some(usize::from(tower.cell)))?;
+    write_number_at(writer, "number", Some(usize::from(tower.number)))?;
+    write_word_at(writer, "place", Some(place_word(tower.place)))?;
+    write_seen_at(writer, tower.seen)?;
+    writer.end_object()?;
+    Ok(())
+}
+
+// Whether a tall tower is in a square, as a word.
+fn place_word(place: TowerPlace) -> &'static str
+    ensures { result.now ≡ place_word place }
+{
+    match place {
+        TowerPlace::There => "in",
+        TowerPlace::Elsewhere => "not",
+        TowerPlace::Only => "only",
+        TowerPlace::Either => "either",
+    }
+}
+
+// Writes the towers that would be seen, as a member.
+fn write_seen_at(writer: &mut Writer, seen: Seen) -> Result<(), AllocError>
+    ensures { OnOk result (MembersFollow ((codes "seen", seen_data seen) ∷ []) writer.old writer.new) }
+{
+    match seen {
+        Seen::Fewer => write_word_at(writer, "seen", Some("fewer")),
+        Seen::More => write_word_at(writer, "seen", Some("more")),
+        Seen::Open => write_word_at(writer, "seen", None),
     }
 }
 

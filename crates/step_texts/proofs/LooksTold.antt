@@ -39,7 +39,7 @@ strikes_more c reason look at strikes next step strike inside of is are told =
 -- ---- looks one after another
 
 -- the same steps leave fewer of fewer candidates
-left_less : (c d : CandidatesValue) (steps : List StepValue) → IsFewer c d → IsFewer (left_by c steps) (left_by d steps)
+pub left_less : (c d : CandidatesValue) (steps : List StepValue) → IsFewer c d → IsFewer (left_by c steps) (left_by d steps)
 left_less c d [] fewer = fewer
 left_less c d (step ∷ steps) fewer = left_less (without c step.strikes) (without d step.strikes) steps (fewer_without c d step.strikes fewer)
 

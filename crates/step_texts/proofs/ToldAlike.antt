@@ -1,5 +1,5 @@
 -- Steps are told alike by candidates of which the same is left.
-use Rattle.std.proofs.Common.{◌≡◌, ℕ, List, [], ◌∷◌, sym, ap, ◌∙◌, subst, Option, Some, None}
+use Rattle.std.proofs.Common.{◌≡◌, ◌<◌, ◌*◌, ◌+◌, ℕ, List, [], ◌∷◌, sym, ap, ◌∙◌, subst, Option, Some, None}
 use Rattle.trail_solver.specs.Candidates.{CandidatesValue}
 use Rattle.line_steps.specs.Left.{IsLeft, IsFewer, AreAlike}
 use Rattle.towers_game.specs.Fillings.{Anything, Standing}
@@ -7,9 +7,10 @@ use Rattle.line_steps.specs.declared.reason.Reason.{Reason}
 use Rattle.line_steps.specs.declared.reason.Reason.TheVariants.{Bound, Stand, Clue}
 use Rattle.step_chains.specs.declared.chain.Step.{Step}
 use Rattle.shown_counts.specs.Shown.{CanShow, IsShownBy, is_at_clue}
+use Rattle.step_texts.specs.declared.told.KnownSquare.{KnownSquare}
 use Rattle.step_texts.specs.declared.told.Strike.{Strike}
 use Rattle.step_texts.specs.declared.told.ToldStep.{ToldStep}
-use Rattle.step_texts.specs.Told.{AreToldCounts, AreToldStrikes, IsToldOf}
+use Rattle.step_texts.specs.Told.{AreToldCounts, AreToldStrikes, AreKnown, IsToldOf}
 
 -- a count that a line can show it can show where more may stand
 shown_more : (w : ℕ) (May More : ℕ → ℕ → Type 0) (place cell v count : ℕ) → ((at n : ℕ) → May at n → More at n) → CanShow w May place cell v count
@@ -65,12 +66,29 @@ strikes_alike c d size alike reason (step ∷ steps) (strike ∷ strikes) told =
   strikes_alike c d size alike reason steps strikes told.1,
 )
 
+-- squares that are known by some candidates are known by others of which the same is left
+known_alike : (c d : CandidatesValue) → c.size ≡ d.size → AreAlike c d → (from : ℕ) (squares : List KnownSquare)
+    → AreKnown c from squares → AreKnown d from squares
+known_alike c d size alike from [] are = are
+known_alike c d size alike from (square ∷ squares) (after, is, more) = (
+  after,
+  record {
+    inside = subst (λ w. square.cell < w * w) size is.inside;
+    left = λ v. (
+      λ has. alike.1 square.cell v ((is.left v).0 has),
+      λ left. (is.left v).1 (alike.0 square.cell v left),
+    );
+  },
+  known_alike c d size alike (square.cell + 1) squares more,
+)
+
 -- a step that is told by some candidates is told by others of which the same is left
 pub told_alike : (c d : CandidatesValue) → c.size ≡ d.size → AreAlike c d → (reason : Reason) (look : List Step) (told : ToldStep)
     → IsToldOf c reason look told → IsToldOf d reason look told
 told_alike c d size alike reason look told t = record {
   reason = t.reason;
   strikes = strikes_alike c d size alike reason look told.strikes.items t.strikes;
+  known = known_alike c d size alike 0 told.known.items t.known;
   some = t.some;
   short = t.short;
 }

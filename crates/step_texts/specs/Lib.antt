@@ -1,5 +1,8 @@
--- How grades are named, lines of text, which steps are told together, and what is told of them.
+-- How grades are named, lines of text, which steps are told together, what is told of them, and where a contradiction
+-- ends.
+pub mod DeadEnds
 pub mod Groups
+pub mod Headings
 pub mod Letters
 pub mod Lines
 pub mod Looks

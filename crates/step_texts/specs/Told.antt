@@ -1,5 +1,5 @@
 -- Chains as they are told: which steps are one, what is told of each, and what holds of it.
-use Rattle.std.specs.Prelude.{◌≡◌, ◌<◌, ◌≤◌, ◌*◌, ◌^◌, ℕ, true, false, List, [], ◌∷◌, ◌++◌, length, All, map, slice_index, Option, Some, None, IfSome}
+use Rattle.std.specs.Prelude.{◌≡◌, ◌↔◌, ◌<◌, ◌≤◌, ◌+◌, ◌*◌, ◌^◌, ℕ, true, false, List, [], ◌∷◌, ◌++◌, length, All, map, slice_index, Option, Some, None, IfSome}
 use Rattle.number_sets.specs.Sets.{has_number}
 use Rattle.line_steps.specs.Views.{view_cell}
 use Rattle.trail_solver.specs.Candidates.{CandidatesValue}
@@ -11,6 +11,7 @@ use Rattle.line_steps.specs.declared.reason.Reason.TheVariants.{Given, Peer, Pla
 use Rattle.step_chains.specs.ChainValues.{steps_of}
 use Rattle.step_chains.specs.declared.chain.Step.{Step}
 use Rattle.shown_counts.specs.Shown.{is_at_clue, AreShown}
+use Rattle.step_texts.specs.declared.told.KnownSquare.{KnownSquare}
 use Rattle.step_texts.specs.declared.told.Strike.{Strike}
 use Rattle.step_texts.specs.declared.told.ToldStep.{ToldStep}
 use Rattle.step_texts.specs.Lines.{AreShort, line_texts}
@@ -39,10 +40,23 @@ AreToldStrikes c reason (step ∷ steps) [] = ⊥
 AreToldStrikes c reason (step ∷ steps) (strike ∷ strikes) =
     IsToldStrike c reason step strike × AreToldStrikes c reason steps strikes
 
--- the told step is of these steps of a reason, by the candidates before them, and has short lines, one at least
+-- exactly these numbers are left of the square
+pub record IsKnown (c : CandidatesValue) (square : KnownSquare) : Type 0 where
+  pub inside : square.cell < c.size * c.size
+  pub left : (v : ℕ) → (has_number square.numbers v ≡ true) ↔ IsLeft c square.cell v
+
+-- exactly their numbers are left of the squares, each of which is after the one before it, and the first not before this
+abbrev pub AreKnown : CandidatesValue → ℕ → List KnownSquare → Type 0
+AreKnown c from [] = Unit {0}
+AreKnown c from (square ∷ squares) =
+    (from ≤ square.cell) × IsKnown c square × AreKnown c (square.cell + 1) squares
+
+-- the told step is of these steps of a reason, by the candidates before them, names squares by what is left of them there,
+-- and has short lines, one at least
 pub record IsToldOf (c : CandidatesValue) (why : Reason) (look : List Step) (told : ToldStep) : Type 0 where
   pub reason : told.reason ≡ why
   pub strikes : AreToldStrikes c why look told.strikes.items
+  pub known : AreKnown c 0 told.known.items
   pub some : 1 ≤ length told.text.items
   pub short : AreShort (line_texts told.text.items)
 

@@ -2,6 +2,7 @@
 ghost use Rattle.std.specs.Prelude.{◌≤◌, length, IfOk};
 ghost use Rattle.step_texts.specs.Lines.{AreShort, line_texts};
 
+use crate::dead_ends::DeadEnd;
 use crate::endings::{say_empty, say_goal};
 use crate::groups::{first_group, say_group};
 use crate::step_names::StepNames;
@@ -33,7 +34,7 @@ pub fn chain_lines<P: StepNames>(
     Ok(text.into_lines())
 }
 
-/// The told steps of a grid from some candidates, with the number of each sentence, and then the square, or the number of a line, that they leave nothing.
+/// The told steps of a grid from some candidates, with the number of each sentence, and then the end of their contradiction.
 #[tactic(auto, using(crate::proofs::ShortLines::some_texts))]
 pub fn refutation_lines<P: StepNames>(
     alloc: Global,
@@ -41,14 +42,14 @@ pub fn refutation_lines<P: StepNames>(
     grid: &Grid,
     view: &Candidates,
     told: &[ToldStep],
-    cell: usize,
+    end: DeadEnd,
 ) -> Result<Vec<Line>, AllocError>
     ensures short { IfOk result (λ lines. AreShort (line_texts lines.items)) }
     ensures some { IfOk result (λ lines. 1 ≤ length (line_texts lines.items)) }
 {
     let mut text = Writing::new(alloc);
     say_steps(&mut text, p, told)?;
-    said(say_empty(&mut text, grid, view, told, cell))?;
+    said(say_empty(&mut text, grid, view, end))?;
     text.end()?;
     Ok(text.into_lines())
 }

@@ -1,14 +1,18 @@
 //! The sentence of a clue: what would be seen with the numbers that it strikes.
 ghost use Rattle.std.specs.Prelude.{◌<◌, length};
 
-use crate::known_squares::{facts_in, needed_places, say_known, say_settled, squares_from};
+use crate::known_squares::{
+    cells_from, facts_in, needed_places, say_known, say_settled, squares_from,
+};
 use crate::names::{EdgeClue, GridLine, Joined, List, Losses, Square, Squares, numbers};
 use crate::sentences::Look;
-use crate::showing::{Settled, Showing, ShownStrike, shown_strikes};
+use crate::showing::{AllSettled, Settled, Showing, ShownStrike, shown_strikes};
+use crate::told::{Seen, Strike, TowerPlace, TowerSquare};
 use crate::writing::Writing;
 use arrayvec::ArrayVec;
 use number_sets::NumberSet;
 use shown_counts::ClueCounts;
+use std::alloc::{AllocError, Global};
 use std::fmt::{self, Write};
 
 /// The knowledge of the other squares of a clue's line, when it is looked at.
@@ -22,20 +26,130 @@ pub(crate) enum Knowing {
     Marks,
 }
 
+/// All that is told of a clue that isn't enough alone.
+#[derive(Drop)]
+pub(crate) struct Shown {
+    at: EdgeClue,
+    strikes: ArrayVec<ShownStrike, 9>,
+    // The places of the line whose numbers are told, where they are few.
+    places: Option<NumberSet>,
+    settled: AllSettled,
+}
+
+impl Shown {
+    /// All that a look tells of its clue; nothing where the clue is enough alone.
+    // The struck numbers and what is seen with them are on the stack only here and where they are told.
+    #[inline(never)]
+    pub(crate) fn of(
+        at: &EdgeClue,
+        knowing: Knowing,
+        line: &ClueCounts,
+        look: &Look,
+    ) -> Option<Shown> {
+        let is_alone = matches!(knowing, Knowing::Alone);
+        if is_alone && (at.clue == 1 || at.clue == at.size.get()) {
+            return None;
+        }
+        let mut strikes = shown_strikes(line, look.strikes, at.clue);
+        let places = match knowing {
+            Knowing::Alone => Some(NumberSet::empty()),
+            _ if look.is_of_many => None,
+            _ => needed_places(line, strikes.as_slice(), at.clue),
+        };
+        let mut settled = ArrayVec::new();
+        if let Some(left) = look.left {
+            for strike in strikes.as_mut_slice() {
+                strike.settle(left, &mut settled);
+            }
+        }
+        Some(Shown {
+            at: *at,
+            strikes,
+            places,
+            settled,
+        })
+    }
+
+    /// The places of the line whose numbers are told.
+    pub(crate) fn named(&self) -> NumberSet {
+        self.places.unwrap_or(NumberSet::empty())
+    }
+
+    /// The squares of which it is told whether a tall tower is there: where its place is settled, and where both cases are told.
+    pub(crate) fn towers(&self, alloc: Global) -> Result<Vec<TowerSquare>, AllocError> {
+        let mut towers = Vec::new(alloc);
+        if self.places.is_some() {
+            for said in self.settled.as_slice() {
+                let number = said.number;
+                self.add(
+                    &mut towers,
+                    said.stands,
+                    number,
+                    TowerPlace::There,
+                    said.seen,
+                )?;
+                self.add(
+                    &mut towers,
+                    said.lacks,
+                    number,
+                    TowerPlace::Elsewhere,
+                    said.seen,
+                )?;
+                self.add(&mut towers, said.only, number, TowerPlace::Only, said.seen)?;
+            }
+        }
+        for strike in self.strikes.as_slice() {
+            for struck in 1..10 {
+                if let Showing::Split { number, places } = strike.with(struck) {
+                    self.add(&mut towers, places, number, TowerPlace::Either, Seen::Open)?;
+                }
+            }
+        }
+        Ok(towers)
+    }
+
+    // Adds the squares at some places, of which this is told, but for those of which it is told already.
+    fn add(
+        &self,
+        towers: &mut Vec<TowerSquare>,
+        places: NumberSet,
+        number: u8,
+        place: TowerPlace,
+        seen: Seen,
+    ) -> Result<(), AllocError> {
+        for cell in cells_from(&self.at, places).as_slice() {
+            let tower = TowerSquare {
+                cell: *cell,
+                number,
+                place,
+                seen,
+            };
+            if !towers.as_slice().contains(&tower) {
+                towers.push(tower)?;
+            }
+        }
+        Ok(())
+    }
+}
+
 /// Why a clue strikes, by its line as it is looked at, and what it strikes.
 pub(crate) fn say_clue(
     text: &mut Writing,
     at: &EdgeClue,
     knowing: Knowing,
     line: &ClueCounts,
-    look: &Look,
+    strikes: &[Strike],
+    shown: &Option<Shown>,
 ) -> fmt::Result {
-    let (size, strikes) = (at.size, look.strikes);
+    let size = at.size;
     write!(text, "Clue {at}")?;
-    let why = match knowing {
-        Knowing::Alone if at.clue == 1 => "the nearest tower is the tallest",
-        Knowing::Alone if at.clue == size.get() => "all towers are seen and rise",
-        _ => return say_shown(text, at, knowing, line, look),
+    if let Some(shown) = shown {
+        return say_shown(text, at, knowing, line, shown);
+    }
+    let why = if at.clue == 1 {
+        "the nearest tower is the tallest"
+    } else {
+        "all towers are seen and rise"
     };
     write!(text, ": {why}, so {}.", Losses { size, strikes })
 }
@@ -46,22 +160,17 @@ fn say_shown(
     at: &EdgeClue,
     knowing: Knowing,
     line: &ClueCounts,
-    look: &Look,
+    told: &Shown,
 ) -> fmt::Result {
-    let mut shown = shown_strikes(line, look.strikes, at.clue);
-    let places = match knowing {
-        Knowing::Alone => Some(NumberSet::empty()),
-        _ if look.is_of_many => None,
-        _ => needed_places(line, shown.as_slice(), at.clue),
-    };
-    let mut settled = ArrayVec::new();
-    if let Some(left) = look.left {
-        for strike in shown.as_mut_slice() {
-            strike.settle(left, &mut settled);
-        }
-    }
-    let shown = shown.as_slice();
-    say_knowing(text, at, knowing, line, places, settled.as_slice())?;
+    let shown = told.strikes.as_slice();
+    say_knowing(
+        text,
+        at,
+        knowing,
+        line,
+        told.places,
+        told.settled.as_slice(),
+    )?;
     write!(text, ": ")?;
     for index in 0..shown.len() {
         for number in 1..10 {

@@ -1,11 +1,12 @@
-//! The sentence of what a chain shows or leaves nothing.
+//! The sentence of what a chain shows or leaves nothing, and its name.
+ghost use Rattle.step_texts.specs.Headings.{IsEndName, IsGoalName};
 
+use crate::dead_ends::DeadEnd;
 use crate::left::{left_of, one};
 use crate::names::{GridLine, Joined, Square, numbers};
-use crate::told::ToldStep;
 use crate::writing::Writing;
 use latin_board::{Grid, Size, line_cell};
-use named_steps::{Goal, Reason};
+use named_steps::Goal;
 use number_sets::NumberSet;
 use std::fmt::{self, Write};
 use trail_solver::Candidates;
@@ -70,51 +71,51 @@ fn lacking_on(grid: &Grid, line: usize) -> NumberSet {
     NumberSet::up_to(width).difference(stand)
 }
 
-/// Says what told steps leave nothing: a number that has no square left in a line, where the last step comes
-/// to that, or otherwise this square.
+/// The name of the number that a chain from some candidates shows on a board: by the form of the sentence that says it.
+pub fn goal_name(grid: &Grid, view: &Candidates, goal: Goal) -> &'static str
+    ensures { IsGoalName goal result.now }
+{
+    let Goal::OnlyValue { cell, value } = goal else {
+        return "The only square left";
+    };
+    if line_that_lacks(grid, cell, value).is_some() {
+        "The last free square"
+    } else if unmarked_of(grid, cell, left_of(view, cell)).is_empty() {
+        "The only number left"
+    } else {
+        "The only mark left"
+    }
+}
+
+/// The name of the contradiction that ends there: by the form of the sentence that says it.
+pub fn end_name(grid: &Grid, view: &Candidates, end: DeadEnd) -> &'static str
+    ensures { IsEndName end result.now }
+{
+    let DeadEnd::Square { cell } = end else {
+        return "A number without a square";
+    };
+    if is_filled(grid, cell) || unmarked_of(grid, cell, left_of(view, cell)).is_empty() {
+        "A square without a number"
+    } else {
+        "A square whose marks are too few"
+    }
+}
+
+/// Says what a contradiction ends in: a number that has no square left in a line, or a square that has no number left.
 pub(crate) fn say_empty(
     text: &mut Writing,
     grid: &Grid,
     view: &Candidates,
-    told: &[ToldStep],
-    cell: usize,
+    end: DeadEnd,
 ) -> fmt::Result {
-    if let Some((last, before)) = told.split_last() {
-        if let Reason::Place { line, index, value } = last.reason {
-            if !is_left(view, before, line, index, value) {
-                let size = grid.size();
-                let line = GridLine { size, index: line };
-                return write!(text, "So {line} has no square left for {value}.");
-            }
+    match end {
+        DeadEnd::Square { cell } => say_no_number(text, grid, view, cell),
+        DeadEnd::Line { line, value } => {
+            let size = grid.size();
+            let line = GridLine { size, index: line };
+            write!(text, "So {line} has no square left for {value}.")
         }
     }
-    say_no_number(text, grid, view, cell)
-}
-
-// Whether told steps leave a number of what is in view at a place of a line.
-fn is_left(view: &Candidates, told: &[ToldStep], line: usize, index: usize, value: u8) -> bool {
-    let size = view.size();
-    let width = size.get() as usize;
-    if line >= 2 * width || index >= width {
-        return false;
-    }
-    let cell = line_cell(size, line as u8, index as u8);
-    let mut left = left_of(view, cell);
-    for step in told {
-        left = left.difference(struck_of(step, cell));
-    }
-    one(value).is_subset(left)
-}
-
-// The numbers that a told step strikes in a square.
-fn struck_of(step: &ToldStep, cell: usize) -> NumberSet {
-    let mut struck = NumberSet::empty();
-    for strike in step.strikes.as_slice() {
-        if strike.cell as usize == cell {
-            struck = struck.union(strike.values);
-        }
-    }
-    struck
 }
 
 // That a square of a board is left nothing, and why.
@@ -133,6 +134,17 @@ fn say_no_number(text: &mut Writing, grid: &Grid, view: &Candidates, cell: usize
     }
 }
 
+// The numbers that stand neither in the row nor in the column of a square.
+fn free_of(grid: &Grid, cell: usize) -> NumberSet {
+    let width = grid.size().get() as usize;
+    lacking_on(grid, cell / width).intersection(lacking_on(grid, width + cell % width))
+}
+
+// Those of them that aren't in view of the square: its pencil marks lack them.
+fn unmarked_of(grid: &Grid, cell: usize, view: NumberSet) -> NumberSet {
+    free_of(grid, cell).difference(view)
+}
+
 // Where the values have gone, but for those that stay, of an empty square with these in view: what isn't in
 // view and doesn't stand in its row or column isn't among its pencil marks.
 fn say_gone(
@@ -142,12 +154,9 @@ fn say_gone(
     view: NumberSet,
     stay: NumberSet,
 ) -> fmt::Result {
-    let size = grid.size();
-    let width = size.get() as usize;
-    let free = lacking_on(grid, cell / width).intersection(lacking_on(grid, width + cell % width));
-    let stood = NumberSet::up_to(size.get()).difference(free);
+    let stood = NumberSet::up_to(grid.size().get()).difference(free_of(grid, cell));
     let struck = view.difference(stay);
-    let unmarked = free.difference(view);
+    let unmarked = unmarked_of(grid, cell, view);
     say_part(
         text,
         "",

@@ -180,12 +180,21 @@ fn places_alike(line: &ClueCounts, places: NumberSet, may: NumberSet) -> NumberS
     alike
 }
 
-/// The squares at some places of a clue's line, in reading order.
+/// The squares at some places of a clue's line, in reading order, by name.
 pub(crate) fn squares_from(at: &EdgeClue, places: NumberSet, joined: Joined) -> Squares {
-    let width = at.size.get();
     let mut squares = List::new(joined);
+    for cell in cells_from(at, places).as_slice() {
+        squares.add(Square::of(at.size, *cell as usize));
+    }
+    squares
+}
+
+/// The squares at some places of a clue's line, in reading order.
+pub(crate) fn cells_from(at: &EdgeClue, places: NumberSet) -> ArrayVec<u8, 9> {
+    let width = at.size.get();
+    let mut cells = ArrayVec::new();
     if at.place >= 4 * width as usize {
-        return squares;
+        return cells;
     }
     let is_backwards = at.place / width as usize % 2 == 1;
     for from_start in 0..width {
@@ -196,8 +205,8 @@ pub(crate) fn squares_from(at: &EdgeClue, places: NumberSet, joined: Joined) -> 
         };
         if places.has(index) {
             let cell = view_cell(at.size, at.place as u8, index as usize);
-            squares.add(Square::of(at.size, cell));
+            let _fits = cells.try_push(cell as u8);
         }
     }
-    squares
+    cells
 }

@@ -16,11 +16,14 @@
 
 mod chain_texts;
 mod clue_sentences;
+mod dead_ends;
 mod endings;
 mod groups;
+mod headings;
 mod known_squares;
 mod left;
 mod looks;
+mod named_squares;
 mod names;
 mod said_before;
 mod sentences;
@@ -33,9 +36,12 @@ mod told_laws;
 mod writing;
 
 pub use chain_texts::{chain_lines, refutation_lines};
+pub use dead_ends::{DeadEnd, dead_end};
+pub use endings::{end_name, goal_name};
 pub use groups::told_groups;
+pub use headings::step_name;
 pub use step_names::StepNames;
 pub use telling::told_steps;
-pub use told::{SignEnd, Strike, ToldStep};
+pub use told::{KnownSquare, Seen, SignEnd, Strike, ToldStep, TowerPlace, TowerSquare};
 pub use told_laws::laws;
 pub use writing::{LINE, Line};

@@ -1,6 +1,7 @@
 //! The sentence of a step.
 
-use crate::clue_sentences::{Knowing, say_clue};
+use crate::clue_sentences::{Knowing, Shown, say_clue};
+use crate::headings::clue_at;
 use crate::left::{left_of, left_on, one};
 use crate::names::{EdgeClue, GridLine, Joined, Losses, Square, numbers};
 use crate::set_sentences::say_set;
@@ -35,6 +36,7 @@ pub(crate) fn say_step<P: StepNames>(
     p: &P,
     candidates: &Candidates,
     look: &Look,
+    shown: &Option<Shown>,
 ) -> fmt::Result {
     let size = candidates.size();
     let strikes = look.strikes;
@@ -48,13 +50,13 @@ pub(crate) fn say_step<P: StepNames>(
             say_place(text, candidates, line, index, value)?;
         }
         Reason::Bound { place } => {
-            return say_looked(text, &edge_clue(p, place), Knowing::Alone, look);
+            return say_looked(text, &edge_clue(p, place), Knowing::Alone, look, shown);
         }
         Reason::Stand { place } => {
-            return say_looked(text, &edge_clue(p, place), Knowing::Stands, look);
+            return say_looked(text, &edge_clue(p, place), Knowing::Stands, look, shown);
         }
         Reason::Clue { place } => {
-            return say_looked(text, &edge_clue(p, place), Knowing::Marks, look);
+            return say_looked(text, &edge_clue(p, place), Knowing::Marks, look, shown);
         }
         Reason::Sign { from, to } => say_sign(text, p, from, to, look)?,
         Reason::Set {
@@ -67,10 +69,30 @@ pub(crate) fn say_step<P: StepNames>(
 }
 
 // The sentence of a clue, of whose line there is nothing to say where its place is none of the edge's.
-fn say_looked(text: &mut Writing, at: &EdgeClue, knowing: Knowing, look: &Look) -> fmt::Result {
+fn say_looked(
+    text: &mut Writing,
+    at: &EdgeClue,
+    knowing: Knowing,
+    look: &Look,
+    shown: &Option<Shown>,
+) -> fmt::Result {
     match look.line {
-        Some(line) => say_clue(text, at, knowing, line, look),
+        Some(line) => say_clue(text, at, knowing, line, look.strikes, shown),
         None => Ok(()),
+    }
+}
+
+/// All that a look tells of its clue, if it looks from one that isn't enough alone.
+pub(crate) fn shown_of<P: StepNames>(p: &P, look: &Look) -> Option<Shown> {
+    let (place, knowing) = match look.reason {
+        Reason::Bound { place } => (place, Knowing::Alone),
+        Reason::Stand { place } => (place, Knowing::Stands),
+        Reason::Clue { place } => (place, Knowing::Marks),
+        _ => return None,
+    };
+    match look.line {
+        Some(line) => Shown::of(&edge_clue(p, place), knowing, line, look),
+        None => None,
     }
 }
 
@@ -185,11 +207,7 @@ pub(crate) fn end_of<P: StepNames>(
 /// The clue at a place of the edge; 0 of any other.
 pub(crate) fn edge_clue<P: StepNames>(p: &P, place: usize) -> EdgeClue {
     let size = p.size();
-    let clue = if place < 4 * size.get() as usize {
-        p.edge_clue(place as u8)
-    } else {
-        0
-    };
+    let clue = clue_at(p, place);
     EdgeClue { size, place, clue }
 }
 

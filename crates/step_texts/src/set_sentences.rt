@@ -109,8 +109,8 @@ fn open_of(candidates: &Candidates, line: usize, squares: NumberSet) -> NumberSe
     open
 }
 
-// Whether a cell is one of some squares of a line.
-fn has_cell(size: Size, line: usize, squares: NumberSet, cell: u8) -> bool {
+/// Whether a cell is one of some squares of a line.
+pub(crate) fn has_cell(size: Size, line: usize, squares: NumberSet, cell: u8) -> bool {
     let width = size.get();
     if line >= 2 * width as usize {
         return false;

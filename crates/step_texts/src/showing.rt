@@ -2,7 +2,7 @@
 ghost use Rattle.std.specs.Prelude.{◌<◌};
 
 use crate::left::one;
-use crate::told::Strike;
+use crate::told::{Seen, Strike};
 use arrayvec::ArrayVec;
 use number_sets::NumberSet;
 use shown_counts::ClueCounts;
@@ -32,6 +32,15 @@ impl Showing {
         match beside {
             Showing::Both(_) => split(line, index, number, clue).unwrap_or(beside),
             _ => beside,
+        }
+    }
+
+    /// The one side of the clue on which the towers are, if they are on one.
+    fn seen(&self) -> Seen {
+        match self {
+            Showing::Fewer => Seen::Fewer,
+            Showing::More => Seen::More,
+            _ => Seen::Open,
         }
     }
 
@@ -101,6 +110,8 @@ pub(crate) struct Settled {
     pub(crate) lacks: NumberSet,
     /// The only places at which it can be.
     pub(crate) only: NumberSet,
+    /// The towers that would be seen for that.
+    pub(crate) seen: Seen,
 }
 
 impl Default for Settled {
@@ -117,6 +128,7 @@ impl Settled {
             stands: NumberSet::empty(),
             lacks: NumberSet::empty(),
             only: NumberSet::empty(),
+            seen: Seen::Open,
         }
     }
 
@@ -131,6 +143,17 @@ impl Settled {
         facts
     }
 
+    // The same, told for the towers that would be seen.
+    fn by(self, seen: Seen) -> Settled {
+        Settled {
+            number: self.number,
+            stands: self.stands,
+            lacks: self.lacks,
+            only: self.only,
+            seen,
+        }
+    }
+
     // All that both say of one number.
     fn and(self, other: Settled) -> Settled {
         Settled {
@@ -138,6 +161,7 @@ impl Settled {
             stands: self.stands.union(other.stands),
             lacks: self.lacks.union(other.lacks),
             only: self.only.union(other.only),
+            seen: self.seen.or(other.seen),
         }
     }
 }
@@ -265,7 +289,7 @@ impl ShownStrike {
         for number in 1..10 {
             let (showing, said) = possible_case(self.showings[number], left, index);
             self.showings[number] = showing;
-            add_settled(known, said);
+            add_settled(known, said.by(showing.seen()));
         }
     }
 

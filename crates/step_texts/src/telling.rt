@@ -8,8 +8,9 @@ ghost use Rattle.step_texts.specs.Told.{AreToldCounts, AreToldStrikes, IsToldOf,
 
 use crate::groups::Why;
 use crate::looks::joined_steps;
+use crate::named_squares::{known_squares, tower_squares};
 use crate::said_before::SaidBefore;
-use crate::sentences::{Look, end_of, say_step};
+use crate::sentences::{Look, end_of, say_step, shown_of};
 use crate::step_names::StepNames;
 use crate::told::{Strike, ToldStep};
 use crate::writing::{Writing, said};
@@ -70,7 +71,6 @@ fn told_step<P: StepNames>(
     let other = before.left_of(other_end(first.reason));
     let end = end_of(p, first.reason, other, strikes.as_slice());
     before.rule_out(strikes.as_slice(), end);
-    let mut text = Writing::new(alloc);
     let told = Look {
         reason: first.reason,
         line: &line,
@@ -80,12 +80,19 @@ fn told_step<P: StepNames>(
         strikes: strikes.as_slice(),
         is_of_many,
     };
-    said(say_step(&mut text, p, candidates, &told))?;
+    let shown = shown_of(p, &told);
+    let known = known_squares(alloc, candidates, &told, &shown)?;
+    let towers = tower_squares(alloc, &shown)?;
+    let mut text = Writing::new(alloc);
+    said(say_step(&mut text, p, candidates, &told, &shown))?;
     text.end()?;
     Ok(ToldStep {
         reason: first.reason,
         strikes,
         end,
+        is_alone: other.is_single(),
+        known,
+        towers,
         text: text.into_lines(),
     })
 }

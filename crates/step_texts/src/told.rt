@@ -14,6 +14,56 @@ pub struct Strike {
     pub shows: Option<[NumberSet; 10]>,
 }
 
+/// A square that a sentence names as known, and the numbers that are left of it before its step.
+#[derive(Clone, Copy, Debug)]
+pub struct KnownSquare {
+    pub cell: u8,
+    pub numbers: NumberSet,
+}
+
+/// A square of a clue's line of which a sentence tells whether a tall tower is there.
+#[derive(Clone, Copy, PartialEq, Eq, Debug)]
+pub struct TowerSquare {
+    pub cell: u8,
+    /// The tower.
+    pub number: u8,
+    pub place: TowerPlace,
+    /// The towers that would be seen for that.
+    pub seen: Seen,
+}
+
+/// Whether a tall tower is in a square.
+#[derive(Clone, Copy, PartialEq, Eq, Debug)]
+pub enum TowerPlace {
+    /// It is.
+    There,
+    /// It is not.
+    Elsewhere,
+    /// It is there or in another of the told squares.
+    Only,
+    /// If it is in one of the told squares, fewer towers would be seen than the clue says, and otherwise more.
+    Either,
+}
+
+/// The towers that would be seen, beside a clue.
+#[derive(Clone, Copy, PartialEq, Eq, Debug)]
+pub enum Seen {
+    Fewer,
+    More,
+    /// Fewer in one case and more in the other, or it isn't told.
+    Open,
+}
+
+impl Seen {
+    /// This, or the other if this is open.
+    pub(crate) fn or(self, other: Seen) -> Seen {
+        match self {
+            Seen::Open => other,
+            _ => self,
+        }
+    }
+}
+
 /// The bound that is told of the other end of a sign.
 #[derive(Clone, Copy, PartialEq, Eq, Debug)]
 pub enum SignEnd {
@@ -61,5 +111,11 @@ pub struct ToldStep {
     pub strikes: Vec<Strike>,
     /// The bound that the sentence tells of the other end of a sign, if it tells one.
     pub end: Option<SignEnd>,
+    /// Whether that end has this number alone.
+    pub is_alone: bool,
+    /// The squares that the sentence names as known, in reading order.
+    pub known: Vec<KnownSquare>,
+    /// The squares of which the sentence tells whether a tall tower is there, in its order.
+    pub towers: Vec<TowerSquare>,
     pub text: Vec<Line>,
 }

@@ -63,6 +63,7 @@ said_data s =
       grade = word_or_null (option_copied s.grade);
       kind = s.kind.now;
       line = count_or_null s.line;
+      name = word_or_null (option_copied s.name);
       number = count_or_null s.number;
     }
 
@@ -71,4 +72,4 @@ abbrev pub said_members : SaidData → Start → Data → List (List ℕ × Data
 said_members said start groups =
     (codes "by", said.by) ∷ (codes "cell", said.cell) ∷ (codes "from", string (start_word start))
     ∷ (codes "grade", said.grade) ∷ (codes "groups", groups) ∷ (codes "kind", string said.kind)
-    ∷ (codes "line", said.line) ∷ (codes "number", said.number) ∷ []
+    ∷ (codes "line", said.line) ∷ (codes "name", said.name) ∷ (codes "number", said.number) ∷ []

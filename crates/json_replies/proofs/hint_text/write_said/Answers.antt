@@ -8,4 +8,4 @@ returns c =
     let from = member_is (ap string c.word.ensures) c.in_ok-write_word_at-2.ensures in
     more_members c.in_ok-write_word_at.ensures (more_members c.in_ok-write_number_at.ensures (more_members from
     (more_members c.in_ok-write_word_at-3.ensures (more_members c.in_ok-write_groups_at.ensures
-    (more_members c.in_ok-write_word_at-4.ensures (more_members c.in_ok-write_number_at-2.ensures c.in_ok-write_number_at-3.ensures))))))
+    (more_members c.in_ok-write_word_at-4.ensures (more_members c.in_ok-write_number_at-2.ensures (more_members c.in_ok-write_word_at-5.ensures c.in_ok-write_number_at-3.ensures)))))))

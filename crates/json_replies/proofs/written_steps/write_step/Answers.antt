@@ -3,7 +3,7 @@ use Rattle.serde_json.specs.Data.{string}
 use Rattle.step_texts.specs.Lines.{line_texts}
 use Rattle.json_replies.specs.Reasons.{parts_of}
 use Rattle.json_replies.specs.Texts.{text_data, list_data}
-use Rattle.json_replies.specs.Steps.{x_data, y_data, edge_clue_data, greater_data, less_data, strike_data}
+use Rattle.json_replies.specs.Steps.{x_data, y_data, edge_clue_data, greater_data, known_data, less_data, strike_data, tower_data}
 use Rattle.json_replies.specs.WrittenData.{Follow}
 use Rattle.json_replies.specs.Inner.WrittenData.{MembersFollow}
 use Rattle.json_replies.proofs.WrittenData.{object_follows, more_members, key_follows, member_is}
@@ -25,11 +25,16 @@ returns g c =
     (more_members (key_follows c.in_ok-key.ensures cells)
     (more_members (member_is (c.clue_at.ensures ∙ ap (edge_clue_data (g.P.StepNames.edge_clue_of c.args.p.now)) edge) c.in_ok-write_number_at.ensures)
     (more_members (member_is (c.greater_of.ensures ∙ ap greater_data c.ends_of-ends.ensures) c.in_ok-write_number_at-2.ensures)
-    (more_members (member_is (c.less_of.ensures ∙ ap less_data c.ends_of-ends.ensures) c.in_ok-write_number_at-3.ensures)
-    (more_members (member_is (c.line_of.ensures w over) c.in_ok-write_number_at-4.ensures)
-    (more_members (key_follows c.in_ok-key-2.ensures (c.in_ok-write_numbers_of.ensures w over))
-    (more_members (member_is (ap string (c.word_of.ensures w over)) c.in_ok-write_word_at.ensures)
-    (more_members (member_is (ap (list_data strike_data) c.as_slice.ensures.value) (key_follows c.in_ok-key-3.ensures c.in_ok-write_strikes.ensures))
-    (more_members (member_is (ap (λ lines. list_data text_data (line_texts lines)) c.as_slice-2.ensures.value) (key_follows c.in_ok-key-4.ensures c.in_ok-write_lines.ensures))
-    at)))))))))
+    (more_members (member_is (ap (list_data known_data) c.as_slice.ensures.value) (key_follows c.in_ok-key-2.ensures c.in_ok-write_known.ensures))
+    (more_members (member_is c.least_of.ensures c.in_ok-write_number_at-3.ensures)
+    (more_members (member_is (c.less_of.ensures ∙ ap less_data c.ends_of-ends.ensures) c.in_ok-write_number_at-4.ensures)
+    (more_members (member_is (c.line_of.ensures w over) c.in_ok-write_number_at-5.ensures)
+    (more_members (member_is c.most_of.ensures c.in_ok-write_number_at-6.ensures)
+    (more_members (member_is (ap string c.step_name.ensures) c.in_ok-write_word_at.ensures)
+    (more_members (key_follows c.in_ok-key-3.ensures (c.in_ok-write_numbers_of.ensures w over))
+    (more_members (member_is (ap string (c.word_of.ensures w over)) c.in_ok-write_word_at-2.ensures)
+    (more_members (member_is (ap (list_data tower_data) c.as_slice-2.ensures.value) (key_follows c.in_ok-key-4.ensures c.in_ok-write_split.ensures))
+    (more_members (member_is (ap (list_data strike_data) c.as_slice-3.ensures.value) (key_follows c.in_ok-key-5.ensures c.in_ok-write_strikes.ensures))
+    (more_members (member_is (ap (λ lines. list_data text_data (line_texts lines)) c.as_slice-4.ensures.value) (key_follows c.in_ok-key-6.ensures c.in_ok-write_lines.ensures))
+    at))))))))))))))
     c.in_ok-end_object.ensures
