@@ -324,6 +324,10 @@ class FullScreen:
         else:
             keys = 'arrows walk'
         self._way = keys if is_last else f'{self._step + 1} of {walk.count}  {keys}'
+        layout, part = self._layout(), walk.part(self._step)
+        if layout and not has_room(part.text, self.game.board, layout, self._look()):
+            # In a small window the name is left out, and not the end of the sentence.
+            self.game.message = part.plain
 
     def _walk_by(self, key: str) -> bool:
         """Whether a key walks along the steps that are shown, or leaves them."""

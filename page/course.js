@@ -61,7 +61,7 @@ export class Course {
 
   /** The text of a card is seen where there is nothing else to say. */
   rest() {
-    const {present: {board}, messages} = this.page, {cell, number} = this.walked.hint, [, text] = this.cards[this.at];
-    messages.stay(board.numbers[cell ?? -1] === number ? RIGHT : `${text} ${number ? FRAMED : SEE_WHY}`);
+    const {present: {board}, messages} = this.page, {hint: {cell, number}, move} = this.walked, [, text] = this.cards[this.at];
+    messages.stay(board.numbers[cell ?? -1] === number ? RIGHT : `${text} ${move ? FRAMED : SEE_WHY}`);
   }
 }

@@ -8,12 +8,15 @@
 /** @typedef {{cell: number, numbers: number[]}} Strike */
 /**
  * @typedef {{reason: string, x: number | null, y: number | null, clue: number | null, greater: number | null, less: number | null,
- *   cells: number[] | null, line: number | null, strikes: Strike[], text: string[]}} Step
+ *   cells: number[] | null, line: number | null, strikes: Strike[], text: string[],
+ *   name?: string, known?: {cell: number}[], split?: {cell: number}[]}} Step
  */
 /**
  * @typedef {{kind: 'follows' | 'nothing' | 'contradiction', cell: number | null, number: number | null, line: number | null, grade: string | null,
- *   view?: number[][], steps: Step[], groups: number[], text: string[], from?: 'marks' | 'numbers', unmarked?: number | null}} Hint
+ *   view?: number[][], steps: Step[], groups: number[], text: string[], from?: 'marks' | 'numbers', unmarked?: number | null, name?: string | null}} Hint
  */
+// A sentence of a hint, with its number if it is of steps, and the name of these; '' where the module gives none.
+/** @typedef {{number: string, name: string, text: string}} Sentence */
 /** @typedef {{clues: {x: number, y: number}[], signs: {greater: number, less: number}[], givens: number[]}} Items */
 /**
  * @typedef {{lost?: string, refused: string | null, reply: string[], session: Session | null, board?: Board, hint?: Hint, grade?: string | null,
@@ -74,14 +77,22 @@ export const gameOf = (session) => (session.game === 'Unequal' ? 'unequal' : 'to
 /** @param {string} id */
 export const letterOf = (id) => /^[3-9]d([a-z])/.exec(id)?.[1] ?? '';
 
-// The sentences of a text, of which those lines go on that begin with blanks.
-/** @param {string[]} lines */
-export function sentences(lines) {
+// The sentences of a hint: a line of its text that begins with blanks goes on. Steps of one sentence mostly have the same name.
+/** @param {Hint} hint @returns {Sentence[]} */
+export function sentences({text, steps, groups, name}) {
   /** @type {string[]} */
-  const found = [];
-  for (const line of lines) {
+  const found = [], names = steps.map((step) => step.name ?? '');
+  for (const line of text) {
     if (line.startsWith(' ') && found.length) found[found.length - 1] += ` ${line.trim()}`;
     else found.push(line);
   }
-  return found;
+  const own = [...groups.map((length) => [...new Set(names.splice(0, length))].join('; ')), name ?? ''];
+  return found.map((whole, at) => {
+    const [number] = /^[0-9]+[.] /.exec(whole) ?? [''];
+    return {number, name: own[at], text: whole.slice(number.length)};
+  });
 }
+
+// A sentence with its name, and without its number.
+/** @param {Sentence} sentence */
+export const headed = ({name, text}) => (name ? `${name}. ${text}` : text);

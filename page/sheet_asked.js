@@ -1,10 +1,11 @@
 // The questions of sheets to the program besides the puzzles: how their answers go on, and the cards of the course.
 import {NO_BYTES} from './bytes.js';
 import {GRADES} from './games.js';
-import {isSolved, placeOf} from './objects.js';
+import {cellOf, isSolved} from './objects.js';
 import {CARDS} from './shared_texts.js';
-import {movesOf, toldIn} from './sheet_steps.js';
+import {movesOf, toldIn, unnamed} from './sheet_steps.js';
 import {TABLES} from './sheet_tables.js';
+import {WalkedHint} from './walked_hint.js';
 
 /** @typedef {import('./objects.js').Hint} Hint */
 /** @typedef {import('./turns.js').Game} Game */
@@ -30,9 +31,9 @@ async function moved(ask, {game, id, size}) {
   let line = `new ${id}`, session = NO_BYTES;
   for (;;) {
     const {answers: [, {hint}, {board}], saved} = await ask(game, [line, 'hint', 'board'], session);
-    if (!hint || hint.cell === null || !hint.text.length) return movesOf(hints, Object.keys(GRADES[game]), Boolean(board && isSolved(board)));
+    if (hint?.kind !== 'follows' || !hint.text.length) return movesOf(hints, Object.keys(GRADES[game]), Boolean(board && isSolved(board)));
     hints.push(hint);
-    [line, session] = [`move R${placeOf(hint.cell, size)},${hint.number}`, saved];
+    [line, session] = [new WalkedHint(hint, size).move, saved];
   }
 }
 
@@ -41,12 +42,11 @@ export async function lessonsBy(ask, game) {
   const lessons = await Promise.all(CARDS[game].map(async ([id], at) => {
     const [head, text] = TABLES.LESSONS.TITLES[game][at], {answers: [, {hint}]} = await ask(game, [`new ${id}`, 'hint']);
     if (!hint) throw new Error(`no hint for the card ${id}`);
-    const last = hint.steps.flatMap(({strikes}) => strikes).pop(), cell = hint.cell ?? last?.cell ?? null;
-    const size = Number(id[0]), put = hint.cell === null ? [] : [`move R${placeOf(hint.cell, size)},${hint.number}`];
+    const {move, goal} = new WalkedHint(hint, Number(id[0])), put = move ? [move] : [];
     const {answers: shown} = await ask(game, [`new ${id}`, ...put, 'board']), {board} = shown[shown.length - 1];
     if (!board) throw new Error('no board');
-    const own = [text, ...toldIn(hint.text)];
-    return {head, board, texts: at ? own : [...own, TABLES.LISTING.SQUARES, TABLES.LESSONS.FRAMED], cell};
+    const own = [unnamed(text), ...toldIn(hint)], more = at ? [] : [TABLES.LISTING.SQUARES, TABLES.LESSONS.FRAMED];
+    return {head, board, texts: [...own, ...more.map(unnamed)], cell: goal === null ? null : cellOf(goal, board.size)};
   }));
   return {game, lessons};
 }

@@ -1,14 +1,14 @@
 // A first lesson: the cards of the course, each with its board and the step that shows the number.
 import {drawn, edgeOf, extentOf, nameOf, penOf} from './sheet_drawing.js';
 import {rulesOf} from './sheet_layout.js';
-import {linesOf} from './sheet_letters.js';
+import {linesIn, marked} from './sheet_steps.js';
 import {TABLES} from './sheet_tables.js';
 import {lengths, tag} from './sheet_tree.js';
 
 /** @typedef {import('./turns.js').Game} Game */
 /** @typedef {import('./objects.js').Board} Board */
 /** @typedef {import('./sheet_layout.js').Paper} Paper */
-/** @typedef {{head: string, board: Board, texts: string[], cell: number | null}} Lesson */
+/** @typedef {{head: string, board: Board, texts: import('./objects.js').Sentence[], cell: number | null}} Lesson */
 /** @typedef {{game: Game, lessons: Lesson[]}} Example */
 /** @typedef {{lesson: Lesson, height: number, width: number}} Row */
 
@@ -33,7 +33,7 @@ function sheets(paper, game, lessons, side) {
   let left = room;
   for (const lesson of lessons) {
     const full = extentOf(game, lesson.board.size, pen) + edgeOf(side), width = paper.width - full - BESIDE;
-    const text = Math.floor(lesson.texts.reduce((sum, each) => sum + linesOf(each, width, font), 1) * font * 27 / 20);
+    const text = Math.floor(lesson.texts.reduce((sum, each) => sum + linesIn(each, width, font), 1) * font * 27 / 20);
     const height = Math.max(full, text) + BELOW;
     if (height > left && found[found.length - 1].length) {
       found.push([]);
@@ -48,6 +48,6 @@ function sheets(paper, game, lessons, side) {
 /** @param {Paper} paper @param {Game} game @param {number} side @param {Row} row */
 function drawnRow(paper, game, side, {lesson: {head, board, texts, cell}, height, width}) {
   const picture = drawn(game, board, penOf(game, side, paper.print.strength), nameOf(head, game, board.size, ''), {hinted: cell, hasEdges: true});
-  const words = [tag('p', {}, tag('b', {}, head)), ...texts.map((text) => tag('p', {}, text))];
+  const words = [tag('p', {}, tag('b', {}, head)), ...texts.map((text) => tag('p', {}, ...marked(text)))];
   return tag('div', {class: 'example', style: lengths({height})}, picture, tag('div', {style: lengths({width})}, ...words));
 }

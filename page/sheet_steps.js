@@ -1,34 +1,45 @@
 // How answers go on, move by move, in the sentences of the program's hints: the first moves and the hardest, or all, in columns.
-import {sentences} from './objects.js';
+import {headed, sentences} from './objects.js';
 import {linesOf} from './sheet_letters.js';
 import {TABLES} from './sheet_tables.js';
 import {lengths, tag} from './sheet_tree.js';
 
 /** @typedef {import('./objects.js').Hint} Hint */
+/** @typedef {import('./objects.js').Sentence} Sentence */
 /** @typedef {import('./sheet_layout.js').Numbered} Numbered */
 /** @typedef {import('./sheet_layout.js').Paper} Paper */
 /** @typedef {import('./sheet_tree.js').Tree} Tree */
 /** A move puts the number of a square; the last one may say that no more follows. */
-/** @typedef {{number: number, texts: string[], grade: number, steps: number, cell: number | null, isHardest: boolean}} Move */
+/** @typedef {{number: number, texts: Sentence[], grade: number, steps: number, cell: number | null, isHardest: boolean}} Move */
 /** @typedef {{content: Tree, lines: number}} Paragraph */
 
-const {COLUMN_GAP, GAP, SQUARES, LEFT_OUT, TERMS, NO_MORE, FIRST} = TABLES.LISTING, NUMBER = /^[0-9]+\. /;
+const {COLUMN_GAP, GAP, SQUARES, LEFT_OUT, TERMS, NO_MORE, FIRST} = TABLES.LISTING;
 
 // The sentences of a hint; a step that is the only one has no number.
-/** @param {string[]} text */
-export function toldIn(text) {
-  const found = sentences(text);
-  return found.filter((each) => NUMBER.test(each)).length === 1 ? found.map((each) => each.replace(NUMBER, '')) : found;
+/** @param {Hint} hint */
+export function toldIn(hint) {
+  const found = sentences(hint);
+  return found.filter(({number}) => number).length === 1 ? found.map((each) => ({...each, number: ''})) : found;
 }
+
+/** @param {string} text @returns {Sentence} */
+export const unnamed = (text) => ({number: '', name: '', text});
+
+// How many lines a sentence takes, behind a label in bold; and how it is printed, its name in italics.
+/** @param {Sentence} sentence @param {number} width @param {number} font @param {string} [label] */
+export const linesIn = (sentence, width, font, label) => linesOf(sentence.number + headed(sentence), width, font, label);
+
+/** @param {Sentence} sentence @returns {import('./sheet_tree.js').Leaf[]} */
+export const marked = ({number, name, text}) => (name ? [number, tag('i', {}, `${name}.`), ` ${text}`] : [number + text]);
 
 // All moves, with the hardest one; and one that says so where no number follows any more.
 /** @param {Hint[]} hints @param {string[]} letters  of grades, the least first @param {boolean} isSolved @returns {Move[]} */
 export function movesOf(hints, letters, isSolved) {
-  const moves = hints.map(({text, grade, steps, cell}, at) => (
-    {number: at + 1, texts: toldIn(text), grade: letters.indexOf(grade ?? ''), steps: steps.length, cell, isHardest: false}));
+  const moves = hints.map((hint, at) => (
+    {number: at + 1, texts: toldIn(hint), grade: letters.indexOf(hint.grade ?? ''), steps: hint.steps.length, cell: hint.cell, isHardest: false}));
   const hardest = moves.reduce((best, move) => (best && (best.grade - move.grade || best.steps - move.steps) >= 0 ? best : move), moves[0]);
   if (hardest) hardest.isHardest = true;
-  return isSolved ? moves : [...moves, {number: moves.length + 1, texts: [NO_MORE], grade: -1, steps: 0, cell: null, isHardest: false}];
+  return isSolved ? moves : [...moves, {number: moves.length + 1, texts: [unnamed(NO_MORE)], grade: -1, steps: 0, cell: null, isHardest: false}];
 }
 
 // The first moves and the hardest one; or all of them.
@@ -74,8 +85,8 @@ function columnsOf(parts, font, room) {
 /** @param {{numbered: Numbered, moves: Move[]}[]} every @param {number} width @param {number} font @param {boolean} hasGrades @param {boolean} areAll */
 function partsOf(every, width, font, hasGrades, areAll) {
   const said = every.flatMap(({moves}) => moves.flatMap(({texts}) => texts));
-  const words = Object.entries(TERMS).filter(([term]) => said.some((text) => text.includes(term))).map(([, text]) => String(text));
-  const parts = [{moves: [[SQUARES, ...words, ...(areAll ? [] : [LEFT_OUT])].map((text) => sentence(text, width, font))], gap: 0}];
+  const words = Object.entries(TERMS).filter(([term]) => said.some(({text}) => text.includes(term))).map(([, text]) => String(text));
+  const parts = [{moves: [[SQUARES, ...words, ...(areAll ? [] : [LEFT_OUT])].map((text) => sentence(unnamed(text), width, font))], gap: 0}];
   for (const {numbered: {label, name, puzzle}, moves} of every) {
     const pupil = name ? [' · ', tag('bdi', {}, name)] : [];
     const head = tag('p', {class: 'first'}, tag('b', {}, label), ` ${hasGrades ? puzzle.grade : ''}`, ...pupil);
@@ -85,14 +96,14 @@ function partsOf(every, width, font, hasGrades, areAll) {
   return parts;
 }
 
-/** @param {string} text @param {number} width @param {number} font @returns {Paragraph} */
-const sentence = (text, width, font) => ({content: tag('p', {}, text), lines: linesOf(text, width, font)});
+/** @param {Sentence} own @param {number} width @param {number} font @returns {Paragraph} */
+const sentence = (own, width, font) => ({content: tag('p', {}, ...marked(own)), lines: linesIn(own, width, font)});
 
 // The label of a move, and its sentences: the label stands before the first one, unless that has a number.
 /** @param {Move} move @param {number} width @param {number} font @returns {Paragraph[]} */
 function paragraphs({number, texts, isHardest}, width, font) {
   const label = `Move ${number}${isHardest ? ', the hardest' : ''}`, [first, ...rest] = texts;
-  if (NUMBER.test(first)) return [{content: tag('p', {}, tag('b', {}, label)), lines: 1}, ...texts.map((text) => sentence(text, width, font))];
-  const begun = {content: tag('p', {}, tag('b', {}, `${label}.`), ` ${first}`), lines: linesOf(first, width, font, `${label}.`)};
+  if (first.number) return [{content: tag('p', {}, tag('b', {}, label)), lines: 1}, ...texts.map((text) => sentence(text, width, font))];
+  const begun = {content: tag('p', {}, tag('b', {}, `${label}.`), ' ', ...marked(first)), lines: linesIn(first, width, font, `${label}.`)};
   return [begun, ...rest.map((text) => sentence(text, width, font))];
 }

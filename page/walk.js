@@ -1,5 +1,6 @@
 // A hint as it is shown: where to look, why, and the number; or all its steps one by one, in place of the buttons.
 import {button, element, focus, part, show} from './drawing.js';
+import {headed} from './objects.js';
 import {WalkedHint} from './walked_hint.js';
 import {inSteps, lookAt, lookAtGoal, stepOf} from './texts.js';
 
@@ -77,16 +78,16 @@ export class Walk {
       return walked.steps.length ? lookAt(walked.steps[0], walked.size) : lookAtGoal(walked.hint.line, walked.size);
     }
     this.stage = 'reason';
-    const {groups: {length}, sentences} = walked;
+    const {groups: {length}} = walked, texts = walked.sentences.map(({text}) => text);
     this.shown = walked.shown(length === 1 ? 0 : length);
-    return length === 1 ? sentences.join(' ') : [sentences[length], inSteps(length)].filter(Boolean).join(' ');
+    return length === 1 ? texts.join(' ') : [texts[length], inSteps(length)].filter(Boolean).join(' ');
   }
 
   /** All steps, in place of the buttons: the first step has the focus where one of these had it. */
   open() {
     const {walked} = this, hadFocus = part('play').contains(document.activeElement);
     if (!walked) return;
-    part('steps').replaceChildren(...walked.sentences.map((text, at) => element('li', '', {}, button(text, {'data-step': at}))));
+    part('steps').replaceChildren(...walked.sentences.map((sentence, at) => element('li', '', {}, rowOf(sentence, at))));
     show(part('walk'), true);
     show(part('play'), false);
     part('walk').querySelector('[data-do=take]')?.toggleAttribute('hidden', !walked.move);
@@ -105,6 +106,14 @@ export class Walk {
     part('steps').querySelectorAll('button').forEach((node, index) => node.setAttribute('aria-current', index === this.at ? 'step' : 'false'));
     // The sentence is what has to be seen.
     for (const node of [part('keep'), part('steps').children[this.at]]) node.scrollIntoView({block: 'nearest'});
-    this.say([this.at < walked.groups.length && stepOf(this.at, walked.groups.length), walked.sentences[this.at]].filter(Boolean).join('. '));
+    this.say([this.at < walked.groups.length && stepOf(this.at, walked.groups.length), headed(walked.sentences[this.at])].filter(Boolean).join('. '));
   }
+}
+
+// A sentence below which the others stand, with its name before it.
+/** @param {import('./objects.js').Sentence} sentence @param {number} at */
+function rowOf({name, text}, at) {
+  const node = button('', {'data-step': at});
+  node.append(...(name ? [element('b', `${name}.`), ' '] : []), text);
+  return node;
 }

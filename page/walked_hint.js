@@ -18,6 +18,13 @@ export const NOTHING_SHOWN = {framed: [], rests: [], struck: new Map(), left: nu
 /** @param {number} line @param {number} size @returns {Place[]} */
 export const line = (line, size) => Array.from({length: size}, (_, at) => (line < size ? placeAt(at, line) : placeAt(line - size, at)));
 
+// The clue and the squares that the sentence of a step names; all that it looks at where it names none, or the module doesn't tell which.
+/** @param {Step} step @param {number} size @returns {Place[]} */
+export function speaksOf(step, size) {
+  const {clue, known = [], split = [], x, y} = step, named = [...known, ...split].map(({cell}) => placeOf(cell, size));
+  return clue === null || !named.length ? restsOn(step, size) : [placeAt(Number(x), Number(y)), ...named];
+}
+
 // The clue and the squares that a step looks at.
 /** @param {Step} step @param {number} size @returns {Place[]} */
 export function restsOn({clue, x, y, greater, less, cells}, size) {
@@ -34,8 +41,8 @@ export class WalkedHint {
     this.hint = hint;
     this.size = size;
     this.steps = hint.steps;
-    /** All sentences: those of steps, without their numbers, and the last. */
-    this.sentences = sentences(hint.text).map((text) => text.replace(/^[0-9]+[.] /, ''));
+    /** All sentences: those of steps, and the last. */
+    this.sentences = sentences(hint);
     /** The steps of each sentence but the last. */
     this.groups = hint.groups.map((length) => rest.splice(0, length));
   }
@@ -56,11 +63,13 @@ export class WalkedHint {
     return cell === null || number === null ? '' : `move R${placeOf(cell, this.size)},${number}`;
   }
 
-  // The square in which the number follows; of a contradiction the one that has nothing left.
+  // The square in which the number follows; of a contradiction the one that has nothing left, if it is a square that has.
   /** @returns {Place | null} */
   get goal() {
-    const last = this.steps[this.steps.length - 1], cell = this.hint.cell ?? last?.strikes[last.strikes.length - 1]?.cell;
-    return cell === undefined || cell === null ? null : placeOf(cell, this.size);
+    const {hint: {cell, line}, steps, size} = this, last = steps[steps.length - 1];
+    // A module that doesn't tell it: the last step empties it.
+    const own = cell ?? (line === null ? last?.strikes[last.strikes.length - 1]?.cell : null) ?? null;
+    return own === null ? null : placeOf(own, size);
   }
 
   // Where to look first.
@@ -76,7 +85,7 @@ export class WalkedHint {
     const steps = this.groups[at];
     if (!steps) return {...NOTHING_SHOWN, framed: this.goalLine(), left: this.left(at)};
     const struck = new Map(steps.flatMap(({strikes}) => strikes).map(({cell, numbers}) => [cell, numbers]));
-    return {framed: [], rests: steps.flatMap((step) => restsOn(step, this.size)), struck, left: this.left(at)};
+    return {framed: [], rests: steps.flatMap((step) => speaksOf(step, this.size)), struck, left: this.left(at)};
   }
 
   // The numbers left in each square before a sentence: those in view, without those that the steps above strike.
@@ -99,7 +108,7 @@ export class WalkedHint {
     return struck;
   }
 
-  /** The row or column in which the number has no other square, or its square alone. */
+  /** The row or column in which the number has no other square, or none; or the square alone. */
   goalLine() {
     if (this.hint.line !== null) return line(this.hint.line, this.size);
     return this.goal ? [this.goal] : [];

@@ -18,8 +18,8 @@ class WholeWalk extends WalkedHint {
   constructor(hints, size, end) {
     super(hints[0], size);
     const walks = hints.map((hint) => new WalkedHint(hint, size));
-    this.parts = walks.flatMap((walk) => walk.sentences.map((text, at) => ({text, walk, at})));
-    this.sentences = [...this.parts.map(({text}) => text), end];
+    this.parts = walks.flatMap((walk) => walk.sentences.map((sentence, at) => ({sentence, walk, at})));
+    this.sentences = [...this.parts.map(({sentence}) => sentence), {number: '', name: '', text: end}];
   }
 
   get move() { return ''; }

@@ -2,10 +2,11 @@
 
 from __future__ import annotations
 
+from itertools import islice
 from typing import Any, Dict, FrozenSet, List, Mapping, NamedTuple, Optional, Tuple
 
 from playing.naming import Place
-from playing.steps import Step, steps_of
+from playing.steps import Sentence, Step, sentences, steps_of
 
 #: The games, by the words of the command line.
 GAMES = {'towers': 'Towers', 'unequal': 'Unequal'}
@@ -104,7 +105,7 @@ class Hint(NamedTuple):
     """The next step: a number in a square (`follows`), nothing (`nothing`), or that the numbers are wrong (`contradiction`)."""
 
     kind: str
-    #: The square, counted in reading order from 0.
+    #: The square, counted in reading order from 0, and the number; of numbers that are wrong the square that has none left, or the number that has none in `line`.
     cell: Optional[int]
     number: Optional[int]
     #: The letter of the least grade that has the steps; nothing where no steps lead there.
@@ -121,13 +122,25 @@ class Hint(NamedTuple):
     #: From what the steps begin, `marks` or `numbers`; and where these marks can't be right, a square whose number isn't among them.
     origin: str = 'numbers'
     unmarked: Optional[int] = None
+    #: The name of its last sentence; nothing where an older program gives none.
+    name: str = ''
+
+    @property
+    def sentences(self) -> List[Sentence]:
+        """All of it, each by the name of its steps; those of one sentence mostly have the same."""
+        steps = iter(self.told)
+        return sentences(self.text, [*('; '.join(dict.fromkeys(step.get('name', '') for step in islice(steps, length))) for length in self.groups), self.name])
 
     def steps(self, size: int) -> List[Step]:
         """The steps, on a board of this size."""
         return steps_of(self.told, size)
 
     def square(self, size: int) -> Optional[Place]:
-        """Of a board of this size."""
+        """The one where a number follows, on a board of this size."""
+        return self.goal(size) if self.kind == 'follows' else None
+
+    def goal(self, size: int) -> Optional[Place]:
+        """The one where a number follows, or that has none left."""
         return None if self.cell is None else (self.cell % size, self.cell // size)
 
     @property
@@ -174,7 +187,7 @@ def hint_of(data: Mapping[str, Any]) -> Hint:
     told = data.get('steps', [])
     groups = data.get('groups', [1] * len(told))
     hint = Hint(data['kind'], data['cell'], data['number'], data.get('grade'), data.get('line'), told, data.get('text', []), data.get('view', []), groups)
-    return hint._replace(origin=data.get('from', 'numbers'), unmarked=data.get('unmarked'))
+    return hint._replace(origin=data.get('from', 'numbers'), unmarked=data.get('unmarked'), name=data.get('name') or '')
 
 
 def session_of(data: Mapping[str, Any]) -> Session:

@@ -82,8 +82,8 @@ class Course(Game):
     @property
     def goal(self) -> Place:
         """The square where it follows, or that has none left."""
-        assert self._lesson, 'a card is shown'
-        return self._lesson.place or self._lesson.steps[-1].strikes[-1].place
+        assert self._lesson and self._lesson.goal, 'a card is shown'
+        return self._lesson.goal
 
     @property
     def is_done(self) -> bool:

@@ -9,7 +9,7 @@ from typing import Dict, FrozenSet, Iterator, List, Mapping, NamedTuple, Optiona
 from playing import shared_texts
 from playing.board import Board, Hint
 from playing.naming import Place, line_name, name
-from playing.steps import Shown, Step, line_squares, look_at, sentences
+from playing.steps import Sentence, Shown, Step, line_squares, look_at
 
 
 class HintPart(NamedTuple):
@@ -19,6 +19,8 @@ class HintPart(NamedTuple):
     shown: Shown
     #: The square where the number follows; nothing where none does.
     place: Optional[Place]
+    #: The sentence without its name.
+    plain: str = ''
 
 
 class Press(Enum):
@@ -40,6 +42,7 @@ class HintWalk:
         self.moves = moves
         self.place = hint.square(board.size)
         self.steps = hint.steps(board.size)
+        self.sentences = hint.sentences
         #: The steps of each sentence.
         self.groups = list(_grouped(self.steps, hint.groups))
         self._size = board.size
@@ -61,6 +64,14 @@ class HintWalk:
     def stays_on(self, board: Board) -> None:
         """It goes on where the marks are others."""
         self._marks = dict(board.marks)
+
+    @property
+    def goal(self) -> Optional[Place]:
+        """The square where the number follows, or that has none left; nothing where a row or column has none for a number."""
+        if self.hint.cell is None and self.hint.line is None and self.steps:
+            # An older program doesn't tell it. The last step empties it: otherwise that would be spare.
+            return self.steps[-1].strikes[-1].place
+        return self.hint.goal(self._size)
 
     @property
     def is_from_marks(self) -> bool:
@@ -138,14 +149,14 @@ class HintWalk:
         """A sentence, with what is left before its steps; or the end."""
         if at < len(self.groups):
             steps = self.groups[at]
-            rests_on = frozenset(chain.from_iterable(step.rests_on(self._size) for step in steps))
+            rests_on = frozenset(chain.from_iterable(step.speaks_of(self._size) for step in steps))
             struck = {strike.place: strike.numbers for step in steps for strike in step.strikes}
-            return HintPart(self._sentence(at), Shown(rests_on, self.left(at), struck), self.place)
-        return HintPart(self._end(), Shown(self._end_squares(), self.left(at)), self.place)
+            return HintPart(self.sentences[at].headed, Shown(rests_on, self.left(at), struck), self.place, self.sentences[at].text)
+        return HintPart(self._end().headed, Shown(self._end_squares(), self.left(at)), self.place, self._end().text)
 
     def whole(self) -> List[str]:
         """All sentences, those of steps numbered."""
-        return sentences(self.hint.text) or [self._look_at_square(), self._end()]
+        return [sentence.whole for sentence in self.sentences] or [self._look_at_square(), self._end().text]
 
     def left(self, at: int) -> Optional[Dict[Place, List[int]]]:
         """The numbers that are left in each empty square before a sentence; nothing where the program doesn't say what is in view."""
@@ -165,27 +176,20 @@ class HintWalk:
             struck.setdefault(strike.place, set()).update(strike.numbers)
         return struck
 
-    def _sentence(self, at: int) -> str:
-        """That of steps, without its number."""
-        return sentences(self.hint.text)[at].partition(' ')[2]
-
-    def _end(self) -> str:
+    def _end(self) -> Sentence:
         """The answer with the steps."""
-        return sentences(self.hint.text)[-1] if self.hint.text else f'It is a {self.hint.number}.'
+        return self.sentences[-1] if self.sentences else Sentence(f'It is a {self.hint.number}.')
 
     def _end_squares(self) -> FrozenSet[Place]:
-        """The row or column in which the number has one square left; or the square where one number is left, or none."""
+        """The row or column in which the number has one square left, or none; or the square where one number is left, or none."""
         if self.hint.line is not None:
             return frozenset(line_squares(self.hint.line, self._size))
-        if self.place:
-            return frozenset([self.place])
-        # A square is emptied by the last step: otherwise that would be spare.
-        return frozenset([self.steps[-1].strikes[-1].place] if self.steps else [])
+        return frozenset(filter(None, [self.goal]))
 
     def _look_at_square(self) -> str:
         """Where to look where no step is needed."""
         if self.hint.line is not None:
-            return f'Look at {line_name(self.hint.line, self._size)}: a number has one square left there.'
+            return f'Look at {line_name(self.hint.line, self._size)}: a number has {"no" if self.is_refutation else "one"} square left there.'
         if self.place is None:
             return 'Look for an empty square whose row and column have all numbers.'
         return f'Look at {name(self.place)}: one number is left there{"" if self.is_from_marks else ", as the others stand in its row or column"}.'

@@ -2,9 +2,32 @@
 
 from __future__ import annotations
 
-from typing import Any, FrozenSet, List, Mapping, NamedTuple, Optional
+import re
+from typing import Any, FrozenSet, List, Mapping, NamedTuple, Optional, Sequence
 
 from playing.naming import Place, clue_name, line_name, listed, name
+
+
+#: The words that begin a sentence of steps.
+NUMBER = re.compile(r'\A[0-9]+\. ')
+
+
+class Sentence(NamedTuple):
+    """A sentence of a hint, with its number if it is of steps, and the name of these; nothing where the program gives none."""
+
+    text: str
+    number: str = ''
+    name: str = ''
+
+    @property
+    def headed(self) -> str:
+        """With its name."""
+        return f'{self.name}. {self.text}' if self.name else self.text
+
+    @property
+    def whole(self) -> str:
+        """With number and name."""
+        return f'{self.number}{self.headed}'
 
 
 class Strike(NamedTuple):
@@ -30,6 +53,8 @@ class Step(NamedTuple):
     numbers: List[int]
     strikes: List[Strike]
     text: str
+    #: The squares that its sentence names besides those above; an older program doesn't tell them.
+    named: List[Place]
 
     def rests_on(self, size: int) -> FrozenSet[Place]:
         """The clue and the squares that it looks at."""
@@ -37,6 +62,10 @@ class Step(NamedTuple):
         if self.clue:
             places.update(line_from(self.clue, size))
         return frozenset(places)
+
+    def speaks_of(self, size: int) -> FrozenSet[Place]:
+        """The clue and the squares that its sentence names; the whole line where that names none."""
+        return frozenset([self.clue, *self.named]) if self.clue and self.named else self.rests_on(size)
 
     @property
     def struck(self) -> Mapping[Place, List[int]]:
@@ -60,15 +89,16 @@ def joined(lines: List[str]) -> str:
     return ' '.join(line.strip() for line in lines)
 
 
-def sentences(lines: List[str]) -> List[str]:
-    """The sentences of a text, of which those lines go on that begin with blanks."""
+def sentences(lines: List[str], names: Sequence[str]) -> List[Sentence]:
+    """The sentences of a text, of which those lines go on that begin with blanks, by their names."""
     found: List[str] = []
     for line in lines:
         if line.startswith(' ') and found:
             found[-1] = f'{found[-1]} {line.strip()}'
         else:
             found.append(line)
-    return found
+    numbers = [''.join(NUMBER.findall(whole)) for whole in found]
+    return [Sentence(whole[len(number) :], number, name) for whole, number, name in zip(found, numbers, names)]
 
 
 def steps_of(data: List[Mapping[str, Any]], size: int) -> List[Step]:
@@ -89,6 +119,7 @@ def steps_of(data: List[Mapping[str, Any]], size: int) -> List[Step]:
             numbers=step['numbers'] or [],
             strikes=[Strike((strike['cell'] % size, strike['cell'] // size), strike['numbers']) for strike in step['strikes']],
             text=joined(step['text']),
+            named=[(told['cell'] % size, told['cell'] // size) for told in [*step.get('known', []), *step.get('split', [])]],
         )
 
     return [one(step) for step in data]

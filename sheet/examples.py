@@ -7,11 +7,13 @@ from typing import Iterator, List, NamedTuple, Optional, Sequence
 
 from playing.board import GAMES, Board
 from playing.cards import CARDS, Card
+from playing.hint_walk import HintWalk
 from playing.naming import Place
 from playing.program import Gone
+from playing.steps import Sentence
 from sheet import drawing, steps
 from sheet.layout import ANY_SIZE, CALLED, RULES, Paper
-from sheet.listing import SQUARES
+from sheet.listing import SQUARES, marked
 from sheet.markup import Markup, fill, joined
 from sheet.measures import length
 from sheet.puzzles import Programs, Unfit
@@ -37,7 +39,7 @@ class Lesson(NamedTuple):
 
     head: str
     board: Board
-    sentences: Sequence[str]
+    sentences: Sequence[Sentence]
     square: Optional[Place]
 
 
@@ -57,7 +59,7 @@ class Row(NamedTuple):
 def example(programs: Programs, game: str) -> Example:
     """Raises `Unfit` where the program doesn't make it."""
     first, *others = (_lesson(programs, game, card) for card in CARDS[game])
-    return Example(game, [first._replace(sentences=[*first.sentences, SQUARES, FRAMED]), *others])
+    return Example(game, [first._replace(sentences=[*first.sentences, Sentence(SQUARES), Sentence(FRAMED)]), *others])
 
 
 def _lesson(programs: Programs, game: str, card: Card) -> Lesson:
@@ -67,10 +69,10 @@ def _lesson(programs: Programs, game: str, card: Card) -> Lesson:
     board, hint = programs.board(game), programs.ask(game, 'hint').hint
     if hint is None:
         raise Gone('it gives no hint')
-    put, struck = hint.square(board.size), [strike.place for step in hint.steps(board.size) for strike in step.strikes]
-    if put:
-        programs.ask(game, f'move R{put[0]},{put[1]},{hint.number}')
-    return Lesson(card.title, programs.board(game), [card.text, *steps.told_in(hint.text)], put or next(reversed(struck), None))
+    walk = HintWalk(hint, board)
+    if walk.move:
+        programs.ask(game, walk.move)
+    return Lesson(card.title, programs.board(game), [Sentence(card.text), *steps.told_in(hint)], walk.goal)
 
 
 def sections(paper: Paper, told: Example) -> Iterator[Markup]:
@@ -106,7 +108,7 @@ def _row(paper: Paper, lesson: Lesson, game: str, side: int) -> Row:
     font = paper.print.lesson
     full = drawing.extent(game, lesson.board.size, _pen(paper, game, side)) + drawing.edge(side)
     width = paper.width - full - BESIDE
-    text = (1 + sum(text_lines(sentence, width, font) for sentence in lesson.sentences)) * font * 27 // 20
+    text = (1 + sum(text_lines(sentence.whole, width, font) for sentence in lesson.sentences)) * font * 27 // 20
     return Row(lesson, max(full, text) + BELOW, width)
 
 
@@ -118,5 +120,5 @@ def _drawn(row: Row, game: str, side: int, paper: Paper) -> Markup:
     lesson = row.lesson
     called = drawing.title(lesson.head, lesson.board, '')
     svg = drawing.picture(lesson.board, _pen(paper, game, side), called, {lesson.square} if lesson.square else (), has_edges=True)
-    texts = joined([fill(HEAD, text=lesson.head), *(fill(SENTENCE, text=text) for text in lesson.sentences)])
+    texts = joined([fill(HEAD, text=lesson.head), *(fill(SENTENCE, text=marked(text)) for text in lesson.sentences)])
     return fill(ROW, height=length(row.height), width=length(row.width), picture=Markup(drawing.text_of(svg)), texts=texts)

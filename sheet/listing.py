@@ -5,8 +5,9 @@ from __future__ import annotations
 from string import Template
 from typing import Iterator, List, NamedTuple, Sequence
 
+from playing.steps import Sentence
 from sheet.layout import Numbered, Paper
-from sheet.markup import Markup, fill, joined
+from sheet.markup import Markup, fill, joined, safe
 from sheet.measures import length
 from sheet.steps import Move, explained_words
 from sheet.titles import text_lines
@@ -27,6 +28,7 @@ PUPIL = Template(' · <bdi>$name</bdi>')
 LABEL = Template('<p><b>$label</b></p>')
 LABELLED = Template('<p><b>$label.</b> $text</p>')
 SENTENCE = Template('<p>$text</p>')
+NAMED = Template('$number<i>$name.</i> $text')
 
 
 class Explained(NamedTuple):
@@ -111,5 +113,10 @@ def paragraphs(move: Move, width: int, font: int) -> Iterator[Paragraph]:
         yield Paragraph(fill(LABEL, label=label), 1)
     else:
         first = texts.pop(0)
-        yield Paragraph(fill(LABELLED, label=label, text=first), text_lines(first, width, font, f'{label}.'))
-    yield from (Paragraph(fill(SENTENCE, text=text), text_lines(text, width, font)) for text in texts)
+        yield Paragraph(fill(LABELLED, label=label, text=marked(first)), text_lines(first.whole, width, font, f'{label}.'))
+    yield from (Paragraph(fill(SENTENCE, text=marked(text)), text_lines(text.whole, width, font)) for text in texts)
+
+
+def marked(sentence: Sentence) -> Markup:
+    """A sentence with its number, and its name in italics."""
+    return fill(NAMED, **sentence._asdict()) if sentence.name else safe(sentence.whole)

@@ -2,21 +2,18 @@
 
 from __future__ import annotations
 
-import re
 from typing import Dict, Iterator, List, NamedTuple, Optional, Sequence
 
+from playing.board import Hint
 from playing.games import GRADES
 from playing.naming import Place
-from playing.steps import sentences
+from playing.steps import Sentence
 from sheet.puzzles import Programs, Puzzle
 
 #: How many moves are told from the beginning; the hardest one is told, too.
 FIRST = 3
 
 NO_MORE = 'After that no number follows by steps.'
-
-#: The words that begin a step of several.
-NUMBER = re.compile(r'[0-9]+\. ')
 
 #: Terms of the sentences, and what there is to say of them.
 TERMS = {
@@ -28,7 +25,7 @@ TERMS = {
 class Move(NamedTuple):
     #: Counted from 1.
     number: int
-    sentences: List[str]
+    sentences: List[Sentence]
     #: The place of its grade among the game's, and how many steps it takes.
     grade: int
     steps: int
@@ -40,7 +37,7 @@ class Move(NamedTuple):
     @property
     def is_numbered(self) -> bool:
         """Whether its steps are counted."""
-        return bool(NUMBER.match(self.sentences[0]))
+        return bool(self.sentences[0].number)
 
 
 def found(programs: Programs, puzzle: Puzzle) -> List[Move]:
@@ -55,11 +52,11 @@ def found(programs: Programs, puzzle: Puzzle) -> List[Move]:
         if hint is None or square is None:
             break
         grade = letters.index(hint.grade) if hint.grade in letters else -1
-        moves.append(Move(len(moves) + 1, told_in(hint.text), grade, len(hint.told), square, hint.number))
+        moves.append(Move(len(moves) + 1, told_in(hint), grade, len(hint.told), square, hint.number))
         programs.ask(puzzle.game, f'move R{square[0]},{square[1]},{hint.number}')
     hardest = max(moves, key=lambda move: (move.grade, move.steps, -move.number), default=None)
     every = [move._replace(is_hardest=move is hardest) for move in moves]
-    return every if programs.board(puzzle.game).is_solved else [*every, Move(len(moves) + 1, [NO_MORE], -1, 0)]
+    return every if programs.board(puzzle.game).is_solved else [*every, Move(len(moves) + 1, [Sentence(NO_MORE)], -1, 0)]
 
 
 def told(moves: Sequence[Move], are_all: bool) -> List[Move]:
@@ -72,14 +69,14 @@ def order(moves: Sequence[Move]) -> Dict[Place, Move]:
     return {move.square: move for move in moves if move.square}
 
 
-def told_in(text: List[str]) -> List[str]:
+def told_in(hint: Hint) -> List[Sentence]:
     """Those of a hint; a step that is the only one has no number."""
-    every = sentences(text)
-    numbered = [sentence for sentence in every if NUMBER.match(sentence)]
-    return [NUMBER.sub('', sentence, count=1) for sentence in every] if len(numbered) == 1 else every
+    every = hint.sentences
+    is_single = sum(bool(sentence.number) for sentence in every) == 1
+    return [sentence._replace(number='') for sentence in every] if is_single else every
 
 
 def explained_words(moves: Sequence[Move]) -> Iterator[str]:
     """The sentence on the terms that some moves have."""
-    every = [sentence for move in moves for sentence in move.sentences]
-    yield from (said for term, said in TERMS.items() if any(term in sentence for sentence in every))
+    every = [sentence.text for move in moves for sentence in move.sentences]
+    yield from (said for term, said in TERMS.items() if any(term in text for text in every))

@@ -8,7 +8,6 @@ import pytest
 
 from playing.cards import CARDS
 from playing.program import Program
-from playing.steps import sentences
 from tests.harness import by_words
 from tests.harness.cards import SHOWS
 from tests.second_implementation.puzzles import Puzzle
@@ -26,12 +25,12 @@ def paragraphs(text: str) -> List[str]:
 
 
 def hinted(objects: str, puzzle: Puzzle, id: str) -> List[str]:
-    """The sentences of the first hint of a puzzle; a step that is the only one has no number."""
+    """The sentences of the first hint of a puzzle, with the names that the program gives them; a step that is the only one has no number."""
     game = 'unequal' if '/' not in id else 'towers'
     with Program(objects, game, ['--id', id]) as program:
         hint = program.ask('hint').hint
     assert hint and hint.grade and hint.text
-    found = sentences(hint.text)
+    found = [sentence.whole for sentence in hint.sentences]
     return found if any(text.startswith('2. ') for text in found) else [re.sub('^1[.] ', '', text) for text in found]
 
 
@@ -47,7 +46,7 @@ def test_steps(maker: Maker, objects: str) -> None:
             assert [number for number, *_ in moves[:3]] == ['1', '2', '3'] and len(moves) in (3, 4)
             assert len([hardest for _, hardest, _ in moves if hardest]) == 1
             first = MOVE.split(block)[4]
-            assert paragraphs(first) == hinted(objects, picture.puzzle, id)
+            assert ' '.join(paragraphs(first)) == ' '.join(hinted(objects, picture.puzzle, id))
 
 
 def test_numbers(maker: Maker) -> None:
