@@ -54,7 +54,8 @@ def expect_hint(puzzle: Puzzle, numbers: Numbers, hint: Object) -> None:
         others = (other for other in range(1, puzzle.size + 1) if other != number and puzzle.size <= MOST_COUNTED)
         assert not any(completions(puzzle, numbers[:cell] + (other,) + numbers[cell + 1:]) for other in others), numbers
     else:
-        assert (cell, number) == (None, None)
+        told = [cell, number].count(None)
+        assert told == (2 if hint['kind'] == 'nothing' else 1), 'of a contradiction a square or a number without one is told'
     if hint['kind'] == 'contradiction' and puzzle.size <= MOST_COUNTED:
         assert not completions(puzzle, numbers), numbers
 

@@ -65,7 +65,7 @@ def sheets(paper: str) -> Iterator[Sheet]:
     yield Sheet(['--example'], sixes(), 6, 1)
     yield Sheet(['--answers', 'only', '--per-page', '12'], nines(), 0, 1)
     yield Sheet(['--answers', 'only', '--steps'], nines(), 0, 2, 2)
-    yield Sheet(['--answers', 'only', '--steps', '--large'], nines()[2:6], 0, 1, 4 if paper == 'a4' else 5)
+    yield Sheet(['--answers', 'only', '--steps', '--large'], nines()[2:6], 0, 1, 5)
 
 
 def all_sheets() -> List[Tuple[str, Sheet]]:
