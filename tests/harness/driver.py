@@ -36,7 +36,7 @@ SHORT = 'window.setTimeout = Object.assign((act, time, ...words) => plain(act, t
 CLOCK = f'((isShort, plain = window.setTimeout.plain ?? window.setTimeout) => {{ if (isShort) {SHORT}; else window.setTimeout = plain; }})'
 
 #: So many seconds an answer or something that is waited for may take: a limit is for what hangs, and a busy machine is slow.
-SECONDS = 300
+SECONDS = 120
 
 #: So many seconds a browser may take to begin, on a machine that has much else to do.
 BEGINS = 600

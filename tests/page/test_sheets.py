@@ -111,7 +111,7 @@ def test_readers(player: Player) -> None:
     heard = player.value('window.heard')
     aloud = [text for live, text in heard if live != 'off' and text]
     assert aloud[0] == 'Puzzle 0 of 8' and aloud[1:] == [player.text('#made-told')]
-    assert {text for live, text in heard if live == 'off'} >= {'Puzzle 8 of 8', 'Steps of puzzle 8 of 8', 'Page 4 of 4'}
+    assert {text for live, text in heard if live == 'off'} >= {'Puzzle 8 of 8', 'Steps of puzzle 8 of 8', 'Page 5 of 5'}
 
 
 #: Languages of a browser, and their country's paper.
