@@ -61,7 +61,7 @@ def sheets(paper: str) -> Iterator[Sheet]:
     yield Sheet(['--ids-below'], stored('unequal', 9, 4), 2, 1)
     yield Sheet(['--title', 'A title that is longer than a line ' * 3], sixes(), 2, 1)
     yield Sheet(['--large', '--ids-below', '--words'], [sixes()[0], sixes()[-1], *full()], 4, 1)
-    yield Sheet(['--large', '--example', '--title', 'A title that is longer than a line ' * 2], sixes()[:2], 7, 1)
+    yield Sheet(['--large', '--example', '--title', 'A title that is longer than a line ' * 2], sixes()[:2], 7 if paper == 'a4' else 8, 1)
     yield Sheet(['--example'], sixes(), 6, 1)
     yield Sheet(['--answers', 'only', '--per-page', '12'], nines(), 0, 1)
     yield Sheet(['--answers', 'only', '--steps'], nines(), 0, 2, 2)
