@@ -11,7 +11,7 @@ import pytest
 
 from tests.harness import Room, need, run
 from tests.harness.builds import TOP
-from tests.harness.game import HEAD, ID
+from tests.harness.game import ID
 from tests.objects.agreement import Pair
 from tests.objects.forms import Sentence, sentences, told
 from tests.second_implementation.fair import fair
@@ -31,9 +31,6 @@ PLAYED = [
     ('unequal', '3:0,0L,0L,0U,0,0,0U,0,0,', '1<2<3\n^ - -\n2 3 1\n^ - -\n3 1 2\nsolved\n'),
     ('towers', '3:///////////', '+ - - - +\n- . . . -\n- . . . -\n- . . . -\n+ - - - +\nplaying\n'),
 ]
-
-#: The file odd.sav of docs/SCRIPTING.md.
-ODD_SAVE = HEAD.replace(b'DESC', b'SEED    :15:x\nplaying 1/1\ny\nDESC') + b'NSTATES :1:1\nSTATEPOS:1:1\n'
 
 
 def blocks_of(name: str) -> List[str]:
@@ -101,7 +98,6 @@ def test_example(pair: Pair, room: Room, block: str) -> None:
     command, _, wanted = unfolded(re.sub(r'\\\n *|(?<=\|)\n *', ' ', block[2:])).partition('\n')
     if '| node ' in command:
         need('node')
-    room.put('odd.sav', ODD_SAVE)
     for folder in ('docs/clients', 'tests/module', 'programs/web'):
         command = command.replace(folder, str(TOP / folder))
     here = command.replace('python3', sys.executable).replace('programs/linux-amd64/', '')
@@ -118,10 +114,9 @@ def rows_of(text: str) -> List[List[str]]:
 def test_refusals() -> None:
     """The table of refusals has the names of FORMATS.md that a line can be answered by, each once."""
     formats = (TOP / 'docs' / 'FORMATS.md').read_text(encoding='utf-8').partition('## 10. Faults')[2]
-    parts = dict(part.split('\n', 1) for part in formats.split('\n### ')[1:])
-    told = {
-        row[1] for name in ('IdFault', 'GenFault', 'FairFault', 'PlayFault', 'LineFault') for row in rows_of(parts[name]) if row[0].isdigit()
-    }
+    types = re.findall(r'^- \*\*(\w+)\*\*(.*(?:\n +.*)*)', formats, re.MULTILINE)
+    lines = {'IdFault', 'GenFault', 'FairFault', 'PlayFault', 'LineFault'}
+    told = {name for kind, text in types if kind in lines for name in re.findall(r'\d\s+([A-Z]\w+)', text)}
     # Sizes and letters of fair games are refused before.
     told -= {'NotOffered'}
     section = (TOP / 'docs' / 'JSON.md').read_text(encoding='utf-8').partition('### refused\n')[2].partition('\n### ')[0]

@@ -12,7 +12,7 @@ from tests.harness import Room, named, run
 from tests.objects import schema
 from tests.objects.reading import ALL_OWN
 from tests.texts import sources
-from tests.texts.parts import found, part, read
+from tests.texts.parts import found, items, part, read
 
 #: Two refusals that are answered by a line of their own, and one that no front end meets.
 UNEXPLAINED = {'NoSolution', 'SeveralSolutions', 'NoGame'}
@@ -72,10 +72,9 @@ FAULTS = {**sources.faults(), **{name: {'1': name} for name in ('OutOfMemory', '
 
 @pytest.mark.parametrize('kind', FAULTS)
 def test_faults(kind: str) -> None:
-    """Each type of fault has the numbers and names of the definitions, and each of them a cause."""
-    section = part(read('docs/FORMATS.md'), '## 10. Faults', '^## ')
-    told = re.findall(r'(\d+) \| ([A-Z]\w+) \| \S', part(section, f'### {kind}', '^#'))
-    assert set(told) == set(FAULTS[kind].items()) != set()
+    """Each type of fault has the numbers and names of the definitions."""
+    told = [item for item in items(part(read('docs/FORMATS.md'), '## 10. Faults', '^## ')) if item.startswith(f'**{kind}**')]
+    assert [dict(re.findall(r'(\d+) ([A-Z]\w+)', item)) for item in told] == [FAULTS[kind]] != [{}]
 
 
 #: The first words of the lines that are puzzles-json's own.
