@@ -6,7 +6,7 @@ there on paper has a class, by which a page gives it a look: `wrong`, `done`, `h
 
 from __future__ import annotations
 
-from typing import Collection, Iterable, Iterator, List, Mapping, NamedTuple, Optional, Tuple
+from typing import Collection, Iterable, Iterator, List, Mapping, NamedTuple, Optional, Sequence, Tuple
 from xml.etree import ElementTree
 from xml.etree.ElementTree import Element, SubElement
 
@@ -34,6 +34,10 @@ BASELINE = 36
 LINES = {'fill': 'none', 'stroke': '#000', 'stroke-linejoin': 'round', 'stroke-linecap': 'round', 'overflow': 'visible'}
 DIGITS = {'fill': '#000', 'stroke': 'none', 'text-anchor': 'middle'}
 
+#: How wide the frames of either game are, and other lines: in per cent of a square's side, and at least and at most.
+THICK = {'towers': (7, 45, 90), 'unequal': (4, 25, 50), 'inner': (3, 20, 40), 'wedge': (5, 35, 75)}
+THIN = {'towers': (7, 32, 999), 'unequal': (3, 16, 999), 'inner': (3, 16, 999), 'wedge': (5, 20, 999)}
+
 #: A character that stands for an empty square, or for no clue, in words.
 NONE = '-'
 
@@ -53,24 +57,19 @@ class Pen(NamedTuple):
     mark: int
 
 
-def pen(game: str, side: int, strength: int = 100) -> Pen:
+def pen(game: str, side: int, strength: int = 100, lines: Mapping[str, Sequence[int]] = THICK, clue: int = 46) -> Pen:
     """For a puzzle with squares of this side; the lines may be stronger, in per cent."""
 
-    def line(percent: int, least: int, most: int) -> int:
+    def line(kind: str) -> int:
+        percent, least, most = lines[kind]
         return min(most, max(least, side * percent // 100)) * strength // 100
 
-    frame = line(7, 45, 90) if game == 'towers' else line(4, 25, 50)
-    return Pen(side, frame, line(3, 20, 40), line(5, 35, 75), side * 58 // 100, side * 46 // 100, side * 26 // 100)
+    return Pen(side, line(game), line('inner'), line('wedge'), side * 58 // 100, side * clue // 100, side * 26 // 100)
 
 
 def small_pen(game: str, side: int) -> Pen:
     """For an answer: its lines are thin and its clues large."""
-
-    def line(percent: int, least: int) -> int:
-        return max(least, side * percent // 100)
-
-    frame = line(7, 32) if game == 'towers' else line(3, 16)
-    return Pen(side, frame, line(3, 16), line(5, 20), side * 58 // 100, side * 52 // 100, side * 26 // 100)
+    return pen(game, side, lines=THIN, clue=52)
 
 
 def parts(game: str, size: int) -> int:

@@ -98,6 +98,8 @@ class Paper:
             raise NoRoom(f'--title: it is too long: it may take {title_lines} lines, and {self.print.title_lines} have room')
         #: The height of the head.
         self.head = self.print.head + (title_lines - 1) * self.print.title * 6 // 5
+        #: How wide a name beside the title may be.
+        self.name_room = self.print.name_width - measures.NAME_GAP
 
     def rules_height(self, games: Sequence[str]) -> int:
         return sum(60 + titles.text_lines(RULES[game].format(last=ANY_SIZE), self.width, self.print.rules, CALLED[game]) * self.print.rules * 5 // 4 for game in games)

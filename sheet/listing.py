@@ -8,12 +8,9 @@ from typing import Iterator, List, NamedTuple, Sequence
 from playing.steps import Sentence
 from sheet.layout import Numbered, Paper
 from sheet.markup import Markup, fill, joined, safe
-from sheet.measures import length
+from sheet.measures import STEPS_COLUMN_GAP, STEPS_GAP, length
 from sheet.steps import Move, explained_words
 from sheet.titles import text_lines
-
-#: Between two columns, and above a puzzle.
-COLUMN_GAP, GAP = 600, 150
 
 #: How the sentences name squares.
 SQUARES = 'r2c3 is the square in row 2 from the top and column 3 from the left.'
@@ -56,7 +53,7 @@ class Part(NamedTuple):
 def sections(paper: Paper, every: Sequence[Explained], has_grades: bool, are_all: bool = False) -> Iterator[Markup]:
     """The drawings between head and foot, for each sheet of paper."""
     columns, font = paper.print.steps_columns, paper.print.steps
-    width = (paper.width - COLUMN_GAP * (columns - 1)) // columns
+    width = (paper.width - STEPS_COLUMN_GAP * (columns - 1)) // columns
     room = paper.height - paper.head - paper.print.foot
     contents = _columns(_parts(every, width, font, has_grades, are_all), font, room)
     blocks = [fill(BLOCK, width=length(width), height=length(room), content=content) for content in contents]
@@ -85,7 +82,7 @@ def _short(moves: List[List[Paragraph]], font: int, room: int) -> List[List[Para
     """The moves, and the paragraphs of those that are longer than a column."""
     pieces: List[List[Paragraph]] = []
     for move in moves:
-        pieces += [move] if _height(move, font) + GAP <= room else [[paragraph] for paragraph in move]
+        pieces += [move] if _height(move, font) + STEPS_GAP <= room else [[paragraph] for paragraph in move]
     return pieces
 
 
@@ -102,7 +99,7 @@ def _parts(every: Sequence[Explained], width: int, font: int, has_grades: bool, 
         name = fill(PUPIL, name=numbered.name) if numbered.pupil else Markup('')
         head = Paragraph(fill(HEAD, number=numbered.label, grade=numbered.puzzle.grade if has_grades else '', name=name), 1)
         begun, *others = [list(paragraphs(move, width, font)) for move in explained.moves]
-        yield Part([[head, *begun], *others], GAP)
+        yield Part([[head, *begun], *others], STEPS_GAP)
 
 
 def paragraphs(move: Move, width: int, font: int) -> Iterator[Paragraph]:
