@@ -14,7 +14,7 @@ import {NO_ROOM, longTitleText, tooManyText} from './sheet_texts.js';
 /** How puzzles of one game and size come into their places. */
 /** @typedef {{side: number, full: number, captionWidth: number, captionHeight: number}} Fit */
 
-const {LENGTHS, PAPERS, PRINTS, DENSITIES, CALLED, RULES, ANY_SIZE, MOST_NOTES} = TABLES;
+const {LENGTHS, PAPERS, PRINTS, DENSITIES, GRIDS, CALLED, RULES, ANY_SIZE, MOST_NOTES} = TABLES;
 
 /** A page has no room for what is asked. The text says for how much it has. */
 export class NoRoom extends Error {}
@@ -35,6 +35,8 @@ export class Paper {
     const count = titleLines(title, this.width - this.print.name_width, this.print.title);
     if (count > this.print.title_lines) throw new NoRoom(longTitleText(count, this.print.title_lines));
     this.head = this.print.head + share((count - 1) * this.print.title, 120);
+    /** How wide a name beside the title may be. */
+    this.nameRoom = this.print.name_width - LENGTHS.NAME_GAP;
   }
 
   /** @param {string} text @param {string} [label]  what a line of the rules takes, or of another text in their font */
@@ -162,7 +164,8 @@ function withSoMany(paper, puzzles, number) {
   const found = [];
   for (let at = 0; at < puzzles.length; at += number) {
     const some = puzzles.slice(at, at + number);
-    const pages = grids(Math.min(number, puzzles.length)).flatMap((density) => new Plan(paper, density, some, () => LENGTHS.LEAST_ASKED).page ?? []);
+    /** @type {Page[]} */
+    const pages = GRIDS[Math.min(number, puzzles.length)].flatMap((/** @type {Density} */ density) => new Plan(paper, density, some, () => LENGTHS.LEAST_ASKED).page ?? []);
     if (!pages.length) return [];
     found.push(pages.reduce((best, each) => (leastSide(each) > leastSide(best) ? each : best)));
   }
@@ -171,18 +174,3 @@ function withSoMany(paper, puzzles, number) {
 
 /** @param {Page} page */
 const leastSide = ({figures}) => Math.min(...figures.map(({side}) => side));
-
-// The ways to have so many puzzles on a page, without an empty column or row.
-/** @param {number} puzzles @returns {Density[]} */
-function grids(puzzles) {
-  /** @type {Density[]} */
-  const found = [], every = DENSITIES.usual;
-  for (let columns = 1; columns <= LENGTHS.MOST_COLUMNS; columns++) {
-    for (let rows = 1; rows <= LENGTHS.MOST_ROWS; rows++) {
-      if (columns * rows < puzzles || puzzles <= Math.max((columns - 1) * rows, columns * (rows - 1))) continue;
-      const like = every.filter((/** @type {Density} */ each) => each.columns * each.rows >= columns * rows).pop();
-      found.push({...like, columns, rows});
-    }
-  }
-  return found;
-}

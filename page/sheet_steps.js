@@ -13,7 +13,7 @@ import {lengths, tag} from './sheet_tree.js';
 /** @typedef {{number: number, texts: Sentence[], grade: number, steps: number, cell: number | null, isHardest: boolean}} Move */
 /** @typedef {{content: Tree, lines: number}} Paragraph */
 
-const {COLUMN_GAP, GAP, SQUARES, LEFT_OUT, TERMS, NO_MORE, FIRST} = TABLES.LISTING;
+const {SQUARES, LEFT_OUT, TERMS, NO_MORE, FIRST} = TABLES.LISTING, {STEPS_COLUMN_GAP: BETWEEN, STEPS_GAP: GAP} = TABLES.LENGTHS;
 
 // The sentences of a hint; a step that is the only one has no number.
 /** @param {Hint} hint */
@@ -49,7 +49,7 @@ const toldOf = (moves, areAll) => moves.filter(({number, isHardest, cell}) => ar
 // The part between head and foot, for each sheet of paper.
 /** @param {Paper} paper @param {{numbered: Numbered, moves: Move[]}[]} every @param {boolean} hasGrades @param {boolean} areAll */
 export function stepsOn(paper, every, hasGrades, areAll) {
-  const {steps_columns: columns, steps: font} = paper.print, width = Math.floor((paper.width - COLUMN_GAP * (columns - 1)) / columns);
+  const {steps_columns: columns, steps: font} = paper.print, width = Math.floor((paper.width - BETWEEN * (columns - 1)) / columns);
   const room = paper.height - paper.head - paper.print.foot;
   const told = every.map(({numbered, moves}) => ({numbered, moves: toldOf(moves, areAll)}));
   const blocks = columnsOf(partsOf(told, width, font, hasGrades, areAll), font, room)

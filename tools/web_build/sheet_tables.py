@@ -28,20 +28,20 @@ def module() -> str:
 
 
 def tables() -> Dict[str, Any]:
-    lengths = 'SIDE TOP SPARE COLUMN_GAP ROW_GAP MOST_ROW_GAP HEAD_GAP LETTER ID_LETTER LEAST_SIDE LEAST_ASKED MOST_COLUMNS MOST_ROWS PER_PAGE'
     return {
         'PAPERS': {name: paper._asdict() for name, paper in measures.PAPERS.items()},
         'PRINTS': {'usual': measures.USUAL._asdict(), 'large': measures.LARGE._asdict()},
         'DENSITIES': {'usual': [each._asdict() for each in measures.DENSITIES], 'large': [each._asdict() for each in measures.LARGE_DENSITIES]},
-        'LENGTHS': of(measures, f'{lengths} BOLD_BELOW CAPTION_WIDTH CAPTION_TOP NAME_GAP'),
+        'GRIDS': [[each._asdict() for each in measures.grids(puzzles)] for puzzles in range(measures.TWELVE.puzzles + 1)],
+        'LENGTHS': {'LEAST_SIDE': measures.LEAST_SIDE, **{name: length for name, length in vars(measures).items() if isinstance(length, int)}},
         'TITLES': of(titles, 'SPACE NARROW SMALL CAPITAL WIDE ANY NARROW_LETTERS WIDE_LETTERS TEXT_WIDTHS TEXT_ANY'),
         **of(markup, 'WIDE'),
         'ANSWERS': {
             **{name: squares._asdict() for name, squares in (('usual', answers.USUAL), ('ordered', answers.ORDERED), ('large', answers.LARGE))},
             **of(answers, 'LINES STEP ORDER'),
         },
-        'DRAWING': of(drawing, 'OUTSIDE BETWEEN CLUE DEPTH HEIGHT EDGE EDGE_FONT ORDER ORDER_LEFT BASELINE LINES DIGITS'),
-        'LISTING': {**of(listing, 'COLUMN_GAP GAP SQUARES LEFT_OUT'), **of(steps, 'TERMS NO_MORE FIRST')},
+        'DRAWING': of(drawing, 'OUTSIDE BETWEEN CLUE DEPTH HEIGHT EDGE EDGE_FONT ORDER ORDER_LEFT BASELINE LINES DIGITS THICK THIN'),
+        'LISTING': {**of(listing, 'SQUARES LEFT_OUT'), **of(steps, 'TERMS NO_MORE FIRST')},
         'LESSONS': {
             **of(examples, 'STEP BESIDE BELOW FRAMED'),
             'TITLES': {game: [[card.title, card.text] for card in cards] for game, cards in CARDS.items()},
@@ -51,7 +51,6 @@ def tables() -> Dict[str, Any]:
         **of(pages, 'KINDS CUT_CAPTION LONG_NAME POLICY'),
         'STYLE': style.STYLE.template,
         'NAMES': style.NAMES.template,
-        **of(style, 'FONTS ID_FONTS'),
     }
 
 
