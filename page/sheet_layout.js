@@ -14,7 +14,7 @@ import {NO_ROOM, longTitleText, tooManyText} from './sheet_texts.js';
 /** How puzzles of one game and size come into their places. */
 /** @typedef {{side: number, full: number, captionWidth: number, captionHeight: number}} Fit */
 
-const {LENGTHS, PAPERS, PRINTS, DENSITIES, GRIDS, CALLED, RULES, ANY_SIZE, MOST_NOTES} = TABLES;
+const {LENGTHS, PAPERS, PRINTS, DENSITIES, GRIDS, CALLED, RULES, ANY_SIZE, MOST_NOTES, STEP} = TABLES;
 
 /** A page has no room for what is asked. The text says for how much it has. */
 export class NoRoom extends Error {}
@@ -50,6 +50,34 @@ export class Paper {
     const taken = games.map((game) => this.above(rulesOf(game, ANY_SIZE), CALLED[game]));
     return taken.reduce((left, each) => left - each, this.height - this.head - this.print.foot) - LENGTHS.HEAD_GAP;
   }
+}
+
+// Pieces with their heights one below the other, on as many pages or columns as they take.
+/** @template Piece @param {[piece: Piece, height: number][]} pieces @param {number} room */
+export function packed(pieces, room) {
+  /** @type {Piece[][]} */
+  const found = [[]];
+  let used = 0;
+  for (const [piece, height] of pieces) {
+    if (used && used + height > room) {
+      found.push([]);
+      used = 0;
+    }
+    found[found.length - 1].push(piece);
+    used += height;
+  }
+  return found;
+}
+
+// The greatest side of squares for which there are no more pages than for the least, and these pages.
+/** @template Piece @param {number} most @param {number} least @param {(side: number) => Piece[][]} pages @returns {[side: number, pages: Piece[][]]} */
+export function roomiest(most, least, pages) {
+  const fewest = pages(least);
+  for (let side = most; side > least; side -= STEP) {
+    const found = pages(side);
+    if (found.length <= fewest.length) return [side, found];
+  }
+  return [least, fewest];
 }
 
 /** @param {Game} game @param {string} last */
@@ -106,7 +134,7 @@ class Plan {
   fit(game, size, leastCaption) {
     const ids = this.some.filter(({puzzle}) => puzzle.game === game && puzzle.size === size).map(({puzzle: {id}}) => id);
     for (const own of this.widths) {
-      for (let side = this.density.most_side; side >= this.least(size); side -= 5) {
+      for (let side = this.density.most_side; side >= this.least(size); side -= STEP) {
         const full = extentOf(game, size, penOf(game, side, this.paper.print.strength));
         if (full > this.width || full > this.height) continue;
         const captionWidth = Math.max(full, own), captionHeight = Math.max(leastCaption, ...ids.map((id) => this.captionHeight(id, captionWidth)));

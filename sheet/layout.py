@@ -5,7 +5,7 @@ from __future__ import annotations
 import itertools
 import re
 from functools import lru_cache
-from typing import Iterator, List, Mapping, NamedTuple, Optional, Sequence
+from typing import Callable, Iterable, Iterator, List, Mapping, NamedTuple, Optional, Sequence, Tuple, TypeVar
 
 from playing.board import GAMES
 from playing.naming import PRINTED_AS
@@ -25,6 +25,11 @@ RULES = {
     'A wedge between two squares opens towards the greater number, and points at the smaller one.',
 }
 ANY_SIZE = 'the size of the grid'
+
+#: From one side of squares to the next one that is tried.
+STEP = 5
+
+Piece = TypeVar('Piece')
 
 #: The characters with which a line of an ID ends, if it can.
 ENDS = ',/:'
@@ -109,6 +114,26 @@ class Paper:
         return self.height - self.head - self.print.foot - self.rules_height(games) - measures.HEAD_GAP
 
 
+def packed(pieces: Iterable[Tuple[Piece, int]], room: int) -> List[List[Piece]]:
+    """Pieces with their heights one below the other, on as many pages or columns as they take."""
+    found: List[List[Piece]] = [[]]
+    used = 0
+    for piece, height in pieces:
+        if used and used + height > room:
+            found.append([])
+            used = 0
+        found[-1].append(piece)
+        used += height
+    return found
+
+
+def roomiest(most: int, least: int, pages: Callable[[int], List[List[Piece]]]) -> Tuple[int, List[List[Piece]]]:
+    """The greatest side of squares for which there are no more pages than for the least, and these pages."""
+    fewest = pages(least)
+    sides = ((side, pages(side)) for side in range(most, least, -STEP))
+    return next(((side, found) for side, found in sides if len(found) <= len(fewest)), (least, fewest))
+
+
 def games_of(some: Sequence[Numbered]) -> List[str]:
     """In the order in which they come."""
     return list(dict.fromkeys(each.puzzle.game for each in some))
@@ -191,7 +216,7 @@ class Plan:
     def _fit(self, game: str, size: int, least_height: int) -> Optional[Fit]:
         """The greatest square at which the picture, and the caption with the longest of the IDs, come into their place."""
         ids = [each.puzzle.id for each in self._some if (each.puzzle.game, each.puzzle.size) == (game, size)]
-        for width, side in itertools.product(self._widths, range(self._density.most_side, self._least_side[size] - 1, -5)):
+        for width, side in itertools.product(self._widths, range(self._density.most_side, self._least_side[size] - 1, -STEP)):
             full = drawing.extent(game, size, drawing.pen(game, side, self._strength))
             caption_width = max(full, width)
             caption_height = max(least_height, *(self._caption_height(id, caption_width) for id in ids))

@@ -3,10 +3,10 @@
 from __future__ import annotations
 
 from string import Template
-from typing import Iterator, List, NamedTuple, Sequence
+from typing import Iterator, List, NamedTuple, Sequence, Tuple
 
 from playing.steps import Sentence
-from sheet.layout import Numbered, Paper
+from sheet.layout import Numbered, Paper, packed
 from sheet.markup import Markup, fill, joined, safe
 from sheet.measures import STEPS_COLUMN_GAP, STEPS_GAP, length
 from sheet.steps import Move, explained_words
@@ -55,27 +55,19 @@ def sections(paper: Paper, every: Sequence[Explained], has_grades: bool, are_all
     columns, font = paper.print.steps_columns, paper.print.steps
     width = (paper.width - STEPS_COLUMN_GAP * (columns - 1)) // columns
     room = paper.height - paper.head - paper.print.foot
-    contents = _columns(_parts(every, width, font, has_grades, are_all), font, room)
-    blocks = [fill(BLOCK, width=length(width), height=length(room), content=content) for content in contents]
+    filled = packed(_pieces(_parts(every, width, font, has_grades, are_all), font, room), room)
+    blocks = [fill(BLOCK, width=length(width), height=length(room), content=joined(each.content for piece in column for each in piece)) for column in filled]
     for first in range(0, len(blocks), columns):
         yield fill(COLUMNS, columns=joined(blocks[first : first + columns]))
 
 
-def _columns(parts: Iterator[Part], font: int, room: int) -> Iterator[Markup]:
-    """Columns with one part below the other. A part, or at least a move, that isn't longer than a column stands in one."""
-    column: List[Markup] = []
-    used = 0
+def _pieces(parts: Iterator[Part], font: int, room: int) -> Iterator[Tuple[List[Paragraph], int]]:
+    """The pieces that stay together, with their heights: a part, or at least a move, that isn't longer than a column stands in one."""
     for part in parts:
         whole = [paragraph for move in part.moves for paragraph in move]
         pieces = [whole] if _height(whole, font) + part.gap <= room else _short(part.moves, font, room)
         for at, piece in enumerate(pieces):
-            height = _height(piece, font) + (0 if at else part.gap)
-            if column and used + height > room:
-                yield joined(column)
-                column, used = [], 0
-            column += [paragraph.content for paragraph in piece]
-            used += height
-    yield joined(column)
+            yield piece, _height(piece, font) + (0 if at else part.gap)
 
 
 def _short(moves: List[List[Paragraph]], font: int, room: int) -> List[List[Paragraph]]:
