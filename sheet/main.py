@@ -86,7 +86,7 @@ def chosen_by(programs: Programs, asked: Asked, pupils: int, progress: Progress)
     progress.count = asked.count * pupils
     every = seeds.kinds(asked.game, asked.size, asked.letters)
     wanted = seeds.shared(every, asked.count)
-    found = choice.of_seeds(seeds.Seeds(programs, *asked.seeds), wanted, pupils, progress)
+    found = choice.of_seeds(programs, asked.seeds, wanted, pupils, progress)
     return found._replace(told=[*seeds.uneven(every, wanted), *found.told])
 
 
