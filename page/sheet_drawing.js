@@ -17,18 +17,18 @@ const {OUTSIDE, BETWEEN, CLUE, DEPTH, HEIGHT, EDGE, EDGE_FONT, ORDER, ORDER_LEFT
 export const share = (number, percent) => Math.floor(number * percent / 100);
 
 // How strong all is drawn for squares of this side; the lines may be stronger, in per cent.
-/** @param {Game} game @param {number} side @param {number} [strength] @param {Record<string, number[]>} [lines] @param {number} [clue] @returns {Pen} */
-export function penOf(game, side, strength = 100, lines = THICK, clue = 46) {
+/** @param {Game} game @param {number} side @param {number} [strength] @param {boolean} [isSmall] @returns {Pen} */
+export function penOf(game, side, strength = 100, isSmall = false) {
   const [frame, inner, wedge] = [game, 'inner', 'wedge'].map((kind) => {
-    const [percent, least, most] = lines[kind];
+    const [percent, least, most] = (isSmall ? THIN : THICK)[kind];
     return share(Math.min(most, Math.max(least, share(side, percent))), strength);
   });
-  return {side, frame, inner, wedge, number: share(side, 58), clue: share(side, clue)};
+  return {side, frame, inner, wedge, number: share(side, 58), clue: share(side, isSmall ? 52 : 46)};
 }
 
 // For an answer: its lines are thin and its clues large.
 /** @param {Game} game @param {number} side */
-export const smallPen = (game, side) => penOf(game, side, 100, THIN, 52);
+export const smallPen = (game, side) => penOf(game, side, 100, true);
 
 /** @param {Game} game @param {number} size */
 export const partsOf = (game, size) => 100 * size + (game === 'towers' ? 2 * OUTSIDE : BETWEEN * (size - 1));

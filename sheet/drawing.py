@@ -6,7 +6,7 @@ there on paper has a class, by which a page gives it a look: `wrong`, `done`, `h
 
 from __future__ import annotations
 
-from typing import Collection, Iterable, Iterator, List, Mapping, NamedTuple, Optional, Sequence, Tuple
+from typing import Collection, Iterable, Iterator, List, Mapping, NamedTuple, Optional, Tuple
 from xml.etree import ElementTree
 from xml.etree.ElementTree import Element, SubElement
 
@@ -57,19 +57,19 @@ class Pen(NamedTuple):
     mark: int
 
 
-def pen(game: str, side: int, strength: int = 100, lines: Mapping[str, Sequence[int]] = THICK, clue: int = 46) -> Pen:
+def pen(game: str, side: int, strength: int = 100, is_small: bool = False) -> Pen:
     """For a puzzle with squares of this side; the lines may be stronger, in per cent."""
 
     def line(kind: str) -> int:
-        percent, least, most = lines[kind]
+        percent, least, most = (THIN if is_small else THICK)[kind]
         return min(most, max(least, side * percent // 100)) * strength // 100
 
-    return Pen(side, line(game), line('inner'), line('wedge'), side * 58 // 100, side * clue // 100, side * 26 // 100)
+    return Pen(side, line(game), line('inner'), line('wedge'), side * 58 // 100, side * (52 if is_small else 46) // 100, side * 26 // 100)
 
 
 def small_pen(game: str, side: int) -> Pen:
     """For an answer: its lines are thin and its clues large."""
-    return pen(game, side, lines=THIN, clue=52)
+    return pen(game, side, is_small=True)
 
 
 def parts(game: str, size: int) -> int:
