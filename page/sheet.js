@@ -73,7 +73,7 @@ export class SheetDialog {
   get asked() {
     /** @type {NodeListOf<HTMLInputElement>} */
     const fields = part('sheet').querySelectorAll('[id]:is(input, select, textarea)');
-    // What is chosen and written, by the names of the fields.
+    // All that is chosen and written, by the names of the fields.
     /** @type {any} */
     const values = Object.fromEntries([...fields].map(({id, type, value, checked}) => [id.slice('sheet-'.length), type === 'checkbox' ? checked : value]));
     const {game, from, to} = values, count = Number(values.count), series = seriesIn(values.series);

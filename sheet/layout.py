@@ -238,20 +238,15 @@ def pages(paper: Paper, puzzles: Sequence[Numbered]) -> List[Page]:
 
 
 def _pages(paper: Paper, densities: Sequence[Density], puzzles: Sequence[Numbered]) -> Iterator[Page]:
+    """Each the densest one that is possible. Raises `NoRoom` where not even one puzzle has room."""
     left = list(puzzles)
     while left:
-        page = _next_page(paper, densities, left)
+        plans = (Plan(paper, density, left[: density.puzzles], measures.LEAST_SIDE) for density in densities)
+        page = next(filter(None, (plan.page() for plan in plans)), None)
+        if page is None:
+            raise NoRoom('with this title not even one puzzle has room on a page')
         yield page
         del left[: len(page.figures)]
-
-
-def _next_page(paper: Paper, densities: Sequence[Density], left: Sequence[Numbered]) -> Page:
-    """The densest one that is possible. Raises `NoRoom` where not even one puzzle has room."""
-    plans = (Plan(paper, density, left[: density.puzzles], measures.LEAST_SIDE) for density in densities)
-    page = next(filter(None, (plan.page() for plan in plans)), None)
-    if page is None:
-        raise NoRoom('with this title not even one puzzle has room on a page')
-    return page
 
 
 def asked_pages(paper: Paper, puzzles: Sequence[Numbered], per_page: int) -> List[Page]:
@@ -267,23 +262,14 @@ def asked_pages(paper: Paper, puzzles: Sequence[Numbered], per_page: int) -> Lis
 
 
 def _pages_of(paper: Paper, puzzles: Sequence[Numbered], number: int) -> List[Page]:
-    """The pages; none where a square would be too small."""
+    """The pages with so many, each with the largest squares; none where a square would be too small."""
     found: List[Page] = []
+    least = {size: measures.LEAST_ASKED for size in measures.LEAST_SIDE}
     for first in range(0, len(puzzles), number):
-        page = _largest(paper, puzzles[first : first + number], min(number, len(puzzles)))
+        some = puzzles[first : first + number]
+        planned = (Plan(paper, density, some, least).page() for density in measures.grids(min(number, len(puzzles))))
+        page = max(filter(None, planned), key=lambda page: min(figure.side for figure in page.figures), default=None)
         if page is None:
             return []
         found.append(page)
     return found
-
-
-def _largest(paper: Paper, some: Sequence[Numbered], number: int) -> Optional[Page]:
-    """The page with the largest squares, of those that have room for this number of puzzles."""
-    least = {size: measures.LEAST_ASKED for size in measures.LEAST_SIDE}
-    planned = [Plan(paper, density, some, least).page() for density in measures.grids(number)]
-    fitting = [page for page in planned if page]
-    return max(fitting, key=_least_side) if fitting else None
-
-
-def _least_side(page: Page) -> int:
-    return min(figure.side for figure in page.figures)
