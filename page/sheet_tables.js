@@ -1,4 +1,4 @@
-// Lengths, style, rules and words of sheets on paper: tools/sheet_tables makes this file of the tables in sheet/.
+// Lengths, style, rules and words of sheets on paper: tools/texts makes this file of the tables in sheet/.
 
 /** @type {any} */
 export const TABLES = {

@@ -14,7 +14,7 @@ from sheet import answers, choice, drawing, examples, layout, listing, markup, m
 MODULE = Path(__file__).resolve().parent.parent.parent / 'page' / 'sheet_tables.js'
 
 HEAD = """\
-// Lengths, style, rules and words of sheets on paper: tools/sheet_tables makes this file of the tables in sheet/.
+// Lengths, style, rules and words of sheets on paper: tools/texts makes this file of the tables in sheet/.
 
 /** @type {any} */
 export const TABLES = {
