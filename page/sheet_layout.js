@@ -1,6 +1,6 @@
 // How many puzzles a page of paper can have, and how large their squares are there.
 import {extentOf, penOf, share} from './sheet_drawing.js';
-import {idLetters, idLines, lettersIn, linesOf, titleLines, widthOf} from './sheet_letters.js';
+import {boldWidth, idLetters, idLines, lettersIn, linesOf, widthOf} from './sheet_letters.js';
 import {TABLES} from './sheet_tables.js';
 import {NO_ROOM, longTitleText, tooManyText} from './sheet_texts.js';
 
@@ -32,7 +32,7 @@ export class Paper {
     this.print = PRINTS[kind];
     /** @type {Density[]} */
     this.densities = DENSITIES[kind];
-    const count = titleLines(title, this.width - this.print.name_width, this.print.title);
+    const count = linesOf(title, this.width - this.print.name_width, this.print.title, '', boldWidth);
     if (count > this.print.title_lines) throw new NoRoom(longTitleText(count, this.print.title_lines));
     this.head = this.print.head + share((count - 1) * this.print.title, 120);
     /** How wide a name beside the title may be. */

@@ -11,7 +11,6 @@ from sheet.layout import Numbered, Paper, packed, roomiest
 from sheet.markup import Markup, fill, joined
 from sheet.measures import length
 from sheet.steps import Move
-from sheet.titles import text_lines
 
 #: The space left free beside a picture, for its lines.
 LINES = 100
@@ -62,8 +61,7 @@ class Key(NamedTuple):
     def room(self) -> int:
         """The height that is left for answers, below what is told of the order."""
         paper = self.paper
-        above = 60 + text_lines(ORDER, paper.width, paper.print.rules) * paper.print.rules * 5 // 4 if self.orders else 0
-        return paper.height - paper.head - paper.print.foot - above
+        return paper.height - paper.head - paper.print.foot - (paper.above(ORDER) if self.orders else 0)
 
 
 def sections(key: Key, puzzles: Sequence[Numbered]) -> List[Markup]:

@@ -17,7 +17,7 @@ from sheet.listing import SQUARES, marked
 from sheet.markup import Markup, fill, joined
 from sheet.measures import length
 from sheet.puzzles import Programs, Unfit
-from sheet.titles import text_lines
+from sheet.titles import lines
 
 #: Between a board and its text, and below a board.
 BESIDE, BELOW = 900, 350
@@ -89,7 +89,7 @@ def _row(paper: Paper, lesson: Lesson, game: str, side: int) -> Row:
     font = paper.print.lesson
     full = drawing.extent(game, lesson.board.size, _pen(paper, game, side)) + drawing.edge(side)
     width = paper.width - full - BESIDE
-    text = (1 + sum(text_lines(sentence.whole, width, font) for sentence in lesson.sentences)) * font * 27 // 20
+    text = (1 + sum(lines(sentence.whole, width, font) for sentence in lesson.sentences)) * font * 27 // 20
     return Row(lesson, max(full, text) + BELOW, width)
 
 

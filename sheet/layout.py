@@ -98,7 +98,7 @@ class Paper:
         self.print: Print = measures.LARGE if is_large else measures.USUAL
         self.densities: Sequence[Density] = measures.LARGE_DENSITIES if is_large else measures.DENSITIES
         self.has_ids = has_ids
-        title_lines = titles.lines(title, self.width - self.print.name_width, self.print.title)
+        title_lines = titles.lines(title, self.width - self.print.name_width, self.print.title, width=titles.bold_width)
         if title_lines > self.print.title_lines:
             raise NoRoom(f'--title: it is too long: it may take {title_lines} lines, and {self.print.title_lines} have room')
         #: The height of the head.
@@ -106,12 +106,14 @@ class Paper:
         #: How wide a name beside the title may be.
         self.name_room = self.print.name_width - measures.NAME_GAP
 
-    def rules_height(self, games: Sequence[str]) -> int:
-        return sum(60 + titles.text_lines(RULES[game].format(last=ANY_SIZE), self.width, self.print.rules, CALLED[game]) * self.print.rules * 5 // 4 for game in games)
+    def above(self, text: str, label: str = '') -> int:
+        """The height of a line of the rules, or of another text in their font."""
+        return 60 + titles.lines(text, self.width, self.print.rules, label) * self.print.rules * 5 // 4
 
     def room(self, games: Sequence[str]) -> int:
         """The height that is left for puzzles, below the rules of these games."""
-        return self.height - self.head - self.print.foot - self.rules_height(games) - measures.HEAD_GAP
+        rules = sum(self.above(RULES[game].format(last=ANY_SIZE), CALLED[game]) for game in games)
+        return self.height - self.head - self.print.foot - rules - measures.HEAD_GAP
 
 
 def packed(pieces: Iterable[Tuple[Piece, int]], room: int) -> List[List[Piece]]:

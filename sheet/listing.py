@@ -10,7 +10,7 @@ from sheet.layout import Numbered, Paper, packed
 from sheet.markup import Markup, fill, joined, safe
 from sheet.measures import STEPS_COLUMN_GAP, STEPS_GAP, length
 from sheet.steps import Move, explained_words
-from sheet.titles import text_lines
+from sheet.titles import lines
 
 #: How the sentences name squares.
 SQUARES = 'r2c3 is the square in row 2 from the top and column 3 from the left.'
@@ -85,7 +85,7 @@ def _height(piece: Sequence[Paragraph], font: int) -> int:
 def _parts(every: Sequence[Explained], width: int, font: int, has_grades: bool, are_all: bool) -> Iterator[Part]:
     words = explained_words([move for explained in every for move in explained.moves])
     first = [SQUARES, *words, *([] if are_all else [LEFT_OUT])]
-    yield Part([[Paragraph(fill(SENTENCE, text=text), text_lines(text, width, font)) for text in first]], 0)
+    yield Part([[Paragraph(fill(SENTENCE, text=text), lines(text, width, font)) for text in first]], 0)
     for explained in every:
         numbered = explained.numbered
         name = fill(PUPIL, name=numbered.name) if numbered.pupil else Markup('')
@@ -102,8 +102,8 @@ def paragraphs(move: Move, width: int, font: int) -> Iterator[Paragraph]:
         yield Paragraph(fill(LABEL, label=label), 1)
     else:
         first = texts.pop(0)
-        yield Paragraph(fill(LABELLED, label=label, text=marked(first)), text_lines(first.whole, width, font, f'{label}.'))
-    yield from (Paragraph(fill(SENTENCE, text=marked(text)), text_lines(text.whole, width, font)) for text in texts)
+        yield Paragraph(fill(LABELLED, label=label, text=marked(first)), lines(first.whole, width, font, f'{label}.'))
+    yield from (Paragraph(fill(SENTENCE, text=marked(text)), lines(text.whole, width, font)) for text in texts)
 
 
 def marked(sentence: Sentence) -> Markup:
