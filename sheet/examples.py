@@ -100,6 +100,6 @@ def _pen(paper: Paper, game: str, side: int) -> drawing.Pen:
 def _drawn(row: Row, game: str, side: int, paper: Paper) -> Markup:
     lesson = row.lesson
     called = drawing.title(lesson.head, lesson.board, '')
-    svg = drawing.picture(lesson.board, _pen(paper, game, side), called, {lesson.square} if lesson.square else (), has_edges=True)
+    svg = drawing.picture(lesson.board, _pen(paper, game, side), called, lesson.square, has_edges=True)
     texts = joined([fill(HEAD, text=lesson.head), *(fill(SENTENCE, text=marked(text)) for text in lesson.sentences)])
     return fill(ROW, height=length(row.height), width=length(row.width), picture=Markup(drawing.text_of(svg)), texts=texts)
