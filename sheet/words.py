@@ -86,9 +86,10 @@ class Asked(argparse.Namespace):
     grade: str
     #: The letters of grades.
     letters: List[str]
-    #: One of these, but for a list; and nothing where all of a list are meant.
+    #: One of the two, but for a list.
     series: Optional[int]
     seed: Optional[int]
+    #: Nothing where all of a list are meant.
     count: Optional[int]
     #: The list of IDs, and that of names.
     ids: Optional[str]
