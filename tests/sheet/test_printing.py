@@ -154,9 +154,8 @@ def test_too_many(maker: Maker, room: Room, words: List[str], number: int) -> No
 def test_margins(maker: Maker, room: Room, margin: str) -> None:
     """WebKit, which is the engine of Safari, sets no margins by a page: whatever a printer leaves free, each page is one, with its foot."""
     need_tools()
-    has_webkit = subprocess.run([sys.executable, '-c', 'import gi; gi.require_version("WebKit2", "4.1")'], stderr=subprocess.DEVNULL, check=False)
-    if has_webkit.returncode or not shutil.which('Xvfb'):
-        raise Skip('there is no WebKitGTK with a screen', 'apt-get install python3-gi gir1.2-webkit2-4.1 xvfb')
+    if not (shutil.which('WebKitWebDriver') and shutil.which('Xvfb')):
+        raise Skip('there is no WebKitGTK with a screen', 'apt-get install webkit2gtk-driver xvfb')
     maker.run(['towers', '--count', '8', '--steps', '--output', 'page.html'])
     pdf = os.path.join(room.path, 'page.pdf')
     screen, env = on_screen(room)
