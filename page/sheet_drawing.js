@@ -17,8 +17,8 @@ const {OUTSIDE, BETWEEN, CLUE, DEPTH, HEIGHT, EDGE, EDGE_FONT, ORDER, ORDER_LEFT
 export const share = (number, percent) => Math.floor(number * percent / 100);
 
 // How strong all is drawn for squares of this side; the lines may be stronger, in per cent.
-/** @param {Game} game @param {number} side @param {number} [strength] @param {boolean} [isSmall] @returns {Pen} */
-export function penOf(game, side, strength = 100, isSmall = false) {
+/** @param {Game} game @param {number} side @param {number} strength @param {boolean} [isSmall] @returns {Pen} */
+export function penOf(game, side, strength, isSmall = false) {
   const [frame, inner, wedge] = [game, 'inner', 'wedge'].map((kind) => {
     const [percent, least, most] = (isSmall ? THIN : THICK)[kind];
     return share(Math.min(most, Math.max(least, share(side, percent))), strength);
