@@ -24,12 +24,6 @@ const MOST = 200, MOST_OF_ALL = 400, WORKERS = 4;
 /** Countries in which paper is Letter. */
 const LETTER = /-(BZ|CA|CL|CO|CR|GT|MX|NI|PA|PH|PR|SV|US|VE)\b/;
 
-/** @param {string} name  of a field of the dialog */
-const valueOf = (name) => selectOf(`sheet-${name}`).value;
-
-/** @param {string} name  of a box of the dialog */
-const isSet = (name) => inputOf(`sheet-${name}`).checked;
-
 export class SheetDialog {
   constructor() {
     /** @type {Turns[]} */
@@ -70,34 +64,32 @@ export class SheetDialog {
 
   /** A greater first size takes the last one with it. */
   follow() {
-    if (Number(valueOf('from')) > Number(valueOf('to'))) selectOf('sheet-to').value = valueOf('from');
-  }
-
-  /** @returns {Form} */
-  get form() {
-    /** @param {string} name @returns {any} */
-    const value = (name) => valueOf(name);
-    const names = value('names').split('\n').map(plainText).filter(Boolean), isLarge = isSet('large');
-    return {
-      title: plainText(value('heading')), names, perPage: isLarge ? 0 : Number(value('per')), answers: value('answers'), grades: value('shown'),
-      steps: value('steps'), example: isSet('example'), ids: isSet('ids'), paper: value('paper'), large: isLarge, duplex: isSet('duplex'),
-      source: `, series ${seriesIn(value('series'))}`,
-    };
+    const [from, to] = [selectOf('sheet-from'), selectOf('sheet-to')];
+    if (Number(from.value) > Number(to.value)) to.value = from.value;
   }
 
   // The sheets that are asked for; or why they can't be made.
   /** @returns {Asked | string} */
   get asked() {
-    const {form} = this, {value} = selectOf('sheet-game'), game = isGame(value) ? value : 'towers', count = Number(valueOf('count'));
-    const sizes = SIZES.filter((size) => size >= Number(valueOf('from')) && size <= Number(valueOf('to')));
+    /** @type {NodeListOf<HTMLInputElement>} */
+    const fields = part('sheet').querySelectorAll('[id]:is(input, select, textarea)');
+    // All that is chosen and written, by the names of the fields.
+    /** @type {any} */
+    const values = Object.fromEntries([...fields].map(({id, type, value, checked}) => [id.slice('sheet-'.length), type === 'checkbox' ? checked : value]));
+    const {game, from, to} = values, count = Number(values.count), series = seriesIn(values.series);
+    /** @type {string[]} */
+    const names = values.names.split('\n').map(plainText).filter(Boolean), pupils = names.length || 1;
+    const sizes = SIZES.filter((size) => size >= Number(from) && size <= Number(to));
     const grades = [...part('sheet-grades').querySelectorAll('input')].filter(({checked}) => checked).map((box) => box.value);
-    const pupils = form.names.length || 1, series = seriesIn(valueOf('series'));
     if (!sizes.length) return SIZES_FALL;
     if (!grades.length) return NO_GRADE;
     if (!Number.isInteger(count) || count < 1 || count > MOST) return NO_COUNT;
     if (count * pupils > MOST_OF_ALL) return tooManyPuzzlesText(pupils, count, MOST_OF_ALL);
-    if (form.steps && form.answers === 'none') return NO_STEPS;
-    return series ? {form, game, kinds: kindsOf(game, sizes, grades), count, pupils, series} : NO_NUMBER;
+    if (values.steps && values.answers === 'none') return NO_STEPS;
+    if (!series) return NO_NUMBER;
+    const more = {names, title: plainText(values.heading), grades: values.shown};
+    const form = {...values, ...more, perPage: values.large ? 0 : Number(values.per), source: `, series ${series}`};
+    return {form, game, kinds: kindsOf(game, sizes, grades), count, pupils, series};
   }
 
   // Makes the puzzles, in workers of their own, so that the game goes on; and then the pages.
@@ -106,10 +98,10 @@ export class SheetDialog {
     if (typeof asked === 'string') return this.tell(asked);
     this.tell(madeText(0, asked.count * asked.pupils));
     this.busy(true);
-    const count = Math.max(1, Math.min(WORKERS, navigator.hardwareConcurrency || 1));
-    const workers = this.workers = Array.from({length: count}, () => new Turns(part('module').textContent ?? '', part('worker').textContent ?? ''));
+    const length = Math.max(1, Math.min(WORKERS, navigator.hardwareConcurrency || 1));
+    const workers = this.workers = Array.from({length}, () => new Turns(part('module').textContent ?? '', part('worker').textContent ?? ''));
     try {
-      await this.made(asked, sharedBy(workers), count);
+      await this.made(asked, sharedBy(workers), length);
     } catch (fault) {
       if (fault instanceof Unanswered) this.tell(FAULTS[fault.fault]);
       else if (fault instanceof NoRoom || fault instanceof Unfit) this.tell(fault.message);

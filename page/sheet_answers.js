@@ -1,5 +1,6 @@
 // The answers, by the numbers of their puzzles: as few sheets of paper as can be, and squares as large as those have room for.
 import {drawn, extentOf, nameOf, partsOf, share, smallPen} from './sheet_drawing.js';
+import {packed, roomiest} from './sheet_layout.js';
 import {TABLES} from './sheet_tables.js';
 import {lengths, tag} from './sheet_tree.js';
 
@@ -17,11 +18,9 @@ export function answersOn(key, every) {
   const {paper, orders} = key, squares = paper.isLarge ? ANSWERS.large : orders.size ? ANSWERS.ordered : ANSWERS.usual;
   const columns = columnsFor(every, squares.columns), above = orders.size ? [tag('p', {class: 'rules'}, ANSWERS.ORDER), '\n'] : [];
   const least = Math.min(squares.least, widest(paper, every, 2)), most = Math.min(squares.most, widest(paper, every, 1));
-  const fewest = sheets(key, every, columns, least).length;
-  let side = most;
-  while (side > least && sheets(key, every, columns, side).length > fewest) side -= ANSWERS.STEP;
-  side = Math.max(side, least);
-  return sheets(key, every, columns, side).map((rows) => [...above, ...rows.flatMap((row) => drawnRow(key, row, side))]);
+  const room = paper.height - paper.head - paper.print.foot - (orders.size ? paper.above(ANSWERS.ORDER) : 0);
+  const [side, found] = roomiest(most, least, (side) => packed(rowsOf(paper, every, columns, side), room));
+  return found.map((rows) => [...above, ...rows.flatMap((row) => drawnRow(key, row, side))]);
 }
 
 // How many stand side by side: as many as come out even where each pupil has so many.
@@ -41,20 +40,14 @@ const widest = (paper, puzzles, columns) =>
 /** @param {Paper} paper @param {number} columns */
 const answerWidth = (paper, columns) => Math.floor((paper.width - paper.print.answer_gap * (columns - 1)) / columns);
 
-/** @param {Key} key @param {Numbered[]} every @param {number} columns @param {number} side */
-function sheets({paper, orders}, every, columns, side) {
-  const room = paper.height - paper.head - paper.print.foot - (orders.size ? paper.above(ANSWERS.ORDER) : 0);
-  /** @type {Row[][]} */
-  const found = [[]];
-  let used = 0;
+// With their heights.
+/** @param {Paper} paper @param {Numbered[]} every @param {number} columns @param {number} side */
+function rowsOf(paper, every, columns, side) {
+  /** @type {[Row, number][]} */
+  const found = [];
   for (let at = 0; at < every.length;) {
-    const row = nextRow(paper, every.slice(at, at + columns + 1), columns, side), height = heightOf(paper, row, side);
-    if (used + height > room) {
-      found.push([]);
-      used = 0;
-    }
-    found[found.length - 1].push(row);
-    used += height;
+    const row = nextRow(paper, every.slice(at, at + columns + 1), columns, side);
+    found.push([row, heightOf(paper, row, side)]);
     at += row.some.length;
   }
   return found;

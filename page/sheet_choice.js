@@ -29,38 +29,25 @@ export const kindsOf = (game, sizes, some) =>
 /** @param {Kind[]} every @param {number} count */
 const shared = (every, count) => Array.from({length: count}, (_, at) => every[Math.floor(at * every.length / count)]);
 
-/** @param {Kind} kind */
-const nameOf = ({game, size, letter}) => `${game}${size}${letter}`;
-
-/** The puzzles of a series. Each kind has each seed once: they are not the same games. */
-class Series {
-  /** @param {Ask} ask @param {string} first @param {number} ahead  how many are made at once */
-  constructor(ask, first, ahead) {
-    this.ask = ask;
-    this.first = BigInt(first);
-    this.ahead = ahead;
-    /** @type {Map<string, {next: bigint, made: Promise<Puzzle | null>[]}>} */
-    this.begun = new Map();
-  }
-
-  // The next puzzle of a kind.
-  /** @param {Kind} kind @returns {Promise<Puzzle>} */
-  async next(kind) {
-    const name = nameOf(kind), own = this.begun.get(name) ?? {next: this.first, made: []};
-    this.begun.set(name, own);
-    for (let tries = 0; tries < TRIES; tries++) {
-      while (own.made.length < this.ahead) {
-        const puzzle = provedBy(this.ask, kind.game, lineOf({...kind, number: String(own.next)}));
-        // One that is made ahead may be stopped, and nobody waits for it.
-        puzzle.catch(() => null);
-        own.made.push(puzzle);
-        own.next = (own.next + STRIDE) % SEEDS;
-      }
-      const puzzle = await own.made.shift();
-      if (puzzle) return puzzle;
+// The puzzles of a kind: those of the seeds of a series, so many of them made at once. Each kind has each seed once: they are not the same games.
+/** @param {Ask} ask @param {Kind} kind @param {string} series @param {number} ahead @returns {AsyncGenerator<Puzzle, never>} */
+async function* puzzlesOf(ask, kind, series, ahead) {
+  /** @type {Promise<Puzzle | null>[]} */
+  const made = [];
+  let seed = BigInt(series);
+  for (let tries = 0; tries < TRIES; tries++) {
+    for (; made.length < ahead; seed = (seed + STRIDE) % SEEDS) {
+      const next = provedBy(ask, kind.game, lineOf({...kind, number: String(seed)}));
+      // One that is made ahead may be stopped, and nobody waits for it.
+      next.catch(() => null);
+      made.push(next);
     }
-    throw new Unfit(noneFoundText(kind.size, gradeOf(kind), TRIES));
+    const puzzle = await made.shift();
+    if (!puzzle) continue;
+    yield puzzle;
+    tries = -1;
   }
+  throw new Unfit(noneFoundText(kind.size, gradeOf(kind), TRIES));
 }
 
 // The puzzle that a line begins, with its only solution; nothing where the line begins none.
@@ -84,7 +71,7 @@ const capital = (text) => text.slice(0, 1).toUpperCase() + text.slice(1);
 export async function chosen(ask, {kinds, count, pupils, series, ahead}, progress) {
   const bad = kinds.find((kind) => !isOffered(kind));
   if (bad) throw new Unfit(noKindText(bad.size, gradeOf(bad)));
-  const found = new Chosen(new Series(ask, series, ahead)), own = shared(kinds, count);
+  const found = new Chosen(new Map(kinds.map((kind) => [kind, puzzlesOf(ask, kind, series, ahead)]))), own = shared(kinds, count);
   /** @type {Puzzle[][]} */
   const sheets = [];
   for (let pupil = 0; pupil < pupils; pupil++) {
@@ -113,7 +100,7 @@ function uneven(kinds, own) {
 }
 
 class Chosen {
-  /** @param {Series} series */
+  /** @param {Map<Kind, AsyncGenerator<Puzzle, never>>} series */
   constructor(series) {
     this.series = series;
     /** @type {Map<string, Puzzle>} */
@@ -129,9 +116,9 @@ class Chosen {
   async add(kind) {
     /** @type {Puzzle | null} */
     let spare = null;
-    if (this.exhausted.has(nameOf(kind))) return null;
+    if (this.exhausted.has(kind)) return null;
     for (let tries = 0; tries < ALIKE; tries++) {
-      const puzzle = await this.series.next(kind), form = formOf(kind.game, puzzle.answer);
+      const {value: puzzle} = await /** @type {AsyncGenerator<Puzzle, never>} */ (this.series.get(kind)).next(), form = formOf(kind.game, puzzle.answer);
       if (!this.forms.has(form)) {
         this.forms.add(form);
         this.every.set(puzzle.id, puzzle);
@@ -141,7 +128,7 @@ class Chosen {
       if (spare && this.spent.has(kind.size)) break;
     }
     this.spent.add(kind.size);
-    if (!spare) this.exhausted.add(nameOf(kind));
+    if (!spare) this.exhausted.add(kind);
     else {
       this.every.set(spare.id, spare);
       this.alike++;

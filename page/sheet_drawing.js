@@ -11,28 +11,24 @@ import {length, tag} from './sheet_tree.js';
 /** The things that a board may have besides: one square with a thick frame, the names of rows and columns, and the numbers of moves. */
 /** @typedef {{hinted?: number | null, hasEdges?: boolean, order?: import('./sheet_steps.js').Move[]}} More */
 
-const {OUTSIDE, BETWEEN, CLUE, DEPTH, HEIGHT, EDGE, EDGE_FONT, ORDER, ORDER_LEFT, BASELINE, LINES, DIGITS} = TABLES.DRAWING;
+const {OUTSIDE, BETWEEN, CLUE, DEPTH, HEIGHT, EDGE, EDGE_FONT, ORDER, ORDER_LEFT, BASELINE, LINES, DIGITS, THICK, THIN} = TABLES.DRAWING;
 
 /** @param {number} number @param {number} percent */
 export const share = (number, percent) => Math.floor(number * percent / 100);
 
 // How strong all is drawn for squares of this side; the lines may be stronger, in per cent.
-/** @param {Game} game @param {number} side @param {number} strength @returns {Pen} */
-export function penOf(game, side, strength) {
-  /** @param {number} percent @param {number} least @param {number} most */
-  const line = (percent, least, most) => share(Math.min(most, Math.max(least, share(side, percent))), strength);
-  const frame = game === 'towers' ? line(7, 45, 90) : line(4, 25, 50);
-  return {side, frame, inner: line(3, 20, 40), wedge: line(5, 35, 75), number: share(side, 58), clue: share(side, 46)};
+/** @param {Game} game @param {number} side @param {number} strength @param {boolean} [isSmall] @returns {Pen} */
+export function penOf(game, side, strength, isSmall = false) {
+  const [frame, inner, wedge] = [game, 'inner', 'wedge'].map((kind) => {
+    const [percent, least, most] = (isSmall ? THIN : THICK)[kind];
+    return share(Math.min(most, Math.max(least, share(side, percent))), strength);
+  });
+  return {side, frame, inner, wedge, number: share(side, 58), clue: share(side, isSmall ? 52 : 46)};
 }
 
 // For an answer: its lines are thin and its clues large.
-/** @param {Game} game @param {number} side @returns {Pen} */
-export function smallPen(game, side) {
-  /** @param {number} percent @param {number} least */
-  const line = (percent, least) => Math.max(least, share(side, percent));
-  const frame = game === 'towers' ? line(7, 32) : line(3, 16);
-  return {side, frame, inner: line(3, 16), wedge: line(5, 20), number: share(side, 58), clue: share(side, 52)};
-}
+/** @param {Game} game @param {number} side */
+export const smallPen = (game, side) => penOf(game, side, 100, true);
 
 /** @param {Game} game @param {number} size */
 export const partsOf = (game, size) => 100 * size + (game === 'towers' ? 2 * OUTSIDE : BETWEEN * (size - 1));

@@ -1,6 +1,6 @@
 // A first lesson: the cards of the course, each with its board and the step that shows the number.
 import {drawn, edgeOf, extentOf, nameOf, penOf} from './sheet_drawing.js';
-import {rulesOf} from './sheet_layout.js';
+import {packed, roomiest, rulesOf} from './sheet_layout.js';
 import {linesIn, marked} from './sheet_steps.js';
 import {TABLES} from './sheet_tables.js';
 import {lengths, tag} from './sheet_tree.js';
@@ -12,37 +12,25 @@ import {lengths, tag} from './sheet_tree.js';
 /** @typedef {{game: Game, lessons: Lesson[]}} Example */
 /** @typedef {{lesson: Lesson, height: number, width: number}} Row */
 
-const {STEP, BESIDE, BELOW} = TABLES.LESSONS;
+const {BESIDE, BELOW} = TABLES.LESSONS;
 
 // The part between head and foot, on as few sheets of paper as can be: with squares as large as there is room for.
 /** @param {Paper} paper @param {Example} told */
 export function exampleOn(paper, {game, lessons}) {
-  const [most, least] = paper.print.lesson_sides, fewest = sheets(paper, game, lessons, least).length;
-  let side = most;
-  while (sheets(paper, game, lessons, side).length > fewest) side -= STEP;
+  const [most, least] = paper.print.lesson_sides, room = paper.room([game]);
+  const [side, found] = roomiest(most, least, (side) => packed(lessons.map((lesson) => rowOf(paper, game, side, lesson)), room));
   const rules = tag('p', {class: 'rules'}, tag('b', {}, TABLES.CALLED[game]), ` ${rulesOf(game, TABLES.ANY_SIZE)}`);
-  return sheets(paper, game, lessons, side).map((rows) =>
+  return found.map((rows) =>
     [rules, '\n', tag('div', {class: 'lessons'}, '\n', ...rows.flatMap((row) => [drawnRow(paper, game, side, row), '\n'])), '\n']);
 }
 
-/** @param {Paper} paper @param {Game} game @param {Lesson[]} lessons @param {number} side */
-function sheets(paper, game, lessons, side) {
-  const room = paper.room([game]), font = paper.print.lesson, pen = penOf(game, side, paper.print.strength);
-  /** @type {Row[][]} */
-  const found = [[]];
-  let left = room;
-  for (const lesson of lessons) {
-    const full = extentOf(game, lesson.board.size, pen) + edgeOf(side), width = paper.width - full - BESIDE;
-    const text = Math.floor(lesson.texts.reduce((sum, each) => sum + linesIn(each, width, font), 1) * font * 27 / 20);
-    const height = Math.max(full, text) + BELOW;
-    if (height > left && found[found.length - 1].length) {
-      found.push([]);
-      left = room;
-    }
-    found[found.length - 1].push({lesson, height, width});
-    left -= height;
-  }
-  return found;
+// A row with its height.
+/** @param {Paper} paper @param {Game} game @param {number} side @param {Lesson} lesson @returns {[Row, number]} */
+function rowOf(paper, game, side, lesson) {
+  const font = paper.print.lesson, full = extentOf(game, lesson.board.size, penOf(game, side, paper.print.strength)) + edgeOf(side);
+  const width = paper.width - full - BESIDE, text = lesson.texts.reduce((sum, each) => sum + linesIn(each, width, font), 1);
+  const height = Math.max(full, Math.floor(text * font * 27 / 20)) + BELOW;
+  return [{lesson, height, width}, height];
 }
 
 /** @param {Paper} paper @param {Game} game @param {number} side @param {Row} row */

@@ -1,6 +1,6 @@
 // How many puzzles a page of paper can have, and how large their squares are there.
 import {extentOf, penOf, share} from './sheet_drawing.js';
-import {idLetters, idLines, lettersIn, linesOf, titleLines, widthOf} from './sheet_letters.js';
+import {boldWidth, idLetters, idLines, lettersIn, linesOf, widthOf} from './sheet_letters.js';
 import {TABLES} from './sheet_tables.js';
 import {NO_ROOM, longTitleText, tooManyText} from './sheet_texts.js';
 
@@ -14,7 +14,7 @@ import {NO_ROOM, longTitleText, tooManyText} from './sheet_texts.js';
 /** How puzzles of one game and size come into their places. */
 /** @typedef {{side: number, full: number, captionWidth: number, captionHeight: number}} Fit */
 
-const {LENGTHS, PAPERS, PRINTS, DENSITIES, CALLED, RULES, ANY_SIZE, MOST_NOTES} = TABLES;
+const {LENGTHS, PAPERS, PRINTS, DENSITIES, GRIDS, CALLED, RULES, ANY_SIZE, MOST_NOTES, STEP} = TABLES;
 
 /** A page has no room for what is asked. The text says for how much it has. */
 export class NoRoom extends Error {}
@@ -32,9 +32,11 @@ export class Paper {
     this.print = PRINTS[kind];
     /** @type {Density[]} */
     this.densities = DENSITIES[kind];
-    const count = titleLines(title, this.width - this.print.name_width, this.print.title);
+    const count = linesOf(title, this.width - this.print.name_width, this.print.title, '', boldWidth);
     if (count > this.print.title_lines) throw new NoRoom(longTitleText(count, this.print.title_lines));
     this.head = this.print.head + share((count - 1) * this.print.title, 120);
+    /** How wide a name beside the title may be. */
+    this.nameRoom = this.print.name_width - LENGTHS.NAME_GAP;
   }
 
   /** @param {string} text @param {string} [label]  what a line of the rules takes, or of another text in their font */
@@ -48,6 +50,34 @@ export class Paper {
     const taken = games.map((game) => this.above(rulesOf(game, ANY_SIZE), CALLED[game]));
     return taken.reduce((left, each) => left - each, this.height - this.head - this.print.foot) - LENGTHS.HEAD_GAP;
   }
+}
+
+// Pieces with their heights one below the other, on as many pages or columns as they take.
+/** @template Piece @param {[piece: Piece, height: number][]} pieces @param {number} room */
+export function packed(pieces, room) {
+  /** @type {Piece[][]} */
+  const found = [[]];
+  let used = 0;
+  for (const [piece, height] of pieces) {
+    if (used && used + height > room) {
+      found.push([]);
+      used = 0;
+    }
+    found[found.length - 1].push(piece);
+    used += height;
+  }
+  return found;
+}
+
+// The greatest side of squares for which there are no more pages than for the least, and these pages.
+/** @template Piece @param {number} most @param {number} least @param {(side: number) => Piece[][]} pages @returns {[side: number, pages: Piece[][]]} */
+export function roomiest(most, least, pages) {
+  const fewest = pages(least);
+  for (let side = most; side > least; side -= STEP) {
+    const found = pages(side);
+    if (found.length <= fewest.length) return [side, found];
+  }
+  return [least, fewest];
 }
 
 /** @param {Game} game @param {string} last */
@@ -104,7 +134,7 @@ class Plan {
   fit(game, size, leastCaption) {
     const ids = this.some.filter(({puzzle}) => puzzle.game === game && puzzle.size === size).map(({puzzle: {id}}) => id);
     for (const own of this.widths) {
-      for (let side = this.density.most_side; side >= this.least(size); side -= 5) {
+      for (let side = this.density.most_side; side >= this.least(size); side -= STEP) {
         const full = extentOf(game, size, penOf(game, side, this.paper.print.strength));
         if (full > this.width || full > this.height) continue;
         const captionWidth = Math.max(full, own), captionHeight = Math.max(leastCaption, ...ids.map((id) => this.captionHeight(id, captionWidth)));
@@ -162,7 +192,8 @@ function withSoMany(paper, puzzles, number) {
   const found = [];
   for (let at = 0; at < puzzles.length; at += number) {
     const some = puzzles.slice(at, at + number);
-    const pages = grids(Math.min(number, puzzles.length)).flatMap((density) => new Plan(paper, density, some, () => LENGTHS.LEAST_ASKED).page ?? []);
+    /** @type {Page[]} */
+    const pages = GRIDS[Math.min(number, puzzles.length)].flatMap((/** @type {Density} */ density) => new Plan(paper, density, some, () => LENGTHS.LEAST_ASKED).page ?? []);
     if (!pages.length) return [];
     found.push(pages.reduce((best, each) => (leastSide(each) > leastSide(best) ? each : best)));
   }
@@ -171,18 +202,3 @@ function withSoMany(paper, puzzles, number) {
 
 /** @param {Page} page */
 const leastSide = ({figures}) => Math.min(...figures.map(({side}) => side));
-
-// The ways to have so many puzzles on a page, without an empty column or row.
-/** @param {number} puzzles @returns {Density[]} */
-function grids(puzzles) {
-  /** @type {Density[]} */
-  const found = [], every = DENSITIES.usual;
-  for (let columns = 1; columns <= LENGTHS.MOST_COLUMNS; columns++) {
-    for (let rows = 1; rows <= LENGTHS.MOST_ROWS; rows++) {
-      if (columns * rows < puzzles || puzzles <= Math.max((columns - 1) * rows, columns * (rows - 1))) continue;
-      const like = every.filter((/** @type {Density} */ each) => each.columns * each.rows >= columns * rows).pop();
-      found.push({...like, columns, rows});
-    }
-  }
-  return found;
-}

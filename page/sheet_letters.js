@@ -17,7 +17,7 @@ const sum = (text, width) => [...text].reduce((all, letter) => all + width(lette
 const textWidth = (letter) => TEXT_WIDTHS.get(letter) ?? TITLES.TEXT_ANY;
 
 /** @param {string} letter @returns {number} */
-function boldWidth(letter) {
+export function boldWidth(letter) {
   if (letter === ' ') return TITLES.SPACE;
   if (TITLES.NARROW_LETTERS.includes(letter)) return TITLES.NARROW;
   if (TITLES.WIDE_LETTERS.includes(letter)) return TITLES.WIDE;
@@ -29,29 +29,16 @@ function boldWidth(letter) {
 /** @param {string} text */
 export const boldWidths = (text) => sum(text, boldWidth);
 
-// How many lines a text takes, behind a label in bold.
-/** @param {string} text @param {number} room @param {number} font @param {string} [label] */
-export function linesOf(text, room, font, label = '') {
-  const most = Math.floor(room * 100 / font), space = textWidth(' ');
-  let count = 1, used = boldWidths(label);
-  for (const word of text.split(' ')) {
-    const own = sum(word, textWidth), blank = used ? space : 0;
-    if (used && used + blank + own > most) [count, used] = [count + 1, own];
-    else used += blank + own;
-  }
-  return count;
-}
-
-// How many lines a bold title takes. A word that is longer than a line begins a new one, and is broken wherever a line is full.
-/** @param {string} title @param {number} room @param {number} font */
-export function titleLines(title, room, font) {
+// How many lines a text takes, behind a label in bold. A word that is longer than a line begins a new one, and is broken wherever a line is full.
+/** @param {string} text @param {number} room @param {number} font @param {string} [label] @param {(letter: string) => number} [width] */
+export function linesOf(text, room, font, label = '', width = textWidth) {
   const most = Math.floor(room * 100 / font);
-  let count = 1, used = 0;
-  for (const word of title.split(' ').filter(Boolean)) {
-    if (used && used + TITLES.SPACE + boldWidths(word) > most) [count, used] = [count + 1, 0];
-    used += used ? TITLES.SPACE : 0;
+  let count = 1, used = boldWidths(label);
+  for (const word of text.split(' ').filter(Boolean)) {
+    if (used && used + width(' ') + sum(word, width) > most) [count, used] = [count + 1, 0];
+    used += used ? width(' ') : 0;
     for (const letter of word) {
-      const own = boldWidth(letter);
+      const own = width(letter);
       if (used + own > most) [count, used] = [count + 1, 0];
       used += own;
     }

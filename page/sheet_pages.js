@@ -84,7 +84,7 @@ export class Sheets {
 
   /** The sentences on names and captions that are too long. */
   get cut() {
-    const room = Math.floor((this.paper.print.name_width - LENGTHS.NAME_GAP) * 100 / this.paper.print.name);
+    const room = Math.floor(this.paper.nameRoom * 100 / this.paper.print.name);
     const names = this.form.names.flatMap((name, at) => (boldWidths(name) > room ? [LONG_NAME.replace('{number}', String(at + 1))] : []));
     const captions = this.pages.flat().flatMap((page) => page.figures.flatMap((figure) => {
       const {label, puzzle: {caption}} = figure.numbered;
@@ -129,17 +129,10 @@ export class Sheets {
 
   /** The style sheet. */
   get style() {
-    const {print, size} = this.paper;
-    /** @type {Record<string, string | number>} */
-    const pieces = {
-      paper: `${length(size.width)} ${length(size.height)}`, top: LENGTHS.TOP, side: LENGTHS.SIDE, paper_width: size.width,
-      paper_height: size.height - LENGTHS.SPARE, gap: LENGTHS.COLUMN_GAP, half_gap: Math.floor(LENGTHS.COLUMN_GAP / 2),
-      below: LENGTHS.HEAD_GAP, above: LENGTHS.CAPTION_TOP, fonts: TABLES.FONTS, id_fonts: TABLES.ID_FONTS, title: print.title, name: print.name,
-      rules: print.rules, answer_gap: print.answer_gap, lesson: print.lesson, steps: print.steps, steps_gap: TABLES.LISTING.GAP, footer: print.footer,
-      command: print.command, name_width: print.name_width - LENGTHS.NAME_GAP, name_gap: LENGTHS.NAME_GAP,
-    };
+    const {print, size, nameRoom} = this.paper, own = {width: size.width, height: size.height - LENGTHS.SPARE, own_name: nameRoom};
+    const paper = `${length(size.width)} ${length(size.height)}`, numbers = {...LENGTHS, ...print, ...own};
     /** @param {string} _ @param {string} name */
-    const piece = (_, name) => (typeof pieces[name] === 'number' ? length(Number(pieces[name])) : String(pieces[name]));
+    const piece = (_, name) => (name === 'paper' ? paper : length(numbers[name]));
     return `${this.form.names.length ? TABLES.NAMES : ''}${TABLES.STYLE}`.replace(/\$(\w+)/g, piece);
   }
 

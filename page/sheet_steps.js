@@ -1,5 +1,6 @@
 // How answers go on, move by move, in the sentences of the program's hints: the first moves and the hardest, or all, in columns.
 import {headed, sentences} from './objects.js';
+import {packed} from './sheet_layout.js';
 import {linesOf} from './sheet_letters.js';
 import {TABLES} from './sheet_tables.js';
 import {lengths, tag} from './sheet_tree.js';
@@ -13,7 +14,7 @@ import {lengths, tag} from './sheet_tree.js';
 /** @typedef {{number: number, texts: Sentence[], grade: number, steps: number, cell: number | null, isHardest: boolean}} Move */
 /** @typedef {{content: Tree, lines: number}} Paragraph */
 
-const {COLUMN_GAP, GAP, SQUARES, LEFT_OUT, TERMS, NO_MORE, FIRST} = TABLES.LISTING;
+const {SQUARES, LEFT_OUT, TERMS, NO_MORE, FIRST} = TABLES.LISTING, {STEPS_COLUMN_GAP: BETWEEN, STEPS_GAP: GAP} = TABLES.LENGTHS;
 
 // The sentences of a hint; a step that is the only one has no number.
 /** @param {Hint} hint */
@@ -49,37 +50,26 @@ const toldOf = (moves, areAll) => moves.filter(({number, isHardest, cell}) => ar
 // The part between head and foot, for each sheet of paper.
 /** @param {Paper} paper @param {{numbered: Numbered, moves: Move[]}[]} every @param {boolean} hasGrades @param {boolean} areAll */
 export function stepsOn(paper, every, hasGrades, areAll) {
-  const {steps_columns: columns, steps: font} = paper.print, width = Math.floor((paper.width - COLUMN_GAP * (columns - 1)) / columns);
+  const {steps_columns: columns, steps: font} = paper.print, width = Math.floor((paper.width - BETWEEN * (columns - 1)) / columns);
   const room = paper.height - paper.head - paper.print.foot;
   const told = every.map(({numbered, moves}) => ({numbered, moves: toldOf(moves, areAll)}));
-  const blocks = columnsOf(partsOf(told, width, font, hasGrades, areAll), font, room)
-    .flatMap((column) => [tag('div', {class: 'steps', style: lengths({width, height: room})}, ...column), '\n']);
+  const blocks = packed(piecesOf(partsOf(told, width, font, hasGrades, areAll), font, room), room)
+    .flatMap((column) => [tag('div', {class: 'steps', style: lengths({width, height: room})}, ...column.flat().map(({content}) => content)), '\n']);
   const found = [];
   for (let at = 0; at < blocks.length; at += 2 * columns) found.push([tag('div', {class: 'listing'}, '\n', ...blocks.slice(at, at + 2 * columns)), '\n']);
   return found;
 }
 
+// The pieces that stay together, with their heights: a part, or at least a move, that isn't longer than a column stands in one.
 /** @param {{moves: Paragraph[][], gap: number}[]} parts @param {number} font @param {number} room */
-function columnsOf(parts, font, room) {
+function piecesOf(parts, font, room) {
   /** @param {Paragraph[]} piece */
   const heightOf = (piece) => Math.floor(piece.reduce((sum, {lines}) => sum + lines, 0) * font * 5 / 4);
-  /** @type {Tree[][]} */
-  const found = [[]];
-  let used = 0;
-  for (const {moves, gap} of parts) {
-    const whole = moves.flat();
-    const pieces = heightOf(whole) + gap <= room ? [whole] : moves.flatMap((move) => (heightOf(move) + GAP <= room ? [move] : move.map((each) => [each])));
-    pieces.forEach((piece, at) => {
-      const height = heightOf(piece) + (at ? 0 : gap);
-      if (used && used + height > room) {
-        found.push([]);
-        used = 0;
-      }
-      found[found.length - 1].push(...piece.map(({content}) => content));
-      used += height;
-    });
-  }
-  return found;
+  return parts.flatMap(({moves, gap}) => {
+    const whole = moves.flat(), short = moves.flatMap((move) => (heightOf(move) + GAP <= room ? [move] : move.map((each) => [each])));
+    const pieces = heightOf(whole) + gap <= room ? [whole] : short;
+    return pieces.map((piece, at) => /** @type {[Paragraph[], number]} */ ([piece, heightOf(piece) + (at ? 0 : gap)]));
+  });
 }
 
 /** @param {{numbered: Numbered, moves: Move[]}[]} every @param {number} width @param {number} font @param {boolean} hasGrades @param {boolean} areAll */

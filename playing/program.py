@@ -15,6 +15,9 @@ from playing.files import why
 #: How long a line may take before somebody is asked whether to go on waiting, and from then on between two questions.
 FIRST_WAIT, NEXT_WAIT = 0.3, 0.1
 
+#: And how long its end, once it says nothing more.
+ENDS = 10
+
 #: The name that the program is called by, whatever its file is called: by this one it answers in objects.
 NAME = 'puzzles-json'
 
@@ -127,7 +130,7 @@ class Program:
         with contextlib.suppress(OSError):
             self._input.close()
         with contextlib.suppress(subprocess.TimeoutExpired):
-            self._process.wait(1)
+            self._process.wait(ENDS)
         self._process.kill()
         said = self._process.stderr.read() if self._process.stderr else b''
         status = self._process.wait()

@@ -8,7 +8,7 @@ pages, answers, listing     the page in HTML: puzzles, answers and steps
 examples                    the cards of the course for a first lesson, board by board
 layout, titles              how many puzzles a page can have, how large their squares are, and how many lines a title takes
 measures, style, markup     lengths, the style sheet, and text that becomes HTML
-drawing                     a board as a picture, also one that is played
+drawing                     a board as a picture
 
 The program says which numbers are right, and that a puzzle has one solution: no rule of play is here. The picture and the talk with the program need
 nothing of the rest.

@@ -3,21 +3,17 @@
 from __future__ import annotations
 
 from string import Template
-from typing import List, Mapping, NamedTuple, Sequence
+from typing import Iterator, List, Mapping, NamedTuple, Sequence, Tuple
 
 from playing.naming import Place
 from sheet import drawing, measures
-from sheet.layout import Numbered, Paper
+from sheet.layout import Numbered, Paper, packed, roomiest
 from sheet.markup import Markup, fill, joined
 from sheet.measures import length
 from sheet.steps import Move
-from sheet.titles import text_lines
 
 #: The space left free beside a picture, for its lines.
 LINES = 100
-
-#: From one side of the squares to the next one that is tried.
-STEP = 5
 
 #: The sentence if the squares have the numbers of moves.
 ORDER = 'The small number in a square is that of the move that fills it. The hardest move is underlined.'
@@ -65,8 +61,7 @@ class Key(NamedTuple):
     def room(self) -> int:
         """The height that is left for answers, below what is told of the order."""
         paper = self.paper
-        above = 60 + text_lines(ORDER, paper.width, paper.print.rules) * paper.print.rules * 5 // 4 if self.orders else 0
-        return paper.height - paper.head - paper.print.foot - above
+        return paper.height - paper.head - paper.print.foot - (paper.above(ORDER) if self.orders else 0)
 
 
 def sections(key: Key, puzzles: Sequence[Numbered]) -> List[Markup]:
@@ -75,13 +70,7 @@ def sections(key: Key, puzzles: Sequence[Numbered]) -> List[Markup]:
     columns = columns_for(puzzles, squares.columns)
     least = min(squares.least, widest(paper, puzzles, 2))
     most = min(squares.most, widest(paper, puzzles, 1))
-    fewest = len(_sheets(key, puzzles, columns, least))
-    for side in range(most, least, -STEP):
-        found = _sheets(key, puzzles, columns, side)
-        if len(found) <= fewest:
-            break
-    else:
-        side, found = least, _sheets(key, puzzles, columns, least)
+    side, found = roomiest(most, least, lambda side: packed(_rows(paper, puzzles, columns, side), key.room))
     above = [fill(TEXT, text=ORDER)] if key.orders else []
     return [joined([*above, *(_row(key, row, side) for row in rows)]) for rows in found]
 
@@ -105,21 +94,13 @@ def answer_width(paper: Paper, columns: int) -> int:
     return (paper.width - paper.print.answer_gap * (columns - 1)) // columns
 
 
-def _sheets(key: Key, puzzles: Sequence[Numbered], columns: int, side: int) -> List[List[Row]]:
-    """The rows on each sheet of paper."""
-    paper, room = key.paper, key.room
-    sheets: List[List[Row]] = [[]]
-    used, left = 0, list(puzzles)
+def _rows(paper: Paper, puzzles: Sequence[Numbered], columns: int, side: int) -> Iterator[Tuple[Row, int]]:
+    """With their heights."""
+    left = list(puzzles)
     while left:
         row = _next_row(paper, left, columns, side)
+        yield row, _height(paper, row, side)
         del left[: len(row.some)]
-        height = _height(paper, row, side)
-        if used + height > room:
-            sheets.append([])
-            used = 0
-        sheets[-1].append(row)
-        used += height
-    return sheets
 
 
 def _next_row(paper: Paper, left: Sequence[Numbered], columns: int, side: int) -> Row:

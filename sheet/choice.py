@@ -3,12 +3,13 @@
 from __future__ import annotations
 
 import itertools
-from typing import Dict, Iterator, List, NamedTuple, Optional, Protocol, Sequence, Set, Tuple
+from typing import Dict, Iterator, List, Mapping, NamedTuple, Optional, Protocol, Sequence, Set, Tuple
 
+from sheet import seeds
 from sheet.likeness import Form, form
 from sheet.lists import Line, puzzle_of
 from sheet.puzzles import Programs, Puzzle, Unfit
-from sheet.seeds import Kind, Seeds, sentence
+from sheet.seeds import Kind, sentence
 
 #: A sheet has no more puzzles, and of a list no more lines are told that are wrong.
 MOST = 200
@@ -56,15 +57,16 @@ class WrongLines(Exception):
 
 
 class Seeded:
-    """Puzzles of some seeds, as they come onto a sheet."""
+    """Puzzles of seeds, as they come onto a sheet."""
 
-    def __init__(self, seeds: Seeds) -> None:
+    def __init__(self, left: Mapping[Kind, Iterator[Puzzle]]) -> None:
         self.puzzles: List[Puzzle] = []
         #: How many have the solution of an earlier one.
         self.alike = 0
         #: How many stand on an earlier sheet.
         self.repeated = 0
-        self._seeds = seeds
+        #: Of each kind. Each has each seed once: they are not the same games.
+        self._left = left
         self._forms: Set[Form] = set()
         #: Sizes of which there is no new solution, and kinds of which there is no new puzzle.
         self._spent: Set[int] = set()
@@ -75,7 +77,7 @@ class Seeded:
         spare: Optional[Puzzle] = None
         if kind in self._exhausted:
             return None
-        for _, puzzle in zip(range(ALIKE), self._seeds.puzzles(kind)):
+        for puzzle in itertools.islice(self._left[kind], ALIKE):
             if form(puzzle.answer) not in self._forms:
                 self._forms.add(form(puzzle.answer))
                 self.puzzles.append(puzzle)
@@ -102,13 +104,13 @@ class Seeded:
         return others[(self.repeated - 1) % len(others)]
 
 
-def of_seeds(seeds: Seeds, wanted: Sequence[Kind], pupils: int, progress: Progress) -> Choice:
+def of_seeds(programs: Programs, numbers: Tuple[int, int], wanted: Sequence[Kind], pupils: int, progress: Progress) -> Choice:
     """One of each kind, in this order, for each pupil: no two pupils have the same puzzle as long as there are others. Raises `Unfit` where there are too
     many pupils, none of a kind are made, or none is found."""
     if len(wanted) * pupils > MOST_OF_CLASS:
         raise Unfit(TOO_MANY.format(pupils=pupils, count=len(wanted), all=len(wanted) * pupils, most=MOST_OF_CLASS))
-    seeds.check(wanted)
-    found = Seeded(seeds)
+    seeds.check(programs, wanted)
+    found = Seeded({kind: seeds.puzzles(programs, kind, *numbers) for kind in wanted})
     sheets: List[List[Puzzle]] = []
     for _ in range(pupils):
         sheets.append([])

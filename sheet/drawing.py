@@ -1,12 +1,9 @@
-"""A board as a picture in SVG: the puzzle, numbers, pencil marks, what contradicts, and squares of a hint.
-
-One unit is a hundredth of a millimetre, and all is in whole numbers, so that the picture is the same everywhere. It is black on white. A part that isn't
-there on paper has a class, by which a page gives it a look: `wrong`, `done`, `hint`.
-"""
+"""A board as a picture in SVG. One unit is a hundredth of a millimetre, and all is in whole numbers, so that the picture is the same everywhere. It is
+black on white."""
 
 from __future__ import annotations
 
-from typing import Collection, Iterable, Iterator, List, Mapping, NamedTuple, Optional, Tuple
+from typing import Iterable, Iterator, Mapping, NamedTuple, Optional, Tuple
 from xml.etree import ElementTree
 from xml.etree.ElementTree import Element, SubElement
 
@@ -20,8 +17,7 @@ OUTSIDE, BETWEEN = 52, 34
 #: How far from the frame's middle the middle of a clue is, and half of a wedge's depth and of its height, in the same measure.
 CLUE, DEPTH, HEIGHT = 35, 8, 17
 
-#: How far apart two pencil marks are, in the same measure; and the room for the names of rows and columns, with their font.
-APART = 30
+#: The room for the names of rows and columns, with their font, in the same measure.
 EDGE, EDGE_FONT = 52, 36
 
 #: The number of a move in the corner of its square: its font, and how far it is from the left, in the same measure.
@@ -33,6 +29,10 @@ BASELINE = 36
 #: How lines and digits are drawn. The edges of a picture are cut to whole points of a screen, which an outer line is not to be.
 LINES = {'fill': 'none', 'stroke': '#000', 'stroke-linejoin': 'round', 'stroke-linecap': 'round', 'overflow': 'visible'}
 DIGITS = {'fill': '#000', 'stroke': 'none', 'text-anchor': 'middle'}
+
+#: How wide the frames of either game are, and other lines: in per cent of a square's side, and at least and at most.
+THICK = {'towers': (7, 45, 90), 'unequal': (4, 25, 50), 'inner': (3, 20, 40), 'wedge': (5, 35, 75)}
+THIN = {'towers': (7, 32, 999), 'unequal': (3, 16, 999), 'inner': (3, 16, 999), 'wedge': (5, 20, 999)}
 
 #: A character that stands for an empty square, or for no clue, in words.
 NONE = '-'
@@ -50,27 +50,21 @@ class Pen(NamedTuple):
     wedge: int
     number: int
     clue: int
-    mark: int
 
 
-def pen(game: str, side: int, strength: int = 100) -> Pen:
+def pen(game: str, side: int, strength: int = 100, is_small: bool = False) -> Pen:
     """For a puzzle with squares of this side; the lines may be stronger, in per cent."""
 
-    def line(percent: int, least: int, most: int) -> int:
+    def line(kind: str) -> int:
+        percent, least, most = (THIN if is_small else THICK)[kind]
         return min(most, max(least, side * percent // 100)) * strength // 100
 
-    frame = line(7, 45, 90) if game == 'towers' else line(4, 25, 50)
-    return Pen(side, frame, line(3, 20, 40), line(5, 35, 75), side * 58 // 100, side * 46 // 100, side * 26 // 100)
+    return Pen(side, line(game), line('inner'), line('wedge'), side * 58 // 100, side * (52 if is_small else 46) // 100)
 
 
 def small_pen(game: str, side: int) -> Pen:
     """For an answer: its lines are thin and its clues large."""
-
-    def line(percent: int, least: int) -> int:
-        return max(least, side * percent // 100)
-
-    frame = line(7, 32) if game == 'towers' else line(3, 16)
-    return Pen(side, frame, line(3, 16), line(5, 20), side * 58 // 100, side * 52 // 100, side * 26 // 100)
+    return pen(game, side, is_small=True)
 
 
 def parts(game: str, size: int) -> int:
@@ -123,7 +117,7 @@ class Places:
 
 
 def picture(
-    board: Board, with_pen: Pen, name: str, hinted: Collection[Place] = (), has_edges: bool = False, order: Optional[Mapping[Place, Move]] = None
+    board: Board, with_pen: Pen, name: str, hinted: Optional[Place] = None, has_edges: bool = False, order: Optional[Mapping[Place, Move]] = None
 ) -> Element:
     """The element `svg`, with its name and the board in words for who doesn't see it; at its edges may stand the names of rows and columns, and in the
     squares the numbers of the moves that put theirs."""
@@ -134,8 +128,7 @@ def picture(
     SubElement(svg, 'title').text = name
     SubElement(svg, 'desc').text = ' '.join([*told(board), ''])
     if hinted:
-        around = ''.join(square(places, place) for place in sorted(hinted))
-        SubElement(svg, 'path', {'class': 'hint', 'd': around, 'stroke-width': str(2 * with_pen.frame)})
+        SubElement(svg, 'path', {'class': 'hint', 'd': square(places, hinted), 'stroke-width': str(2 * with_pen.frame)})
     _add_grid(svg, places, with_pen)
     _add_signs(svg, board, places, with_pen)
     _add_numbers(svg, board, places, with_pen)
@@ -174,25 +167,19 @@ def _add_signs(svg: Element, board: Board, places: Places, with_pen: Pen) -> Non
             SubElement(svg, 'path', {'d': path, 'stroke-width': str(with_pen.wedge), **({'class': 'wrong'} if is_wrong else {})})
 
 
-class Digit(NamedTuple):
-    x: int
-    y: int
-    number: int
-    kind: str = ''
-
-
 def _add_numbers(svg: Element, board: Board, places: Places, with_pen: Pen) -> None:
     group = SubElement(svg, 'g', DIGITS)
 
-    def digits(given: bool) -> List[Digit]:
-        found = [(place, board.numbers[place]) for place in board.squares if place in board.numbers and (place in board.givens) == given]
-        return [Digit(*places.middle(place), number, 'wrong' if place in board.wrong else '') for place, number in found]
+    def add(font: int, numbers: Mapping[Place, int], more: Optional[Mapping[str, str]] = None) -> None:
+        own = SubElement(group, 'g', {'font-size': str(font), **(more or {})}) if numbers else group
+        for place, number in numbers.items():
+            x, y = places.middle(place)
+            SubElement(own, 'text', {'x': str(x), 'y': str(y + font * BASELINE // 100)}).text = str(number)
 
-    clues = [Digit(*places.middle(place), clue.number, 'wrong' if clue.is_wrong else 'done' if clue.is_done else '') for place, clue in board.clues.items()]
-    _add_digits(group, with_pen.number, digits(True), {'font-weight': '700'})
-    _add_digits(group, with_pen.number, digits(False))
-    _add_digits(group, with_pen.clue, clues)
-    _add_digits(group, with_pen.mark, list(_marks(board, places)), {'class': 'marks'})
+    shown = {place: board.numbers[place] for place in board.squares if place in board.numbers}
+    add(with_pen.number, {place: number for place, number in shown.items() if place in board.givens}, {'font-weight': '700'})
+    add(with_pen.number, {place: number for place, number in shown.items() if place not in board.givens})
+    add(with_pen.clue, {place: clue.number for place, clue in board.clues.items()})
 
 
 def _add_edges(svg: Element, places: Places, at: int) -> None:
@@ -212,23 +199,6 @@ def _add_order(svg: Element, places: Places, order: Mapping[Place, Move]) -> Non
     for (x, y), move in order.items():
         hardest = {'font-weight': '700', 'text-decoration': 'underline'} if move.is_hardest else {}
         SubElement(group, 'text', {'x': str(places.at[x] + places.side * ORDER_LEFT // 100), 'y': str(places.at[y] + font), **hardest}).text = str(move.number)
-
-
-def _marks(board: Board, places: Places) -> Iterator[Digit]:
-    """Three in a row, each number at a place of its own."""
-    for place, marks in board.marks.items():
-        x, y = places.middle(place)
-        for number in marks:
-            row, column = divmod(number - 1, 3)
-            yield Digit(x + (column - 1) * places.side * APART // 100, y + (row - 1) * places.side * APART // 100, number)
-
-
-def _add_digits(above: Element, font: int, digits: List[Digit], more: Optional[Mapping[str, str]] = None) -> None:
-    if digits:
-        group = SubElement(above, 'g', {'font-size': str(font), **(more or {})})
-        for digit in digits:
-            attributes = {'x': str(digit.x), 'y': str(digit.y + font * BASELINE // 100), **({'class': digit.kind} if digit.kind else {})}
-            SubElement(group, 'text', attributes).text = str(digit.number)
 
 
 def told(board: Board) -> Iterator[str]:

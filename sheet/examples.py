@@ -12,15 +12,12 @@ from playing.naming import Place
 from playing.program import Gone
 from playing.steps import Sentence
 from sheet import drawing, steps
-from sheet.layout import ANY_SIZE, CALLED, RULES, Paper
+from sheet.layout import ANY_SIZE, CALLED, RULES, Paper, packed, roomiest
 from sheet.listing import SQUARES, marked
 from sheet.markup import Markup, fill, joined
 from sheet.measures import length
 from sheet.puzzles import Programs, Unfit
-from sheet.titles import text_lines
-
-#: From one side of the squares to the next one that is tried.
-STEP = 5
+from sheet.titles import lines
 
 #: Between a board and its text, and below a board.
 BESIDE, BELOW = 900, 350
@@ -77,38 +74,22 @@ def _lesson(programs: Programs, game: str, card: Card) -> Lesson:
 
 def sections(paper: Paper, told: Example) -> Iterator[Markup]:
     """The drawings between head and foot, on as few sheets of paper as can be: with squares as large as there is room for."""
-    game, side = told.game, _side(paper, told)
-    rules = RULES[game].format(last=ANY_SIZE)
-    for rows in _sheets(paper, told, side):
-        yield fill(BODY, called=CALLED[game], rules=rules, rows=joined(_drawn(row, game, side, paper) for row in rows))
+    game, room = told.game, paper.room([told.game])
 
+    def sheets(side: int) -> List[List[Row]]:
+        rows = [_row(paper, lesson, game, side) for lesson in told.lessons]
+        return packed(((row, row.height) for row in rows), room)
 
-def _side(paper: Paper, told: Example) -> int:
-    """The greatest one for which no more paper is taken than for the least."""
-    most, least = paper.print.lesson_sides
-    fewest = len(_sheets(paper, told, least))
-    return next(side for side in range(most, least - 1, -STEP) if len(_sheets(paper, told, side)) <= fewest)
-
-
-def _sheets(paper: Paper, told: Example, side: int) -> List[List[Row]]:
-    """The rows on each sheet of paper."""
-    sheets: List[List[Row]] = [[]]
-    left = room = paper.room([told.game])
-    for lesson in told.lessons:
-        row = _row(paper, lesson, told.game, side)
-        if row.height > left and sheets[-1]:
-            sheets.append([])
-            left = room
-        sheets[-1].append(row)
-        left -= row.height
-    return sheets
+    side, found = roomiest(*paper.print.lesson_sides, sheets)
+    for rows in found:
+        yield fill(BODY, called=CALLED[game], rules=RULES[game].format(last=ANY_SIZE), rows=joined(_drawn(row, game, side, paper) for row in rows))
 
 
 def _row(paper: Paper, lesson: Lesson, game: str, side: int) -> Row:
     font = paper.print.lesson
     full = drawing.extent(game, lesson.board.size, _pen(paper, game, side)) + drawing.edge(side)
     width = paper.width - full - BESIDE
-    text = (1 + sum(text_lines(sentence.whole, width, font) for sentence in lesson.sentences)) * font * 27 // 20
+    text = (1 + sum(lines(sentence.whole, width, font) for sentence in lesson.sentences)) * font * 27 // 20
     return Row(lesson, max(full, text) + BELOW, width)
 
 
@@ -119,6 +100,6 @@ def _pen(paper: Paper, game: str, side: int) -> drawing.Pen:
 def _drawn(row: Row, game: str, side: int, paper: Paper) -> Markup:
     lesson = row.lesson
     called = drawing.title(lesson.head, lesson.board, '')
-    svg = drawing.picture(lesson.board, _pen(paper, game, side), called, {lesson.square} if lesson.square else (), has_edges=True)
+    svg = drawing.picture(lesson.board, _pen(paper, game, side), called, lesson.square, has_edges=True)
     texts = joined([fill(HEAD, text=lesson.head), *(fill(SENTENCE, text=marked(text)) for text in lesson.sentences)])
     return fill(ROW, height=length(row.height), width=length(row.width), picture=Markup(drawing.text_of(svg)), texts=texts)

@@ -5,7 +5,7 @@ from __future__ import annotations
 import itertools
 import re
 from functools import lru_cache
-from typing import Iterator, List, Mapping, NamedTuple, Optional, Sequence
+from typing import Callable, Iterable, Iterator, List, Mapping, NamedTuple, Optional, Sequence, Tuple, TypeVar
 
 from playing.board import GAMES
 from playing.naming import PRINTED_AS
@@ -25,6 +25,11 @@ RULES = {
     'A wedge between two squares opens towards the greater number, and points at the smaller one.',
 }
 ANY_SIZE = 'the size of the grid'
+
+#: From one side of squares to the next one that is tried.
+STEP = 5
+
+Piece = TypeVar('Piece')
 
 #: The characters with which a line of an ID ends, if it can.
 ENDS = ',/:'
@@ -93,18 +98,42 @@ class Paper:
         self.print: Print = measures.LARGE if is_large else measures.USUAL
         self.densities: Sequence[Density] = measures.LARGE_DENSITIES if is_large else measures.DENSITIES
         self.has_ids = has_ids
-        title_lines = titles.lines(title, self.width - self.print.name_width, self.print.title)
+        title_lines = titles.lines(title, self.width - self.print.name_width, self.print.title, width=titles.bold_width)
         if title_lines > self.print.title_lines:
             raise NoRoom(f'--title: it is too long: it may take {title_lines} lines, and {self.print.title_lines} have room')
         #: The height of the head.
         self.head = self.print.head + (title_lines - 1) * self.print.title * 6 // 5
+        #: How wide a name beside the title may be.
+        self.name_room = self.print.name_width - measures.NAME_GAP
 
-    def rules_height(self, games: Sequence[str]) -> int:
-        return sum(60 + titles.text_lines(RULES[game].format(last=ANY_SIZE), self.width, self.print.rules, CALLED[game]) * self.print.rules * 5 // 4 for game in games)
+    def above(self, text: str, label: str = '') -> int:
+        """The height of a line of the rules, or of another text in their font."""
+        return 60 + titles.lines(text, self.width, self.print.rules, label) * self.print.rules * 5 // 4
 
     def room(self, games: Sequence[str]) -> int:
         """The height that is left for puzzles, below the rules of these games."""
-        return self.height - self.head - self.print.foot - self.rules_height(games) - measures.HEAD_GAP
+        rules = sum(self.above(RULES[game].format(last=ANY_SIZE), CALLED[game]) for game in games)
+        return self.height - self.head - self.print.foot - rules - measures.HEAD_GAP
+
+
+def packed(pieces: Iterable[Tuple[Piece, int]], room: int) -> List[List[Piece]]:
+    """Pieces with their heights one below the other, on as many pages or columns as they take."""
+    found: List[List[Piece]] = [[]]
+    used = 0
+    for piece, height in pieces:
+        if used and used + height > room:
+            found.append([])
+            used = 0
+        found[-1].append(piece)
+        used += height
+    return found
+
+
+def roomiest(most: int, least: int, pages: Callable[[int], List[List[Piece]]]) -> Tuple[int, List[List[Piece]]]:
+    """The greatest side of squares for which there are no more pages than for the least, and these pages."""
+    fewest = pages(least)
+    sides = ((side, pages(side)) for side in range(most, least, -STEP))
+    return next(((side, found) for side, found in sides if len(found) <= len(fewest)), (least, fewest))
 
 
 def games_of(some: Sequence[Numbered]) -> List[str]:
@@ -189,7 +218,7 @@ class Plan:
     def _fit(self, game: str, size: int, least_height: int) -> Optional[Fit]:
         """The greatest square at which the picture, and the caption with the longest of the IDs, come into their place."""
         ids = [each.puzzle.id for each in self._some if (each.puzzle.game, each.puzzle.size) == (game, size)]
-        for width, side in itertools.product(self._widths, range(self._density.most_side, self._least_side[size] - 1, -5)):
+        for width, side in itertools.product(self._widths, range(self._density.most_side, self._least_side[size] - 1, -STEP)):
             full = drawing.extent(game, size, drawing.pen(game, side, self._strength))
             caption_width = max(full, width)
             caption_height = max(least_height, *(self._caption_height(id, caption_width) for id in ids))
@@ -211,20 +240,15 @@ def pages(paper: Paper, puzzles: Sequence[Numbered]) -> List[Page]:
 
 
 def _pages(paper: Paper, densities: Sequence[Density], puzzles: Sequence[Numbered]) -> Iterator[Page]:
+    """Each the densest one that is possible. Raises `NoRoom` where not even one puzzle has room."""
     left = list(puzzles)
     while left:
-        page = _next_page(paper, densities, left)
+        plans = (Plan(paper, density, left[: density.puzzles], measures.LEAST_SIDE) for density in densities)
+        page = next(filter(None, (plan.page() for plan in plans)), None)
+        if page is None:
+            raise NoRoom('with this title not even one puzzle has room on a page')
         yield page
         del left[: len(page.figures)]
-
-
-def _next_page(paper: Paper, densities: Sequence[Density], left: Sequence[Numbered]) -> Page:
-    """The densest one that is possible. Raises `NoRoom` where not even one puzzle has room."""
-    plans = (Plan(paper, density, left[: density.puzzles], measures.LEAST_SIDE) for density in densities)
-    page = next(filter(None, (plan.page() for plan in plans)), None)
-    if page is None:
-        raise NoRoom('with this title not even one puzzle has room on a page')
-    return page
 
 
 def asked_pages(paper: Paper, puzzles: Sequence[Numbered], per_page: int) -> List[Page]:
@@ -240,23 +264,14 @@ def asked_pages(paper: Paper, puzzles: Sequence[Numbered], per_page: int) -> Lis
 
 
 def _pages_of(paper: Paper, puzzles: Sequence[Numbered], number: int) -> List[Page]:
-    """The pages; none where a square would be too small."""
+    """The pages with so many, each with the largest squares; none where a square would be too small."""
     found: List[Page] = []
+    least = {size: measures.LEAST_ASKED for size in measures.LEAST_SIDE}
     for first in range(0, len(puzzles), number):
-        page = _largest(paper, puzzles[first : first + number], min(number, len(puzzles)))
+        some = puzzles[first : first + number]
+        planned = (Plan(paper, density, some, least).page() for density in measures.grids(min(number, len(puzzles))))
+        page = max(filter(None, planned), key=lambda page: min(figure.side for figure in page.figures), default=None)
         if page is None:
             return []
         found.append(page)
     return found
-
-
-def _largest(paper: Paper, some: Sequence[Numbered], number: int) -> Optional[Page]:
-    """The page with the largest squares, of those that have room for this number of puzzles."""
-    least = {size: measures.LEAST_ASKED for size in measures.LEAST_SIDE}
-    planned = [Plan(paper, density, some, least).page() for density in measures.grids(number)]
-    fitting = [page for page in planned if page]
-    return max(fitting, key=_least_side) if fitting else None
-
-
-def _least_side(page: Page) -> int:
-    return min(figure.side for figure in page.figures)

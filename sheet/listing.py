@@ -3,17 +3,14 @@
 from __future__ import annotations
 
 from string import Template
-from typing import Iterator, List, NamedTuple, Sequence
+from typing import Iterator, List, NamedTuple, Sequence, Tuple
 
 from playing.steps import Sentence
-from sheet.layout import Numbered, Paper
+from sheet.layout import Numbered, Paper, packed
 from sheet.markup import Markup, fill, joined, safe
-from sheet.measures import length
+from sheet.measures import STEPS_COLUMN_GAP, STEPS_GAP, length
 from sheet.steps import Move, explained_words
-from sheet.titles import text_lines
-
-#: Between two columns, and above a puzzle.
-COLUMN_GAP, GAP = 600, 150
+from sheet.titles import lines
 
 #: How the sentences name squares.
 SQUARES = 'r2c3 is the square in row 2 from the top and column 3 from the left.'
@@ -56,36 +53,28 @@ class Part(NamedTuple):
 def sections(paper: Paper, every: Sequence[Explained], has_grades: bool, are_all: bool = False) -> Iterator[Markup]:
     """The drawings between head and foot, for each sheet of paper."""
     columns, font = paper.print.steps_columns, paper.print.steps
-    width = (paper.width - COLUMN_GAP * (columns - 1)) // columns
+    width = (paper.width - STEPS_COLUMN_GAP * (columns - 1)) // columns
     room = paper.height - paper.head - paper.print.foot
-    contents = _columns(_parts(every, width, font, has_grades, are_all), font, room)
-    blocks = [fill(BLOCK, width=length(width), height=length(room), content=content) for content in contents]
+    filled = packed(_pieces(_parts(every, width, font, has_grades, are_all), font, room), room)
+    blocks = [fill(BLOCK, width=length(width), height=length(room), content=joined(each.content for piece in column for each in piece)) for column in filled]
     for first in range(0, len(blocks), columns):
         yield fill(COLUMNS, columns=joined(blocks[first : first + columns]))
 
 
-def _columns(parts: Iterator[Part], font: int, room: int) -> Iterator[Markup]:
-    """Columns with one part below the other. A part, or at least a move, that isn't longer than a column stands in one."""
-    column: List[Markup] = []
-    used = 0
+def _pieces(parts: Iterator[Part], font: int, room: int) -> Iterator[Tuple[List[Paragraph], int]]:
+    """The pieces that stay together, with their heights: a part, or at least a move, that isn't longer than a column stands in one."""
     for part in parts:
         whole = [paragraph for move in part.moves for paragraph in move]
         pieces = [whole] if _height(whole, font) + part.gap <= room else _short(part.moves, font, room)
         for at, piece in enumerate(pieces):
-            height = _height(piece, font) + (0 if at else part.gap)
-            if column and used + height > room:
-                yield joined(column)
-                column, used = [], 0
-            column += [paragraph.content for paragraph in piece]
-            used += height
-    yield joined(column)
+            yield piece, _height(piece, font) + (0 if at else part.gap)
 
 
 def _short(moves: List[List[Paragraph]], font: int, room: int) -> List[List[Paragraph]]:
     """The moves, and the paragraphs of those that are longer than a column."""
     pieces: List[List[Paragraph]] = []
     for move in moves:
-        pieces += [move] if _height(move, font) + GAP <= room else [[paragraph] for paragraph in move]
+        pieces += [move] if _height(move, font) + STEPS_GAP <= room else [[paragraph] for paragraph in move]
     return pieces
 
 
@@ -96,13 +85,13 @@ def _height(piece: Sequence[Paragraph], font: int) -> int:
 def _parts(every: Sequence[Explained], width: int, font: int, has_grades: bool, are_all: bool) -> Iterator[Part]:
     words = explained_words([move for explained in every for move in explained.moves])
     first = [SQUARES, *words, *([] if are_all else [LEFT_OUT])]
-    yield Part([[Paragraph(fill(SENTENCE, text=text), text_lines(text, width, font)) for text in first]], 0)
+    yield Part([[Paragraph(fill(SENTENCE, text=text), lines(text, width, font)) for text in first]], 0)
     for explained in every:
         numbered = explained.numbered
         name = fill(PUPIL, name=numbered.name) if numbered.pupil else Markup('')
         head = Paragraph(fill(HEAD, number=numbered.label, grade=numbered.puzzle.grade if has_grades else '', name=name), 1)
         begun, *others = [list(paragraphs(move, width, font)) for move in explained.moves]
-        yield Part([[head, *begun], *others], GAP)
+        yield Part([[head, *begun], *others], STEPS_GAP)
 
 
 def paragraphs(move: Move, width: int, font: int) -> Iterator[Paragraph]:
@@ -113,8 +102,8 @@ def paragraphs(move: Move, width: int, font: int) -> Iterator[Paragraph]:
         yield Paragraph(fill(LABEL, label=label), 1)
     else:
         first = texts.pop(0)
-        yield Paragraph(fill(LABELLED, label=label, text=marked(first)), text_lines(first.whole, width, font, f'{label}.'))
-    yield from (Paragraph(fill(SENTENCE, text=marked(text)), text_lines(text.whole, width, font)) for text in texts)
+        yield Paragraph(fill(LABELLED, label=label, text=marked(first)), lines(first.whole, width, font, f'{label}.'))
+    yield from (Paragraph(fill(SENTENCE, text=marked(text)), lines(text.whole, width, font)) for text in texts)
 
 
 def marked(sentence: Sentence) -> Markup:

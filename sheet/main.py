@@ -46,14 +46,14 @@ def make(path: str, asked: Asked) -> int:
     """Raises `Gone`, `NoRoom` or `NoPdf`, or `OSError` where the page can't be written. The file that was begun is taken away if a signal ends it."""
     end_by_signals()
     # Mistakes in the words alone are told before puzzles are made.
-    papers(asked.form, title_of(asked.form))
+    papers(asked, title_of(asked))
     browser = pdf.found(asked.browser) if asked.pdf else ''
     try:
         with Programs(path) as programs, Progress() as progress:
             names = lists.names_of(asked.names) if asked.names is not None else []
             chosen = chosen_by(programs, asked, max(1, len(names)), progress)
-            moves = [steps.found(programs, puzzle) for puzzle in chosen.puzzles] if asked.form.has_steps else []
-            games = dict.fromkeys(puzzle.game for puzzle in chosen.puzzles) if asked.form.has_example else {}
+            moves = [steps.found(programs, puzzle) for puzzle in chosen.puzzles] if asked.steps else []
+            games = dict.fromkeys(puzzle.game for puzzle in chosen.puzzles) if asked.example else {}
             example = [examples.example(programs, game) for game in games]
     except WrongLines as wrong:
         return unfit(wrong.told)
@@ -80,13 +80,13 @@ def unfit(told: Iterable[str]) -> int:
 def chosen_by(programs: Programs, asked: Asked, pupils: int, progress: Progress) -> Choice:
     """Raises `Unfit` or `WrongLines`."""
     if asked.ids is not None:
-        progress.count = asked.how_many
-        return choice.of_list(programs, lists.lines_of(asked.ids), asked.game, asked.how_many, progress)
-    assert asked.game and asked.how_many, 'without a list these are asked for'
-    progress.count = asked.how_many * pupils
-    every = seeds.kinds(asked.game, asked.sizes, asked.letters)
-    wanted = seeds.shared(every, asked.how_many)
-    found = choice.of_seeds(seeds.Seeds(programs, asked.first, asked.stride), wanted, pupils, progress)
+        progress.count = asked.count
+        return choice.of_list(programs, lists.lines_of(asked.ids), asked.game, asked.count, progress)
+    assert asked.game and asked.count, 'without a list these are asked for'
+    progress.count = asked.count * pupils
+    every = seeds.kinds(asked.game, asked.size, asked.letters)
+    wanted = seeds.shared(every, asked.count)
+    found = choice.of_seeds(programs, asked.seeds, wanted, pupils, progress)
     return found._replace(told=[*seeds.uneven(every, wanted), *found.told])
 
 

@@ -21,9 +21,10 @@ SPARE = 100
 
 #: Between two columns, so that scissors have room; between two rows at least and at most; and between the head and what is below.
 COLUMN_GAP, ROW_GAP, MOST_ROW_GAP, HEAD_GAP = 800, 200, 2000, 300
+HALF_GAP = COLUMN_GAP // 2
 
-#: Between a title and the name beside it.
-NAME_GAP = 600
+#: Between a title and the name beside it; between two columns of steps, and above a puzzle there.
+NAME_GAP, STEPS_COLUMN_GAP, STEPS_GAP = 600, 600, 150
 
 #: How wide a letter of a caption is on the whole, and one of an ID, in per cent of its font, rounded up over the fonts that a page may get.
 LETTER, ID_LETTER = 56, 61

@@ -13,11 +13,11 @@ from sheet.examples import Example
 from sheet.layout import Figure, Numbered, Page, Paper
 from sheet.listing import Explained
 from sheet.markup import Markup, fill, joined, plain, safe, shortened
-from sheet.measures import BOLD_BELOW, CAPTION_TOP, NAME_GAP, Density, length
+from sheet.measures import BOLD_BELOW, CAPTION_TOP, Density, length
 from sheet.puzzles import Puzzle
 from sheet.steps import Move
 from sheet.style import style
-from sheet.words import Asked, Form
+from sheet.words import Asked
 
 #: Nothing is fetched from anywhere, and nothing is run.
 POLICY = "default-src 'none'; style-src 'unsafe-inline'"
@@ -96,14 +96,14 @@ def _name(page: Page) -> Markup:
     return fill(OWN_NAME, name=name) if name else NAME
 
 
-def papers(form: Form, title: str) -> Dict[str, Paper]:
+def papers(asked: Asked, title: str) -> Dict[str, Paper]:
     """The pages of each kind. Raises `NoRoom` where the title is too long."""
-    return {kind: Paper(form.paper, form.is_large, kind + title, form.has_ids) for kind in KINDS}
+    return {kind: Paper(asked.paper, asked.large, kind + title, asked.ids_below) for kind in KINDS}
 
 
-def title_of(form: Form) -> str:
+def title_of(asked: Asked) -> str:
     """The one that is asked for, or nothing."""
-    return plain(form.title or '')
+    return plain(asked.title or '')
 
 
 class Sheet:
@@ -111,33 +111,33 @@ class Sheet:
 
     def __init__(self, content: Content, asked: Asked) -> None:
         """Raises `NoRoom`."""
-        self._form, self._content = asked.form, content
+        self._asked, self._content = asked, content
         self._sheets = content.numbered()
         self._puzzles = [numbered for sheet in self._sheets for numbered in sheet]
-        self._title = title_of(asked.form) or ' and '.join(GAMES[game] for game in layout.games_of(self._puzzles))
-        self._papers = papers(asked.form, self._title)
+        self._title = title_of(asked) or ' and '.join(GAMES[game] for game in layout.games_of(self._puzzles))
+        self._papers = papers(asked, self._title)
         self._paper = self._papers[PUZZLES_THEMSELVES]
         #: By this the answer of a puzzle that was cut out is found; by the series the same puzzles can be made again. It is of the first pupil's puzzles: one
         #: name more at the end doesn't change it.
         self._code = hashlib.sha256('\n'.join(each.puzzle.id for each in self._sheets[0]).encode()).hexdigest()[:4].upper()
         self._sheet = f'Sheet {self._code}{asked.source}'
-        self._again = self._words(asked) if asked.form.has_words else ''
-        self._pages = [] if asked.form.answers == 'only' else [self._planned(sheet) for sheet in self._sheets]
+        self._again = self._words() if asked.words else ''
+        self._pages = [] if asked.answers == 'only' else [self._planned(sheet) for sheet in self._sheets]
 
-    def _words(self, asked: Asked) -> str:
+    def _words(self) -> str:
         """The words that make the sheet again, with its title where there is room."""
-        room = layout.id_letters(self._paper.width * 3 // 4, self._paper.print.command)
-        return shortened(plain(asked.titled if len(asked.titled) <= room else asked.again), room)
+        room, titled = layout.id_letters(self._paper.width * 3 // 4, self._paper.print.command), self._asked.titled
+        return shortened(plain(titled if len(titled) <= room else self._asked.again), room)
 
     def _planned(self, sheet: Sequence[Numbered]) -> List[Page]:
         """Raises `NoRoom`."""
-        if self._form.per_page is None or self._form.is_large:
+        if self._asked.per_page is None or self._asked.large:
             return layout.pages(self._paper, sheet)
-        return layout.asked_pages(self._paper, sheet, self._form.per_page)
+        return layout.asked_pages(self._paper, sheet, self._asked.per_page)
 
     def cut(self) -> Iterator[str]:
         """The sentences on names and captions that are too long."""
-        room = (self._paper.print.name_width - NAME_GAP) * 100 // self._paper.print.name
+        room = self._paper.name_room * 100 // self._paper.print.name
         for number, name in enumerate(self._content.names, 1):
             if sum(map(titles.bold_width, name)) > room:
                 yield LONG_NAME.format(number=number)
@@ -155,24 +155,24 @@ class Sheet:
         number = 0
         for group, count in zip(groups, counts):
             # Where both sides are printed each group begins on the front of a sheet of paper.
-            every += [BLANK] * (len(every) % 2 if self._form.is_duplex else 0)
+            every += [BLANK] * (len(every) % 2 if self._asked.duplex else 0)
             number = 0 if self._content.names else number
             every += [self._section(section, f'{number + at} / {count}') for at, section in enumerate(group, 1)]
             number += len(group)
         return fill(WHOLE, policy=Markup(POLICY), title=self._title, style=Markup(style(self._paper, bool(self._content.names))), sections=joined(every))
 
     def _sections(self) -> Iterator[List[Section]]:
-        form, has_grades, moves = self._form, self._form.grades != 'none', self._content.moves
+        asked, has_grades, moves = self._asked, self._asked.show_grades != 'none', self._content.moves
         for told in self._content.examples:
             yield [Section(EXAMPLE, body) for body in examples.sections(self._papers[EXAMPLE], told)]
         for pages in self._pages:
             yield [Section(PUZZLES_THEMSELVES, self._body(page), _name(page)) for page in pages]
-        if form.answers != 'none':
+        if asked.answers != 'none':
             key = Key(self._papers[ANSWERS], has_grades, {each.label: steps.order(some) for each, some in zip(self._puzzles, moves)})
             yield [Section(ANSWERS, body) for body in answers.sections(key, self._puzzles)]
         if moves:
-            told_moves = [Explained(each, steps.told(some, form.has_all_steps)) for each, some in zip(self._puzzles, moves)]
-            yield [Section(STEPS, body) for body in listing.sections(self._papers[STEPS], told_moves, has_grades, form.has_all_steps)]
+            told_moves = [Explained(each, steps.told(some, asked.all_steps)) for each, some in zip(self._puzzles, moves)]
+            yield [Section(STEPS, body) for body in listing.sections(self._papers[STEPS], told_moves, has_grades, asked.all_steps)]
 
     def _section(self, section: Section, number: str) -> Markup:
         right = section.name or fill(RIGHT, text=f'Sheet {self._code}')
@@ -186,7 +186,7 @@ class Sheet:
 
     def _figure(self, page: Page, figure: Figure) -> Markup:
         density, (number, puzzle, *_), label = page.density, figure.numbered, figure.numbered.label
-        grade = puzzle.grade if self._form.grades == 'all' else ''
+        grade = puzzle.grade if self._asked.show_grades == 'all' else ''
         name = drawing.title(f'Puzzle {label}', puzzle.board, grade)
         svg = drawing.picture(puzzle.board, drawing.pen(puzzle.game, figure.side, self._paper.print.strength), name)
         line = density.number_line - CAPTION_TOP
@@ -202,7 +202,7 @@ class Sheet:
             size=puzzle.size,
             code=self._code,
             note=self._note(page, figure),
-            id=self._id(density, puzzle) if self._form.has_ids else Markup(''),
+            id=self._id(density, puzzle) if self._asked.ids_below else Markup(''),
             **{name: length(value) for name, value in {**lengths, **fonts}.items()},
         )
 

@@ -2,10 +2,11 @@
 
 from __future__ import annotations
 
-from typing import Dict, Iterator, List, NamedTuple, Sequence
+import itertools
+from typing import Dict, Iterable, Iterator, List, NamedTuple, Sequence
 
 from playing import fair
-from playing.board import GAMES, Reply
+from playing.board import GAMES
 from playing.games import GRADES
 from sheet.puzzles import Programs, Puzzle, Unfit, proved
 
@@ -58,40 +59,30 @@ def uneven(every: Sequence[Kind], wanted: Sequence[Kind]) -> List[str]:
     return [sentence(UNEVEN, len(wanted), count=len(wanted), kinds=len(every), shares=shares)]
 
 
-class Seeds:
-    """The puzzles of some seeds, from the first one on, with so much between two. Each kind has each seed once: they are not the same games."""
+def check(programs: Programs, every: Iterable[Kind]) -> None:
+    """Raises `Unfit` where one of the kinds is not made: a seed that there isn't is refused last, so nothing has to be made for that."""
+    for kind in dict.fromkeys(every):
+        _begin(programs, kind, fair.SEEDS)
 
-    def __init__(self, programs: Programs, first: int, stride: int) -> None:
-        self._programs = programs
-        self._first = first
-        self._stride = stride
-        #: The seed that comes next, of each kind that was begun.
-        self._next: Dict[Kind, int] = {}
 
-    def check(self, every: Sequence[Kind]) -> None:
-        """Raises `Unfit` where one of the kinds is not made: a seed that there isn't is refused last, so nothing has to be made for that."""
-        for kind in dict.fromkeys(every):
-            self._begin(kind, fair.SEEDS)
+def puzzles(programs: Programs, kind: Kind, first: int, stride: int) -> Iterator[Puzzle]:
+    """Those of the seeds from the first one on, with so much between two; after the last seed comes 0. Raises `Unfit` where none is found any more."""
+    tried: List[int] = []
+    for number in itertools.count(first, stride):
+        tried.append(number % fair.SEEDS)
+        if _begin(programs, kind, tried[-1]):
+            yield proved(programs, kind.game)
+            tried = []
+        elif len(tried) == TRIES:
+            raise Unfit(NONE_FOUND.format(tries=TRIES, first=tried[0], last=tried[-1], **_words(kind)))
 
-    def puzzles(self, kind: Kind) -> Iterator[Puzzle]:
-        """One after the other; after the last seed comes 0. Raises `Unfit` where none is found any more."""
-        seed, tries = self._first, 0
-        while tries < TRIES:
-            seed = self._next.get(kind, self._first)
-            self._next[kind] = (seed + self._stride) % fair.SEEDS
-            tries += 1
-            if self._begin(kind, seed):
-                yield proved(self._programs, kind.game)
-                tries = 0
-        first = (seed - (tries - 1) * self._stride) % fair.SEEDS
-        raise Unfit(NONE_FOUND.format(tries=tries, first=first, last=seed, **_words(kind)))
 
-    def _begin(self, kind: Kind, seed: int) -> bool:
-        """Begins the game of a seed; false where that has none. Raises `Unfit` where no seed has one."""
-        reply: Reply = self._programs.ask(kind.game, fair.line(kind.size, kind.letter, seed))
-        if reply.refused in (None, *OF_THE_SEED):
-            return reply.refused is None
-        raise Unfit(REFUSED.get(str(reply.refused), OTHERWISE).format(name=reply.refused, **_words(kind)))
+def _begin(programs: Programs, kind: Kind, seed: int) -> bool:
+    """Begins the game of a seed; false where that has none. Raises `Unfit` where no seed has one."""
+    refused = programs.ask(kind.game, fair.line(kind.size, kind.letter, seed)).refused
+    if refused in (None, *OF_THE_SEED):
+        return refused is None
+    raise Unfit(REFUSED.get(str(refused), OTHERWISE).format(name=refused, **_words(kind)))
 
 
 def _words(kind: Kind) -> Dict[str, object]:

@@ -3,6 +3,7 @@
 from __future__ import annotations
 
 import unicodedata
+from typing import Callable
 
 #: How wide bold letters are at most, in per cent of their font, over the fonts that a page may get.
 SPACE, NARROW, SMALL, CAPITAL, WIDE, ANY = 35, 53, 72, 88, 117, 156
@@ -46,36 +47,23 @@ def bold_width(letter: str) -> int:
     return SMALL if letter.islower() or letter.isdigit() else CAPITAL
 
 
-def lines(title: str, room: int, font: int) -> int:
-    """How many lines a bold title takes at most. A word that is longer than a line begins a new one, and is broken wherever a line is full."""
+def text_width(letter: str) -> int:
+    """The same of a text."""
+    return TEXT_WIDTH.get(letter, TEXT_ANY)
+
+
+def lines(text: str, room: int, font: int, label: str = '', width: Callable[[str], int] = text_width) -> int:
+    """How many lines a text takes at most, behind a label in bold. A word that is longer than a line begins a new one, and is broken wherever a line is full."""
     most = room * 100 // font
-    count, used = 1, 0
-    for word in title.split():
-        widths = [bold_width(letter) for letter in word]
-        if used and used + SPACE + sum(widths) > most:
-            count, used = count + 1, 0
-        used += SPACE if used else 0
+    count, used = 1, sum(map(bold_width, label))
+    for word in text.split():
+        widths = [width(letter) for letter in word]
+        blank = width(' ') if used else 0
+        if used and used + blank + sum(widths) > most:
+            count, used, blank = count + 1, 0, 0
+        used += blank
         for each in widths:
             if used + each > most:
                 count, used = count + 1, 0
             used += each
-    return count
-
-
-def text_width(text: str) -> int:
-    """At most, in per cent of the font."""
-    return sum(TEXT_WIDTH.get(letter, TEXT_ANY) for letter in text)
-
-
-def text_lines(text: str, room: int, font: int, label: str = '') -> int:
-    """How many lines a text takes at most, behind a label in bold. It is broken between words alone."""
-    most, count = room * 100 // font, 1
-    used = sum(map(bold_width, label))
-    for word in text.split():
-        own = text_width(word)
-        blank = TEXT_WIDTH[' '] if used else 0
-        if used and used + blank + own > most:
-            count, used = count + 1, own
-        else:
-            used += blank + own
     return count

@@ -5,7 +5,7 @@ from __future__ import annotations
 import argparse
 import re
 import shlex
-from typing import Callable, List, NamedTuple, NoReturn, Optional, Sequence, Tuple
+from typing import Callable, List, NoReturn, Optional, Sequence, Tuple
 
 from playing.board import GAMES
 from playing.fair import OFFERED, SEEDS, SIZES
@@ -67,11 +67,8 @@ Exit status:
 SIZE, GRADE, SERIES, COUNT, PAPER = [5], 'easy', 1, 12, 'a4'
 MOST_PER_PAGE = 12
 
-#: Where answers are.
-ANSWERS = ('end', 'none', 'only')
-
-#: And grades: the first is what pupils aren't shown.
-GRADES_STAND = ('answers', 'all', 'none')
+#: Where answers are; and grades: the first is what pupils aren't shown.
+ANSWERS, GRADES_STAND = ('end', 'none', 'only'), ('answers', 'all', 'none')
 
 #: A number without anything around it.
 NUMBER = re.compile('0|[1-9][0-9]*')
@@ -81,45 +78,74 @@ class Wrong(Exception):
     """The words can't be read. The text says why."""
 
 
-class Form(NamedTuple):
-    """How a sheet is printed."""
+class Asked(argparse.Namespace):
+    """The wishes, each by the name of its option."""
 
-    #: Nothing where it is as many as come onto a page with large squares.
-    per_page: Optional[int]
-    answers: str
-    grades: str
-    has_steps: bool
-    has_all_steps: bool
-    has_example: bool
-    title: Optional[str]
-    has_ids: bool
-    has_words: bool
-    paper: str
-    is_large: bool
-    is_duplex: bool
-
-
-class Asked(NamedTuple):
-    game: Optional[str]
-    sizes: List[int]
+    games: List[str]
+    size: List[int]
+    grade: str
     #: The letters of grades.
     letters: List[str]
-    #: The first seed, and how far the next one is: those of the series, or of the old rule. And what the foot says of it, nothing of a list.
-    first: int
-    stride: int
-    source: str
+    #: One of the two, but for a list.
+    series: Optional[int]
+    seed: Optional[int]
     #: Nothing where all of a list are meant.
-    how_many: Optional[int]
+    count: Optional[int]
     #: The list of IDs, and that of names.
     ids: Optional[str]
     names: Optional[str]
-    form: Form
+    #: Nothing where it is as many as come onto a page with large squares.
+    per_page: Optional[int]
+    answers: str
+    show_grades: str
+    steps: bool
+    all_steps: bool
+    example: bool
+    title: Optional[str]
+    ids_below: bool
+    words: bool
+    paper: str
+    large: bool
+    duplex: bool
     output: Optional[str]
     pdf: Optional[str]
     browser: Optional[str]
-    #: The words that make the sheet again, and with its title, too.
-    again: str
-    titled: str
+
+    @property
+    def game(self) -> Optional[str]:
+        return self.games[0] if self.games else None
+
+    @property
+    def seeds(self) -> Tuple[int, int]:
+        """The first seed, and how far the next one is: those of the series, or of the old rule."""
+        return (self.series or 0, STRIDE) if self.seed is None else (self.seed, 1)
+
+    @property
+    def source(self) -> str:
+        """What the foot says of that."""
+        return f', number {self.seed}' if self.seed is not None else '' if self.series is None else f', series {self.series}'
+
+    @property
+    def again(self) -> str:
+        """The words that make the same sheet, but for its title."""
+        given = list(self.games)
+        usual = {'answers': ANSWERS[0], 'show_grades': GRADES_STAND[0], 'paper': PAPER}
+        for name in ('size', 'grade', 'series', 'seed', 'ids', 'count', 'names', 'per_page', *usual):
+            value = getattr(self, name)
+            if value not in (None, usual.get(name)):
+                given += [option(name), ','.join(map(str, value)) if isinstance(value, list) else str(value)]
+        switches = ('all_steps' if self.all_steps else 'steps', 'example', 'ids_below', 'words', 'large', 'duplex')
+        given += [option(name) for name in switches if getattr(self, name)]
+        return ' '.join(['puzzles-sheet', *map(shlex.quote, given)])
+
+    @property
+    def titled(self) -> str:
+        """The same with its title."""
+        return f'{self.again} --title {shlex.quote(self.title)}' if self.title else self.again
+
+
+def option(name: str) -> str:
+    return f'--{name.replace("_", "-")}'
 
 
 class Parser(argparse.ArgumentParser):
@@ -131,88 +157,51 @@ class Parser(argparse.ArgumentParser):
 
 def read(words: Sequence[str]) -> Asked:
     """Raises `Wrong`."""
-    found = _parser().parse_args(words)
-    found.games = [game_called(word) or word for word in found.games]
-    for word in found.games:
-        option = 'size' if NUMBER.match(word) else 'grade' if any(word in grades.values() for grades in GRADES.values()) else ''
-        if option:
-            raise Wrong(f"'{word}' is no game: write --{option} {word}")
-    if len(found.games) > 1 or not set(found.games) <= set(GAMES) or not (found.games or found.ids is not None):
+    asked = _parser().parse_args(words, Asked())
+    asked.games = [game_called(word) or word for word in asked.games]
+    for word in asked.games:
+        meant = 'size' if NUMBER.match(word) else 'grade' if any(word in grades.values() for grades in GRADES.values()) else ''
+        if meant:
+            raise Wrong(f"'{word}' is no game: write --{meant} {word}")
+    if len(asked.games) > 1 or not set(asked.games) <= set(GAMES) or not (asked.games or asked.ids is not None):
         raise Wrong(f'GAME is {" or ".join(GAMES)}')
-    found.game = found.games[0] if found.games else None
-    if found.ids is not None and any(value is not None for value in (found.size, found.grade, found.series, found.seed, found.names)):
+    if asked.ids is not None and any(value is not None for value in (asked.size, asked.grade, asked.series, asked.seed, asked.names)):
         raise Wrong('--ids takes no --size, --grade, --series, --seed or --names, since the list has the puzzles')
-    if found.series is not None and found.seed is not None:
+    if asked.series is not None and asked.seed is not None:
         raise Wrong('--series and --seed: the foot of a sheet has one of them')
     for name in ('ids', 'names', 'output', 'pdf', 'browser'):
-        if getattr(found, name) == '':
+        if getattr(asked, name) == '':
             raise Wrong(f'argument --{name}: the name of a file')
-    if found.large and (found.per_page or 1) > 1:
+    if asked.large and (asked.per_page or 1) > 1:
         raise Wrong('--large has one puzzle on a page')
-    if found.browser and not found.pdf:
+    if asked.browser and not asked.pdf:
         raise Wrong('--browser goes with --pdf')
-    found.steps = found.steps or found.all_steps
-    if found.steps and found.answers == 'none':
+    asked.steps = asked.steps or asked.all_steps
+    if asked.steps and asked.answers == 'none':
         raise Wrong('--steps goes with answers')
-    letters: List[str] = []
-    if found.ids is None:
-        found.size, found.grade = found.size or SIZE, found.grade or GRADE
-        found.series = SERIES if found.series is None and found.seed is None else found.series
-        found.count = found.count or COUNT
-        letters = _letters(found.games[0], found.grade)
-    form = Form(
-        found.per_page,
-        found.answers,
-        found.show_grades,
-        found.steps,
-        found.all_steps,
-        found.example,
-        found.title,
-        found.ids_below,
-        found.words,
-        found.paper,
-        found.large,
-        found.duplex,
-    )
-    again = _again(found)
-    titled = f'{again} --title {shlex.quote(found.title)}' if found.title else again
-    files = (found.output, found.pdf, found.browser)
-    return Asked(found.game, found.size or [], letters, *_seeds(found), found.count, found.ids, found.names, form, *files, again, titled)
+    if asked.ids is None:
+        asked.size, asked.grade, asked.count = asked.size or SIZE, asked.grade or GRADE, asked.count or COUNT
+        asked.series = SERIES if asked.series is None and asked.seed is None else asked.series
+        asked.letters = _letters(asked.games[0], asked.grade)
+    return asked
 
 
 def _parser() -> Parser:
     parser = Parser(add_help=False, allow_abbrev=False)
     parser.add_argument('games', nargs='*')
     parser.add_argument('--size', type=_sizes)
-    parser.add_argument('--grade')
     parser.add_argument('--series', type=_number(0, STRIDE - 1))
     parser.add_argument('--seed', type=_number(0, SEEDS - 1))
     parser.add_argument('--count', type=_number(1, MOST))
-    parser.add_argument('--ids')
-    parser.add_argument('--names')
     parser.add_argument('--per-page', type=_number(1, MOST_PER_PAGE))
     parser.add_argument('--answers', choices=ANSWERS, default=ANSWERS[0])
     parser.add_argument('--show-grades', choices=GRADES_STAND, default=GRADES_STAND[0])
-    parser.add_argument('--steps', action='store_true')
-    parser.add_argument('--all-steps', action='store_true')
-    parser.add_argument('--example', action='store_true')
-    parser.add_argument('--ids-below', action='store_true')
-    parser.add_argument('--words', action='store_true')
-    parser.add_argument('--title')
     parser.add_argument('--paper', choices=list(PAPERS), default=PAPER)
-    parser.add_argument('--large', action='store_true')
-    parser.add_argument('--duplex', action='store_true')
-    parser.add_argument('--output')
-    parser.add_argument('--pdf')
-    parser.add_argument('--browser')
+    for name in ('grade', 'ids', 'names', 'title', 'output', 'pdf', 'browser'):
+        parser.add_argument(option(name))
+    for name in ('steps', 'all_steps', 'example', 'ids_below', 'words', 'large', 'duplex'):
+        parser.add_argument(option(name), action='store_true')
     return parser
-
-
-def _seeds(found: argparse.Namespace) -> Tuple[int, int, str]:
-    """The first seed, how far the next one is, and what the foot says."""
-    if found.seed is not None:
-        return found.seed, 1, f', number {found.seed}'
-    return found.series or 0, STRIDE, '' if found.series is None else f', series {found.series}'
 
 
 def _number(least: int, most: int) -> Callable[[str], int]:
@@ -244,18 +233,3 @@ def _letters(game: str, text: str) -> List[str]:
             made = ' or '.join(', '.join(letters).rsplit(', ', 1))
             raise Wrong(f"argument --grade: {game} from seeds are {made}, not '{name}': --ids prints others")
     return [letters[name] for name in text.split(',')]
-
-
-def _again(found: argparse.Namespace) -> str:
-    """The words that make the same sheet, but for its title."""
-    given = [found.game] if found.game else []
-    for name in ('size', 'grade', 'series', 'seed', 'ids', 'count', 'names'):
-        value = getattr(found, name)
-        given += [f'--{name}', ','.join(map(str, value)) if isinstance(value, list) else str(value)] if value is not None else []
-    given += ['--per-page', str(found.per_page)] if found.per_page else []
-    given += ['--answers', found.answers] if found.answers != ANSWERS[0] else []
-    given += ['--show-grades', found.show_grades] if found.show_grades != GRADES_STAND[0] else []
-    given += ['--paper', found.paper] if found.paper != PAPER else []
-    switches = ('all-steps' if found.all_steps else 'steps', 'example', 'ids-below', 'words', 'large', 'duplex')
-    given += [f'--{name}' for name in switches if getattr(found, name.replace('-', '_'))]
-    return ' '.join(['puzzles-sheet', *map(shlex.quote, given)])

@@ -11,7 +11,7 @@ from tests.page.playing import LAPTOP, PHONE, SMALL, TOWERS, UNEQUAL, Player
 #: A game of each kind, of which something is done.
 PLAYED = {'towers': TOWERS, 'unequal': UNEQUAL}
 
-NEXT, BACK, END = (f'[data-do={name}].card' for name in ('new', 'back', 'quit'))
+NEXT = '[data-do=new].card'
 
 
 def learn(player: Player) -> List[Dict[str, Any]]:

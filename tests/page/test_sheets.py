@@ -27,8 +27,7 @@ WIDE = 'Math.max(0, document.documentElement.scrollWidth - innerWidth, ...[...do
 def opened(player: Player, values: Mapping[str, str], link: str = TOWERS, size: Tuple[int, int] = LAPTOP) -> None:
     """The dialog, with what is chosen and written in it."""
     player.sit(link, size)
-    player.menu('Print sheets for a class')
-    player.waits('is_shown', '#sheet')
+    player.look('{menu Print sheets for a class}', is_shown='#sheet')
     for name, value in {'paper': 'a4', 'series': '7', **values}.items():
         player.write(f'#sheet-{name}', value)
 
@@ -36,8 +35,7 @@ def opened(player: Player, values: Mapping[str, str], link: str = TOWERS, size: 
 def made(player: Player, values: Mapping[str, str], link: str = TOWERS) -> str:
     """The message on sheets that are made so."""
     opened(player, values, link)
-    player.look('{Make them}')
-    player.driver.wait_for(MADE)
+    player.look('{Make them}', js=MADE)
     return player.text('#made-told')
 
 
@@ -72,28 +70,22 @@ def test_printed(player: Player, room: Room) -> None:
 def test_beside(player: Player) -> None:
     """Stop leaves all as it was; the game is the same after its sheets, and takes no key while they are shown."""
     opened(player, {'count': '200', 'to': '9', 'steps': 'all'})
-    player.look('{Make them}{Stop}')
-    player.driver.wait_for('document.querySelector("#sheet-stop").hidden && document.querySelector("#sheet-told").textContent')
+    player.look('{Make them}{Stop}', js='document.querySelector("#sheet-stop").hidden && document.querySelector("#sheet-told").textContent')
     assert 'stopped' in player.text('#sheet-told').lower()
     player.leaves('#sheet')
     player.look('{0,0}1', 'row 1, column 1, 1..')
-    player.menu('Print sheets for a class')
-    player.look('{#sheet-count = 2}{#sheet-to = 5}{#sheet-steps = }{Make them}')
-    player.driver.wait_for(MADE)
+    player.look('{menu Print sheets for a class}{#sheet-count = 2}{#sheet-to = 5}{#sheet-steps = }{Make them}', js=MADE)
     player.value('(document.activeElement.blur(), true)')
-    player.press('3u')
-    player.look('{Close}', 'row 1, column 1, 1..')
+    player.look('3u{Close}', 'row 1, column 1, 1..')
 
 
 def test_keys(player: Player) -> None:
     """Enter in a field makes them, under their own title. Escape leaves them, wherever the focus is, and the board has it then."""
     opened(player, {'heading': 'Class 4b'})
     player.value('(document.querySelector("#sheet-heading").focus(), true)')
-    player.press('<enter>')
-    player.driver.wait_for(f'{MADE} && document.title === "Class 4b"')
+    player.look('<enter>', js=f'{MADE} && document.title === "Class 4b"')
     player.value('(document.activeElement.blur(), true)')
-    player.press('<escape>')
-    player.driver.wait_for('document.querySelector("#made").hidden && document.activeElement.dataset.place && document.title === "Towers 3×3"')
+    player.look('<escape>', js='document.querySelector("#made").hidden && document.activeElement.dataset.place && document.title === "Towers 3×3"')
 
 
 #: Notes what is told, with whether a screen reader says it.
@@ -106,8 +98,7 @@ def test_readers(player: Player) -> None:
     """A screen reader says how it begins and how it ends, and no number between."""
     opened(player, {'names': 'Anna\nBen', 'steps': 'first'})
     player.value(HEARD)
-    player.look('{Make them}')
-    player.driver.wait_for(MADE)
+    player.look('{Make them}', js=MADE)
     heard = player.value('window.heard')
     aloud = [text for live, text in heard if live != 'off' and text]
     assert aloud[0] == 'Puzzle 0 of 8' and aloud[1:] == [player.text('#made-told')]
@@ -122,8 +113,7 @@ LANGUAGES = [('en-US', 'letter'), ('en-GB', 'a4'), ('es-GT', 'letter'), ('zh-Han
 def test_country(scripted: Scripted, language: str, paper: str) -> None:
     player = scripted(f'Object.defineProperty(navigator, "language", {{get: () => "{language}"}})')
     player.sit(TOWERS, LAPTOP)
-    player.menu('Print sheets for a class')
-    player.waits('is_shown', '#sheet')
+    player.look('{menu Print sheets for a class}', is_shown='#sheet')
     assert player.value('document.querySelector("#sheet-paper").value') == paper
 
 
@@ -146,8 +136,7 @@ BAD: List[Tuple[Dict[str, str], str]] = [
 def test_bad(player: Player, values: Dict[str, str], told: str) -> None:
     """It is told, and all that was written stays."""
     opened(player, values)
-    player.look('{Make them}')
-    player.driver.wait_for(f'document.querySelector("#sheet-told").textContent === "{told}"')
+    player.look('{Make them}', js=f'document.querySelector("#sheet-told").textContent === "{told}"')
     assert player.value('document.querySelector("#sheet").open')
 
 
@@ -165,8 +154,7 @@ def test_small(player: Player, size: Tuple[int, int]) -> None:
     assert player.value(WIDE) == 0
     if player.value('matchMedia("(pointer: coarse)").matches'):
         assert player.value('Math.min(...[...document.querySelectorAll("#sheet .box")].map((box) => box.getBoundingClientRect().height))') >= FINGER
-    player.look('{Make them}')
-    player.driver.wait_for(MADE)
+    player.look('{Make them}', js=MADE)
     assert player.value(WIDE) == 0
 
 
@@ -174,5 +162,4 @@ def test_blocked(player: Player) -> None:
     """Where no print window opens it is told what else to do."""
     made(player, {})
     player.value('(window.print = () => undefined, true)')
-    player.look('{Print}')
-    player.driver.wait_for('document.querySelector("#made-told").textContent.startsWith("If no print window opens, save the sheets as a file")')
+    player.look('{Print}', js='document.querySelector("#made-told").textContent.startsWith("If no print window opens, save the sheets as a file")')

@@ -1,9 +1,7 @@
 """The drawing is the puzzle that its ID names, and its only answer: read back from the places of lines and digits."""
 
 import re
-from typing import Sequence
 
-from playing.board import Board
 from playing.program import Program
 from sheet import drawing
 from tests.harness import Room, run
@@ -44,30 +42,12 @@ def digits(answer: Picture) -> str:
     return ''.join(map(str, answer.numbers))
 
 
-def board_after(program: str, game: str, id: str, moves: Sequence[str]) -> Board:
-    with Program(program, game, ['--id', id]) as asked:
-        for move in moves:
-            assert asked.ask(f'move {move}').refused is None
-        board = asked.ask('board').board
-    assert board is not None
-    return board
-
-
-def test_in_play(objects: str) -> None:
-    """A board in play: its numbers, its marks, what contradicts, what is done, and the squares of a hint."""
-    board = board_after(objects, 'towers', '3:3//////3/////,1h', ['R1,0,1', 'P2,2,1', 'P2,2,3', 'D0,-1'])
-    svg = drawing.picture(board, drawing.pen('towers', 1000), 'A board', [(2, 1), (2, 2)])
-    groups = [(group.get('class'), [(text.get('class'), text.text) for text in group]) for group in svg.iter('g') if group.get('font-size')]
-    assert groups == [(None, [('wrong', '1')]), (None, [('wrong', '1')]), (None, [('done', '3'), ('wrong', '3')]), ('marks', [(None, '1'), (None, '3')])]
-    hinted = [path.attrib['d'].count('M') for path in svg.iter('path') if path.get('class') == 'hint']
-    assert hinted == [2]
-    assert svg.findtext('title') == 'A board'
-    assert svg.findtext('desc') == 'Rows: 1 1 -; - - -; - - -. Clues above: 3 - -. Clues below: - - -. Clues left: 3 - -. Clues right: - - -. '
-
-
 def test_wrong_sign(objects: str) -> None:
     """A sign that no numbers can meet any more is drawn apart from the others."""
-    board = board_after(objects, 'unequal', '3:0,0L,0L,0U,0,0,0U,0,0,', ['R0,0,3'])
+    with Program(objects, 'unequal', ['--id', '3:0,0L,0L,0U,0,0,0U,0,0,']) as asked:
+        asked.ask('move R0,0,3')
+        board = asked.ask('board').board
+    assert board
     svg = drawing.picture(board, drawing.pen('unequal', 1000), 'A board')
     wrong = [path.attrib['d'].count('M') for path in svg.iter('path') if path.get('class') == 'wrong']
     assert wrong == [2]

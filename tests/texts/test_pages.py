@@ -34,7 +34,7 @@ def pages() -> List[str]:
     return sorted(f'man/{path.name}' for path in (ROOT / 'man').iterdir())
 
 
-@pytest.mark.parametrize('script', ['manual', 'sheet_tables', 'texts', 'trust'])
+@pytest.mark.parametrize('script', ['manual', 'texts', 'trust'])
 def test_made(room: Room, script: str) -> None:
     """The texts that these made by --write are those that they make now: the pages that are documents, sentences of the page and tables of its sheets, and numbers of
     lines to read."""

@@ -7,7 +7,7 @@
 
 typedef unsigned long u64;
 
-// What the proved code takes as an answer: whether there is a block, and where.
+// The form in which the proved code takes an answer: whether there is a block, and where.
 typedef struct {
     u64 is_there;
     void *at;
@@ -23,7 +23,7 @@ enum {
     LEAST_CLASS = 5,
     // A block of the class above has more bytes than 32-bit memory.
     MOST_CLASS = 31,
-    // What each block begins at a multiple of, and its owner's part with it.
+    // Each block begins at a multiple of this, and its owner's part with it.
     ALIGNMENT = 16,
     PAGE_CLASS = 16,
 };

@@ -14,7 +14,7 @@ from sheet import answers, choice, drawing, examples, layout, listing, markup, m
 MODULE = Path(__file__).resolve().parent.parent.parent / 'page' / 'sheet_tables.js'
 
 HEAD = """\
-// Lengths, style, rules and words of sheets on paper: tools/sheet_tables makes this file of the tables in sheet/.
+// Lengths, style, rules and words of sheets on paper: tools/texts makes this file of the tables in sheet/.
 
 /** @type {any} */
 export const TABLES = {
@@ -28,30 +28,29 @@ def module() -> str:
 
 
 def tables() -> Dict[str, Any]:
-    lengths = 'SIDE TOP SPARE COLUMN_GAP ROW_GAP MOST_ROW_GAP HEAD_GAP LETTER ID_LETTER LEAST_SIDE LEAST_ASKED MOST_COLUMNS MOST_ROWS PER_PAGE'
     return {
         'PAPERS': {name: paper._asdict() for name, paper in measures.PAPERS.items()},
         'PRINTS': {'usual': measures.USUAL._asdict(), 'large': measures.LARGE._asdict()},
         'DENSITIES': {'usual': [each._asdict() for each in measures.DENSITIES], 'large': [each._asdict() for each in measures.LARGE_DENSITIES]},
-        'LENGTHS': of(measures, f'{lengths} BOLD_BELOW CAPTION_WIDTH CAPTION_TOP NAME_GAP'),
+        'GRIDS': [[each._asdict() for each in measures.grids(puzzles)] for puzzles in range(measures.TWELVE.puzzles + 1)],
+        'LENGTHS': {'LEAST_SIDE': measures.LEAST_SIDE, **{name: length for name, length in vars(measures).items() if isinstance(length, int)}},
         'TITLES': of(titles, 'SPACE NARROW SMALL CAPITAL WIDE ANY NARROW_LETTERS WIDE_LETTERS TEXT_WIDTHS TEXT_ANY'),
         **of(markup, 'WIDE'),
         'ANSWERS': {
             **{name: squares._asdict() for name, squares in (('usual', answers.USUAL), ('ordered', answers.ORDERED), ('large', answers.LARGE))},
-            **of(answers, 'LINES STEP ORDER'),
+            **of(answers, 'LINES ORDER'),
         },
-        'DRAWING': of(drawing, 'OUTSIDE BETWEEN CLUE DEPTH HEIGHT EDGE EDGE_FONT ORDER ORDER_LEFT BASELINE LINES DIGITS'),
-        'LISTING': {**of(listing, 'COLUMN_GAP GAP SQUARES LEFT_OUT'), **of(steps, 'TERMS NO_MORE FIRST')},
+        'DRAWING': of(drawing, 'OUTSIDE BETWEEN CLUE DEPTH HEIGHT EDGE EDGE_FONT ORDER ORDER_LEFT BASELINE LINES DIGITS THICK THIN'),
+        'LISTING': {**of(listing, 'SQUARES LEFT_OUT'), **of(steps, 'TERMS NO_MORE FIRST')},
         'LESSONS': {
-            **of(examples, 'STEP BESIDE BELOW FRAMED'),
+            **of(examples, 'BESIDE BELOW FRAMED'),
             'TITLES': {game: [[card.title, card.text] for card in cards] for game, cards in CARDS.items()},
         },
         'CHOICE': {**of(choice, 'MOST ALIKE LIKE REPEATED FEWER'), **of(seeds, 'STRIDE TRIES UNEVEN ONE')},
-        **of(layout, 'CALLED RULES ANY_SIZE MOST_NOTES'),
+        **of(layout, 'CALLED RULES ANY_SIZE MOST_NOTES STEP'),
         **of(pages, 'KINDS CUT_CAPTION LONG_NAME POLICY'),
         'STYLE': style.STYLE.template,
         'NAMES': style.NAMES.template,
-        **of(style, 'FONTS ID_FONTS'),
     }
 
 
