@@ -25,7 +25,7 @@ const NONE = [EMPTY, '-', BLANK], SQUARES = [...NUMBERS, ...NONE], CORNERS = [nu
 // Other letters of the same meaning.
 /** @type {Record<string, string>} */
 const OTHERS = {
-  '.': '_0xXoO*?·•∙・□☐▢⬜◻○＿０＊？．', '-': '–—−‐‑─━═╌┄－', '|': '│┃║¦｜', '+': '┌┐└┘├┤┬┴┼┏┓┗┛┣┫┳┻╋╔╗╚╝╠╣╦╩╬＋', ' ': '\xa0\u2007\u2009\u3000', '<': '＜﹤‹〈', '>': '＞﹥›〉',
+  '.': '_0xXoO*?·•∙・□☐▢⬜◻○＿０＊？．', '-': '–—−‐‑─━═╌┄－', '|': '│┃║¦｜', '+': '┌┐└┘├┤┬┴┼┏┓┗┛┣┫┳┻╋╔╗╚╝╠╣╦╩╬╤╧╟╢╪╫╒╕╘╛╞╡╓╖╙╜╥╨┯┷┠┨┿╂＋', ' ': '\xa0\u2007\u2009\u3000', '<': '＜﹤‹〈', '>': '＞﹥›〉',
   '^': '∧˄⌃⋀Λ︿▲△A＾', v: '∨˅⌄⋁V﹀▼▽', 1: '１', 2: '２', 3: '３', 4: '４', 5: '５', 6: '６', 7: '７', 8: '８', 9: '９',
 };
 const SAME = new Map(Object.entries(OTHERS).flatMap(([own, others]) => [...others].map((other) => [other, own])));

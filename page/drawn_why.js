@@ -132,7 +132,7 @@ function* whole({lines, rows, middle, usual, isSigned, odd, first}) {
   // As high as wide, and too small or too large. A clue of a size that is too large may have two digits.
   const isLarge = !isSigned && usual === rows.length && usual > LARGEST + 2, size = usual - (isLarge ? 2 : 0);
   const isOther = (isLarge || !odd.length) && !SIZES.includes(size) && (size > LARGEST || usual < SMALLEST);
-  const isFour = rows.length === 4 && SIZES.includes(usual) && rows.every(({count}) => count === usual);
+  const isFour = !isSigned && rows.length === 4 && SIZES.includes(usual) && rows.every(({count}) => count === usual);
   if (isFour) yield [first, 0, "four lines of clues? Write 'top:', 'bottom:', 'left:' or 'right:' before each"];
   if (isShort && [...lines.join('')].every((letter) => `${NUMBERS}${BLANK}`.includes(letter))) yield [first, 0, 'numbers alone, and nothing where squares are empty, can have several meanings: draw each place, also an empty one'];
   if (height < SMALLEST || height > MOST_LINES) yield [first, 0, `${height} line${height > 1 ? 's' : ''}, and a drawing has from ${SMALLEST} to ${MOST_LINES}`];
@@ -149,5 +149,6 @@ function* counts({rows, usual, isSigned, odd, first}) {
     if (isShort) yield [rows[height - 1].y, 0, `the drawing ends here, after ${height} ${isSigned ? 'rows' : 'lines'} of ${usual}`];
     if (height > usual) yield [rows[usual].y, 0, `a line more than the ${usual} that are as long as they are many`];
   }
+  if (height === usual && SIZES.includes(usual)) yield [first, 0, 'it is in no form that can be read'];
   yield [first, 0, `${height} lines of ${usual} symbols make no square of a size from ${SMALLEST} to ${LARGEST}`];
 }

@@ -141,7 +141,7 @@ def _whole(own: Lines) -> Iterator[Why]:
     size = own.usual - (2 if is_large else 0)
     is_other = (is_large or not own.odd_ones) and size not in SIZES and (size > SIZES[-1] or own.usual < SIZES[0])
     texts = {
-        "four lines of clues? Write 'top:', 'bottom:', 'left:' or 'right:' before each": len(counts) == 4 and {*counts} == {own.usual} <= {*SIZES},
+        "four lines of clues? Write 'top:', 'bottom:', 'left:' or 'right:' before each": not own.is_signed and len(counts) == 4 and {*counts} == {own.usual} <= {*SIZES},
         'numbers alone, and nothing where squares are empty, can have several meanings: draw each place, also an empty one': are_numbers,
         f'{height} line{"s" * (height > 1)}, and a drawing has from {SIZES[0]} to {MOST_LINES}': not SIZES[0] <= height <= MOST_LINES,
         f'a drawing of size {size}, and sizes go from {SIZES[0]} to {SIZES[-1]}': is_other,
@@ -158,4 +158,6 @@ def _counts(own: Lines) -> Iterator[Why]:
             yield Why(own.rows[-1][0], 0, f'the drawing ends here, after {height} {"rows" if own.is_signed else "lines"} of {wanted}')
         if height > wanted:
             yield Why(own.rows[wanted][0], 0, f'a line more than the {wanted} that are as long as they are many')
+    if height == wanted in SIZES:
+        yield Why(own.first, 0, 'it is in no form that can be read')
     yield Why(own.first, 0, f'{height} lines of {wanted} symbols make no square of a size from {SIZES[0]} to {SIZES[-1]}')
