@@ -1,6 +1,6 @@
 // Which of some lines belong together: drawings may have blank lines in them, and stand below one another. As in playing/drawings/splitting.py.
 import {isBlank, upTo} from './drawn_tables.js';
-import {readings} from './drawn_ways.js';
+import {copiesIn, readings} from './drawn_ways.js';
 import {MOST_LINES} from './drawn_why.js';
 
 /** @typedef {import('./drawn_tables.js').Reading} Reading */
@@ -24,16 +24,15 @@ export function parts(lines, game) {
   return joined(found, lines);
 }
 
-// The drawings that there may be, from one border to another; and none begins within an exact one.
+// The drawings that there may be, from one border to another; and none begins within a copy of the usual program.
 /** @param {string[]} lines @param {number[]} borders @param {Meant} game @returns {Part[]} */
 function spansOf(lines, borders, game) {
   const spans = [];
   for (let begin = 0; begin < borders.length - 1;) {
-    const ends = upTo(borders.length, begin + 1).filter((end) => heightOf(lines, borders[begin], borders[end]) <= MOST_LINES), first = begin;
-    const own = ends.map((end) => ({begin: first, end, found: readings(lines.slice(borders[first], borders[end]), game)})).filter(({found}) => found.length);
-    const exact = own.find(({found}) => found[0].isExact);
-    spans.push(...(exact ? [exact] : own));
-    begin = exact ? exact.end : begin + 1;
+    const first = begin, ends = upTo(borders.length, begin + 1).filter((end) => heightOf(lines, borders[first], borders[end]) <= MOST_LINES);
+    const own = ends.map((end) => ({begin: first, end, lines: lines.slice(borders[first], borders[end])})), copy = own.find((span) => copiesIn(span.lines, game).length);
+    spans.push(...(copy ? [copy] : own).map((span) => ({...span, found: readings(span.lines, game)})).filter(({found}) => found.length));
+    begin = copy ? copy.end : begin + 1;
   }
   return spans;
 }

@@ -7,9 +7,9 @@ import {SIZES} from './games.js';
 /** A puzzle by its items, as lines of the program have them. */
 /** @typedef {{game: Game, size: number, items: string[]}} Puzzle */
 /**
- * A puzzle that lines may mean: what could have been lost in it; whether nothing above or below could belong to it, too; what has been left out, so that it isn't
- * taken; and whether it is just as the usual program copies it, so that the lines are nothing else.
- * @typedef {{puzzle: Puzzle, doubt: string, isWhole: boolean, lost: string, isExact: boolean}} Reading
+ * A puzzle that lines may mean: what could have been lost in it; whether nothing above or below could belong to it, too; and what has been left out, so that it
+ * isn't taken.
+ * @typedef {{puzzle: Puzzle, doubt: string, isWhole: boolean, lost: string}} Reading
  */
 
 export const EMPTY = '.';
@@ -66,7 +66,7 @@ export const isBare = (puzzle) => puzzle.items.every((item) => isGiven(puzzle, i
 export const fits = ({size, items}) => items.every((item) => Number(item[item.length - 1]) <= size);
 
 /** @param {Puzzle} puzzle @param {Partial<Reading>} [more] @returns {Reading} */
-const readingOf = (puzzle, more) => ({puzzle, doubt: '', isWhole: true, lost: '', isExact: false, ...more});
+const readingOf = (puzzle, more) => ({puzzle, doubt: '', isWhole: true, lost: '', ...more});
 
 // --- tables ---
 

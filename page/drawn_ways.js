@@ -17,10 +17,12 @@ export const readings = (lines, game) => tried(lines, game).filter(({puzzle, los
 // Those too in which something has been left out, or a number is above the size.
 /** @param {string[]} lines @param {Meant} game @returns {Reading[]} */
 export function tried(lines, game) {
+  const copies = copiesIn(lines, game);
+  if (copies.length) return copies;
   const flat = lines.map((line) => line.replace(/\[(.)\]|\((.)\)/g, (_, one, other) => ` ${(one || other).trim() || EMPTY} `));
   const told = cells(lines), grid = gridOf(flat), tables = told.length ? told : grid?.tables ?? [];
   const all = !tables.length ? ofSymbols(flat, game) : tables.flatMap((table) => (grid?.isLone ? plain(table, gamesOf(game)) : ofTable(table, game, true)));
-  const found = all.filter(({puzzle}) => !game || puzzle.game === game), exact = found.filter(({isExact}) => isExact);
+  const found = all.filter(({puzzle}) => !game || puzzle.game === game);
   /** @type {Map<string, Reading>} */
   const best = new Map();
   for (const each of found) {
@@ -28,8 +30,12 @@ export function tried(lines, game) {
     const name = JSON.stringify(each.puzzle), before = best.get(name);
     if (!before || rank(each) < rank(before)) best.set(name, each);
   }
-  return exact.length ? exact : [...best.values()];
+  return [...best.values()];
 }
+
+// The puzzle of lines that are just as the usual program copies Towers, so that they are nothing else.
+/** @param {string[]} lines @param {Meant} game @returns {Reading[]} */
+export const copiesIn = (lines, game) => (game === 'unequal' ? [] : exact(lines));
 
 /** @param {Reading} reading */
 const rank = ({lost, doubt, isWhole}) => (lost ? 4 : 0) + (doubt ? 2 : 0) + (isWhole ? 0 : 1);
@@ -175,26 +181,26 @@ const placesOf = ([step, left, top], size) => ({
 /** @param {string[]} lines */
 const numbersIn = (lines) => lines.flatMap((line, y) => [...line].flatMap((letter, x) => (letter === BLANK ? [] : [{y, x, letter}])));
 
+// The puzzle of lines that are as long as the usual program makes them, blanks at their ends included: nothing in it can have been lost.
+/** @param {string[]} lines @returns {Reading[]} */
+function exact(lines) {
+  const rows = lines.join('\n').replace(/^\n+|\n+$/g, '').split('\n'), size = rows.length - 4, numbers = numbersIn(rows);
+  const lengths = [2 * size + 2, 0, ...upTo(Math.max(size, 0)).map(() => 2 * size + 5), 0, 2 * size + 2];
+  if (!SIZES.includes(size) || rows.some((row, y) => row.length !== lengths[y]) || !numbers.every(({letter}) => NUMBERS.includes(letter))) return [];
+  const table = tableOf(numbers, placesOf(USUAL, size)), found = table ? towers(table, true) : [];
+  return found.filter(({puzzle}) => fits(puzzle)).map((reading) => ({...reading, doubt: '', lost: ''}));
+}
+
 // The puzzle of numbers alone, if all forms that the lines may have give the same.
 /** @param {string[]} lines @returns {Reading[]} */
 function copied(lines) {
   const numbers = numbersIn(lines);
   if (!numbers.length || !numbers.every(({letter}) => NUMBERS.includes(letter))) return [];
-  const exact = exactIn(lines.join('\n').replace(/^\n+|\n+$/g, '').split('\n')), extent = [lines.join('\n').trimEnd().split('\n').length, Math.max(...lines.map((line) => line.length))];
+  const extent = [lines.join('\n').trimEnd().split('\n').length, Math.max(...lines.map((line) => line.length))];
   const found = FORMS.flatMap((form) => SIZES.flatMap((size) => (size + 1 < numbers.length ? foundIn(lines, numbers, extent, form, size) : [])));
   const near = found.filter(({isApart: own}) => !own), isSure = near.length === found.length || near.some(({isUsual}) => isUsual);
   const isOne = near.length && isSure && near.every(({table}) => JSON.stringify(table) === JSON.stringify(near[0].table));
-  return [
-    ...(exact ? towers(exact, true) : []).map((reading) => ({...reading, doubt: '', lost: '', isExact: true})),
-    ...(isOne ? towers(near[0].table, true) : []).filter(({lost}) => !lost).map((reading) => ({...reading, doubt: near[0].doubt, isWhole: false})),
-  ];
-}
-
-// The table of lines that are as long as the usual program makes them, blanks at their ends included.
-/** @param {string[]} rows @returns {Table | null} */
-function exactIn(rows) {
-  const size = rows.length - 4, lengths = [2 * size + 2, 0, ...upTo(Math.max(size, 0)).map(() => 2 * size + 5), 0, 2 * size + 2];
-  return SIZES.includes(size) && rows.every((row, y) => row.length === lengths[y]) ? tableOf(numbersIn(rows), placesOf(USUAL, size)) : null;
+  return (isOne ? towers(near[0].table, true) : []).filter(({lost}) => !lost).map((reading) => ({...reading, doubt: near[0].doubt, isWhole: false}));
 }
 
 // Blank where a square is empty, and nothing at the edge; no table where a number is in a corner or between two places.

@@ -40,13 +40,21 @@ class Found(NamedTuple):
     is_usual: bool
 
 
+def exact(lines: Sequence[str]) -> List[Reading]:
+    """The puzzle of lines that are as long as the usual program makes them, blanks at their ends included: nothing in it can have been lost."""
+    rows = '\n'.join(lines).strip('\n').split('\n')
+    size, numbers = len(rows) - 4, _numbers(rows)
+    if size not in SIZES or [*map(len, rows)] != [2 * size + 2, 0, *[2 * size + 5] * size, 0, 2 * size + 2] or not {*numbers.values()} <= {*NUMBERS}:
+        return []
+    found = [reading for table in _placed(numbers, USUAL.rows(size), USUAL.columns(size)) for reading in towers(table, True)]
+    return [reading._replace(doubt='', lost='') for reading in found if reading.puzzle.fits()]
+
+
 def copied(lines: Sequence[str]) -> Iterator[Reading]:
     """The puzzle of numbers alone, if all forms that the lines may have give the same."""
     numbers = _numbers(lines)
     if not numbers or not {*numbers.values()} <= {*NUMBERS}:
         return
-    for table in _exact('\n'.join(lines).strip('\n').split('\n')):
-        yield from (reading._replace(doubt='', lost='', is_exact=True) for reading in towers(table, True))
     extent = len('\n'.join(lines).rstrip().split('\n')), max(map(len, lines))
     forms = [(form, size) for form, size in product(FORMS, SIZES) if size + 1 < len(numbers)]
     found = [each for form, size in forms for each in _found(lines, numbers, extent, form, size)]
@@ -58,13 +66,6 @@ def copied(lines: Sequence[str]) -> Iterator[Reading]:
 
 def _numbers(lines: Sequence[str]) -> Numbers:
     return {(y, x): letter for y, line in enumerate(lines) for x, letter in enumerate(line) if letter != BLANK}
-
-
-def _exact(rows: Sequence[str]) -> Iterator[Table]:
-    """The table of lines that are as long as the usual program makes them, blanks at their ends included."""
-    size = len(rows) - 4
-    if size in SIZES and [*map(len, rows)] == [2 * size + 2, 0, *[2 * size + 5] * size, 0, 2 * size + 2]:
-        yield from _placed(_numbers(rows), USUAL.rows(size), USUAL.columns(size))
 
 
 def _found(lines: Sequence[str], numbers: Numbers, extent: Tuple[int, int], form: Places, size: int) -> Iterator[Found]:

@@ -5,7 +5,7 @@ from __future__ import annotations
 import re
 from typing import Dict, Iterator, List, Sequence
 
-from playing.drawings.copied import copied
+from playing.drawings.copied import copied, exact
 from playing.drawings.ruled import grid_of
 from playing.drawings.signed import signed
 from playing.drawings.tables import BLANK, CORNER, EMPTY, NUMBERS, ODD, Puzzle, Reading, Table, corners_of, plain, towers, unequal
@@ -21,6 +21,9 @@ def readings(lines: Sequence[str], game: str = '') -> List[Reading]:
 
 def tried(lines: Sequence[str], game: str) -> List[Reading]:
     """Those too in which something has been left out, or a number is above the size."""
+    copies = copies_in(lines, game)
+    if copies:
+        return copies
     flat = [BOXED.sub(lambda of: f' {(of[1] or of[2]).strip() or EMPTY} ', line) for line in lines]
     grid = grid_of(flat)
     tables = [*cells(lines)] or (grid.tables if grid else [])
@@ -33,7 +36,12 @@ def tried(lines: Sequence[str], game: str) -> List[Reading]:
         if game in ('', each.puzzle.game):
             # The same puzzle by a way in which nothing could have been lost.
             best[each.puzzle] = min(best.get(each.puzzle, each), each, key=lambda own: (bool(own.lost), bool(own.doubt), not own.is_whole))
-    return [each for each in found if each.is_exact and game != 'unequal'] or [*best.values()]
+    return [*best.values()]
+
+
+def copies_in(lines: Sequence[str], game: str) -> List[Reading]:
+    """The puzzle of lines that are just as the usual program copies Towers, so that they are nothing else."""
+    return exact(lines) if game != 'unequal' else []
 
 
 def _of_symbols(lines: Sequence[str], game: str) -> Iterator[Reading]:

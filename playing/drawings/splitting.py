@@ -5,7 +5,7 @@ from __future__ import annotations
 from itertools import takewhile
 from typing import Dict, Iterable, List, NamedTuple, Sequence, Tuple
 
-from playing.drawings.readings import readings
+from playing.drawings.readings import copies_in, readings
 from playing.drawings.tables import Reading
 
 #: So many lines that aren't blank a drawing has at most: that of nine ruled squares, with its clues and a line or two more.
@@ -49,15 +49,16 @@ def _height(lines: Sequence[str], begin: int, end: int) -> int:
 
 
 def _spans(lines: Sequence[str], borders: List[int], game: str) -> Spans:
-    """All of them; and none begins within an exact one."""
+    """All of them; and none begins within a copy of the usual program."""
     spans: Spans = {}
     begin = 0
     while begin < len(borders) - 1:
         ends = takewhile(lambda end: _height(lines, borders[begin], borders[end]) <= MOST_LINES, range(begin + 1, len(borders)))
-        own = {end: readings(lines[borders[begin] : borders[end]], game) for end in ends}
-        exact = next((end for end, found in own.items() if found and found[0].is_exact), 0)
-        spans.update({(begin, end): found for end, found in own.items() if found and exact in (0, end)})
-        begin = exact or begin + 1
+        own = {end: lines[borders[begin] : borders[end]] for end in ends}
+        copy = next((end for end in own if copies_in(own[end], game)), 0)
+        found = {(begin, end): readings(own[end], game) for end in ([copy] if copy else own)}
+        spans.update({span: all for span, all in found.items() if all})
+        begin = copy or begin + 1
     return spans
 
 

@@ -85,8 +85,6 @@ class Reading(NamedTuple):
     is_whole: bool = True
     #: What has been left out, so that it isn't taken.
     lost: str = ''
-    #: Whether it is just as the usual program copies it, so that the lines are nothing else.
-    is_exact: bool = False
 
 
 def towers(table: Table, is_told: bool) -> Iterator[Reading]:
