@@ -150,7 +150,7 @@ class Reader {
 
   // A block that is closed is taken with all that stands above it, and so is one that is too long.
   lookAtBlock() {
-    const begin = this.begun + this.block, own = this.lines.slice(this.block).map((line) => line.trim());
+    const begin = this.begun + this.block, own = this.lines.slice(this.block).map((line) => line.replace(/^ +| +$/g, ''));
     const closed = !this.named.size && SHOWN.test(own.join('\n')) ? readings(own, this.game) : [];
     if (closed.length === 1) {
       this.ofSides();

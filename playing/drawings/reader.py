@@ -111,7 +111,7 @@ class Reader:
 
     def _look_at_block(self, block: int) -> Iterator[Read]:
         """A block that is closed is taken with all that stands above it, and so is one that is too long."""
-        own = [line.strip() for line in self._lines[block:]]
+        own = [line.strip(' ') for line in self._lines[block:]]
         closed = readings(own, self._game) if not self._named and SHOWN.fullmatch('\n'.join(own)) else []
         if len(closed) == 1:
             yield from self._of_sides()
