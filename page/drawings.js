@@ -76,7 +76,7 @@ const NAMED_BESIDE = 'clues with the names of their sides stand beside it: draw 
 /** @param {string} text @returns {Read[]} */
 export function read(text) {
   const reader = new Reader();
-  for (const line of text.replace(/^\ufeff|(\r\n|\r|\n)$/g, '').split(/\r\n|\r|\n/)) reader.take(line);
+  for (const line of text.replace(/(\r\n|\r|\n)$/, '').split(/\r\n|\r|\n/)) reader.take(line.replace(/^\ufeff+/, ''));
   reader.end();
   return reader.found;
 }

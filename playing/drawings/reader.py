@@ -45,7 +45,7 @@ def read(text: str) -> List[Read]:
     """All of a text, in its order."""
     reader = Reader()
     found: List[Read] = []
-    for line in re.split('\r\n|\r|\n', re.sub('^\ufeff|(\r\n|\r|\n)\\Z', '', text)):
+    for line in re.split('\r\n|\r|\n', re.sub('(\r\n|\r|\n)\\Z', '', text)):
         found += reader.take(line)
     return [*found, *reader.end()]
 
@@ -71,6 +71,8 @@ class Reader:
     def take(self, line: str) -> Iterator[Read]:
         """The puzzles that are whole with the next line."""
         self._number += 1
+        # A mark of the byte order, also where files were put together.
+        line = line.lstrip('\ufeff')
         side, id = side_of(line), id_in(line)
         if side:
             yield from self._drawings(is_beside=self._block is not None)
