@@ -1,8 +1,7 @@
 // Puzzles as people draw or copy them: what a text has, its IDs and its drawings. As in playing/drawings, and one table of rows in tests/drawings is for both.
 import {parts} from './drawn_parts.js';
-import {DRAWN, EMPTY, NUMBERS, fits, isBare, isBlank, towers, translated} from './drawn_tables.js';
-import {NAMED_BESIDE, noClue, sideTwice, sidesDiffer, sidesLacking} from './drawn_texts.js';
-import {MOST_LINES, called, meantBy, whyNot} from './drawn_why.js';
+import {DRAWN, EMPTY, NUMBERS, isBare, isBlank, translated} from './drawn_tables.js';
+import {MOST_LINES, called, whyNot} from './drawn_why.js';
 import {readings} from './drawn_ways.js';
 import {SIZES} from './games.js';
 
@@ -39,8 +38,8 @@ const ID_INSIDE = new RegExp(`(?:(${GAME}):)?(?<![\\w./,])([3-9](?:d[a-z])?(?::[
 const TITLE = /^(#\s*[0-9]*$|#.*\p{L}{2}|\s*\/\/.*\p{L}{2}|\s*\(?[0-9]{1,3}[):]\s*$|\s*(```|~~~)|\s*[=#~]{3,}\s*$)/u;
 /** With nothing directly above and below a line may also be that. */
 const ALONE = /^\s*([0-9]{1,3}\.|-{3,}|\*{3,}|_{3,})\s*$/;
-/** The first and the last line of what `show` prints of Towers, and one between. */
-const CLOSING = /^\+( [1-9-])+ \+$/, BETWEEN = /^[1-9-]( [1-9.])+ [1-9-]$/;
+/** What `show` prints of Towers: its last line says that it is the last. */
+const SHOWN = /^\+( [1-9-])+ \+\n([1-9-]( [1-9.])+ [1-9-]\n)+\+( [1-9-])+ \+$/;
 
 /** @param {string} text @returns {Meant} */
 function gameIn(text) {
@@ -71,11 +70,13 @@ function isTitle(line) {
 /** So many blank lines are in no drawing; so many letters a line has at most. */
 const GAP = 12, LONGEST = 400;
 
+const NAMED_BESIDE = 'clues with the names of their sides stand beside it: draw these around it, or name all four sides and draw no squares';
+
 // The findings in a text, in its order.
 /** @param {string} text @returns {Read[]} */
 export function read(text) {
   const reader = new Reader();
-  for (const line of text.replace(/^\ufeff|(\r\n|\r|\n)$/g, '').split(/\r\n|\r|\n/)) reader.take(line);
+  for (const line of text.replace(/(\r\n|\r|\n)$/, '').split(/\r\n|\r|\n/)) reader.take(line.replace(/^\ufeff+/, ''));
   reader.end();
   return reader.found;
 }
@@ -83,9 +84,8 @@ export function read(text) {
 /** @param {string} line */
 const isEmpty = (line) => !line.replace(/^ +| +$/g, '');
 
-// Without the marks of a mail's quotation, where each line has one: no line of a drawing begins so.
 /** @param {string[]} lines */
-const unquoted = (lines) => (lines.every((line) => isEmpty(line) || line.startsWith('>')) ? lines.map((line) => line.replace(/^> ?/, '')) : lines);
+const firstOf = (lines) => lines.findIndex((line) => !isEmpty(line));
 
 /**
  * A text so far: `lines` are those that are drawn since the last other one, `block` is where the last ones of them begin, and `sides` is the puzzle of four sides
@@ -132,62 +132,52 @@ class Reader {
 
   end() {
     this.drawings();
-    if (this.named.size) this.tell(this.number, {game: 'towers', why: sidesLacking([...this.named.keys()])});
+    if (this.named.size) this.tell(this.number, {game: 'towers', why: `clues are named for ${[...this.named.keys()].join(', ')}, and the other sides are missing`});
     this.named.clear();
   }
 
   /** @param {string} line */
   draw(line) {
-    if (!isEmpty(line)) {
-      if (!this.isLong) this.add(line);
-      return;
-    }
-    this.endBlock();
+    const isBetween = isEmpty(line);
+    if (isBetween) this.endBlock();
+    else if (this.isLong) return;
     if (!this.lines.length) this.begun = this.number;
+    if (!isBetween && this.block < 0) this.block = this.lines.length;
     this.lines.push(line);
-    if (this.lines.length >= GAP && this.lines.slice(-GAP).every(isEmpty)) this.drawings();
+    if (this.block >= 0) this.lookAtBlock();
+    else if (this.lines.length >= GAP && this.lines.slice(-GAP).every(isEmpty)) this.drawings();
   }
 
-  /** @param {string} line */
-  add(line) {
-    if (!this.lines.length) this.begun = this.number;
-    if (this.block < 0) this.block = this.lines.length;
-    this.lines.push(line);
-    const {block, begun} = this, puzzle = CLOSING.test(line.trim()) && !this.named.size ? this.closed() : null;
-    if (puzzle) {
+  // A block that is closed is taken with all that stands above it, and so is one that is too long.
+  lookAtBlock() {
+    const begin = this.begun + this.block, own = this.lines.slice(this.block).map((line) => line.replace(/^ +| +$/g, ''));
+    const closed = !this.named.size && SHOWN.test(own.join('\n')) ? readings(own, this.game) : [];
+    if (closed.length === 1) {
       this.ofSides();
-      this.told(this.lines.slice(0, block), begun);
-      this.tell(begun + block, {puzzle});
+      this.lines.splice(this.block);
+      this.parted();
+      this.tell(begin, {puzzle: closed[0].puzzle});
       this.forget();
-    } else if (this.lines.length - block > 2 * MOST_LINES) {
+    } else if (own.length > 2 * MOST_LINES) {
       this.isLong = true;
       this.drawings();
     }
   }
 
-  // The puzzle of this block, where it is just what `show` prints of Towers.
-  closed() {
-    const rows = this.lines.slice(this.block).map((line) => line.trim()), size = rows.length - 2;
-    const isShown = SIZES.includes(size) && CLOSING.test(rows[0]) && rows.slice(1, -1).every((row) => BETWEEN.test(row)) && rows.every((row) => row.length === 2 * size + 3);
-    const found = isShown && this.game !== 'unequal' ? towers(rows.map((row) => [...row].filter((_, x) => x % 2 === 0)), true, true).filter(({puzzle}) => fits(puzzle)) : [];
-    return found.length === 1 ? found[0].puzzle : null;
-  }
-
   // A blank line comes after a block: a drawing to which nothing more can belong is taken.
   endBlock() {
-    const {block, lines, begun} = this;
+    const {block} = this;
     this.isLong = false;
     this.block = -1;
-    if (block < 0) return;
-    this.ofSides();
-    if (!this.lines.length) return;
-    if (lines.length - block === 1 && ALONE.test(lines[block])) {
-      lines.pop();
+    if (block >= 0) this.ofSides();
+    if (block < 0 || !this.lines.length) return;
+    if (this.lines.length - block === 1 && ALONE.test(this.lines[block])) {
+      this.lines.pop();
       this.drawings();
-    } else if (!this.named.size && lines.slice(0, block).every(isEmpty)) {
-      const found = readings(unquoted(lines), this.game);
+    } else if (!this.named.size && this.lines.slice(0, block).every(isEmpty)) {
+      const found = readings(this.drawn, this.game);
       if (found.length !== 1 || !found[0].isWhole) return;
-      this.tell(begun + block, {puzzle: found[0].puzzle, doubt: found[0].doubt});
+      this.tell(this.begun + firstOf(this.drawn), {puzzle: found[0].puzzle, doubt: found[0].doubt});
       this.forget();
     }
   }
@@ -195,37 +185,42 @@ class Reader {
   // Clues that are named may belong to what is drawn, if some are missing above it or they stand just below it.
   drawings(isBeside = false) {
     this.ofSides();
-    const {lines, begun} = this;
-    this.lines = [];
-    this.block = -1;
-    if (lines.every(isBlank)) return;
-    if (this.named.size || isBeside) this.tell(begun + lines.findIndex((line) => !isEmpty(line)), {game: 'towers', why: NAMED_BESIDE});
-    else this.told(unquoted(lines), begun);
-    this.forget();
+    const isDrawn = !this.drawn.every(isBlank);
+    if (isDrawn && (this.named.size || isBeside)) this.tell(this.begun + firstOf(this.drawn), {game: 'towers', why: NAMED_BESIDE});
+    else if (isDrawn) this.parted();
+    this.forget(isDrawn ? '' : this.game);
+  }
+
+  // The lines without the marks of a mail's quotation, where each has one: no line of a drawing begins so.
+  get drawn() {
+    const isQuoted = this.lines.every((line) => isEmpty(line) || line.startsWith('>'));
+    return isQuoted ? this.lines.map((line) => line.replace(/^> ?/, '')) : this.lines;
   }
 
   // The game that is named above is that of one drawing.
-  forget() {
+  /** @param {Meant} [game] */
+  forget(game = '') {
     this.lines = [];
     this.block = -1;
-    this.game = '';
+    this.game = game;
   }
 
-  /** @param {string[]} lines @param {number} begun */
-  told(lines, begun) {
+  // The drawings of the lines.
+  parted() {
+    const lines = this.drawn;
     for (const {begin, end, found} of parts(lines, this.game)) {
-      const own = lines.slice(begin, end), first = own.findIndex((line) => !isEmpty(line));
-      if (found.length === 1) this.tell(begun + begin + first, {puzzle: found[0].puzzle, doubt: found[0].doubt});
+      const own = lines.slice(begin, end);
+      if (found.length === 1) this.tell(this.begun + begin + firstOf(own), {puzzle: found[0].puzzle, doubt: found[0].doubt});
       else {
         const {line, ...why} = whyNot(own, this.game, found);
-        this.tell(begun + begin + line, {game: found[0]?.puzzle.game ?? meantBy(own, this.game), ...why});
+        this.tell(this.begun + begin + line, why);
       }
     }
   }
 
   /** @param {string} side @param {string} text */
   side(side, text) {
-    if (this.named.has(side)) this.tell(this.number, {game: 'towers', why: sideTwice(side)});
+    if (this.named.has(side)) this.tell(this.number, {game: 'towers', why: `'${side}' stands here twice`});
     this.named.set(side, text);
     if (this.named.size < SIDES.length) return;
     this.sides = {line: this.number, ...ofSides(this.named)};
@@ -234,15 +229,14 @@ class Reader {
 
   // The puzzle of four sides, with the squares below it: alone these would belong to any game.
   ofSides() {
-    const {sides, begun} = this, own = sides?.puzzle;
+    const {sides} = this, own = sides?.puzzle;
     this.sides = null;
     if (!sides) return;
-    const found = this.lines.every(isBlank) ? [] : readings(unquoted(this.lines), '').map(({puzzle}) => puzzle);
-    const squares = found.filter((puzzle) => puzzle.size === own?.size && isBare(puzzle));
+    const found = readings(this.drawn, '').map(({puzzle}) => puzzle), squares = found.filter((puzzle) => puzzle.size === own?.size && isBare(puzzle));
     if (!own || !squares.length) this.tell(sides.line, sides);
     else {
       if (squares.length === found.length) this.tell(sides.line, {puzzle: {...own, items: [...own.items, ...squares[0].items]}});
-      else this.tell(begun + this.lines.findIndex((line) => !isEmpty(line)), {game: 'towers', why: NAMED_BESIDE});
+      else this.tell(this.begun + firstOf(this.drawn), {game: 'towers', why: NAMED_BESIDE});
       this.forget();
     }
   }
@@ -251,13 +245,14 @@ class Reader {
 // Four lines of clues, by their names.
 /** @param {Map<string, string>} named @returns {Partial<Read>} */
 function ofSides(named) {
-  const texts = [...named].map(([name, text]) => /** @type {[string, string[]]} */ ([name, [...translated(text).replace(/[\s,;|()[\]{}]/g, '')]]));
-  const size = texts.find(([name]) => name === 'top')?.[1].length ?? 0, items = [];
-  if (!SIZES.includes(size) || texts.some(([, own]) => own.length !== size)) return {game: 'towers', why: sidesDiffer(texts.map(([name, own]) => [name, own.length]))};
-  for (const [name, own] of texts) for (const [at, symbol] of own.entries()) {
+  const texts = [...named].map(([name, text]) => ({name, own: [...translated(text).replace(/[\s,;|()[\]{}]/g, '')]})), items = [];
+  const size = texts.find(({name}) => name === 'top')?.own.length ?? 0, counts = texts.map(({name, own}) => `${own.length} (${name})`).join(', ');
+  const refused = (/** @type {string} */ why) => ({game: /** @type {Meant} */ ('towers'), why});
+  if (!SIZES.includes(size) || texts.some(({own}) => own.length !== size)) return refused(`the four sides have ${counts} clues: one for each line, and - for none`);
+  for (const {name, own} of texts) for (const [at, symbol] of own.entries()) {
     const place = {top: [at, -1], bottom: [at, size], left: [-1, at], right: [size, at]}[name];
     if (NUMBERS.slice(0, size).includes(symbol)) items.push(`item ${place},${symbol}`);
-    else if (symbol !== EMPTY && symbol !== '-') return {game: 'towers', why: noClue(symbol, size)};
+    else if (symbol !== EMPTY && symbol !== '-') return refused(`'${symbol}' is no clue of a puzzle of size ${size}`);
   }
   return {puzzle: {game: 'towers', size, items}};
 }

@@ -1,6 +1,6 @@
 // Which of some lines belong together: drawings may have blank lines in them, and stand below one another. As in playing/drawings/splitting.py.
 import {isBlank, upTo} from './drawn_tables.js';
-import {exactReadings, readings} from './drawn_ways.js';
+import {copiesIn, readings} from './drawn_ways.js';
 import {MOST_LINES} from './drawn_why.js';
 
 /** @typedef {import('./drawn_tables.js').Reading} Reading */
@@ -14,46 +14,44 @@ const heightOf = (lines, begin, end) => lines.slice(begin, end).filter((line) =>
 // The drawings of lines, in their order.
 /** @param {string[]} lines @param {Meant} game @returns {Part[]} */
 export function parts(lines, game) {
-  const has = lines.map((line) => Boolean(line.replace(/^ +| +$/g, ''))), starts = upTo(lines.length).filter((y) => has[y] && !has[y - 1]), count = starts.length;
+  const has = lines.map((line) => Boolean(line.replace(/^ +| +$/g, ''))), starts = upTo(lines.length).filter((y) => has[y] && !has[y - 1]);
   // Blank lines before the first and after each block may belong to a drawing.
-  const borders = [0, ...starts.slice(1), lines.length], found = [];
-  /** @type {Map<number, Reading[]>[]} */
-  const drawings = [];
-  while (drawings.length < count) drawings.push(...drawingsFrom(lines, borders, drawings.length, game));
-  for (let begin = 0; begin < count;) {
-    // No drawing crosses these borders.
-    let end = begin + 1;
-    for (let at = begin; at < end; at++) end = Math.max(end, ...drawings[at].keys());
-    found.push(...parted(drawings, borders, begin, end));
-    begin = end;
-  }
+  const borders = [0, ...starts.slice(1), lines.length], spans = spansOf(lines, borders, game);
+  const found = pairs(uncrossed(spans, 0, starts.length)).flatMap(([begin, end]) => {
+    const whole = onWholeWays(spans, begin, end), sure = whole.length ? uncrossed(whole, begin, end) : [begin, end];
+    return pairs(sure).map(([first, last]) => ({begin: borders[first], end: borders[last], found: whole.flatMap((span) => (span.begin === first ? span.found : []))}));
+  });
   return joined(found, lines);
 }
 
-// To which borders drawings go from one, and all that they may be; and that none begins within an exact one.
-/** @param {string[]} lines @param {number[]} borders @param {number} first @param {Meant} game @returns {Map<number, Reading[]>[]} */
-function drawingsFrom(lines, borders, first, game) {
-  const lasts = upTo(borders.length, first + 1).filter((last) => heightOf(lines, borders[first], borders[last]) <= MOST_LINES);
-  const spans = lasts.map((last) => ({last, own: lines.slice(borders[first], borders[last])}));
-  for (const {last, own} of spans) {
-    const found = exactReadings(own, game);
-    if (found?.length) return [new Map([[last, found]]), ...upTo(last, first + 1).map(() => new Map())];
+// The drawings that there may be, from one border to another; and none begins within a copy of the usual program.
+/** @param {string[]} lines @param {number[]} borders @param {Meant} game @returns {Part[]} */
+function spansOf(lines, borders, game) {
+  const spans = [];
+  for (let begin = 0; begin < borders.length - 1;) {
+    const first = begin, ends = upTo(borders.length, begin + 1).filter((end) => heightOf(lines, borders[first], borders[end]) <= MOST_LINES);
+    const own = ends.map((end) => ({begin: first, end, lines: lines.slice(borders[first], borders[end])})), copy = own.find((span) => copiesIn(span.lines, game).length);
+    spans.push(...(copy ? [copy] : own).map((span) => ({...span, found: readings(span.lines, game)})).filter(({found}) => found.length));
+    begin = copy ? copy.end : begin + 1;
   }
-  return [new Map(spans.map(({last, own}) => /** @type {[number, Reading[]]} */ ([last, readings(own, game)])).filter(([, found]) => found.length))];
+  return spans;
 }
 
-// The drawings of a stretch; where there are several ways to part it, what is the same in all of them counts.
-/** @param {Map<number, Reading[]>[]} drawings @param {number[]} borders @param {number} begin @param {number} end @returns {Part[]} */
-function parted(drawings, borders, begin, end) {
-  const before = new Map([[begin, 1n]]), after = new Map([[end, 1n]]);
-  for (const at of upTo(end, begin)) for (const last of drawings[at].keys()) before.set(last, (before.get(last) ?? 0n) + (before.get(at) ?? 0n));
-  for (const at of upTo(end, begin).reverse()) after.set(at, [...drawings[at].keys()].reduce((sum, last) => sum + (after.get(last) ?? 0n), 0n));
-  const all = after.get(begin) ?? 0n, sure = all ? upTo(end + 1, begin).filter((at) => (before.get(at) ?? 0n) * (after.get(at) ?? 0n) === all) : [begin, end];
-  return sure.slice(1).map((last, at) => ({
-    begin: borders[sure[at]], end: borders[last],
-    found: all ? [...drawings[sure[at]]].flatMap(([until, own]) => (after.get(until) ? own : [])) : [],
-  }));
+// Those of a stretch that can follow one another from its begin to its end.
+/** @param {Part[]} spans @param {number} begin @param {number} end */
+function onWholeWays(spans, begin, end) {
+  const own = spans.filter((span) => span.begin >= begin && span.begin < end), reached = new Set([begin]), leading = new Set([end]);
+  for (const span of own) if (reached.has(span.begin)) reached.add(span.end);
+  for (const span of [...own].reverse()) if (leading.has(span.end)) leading.add(span.begin);
+  return own.filter((span) => reached.has(span.begin) && leading.has(span.end));
 }
+
+// The borders that no drawing crosses.
+/** @param {Part[]} spans @param {number} begin @param {number} end */
+const uncrossed = (spans, begin, end) => upTo(end + 1, begin).filter((at) => !spans.some((span) => span.begin < at && at < span.end));
+
+/** @param {number[]} borders */
+const pairs = (borders) => borders.slice(1).map((last, at) => [borders[at], last]);
 
 // A part that can't be read is one with a part that is too small to be a drawing, and with one that may be torn off.
 /** @param {Part[]} found @param {string[]} lines */

@@ -1,8 +1,7 @@
 // The ways to read the lines of a drawing as tables, and all puzzles that they may be. As in playing/drawings: readings, columns, signed, copied.
 import {SIZES} from './games.js';
-import {isLone, ruled} from './drawn_rules.js';
-import {emptyRow, noLineOfClues, noLineOfSigns} from './drawn_texts.js';
-import {BLANK, CORNER, EMPTY, NUMBERS, ODD, SIGNS, fits, hasAny, isBlank, plain, towers, unequal, upTo, within} from './drawn_tables.js';
+import {gridOf} from './drawn_rules.js';
+import {BLANK, CORNER, EMPTY, NUMBERS, ODD, SIGNS, cornersOf, fits, hasAny, isBlank, plain, towers, unequal, upTo, within} from './drawn_tables.js';
 
 /** @typedef {import('./drawn_tables.js').Table} Table */
 /** @typedef {import('./drawn_tables.js').Reading} Reading */
@@ -11,20 +10,22 @@ import {BLANK, CORNER, EMPTY, NUMBERS, ODD, SIGNS, fits, hasAny, isBlank, plain,
 /** The game that is named above, if one is. */
 /** @typedef {Game | ''} Meant */
 
-// Each puzzle that the lines may be. `isStrict` tells apart a side that is empty from one that was left out, and `isFitting` leaves out those with a number
-// above the size.
+// Each puzzle that the lines may be.
 /** @param {string[]} lines @param {Meant} game @returns {Reading[]} */
-export function readings(lines, game, {isStrict = true, isFitting = true} = {}) {
-  const copies = exactReadings(lines, game);
-  if (copies) return copies;
+export const readings = (lines, game) => tried(lines, game).filter(({puzzle, lost}) => !lost && fits(puzzle));
+
+// Those too in which something has been left out, or a number is above the size.
+/** @param {string[]} lines @param {Meant} game @returns {Reading[]} */
+export function tried(lines, game) {
+  const copies = copiesIn(lines, game);
+  if (copies.length) return copies;
   const flat = lines.map((line) => line.replace(/\[(.)\]|\((.)\)/g, (_, one, other) => ` ${(one || other).trim() || EMPTY} `));
-  const told = cells(lines), grids = told.length ? [] : ruled(flat), tables = told.length ? told : grids, rows = flat.map((line) => line.replaceAll('\t', BLANK));
-  const isAlone = grids.length && isLone(flat) && !hasAny(flat.join(''), SIGNS), hasTabs = flat.some((line) => line.includes('\t'));
-  const found = isAlone ? grids.flatMap((table) => plain(table, gamesOf(game)))
-    : tables.length ? tables.flatMap((table) => ofTable(table, game, true, isStrict)) : ofSymbols(rows, hasTabs, game, isStrict);
+  const told = cells(lines), grid = gridOf(flat), tables = told.length ? told : grid?.tables ?? [];
+  const all = !tables.length ? ofSymbols(flat, game) : tables.flatMap((table) => (grid?.isLone ? plain(table, gamesOf(game)) : ofTable(table, game, true)));
+  const found = all.filter(({puzzle}) => !game || puzzle.game === game);
   /** @type {Map<string, Reading>} */
   const best = new Map();
-  for (const each of found.filter(({puzzle}) => (fits(puzzle) || !isFitting) && (!game || puzzle.game === game))) {
+  for (const each of found) {
     // The same puzzle by a way in which nothing could have been lost.
     const name = JSON.stringify(each.puzzle), before = best.get(name);
     if (!before || rank(each) < rank(before)) best.set(name, each);
@@ -32,36 +33,25 @@ export function readings(lines, game, {isStrict = true, isFitting = true} = {}) 
   return [...best.values()];
 }
 
-// The puzzle of lines that are just as the usual program copies Towers; nothing if they aren't.
-/** @param {string[]} lines @param {Meant} game @returns {Reading[] | null} */
-export function exactReadings(lines, game) {
-  const table = game === 'unequal' ? null : exact(lines);
-  return table && towers(table, true, false).filter(({puzzle}) => fits(puzzle)).map((reading) => ({...reading, doubt: ''}));
-}
+// The puzzle of lines that are just as the usual program copies Towers, so that they are nothing else.
+/** @param {string[]} lines @param {Meant} game @returns {Reading[]} */
+export const copiesIn = (lines, game) => (game === 'unequal' ? [] : exact(lines));
 
 /** @param {Reading} reading */
-const rank = ({doubt, isWhole}) => (doubt ? 2 : 0) + (isWhole ? 0 : 1);
+const rank = ({lost, doubt, isWhole}) => (lost ? 4 : 0) + (doubt ? 2 : 0) + (isWhole ? 0 : 1);
 
 // Of lines without rules and cells. Where a tab may be as wide as it likes nothing stands below anything.
-/** @param {string[]} lines @param {boolean} hasTabs @param {Meant} game @param {boolean} isStrict */
-function ofSymbols(lines, hasTabs, game, isStrict) {
-  const rows = unbarred(lines), tables = hasTabs ? [] : columns(rows), seen = tables.map((table) => JSON.stringify(table));
-  tables.push(...counts(rows).filter((table) => !seen.includes(JSON.stringify(table))));
-  const found = tables.flatMap((table) => ofTable(table, game, false, isStrict));
-  if (hasTabs) return found;
-  const isSigned = hasAny(rows.join(''), SIGNS), height = rows.filter((row) => !isBlank(row)).length;
-  for (const [table, doubt] of signed(rows)) if (isSigned || table.length === height) found.push(...unequal(table, doubt));
-  for (const [table, doubt] of copied(lines)) found.push(...towers(table, true, true).map((reading) => ({...reading, doubt, isWhole: false})));
-  return found;
+/** @param {string[]} lines @param {Meant} game @returns {Reading[]} */
+function ofSymbols(lines, game) {
+  const rows = unbarred(lines.map((line) => line.replaceAll('\t', BLANK))), hasTabs = lines.some((line) => line.includes('\t'));
+  const found = [...(hasTabs ? [] : columns(rows)), ...counts(rows)].flatMap((table) => ofTable(table, game, false));
+  return hasTabs ? found : [...found, ...signed(rows).flatMap(([table, doubt]) => unequal(table, doubt)), ...copied(lines)];
 }
 
-/** @param {Table} table @param {Meant} game @param {boolean} isTold @param {boolean} isStrict */
-function ofTable(table, game, isTold, isStrict) {
-  const found = towers(table, isTold, isStrict), ends = [table[0], table[table.length - 1]];
-  if (isTold || game === 'unequal' || table.flat().some((symbol) => symbol && SIGNS.includes(symbol))) found.push(...unequal(table));
-  const corners = ends.flatMap((row) => [row[0], row[row.length - 1]]);
-  if (game === 'unequal' || !corners.some((symbol) => symbol === null || symbol === BLANK || symbol === CORNER)) found.push(...plain(table, gamesOf(game)));
-  return found;
+/** @param {Table} table @param {Meant} game @param {boolean} isTold */
+function ofTable(table, game, isTold) {
+  const isPlain = game === 'unequal' || cornersOf(table).every((symbol) => symbol !== null && symbol !== BLANK && symbol !== CORNER);
+  return [...towers(table, isTold), ...unequal(table), ...(isPlain ? plain(table, gamesOf(game)) : [])];
 }
 
 /** @param {Meant} game @returns {Game[]} */
@@ -73,7 +63,7 @@ const gamesOf = (game) => (game ? [game] : ['towers', 'unequal']);
 function cells(lines) {
   return ['\t', ',', ';'].flatMap((between) => {
     const rows = lines.filter((line) => line.replace(/^ +| +$/g, '')).map((line) => line.split(between).map((cell) => cell.trim().replace(/^"+|"+$/g, '') || BLANK));
-    return rows.every((row) => row.length > 2 && row.length === rows[0].length) ? [rows.map((row) => row.map(numberIn))] : [];
+    return rows.length && rows.every((row) => row.length > 2 && row.length === rows[0].length) ? [rows.map((row) => row.map(numberIn))] : [];
   });
 }
 
@@ -84,7 +74,7 @@ const numberIn = (cell) => (/^[1-9]\.[0.]+$/.test(cell) ? cell[0] : [...cell].le
 /** @param {string[]} lines @returns {Table[]} */
 function columns(lines) {
   const used = [...new Set(lines.flatMap((line) => [...line].flatMap((letter, x) => (letter === BLANK ? [] : [x]))))].sort((one, other) => one - other);
-  return [lines.filter((line) => !isBlank(line)).map((line) => used.map((x) => (x < line.length && line[x] !== BLANK ? line[x] : null)))];
+  return used.length ? [lines.filter((line) => !isBlank(line)).map((line) => used.map((x) => (x < line.length && line[x] !== BLANK ? line[x] : null)))] : [];
 }
 
 /** @param {string[]} lines @returns {Table[]} */
@@ -130,9 +120,10 @@ function signed(lines) {
   if (!SIZES.includes(size)) return [];
   return inTurn(rows, size, []).flatMap((found) => {
     const between = found.filter((_, at) => at % 2), lacking = between.flatMap((line, at) => (line ? [] : [at + 1]));
-    // Where '-' or a blank line says that there is no sign, each line is there.
-    if (lacking.length && between.some((line) => line.includes('-') || (line && isBlank(line)))) return [];
-    const table = placed(found, size), doubt = lacking.length && lacking.length < between.length ? noLineOfSigns(lacking[0]) : '';
+    // Where '-' or a blank line says that there is no sign, each line is there; so it is where there is no sign at all.
+    const isTold = !hasAny(rows.join(''), SIGNS) || between.some((line) => line.includes('-') || (line && isBlank(line)));
+    const table = lacking.length && isTold ? null : placed(found, size), isDoubtful = lacking.length && lacking.length < between.length;
+    const doubt = isDoubtful ? `no line of signs stands below row ${lacking[0]}, so there are none: if one was left out, add it` : '';
     return table ? [/** @type {[Table, string]} */ ([table, doubt])] : [];
   });
 }
@@ -190,13 +181,26 @@ const placesOf = ([step, left, top], size) => ({
 /** @param {string[]} lines */
 const numbersIn = (lines) => lines.flatMap((line, y) => [...line].flatMap((letter, x) => (letter === BLANK ? [] : [{y, x, letter}])));
 
-// The table of lines that are as long as the usual program makes them, blanks at their ends included.
-/** @param {string[]} lines @returns {Table | null} */
+// The puzzle of lines that are as long as the usual program makes them, blanks at their ends included: nothing in it can have been lost.
+/** @param {string[]} lines @returns {Reading[]} */
 function exact(lines) {
   const rows = lines.join('\n').replace(/^\n+|\n+$/g, '').split('\n'), size = rows.length - 4, numbers = numbersIn(rows);
   const lengths = [2 * size + 2, 0, ...upTo(Math.max(size, 0)).map(() => 2 * size + 5), 0, 2 * size + 2];
-  if (!SIZES.includes(size) || rows.some((row, y) => row.length !== lengths[y]) || !numbers.every(({letter}) => NUMBERS.includes(letter))) return null;
-  return tableOf(numbers, placesOf(USUAL, size));
+  if (!SIZES.includes(size) || rows.some((row, y) => row.length !== lengths[y]) || !numbers.every(({letter}) => NUMBERS.includes(letter))) return [];
+  const table = tableOf(numbers, placesOf(USUAL, size)), found = table ? towers(table, true) : [];
+  return found.filter(({puzzle}) => fits(puzzle)).map((reading) => ({...reading, doubt: '', lost: ''}));
+}
+
+// The puzzle of numbers alone, if all forms that the lines may have give the same.
+/** @param {string[]} lines @returns {Reading[]} */
+function copied(lines) {
+  const numbers = numbersIn(lines);
+  if (!numbers.length || !numbers.every(({letter}) => NUMBERS.includes(letter))) return [];
+  const extent = [lines.join('\n').trimEnd().split('\n').length, Math.max(...lines.map((line) => line.length))];
+  const found = FORMS.flatMap((form) => SIZES.flatMap((size) => (size + 1 < numbers.length ? foundIn(lines, numbers, extent, form, size) : [])));
+  const near = found.filter(({isApart: own}) => !own), isSure = near.length === found.length || near.some(({isUsual}) => isUsual);
+  const isOne = near.length && isSure && near.every(({table}) => JSON.stringify(table) === JSON.stringify(near[0].table));
+  return (isOne ? towers(near[0].table, true) : []).filter(({lost}) => !lost).map((reading) => ({...reading, doubt: near[0].doubt, isWhole: false}));
 }
 
 // Blank where a square is empty, and nothing at the edge; no table where a number is in a corner or between two places.
@@ -208,18 +212,6 @@ function tableOf(numbers, {xs, ys}) {
   const table = ys.map((_, y) => xs.map((_x, x) => (y % end && x % end ? BLANK : null)));
   for (const {y, x, letter} of numbers) table[ys.indexOf(y)][xs.indexOf(x)] = letter;
   return [table[0][0], table[0][end], table[end][0], table[end][end]].every((symbol) => symbol === null) ? table : null;
-}
-
-// A table with what could have been lost in it, if all forms that the lines may have give the same.
-/** @param {string[]} lines @returns {[Table, string][]} */
-function copied(lines) {
-  const numbers = numbersIn(lines);
-  if (!numbers.length || !numbers.every(({letter}) => NUMBERS.includes(letter))) return [];
-  const extent = [lines.join('\n').trimEnd().split('\n').length, Math.max(...lines.map((line) => line.length))];
-  const found = FORMS.flatMap((form) => SIZES.flatMap((size) => (size + 1 < numbers.length ? foundIn(lines, numbers, extent, form, size) : [])));
-  const near = found.filter(({isApart: own}) => !own), isSure = near.length === found.length || near.some(({isUsual}) => isUsual);
-  const isOne = near.every(({table}) => JSON.stringify(table) === JSON.stringify(near[0].table));
-  return near.length && isSure && isOne ? [[near[0].table, near[0].doubt]] : [];
 }
 
 // The numbers in this form: whether clues may stand apart from the table, and whether it is wholly in the usual program's form. The text ends where the
@@ -246,5 +238,6 @@ function isApart(table, isClose) {
 function lostIn(lines, ys) {
   const empty = ys.findIndex((y) => !lines[y]), size = ys.length - 2;
   if (empty < 0) return '';
-  return empty % (size + 1) ? emptyRow(empty, size) : noLineOfClues([empty ? 'below' : 'above']);
+  if (empty % (size + 1)) return `an empty line counts as row ${empty} of ${size}: if a line was left out, this is another puzzle`;
+  return `no line of clues stands ${empty ? 'below' : 'above'}, so there are none: if one was left out, add it`;
 }

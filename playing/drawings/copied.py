@@ -3,9 +3,9 @@
 from __future__ import annotations
 
 from itertools import product
-from typing import Dict, Iterator, List, NamedTuple, Optional, Sequence, Tuple
+from typing import Dict, Iterator, List, NamedTuple, Sequence, Tuple
 
-from playing.drawings.symbols import BLANK, NUMBERS, Table
+from playing.drawings.tables import BLANK, NUMBERS, Reading, Table, towers
 from playing.fair import SIZES
 
 
@@ -40,20 +40,19 @@ class Found(NamedTuple):
     is_usual: bool
 
 
-def exact(lines: Sequence[str]) -> Optional[Table]:
-    """The table of lines that are as long as the usual program makes them, blanks at their ends included."""
+def exact(lines: Sequence[str]) -> List[Reading]:
+    """The puzzle of lines that are as long as the usual program makes them, blanks at their ends included: nothing in it can have been lost."""
     rows = '\n'.join(lines).strip('\n').split('\n')
-    size = len(rows) - 4
-    if size not in SIZES or [*map(len, rows)] != [2 * size + 2, 0, *[2 * size + 5] * size, 0, 2 * size + 2]:
-        return None
-    numbers = {(y, x): letter for y, line in enumerate(rows) for x, letter in enumerate(line) if letter != BLANK}
-    is_fit = {*numbers.values()} <= {*NUMBERS}
-    return next(_placed(numbers, USUAL.rows(size), USUAL.columns(size)), None) if is_fit else None
+    size, numbers = len(rows) - 4, _numbers(rows)
+    if size not in SIZES or [*map(len, rows)] != [2 * size + 2, 0, *[2 * size + 5] * size, 0, 2 * size + 2] or not {*numbers.values()} <= {*NUMBERS}:
+        return []
+    found = [reading for table in _placed(numbers, USUAL.rows(size), USUAL.columns(size)) for reading in towers(table, True)]
+    return [reading._replace(doubt='', lost='') for reading in found if reading.puzzle.fits()]
 
 
-def copied(lines: Sequence[str]) -> Iterator[Tuple[Table, str]]:
-    """A table with what could have been lost in it, if all forms that the lines may have give the same."""
-    numbers = {(y, x): letter for y, line in enumerate(lines) for x, letter in enumerate(line) if letter != BLANK}
+def copied(lines: Sequence[str]) -> Iterator[Reading]:
+    """The puzzle of numbers alone, if all forms that the lines may have give the same."""
+    numbers = _numbers(lines)
     if not numbers or not {*numbers.values()} <= {*NUMBERS}:
         return
     extent = len('\n'.join(lines).rstrip().split('\n')), max(map(len, lines))
@@ -62,7 +61,11 @@ def copied(lines: Sequence[str]) -> Iterator[Tuple[Table, str]]:
     near = [each for each in found if not each.is_apart]
     is_sure = len(near) == len(found) or any(each.is_usual for each in near)
     if near and is_sure and all(each.table == near[0].table for each in near):
-        yield near[0].table, near[0].doubt
+        yield from (reading._replace(doubt=near[0].doubt, is_whole=False) for reading in towers(near[0].table, True) if not reading.lost)
+
+
+def _numbers(lines: Sequence[str]) -> Numbers:
+    return {(y, x): letter for y, line in enumerate(lines) for x, letter in enumerate(line) if letter != BLANK}
 
 
 def _found(lines: Sequence[str], numbers: Numbers, extent: Tuple[int, int], form: Places, size: int) -> Iterator[Found]:

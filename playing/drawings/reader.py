@@ -6,10 +6,9 @@ import re
 from typing import Dict, Iterator, List, NamedTuple, Optional, Sequence
 
 from playing.drawings import sentences
-from playing.drawings.splitting import MOST_LINES, Part, parts
 from playing.drawings.readings import readings
-from playing.drawings.symbols import EMPTY, NUMBERS, SAME
-from playing.drawings.tables import Puzzle, towers
+from playing.drawings.splitting import MOST_LINES, parts
+from playing.drawings.tables import EMPTY, NUMBERS, SAME, Puzzle
 from playing.drawings.titles import ALONE, SIDES, game_in, id_in, is_title, side_of
 from playing.fair import SIZES
 
@@ -18,8 +17,8 @@ GAP, MOST, LONGEST = 12, 10 * MOST_LINES, 400
 
 NAMED_BESIDE = 'clues with the names of their sides stand beside it: draw these around it, or name all four sides and draw no squares'
 
-#: The first and the last line of what `show` prints of Towers, and one between.
-CLOSING, BETWEEN = re.compile(r'\+( [1-9-])+ \+'), re.compile(r'[1-9-]( [1-9.])+ [1-9-]')
+#: What `show` prints of Towers: its last line says that it is the last.
+SHOWN = re.compile(r'\+( [1-9-])+ \+\n([1-9-]( [1-9.])+ [1-9-]\n)+\+( [1-9-])+ \+')
 
 
 class Read(NamedTuple):
@@ -46,7 +45,7 @@ def read(text: str) -> List[Read]:
     """All of a text, in its order."""
     reader = Reader()
     found: List[Read] = []
-    for line in re.split('\r\n|\r|\n', re.sub('^\ufeff|(\r\n|\r|\n)\\Z', '', text)):
+    for line in re.split('\r\n|\r|\n', re.sub('(\r\n|\r|\n)\\Z', '', text)):
         found += reader.take(line)
     return [*found, *reader.end()]
 
@@ -72,6 +71,8 @@ class Reader:
     def take(self, line: str) -> Iterator[Read]:
         """The puzzles that are whole with the next line."""
         self._number += 1
+        # A mark of the byte order, also where files were put together.
+        line = line.lstrip('\ufeff')
         side, id = side_of(line), id_in(line)
         if side:
             yield from self._drawings(is_beside=self._block is not None)
@@ -95,100 +96,90 @@ class Reader:
     # --- drawings ---
 
     def _draw(self, line: str) -> Iterator[Read]:
-        if not line.strip(' '):
+        is_empty = not line.strip(' ')
+        if is_empty:
             yield from self._end_block()
-            if not self._lines:
-                self._begun = self._number
-            self._lines.append(line)
-            if len(self._lines) >= GAP and not any(own.strip(' ') for own in self._lines[-GAP:]):
-                yield from self._drawings()
         elif self._is_long:
             return
-        else:
-            yield from self._add(line)
-
-    def _add(self, line: str) -> Iterator[Read]:
         if not self._lines:
             self._begun = self._number
-        if self._block is None:
+        if not is_empty and self._block is None:
             self._block = len(self._lines)
         self._lines.append(line)
-        closed = self._closed() if CLOSING.fullmatch(line.strip()) and not self._named else None
-        if closed:
+        if self._block is not None:
+            yield from self._look_at_block(self._block)
+        elif len(self._lines) >= GAP and not any(own.strip(' ') for own in self._lines[-GAP:]):
+            yield from self._drawings()
+
+    def _look_at_block(self, block: int) -> Iterator[Read]:
+        """A block that is closed is taken with all that stands above it, and so is one that is too long."""
+        own = [line.strip(' ') for line in self._lines[block:]]
+        closed = readings(own, self._game) if not self._named and SHOWN.fullmatch('\n'.join(own)) else []
+        if len(closed) == 1:
             yield from self._of_sides()
-            begin, block = self._begun, self._block
-            rest, self._lines = self._lines[:block], []
-            yield from self._told(parts(rest, self._game), rest, begin)
-            yield Read(begin + block, closed)
+            begin = self._begun + block
+            self._lines = self._lines[:block]
+            yield from self._parted()
+            yield Read(begin, closed[0].puzzle)
             self._forget()
-        elif len(self._lines) - self._block > 2 * MOST_LINES:
+        elif len(own) > 2 * MOST_LINES:
             self._is_long = True
             yield from self._drawings()
 
-    def _closed(self) -> Optional[Puzzle]:
-        """The puzzle of this block, where it is just what `show` prints of Towers."""
-        rows = [line.strip() for line in self._lines[self._block :]]
-        size = len(rows) - 2
-        if size not in SIZES or not CLOSING.fullmatch(rows[0]) or not all(map(BETWEEN.fullmatch, rows[1:-1])) or {*map(len, rows)} != {2 * size + 3}:
-            return None
-        found = [reading.puzzle for reading in towers([[*row[::2]] for row in rows], True) if reading.puzzle.fits()]
-        return found[0] if len(found) == 1 and self._game != 'unequal' else None
-
     def _end_block(self) -> Iterator[Read]:
         """A blank line comes after a block: a drawing to which nothing more can belong is taken."""
-        block, self._is_long = self._block, False
-        self._block = None
-        if block is None:
-            return
-        yield from self._of_sides()
-        if not self._lines:
+        block, self._block, self._is_long = self._block, None, False
+        if block is not None:
+            yield from self._of_sides()
+        if block is None or not self._lines:
             return
         if len(self._lines) - block == 1 and ALONE.fullmatch(self._lines[block]):
             del self._lines[block]
             yield from self._drawings()
         elif not self._named and not any(line.strip(' ') for line in self._lines[:block]):
-            lines = _unquoted(self._lines)
-            found = readings(lines, self._game)
+            found = readings(self._drawn, self._game)
             if len(found) == 1 and found[0].is_whole:
-                yield Read(self._begun + block, found[0].puzzle, doubt=found[0].doubt)
+                yield Read(self._begun + first_of(self._drawn), found[0].puzzle, doubt=found[0].doubt)
                 self._forget()
         elif len(self._lines) > MOST:
-            yield from self._drawings() if self._named else self._first_drawings()
-
-    def _first_drawings(self) -> Iterator[Read]:
-        """Those that no further line can change."""
-        found = parts(_unquoted(self._lines), self._game, is_end=False)
-        end = found[-1].end if found else 0
-        yield from self._told(found, _unquoted(self._lines), self._begun)
-        del self._lines[:end]
-        self._begun += end
+            yield from self._drawings() if self._named else self._parted(is_end=False)
 
     def _drawings(self, is_beside: bool = False) -> Iterator[Read]:
         """All that is drawn so far. Clues that are named may belong to it, if some are missing above it or they stand just below it."""
         yield from self._of_sides()
-        lines, begun, self._block = _unquoted(self._lines), self._begun, None
-        self._lines = []
-        if not any(map(str.strip, lines)):
+        if not any(map(str.strip, self._drawn)):
+            self._lines, self._block = [], None
             return
         if self._named or is_beside:
-            yield Read(begun + first_of(lines), game='towers', why=NAMED_BESIDE)
+            yield Read(self._begun + first_of(self._drawn), game='towers', why=NAMED_BESIDE)
         else:
-            yield from self._told(parts(lines, self._game), lines, begun)
+            yield from self._parted()
         self._forget()
+
+    @property
+    def _drawn(self) -> List[str]:
+        """The lines without the marks of a mail's quotation, where each has one: no line of a drawing begins so."""
+        if all(line.startswith('>') for line in self._lines if line.strip(' ')):
+            return [re.sub('^> ?', '', line) for line in self._lines]
+        return self._lines
 
     def _forget(self) -> None:
         """The game that is named above is that of one drawing."""
         self._lines, self._block, self._game = [], None, ''
 
-    def _told(self, found: Sequence[Part], lines: Sequence[str], begun: int) -> Iterator[Read]:
+    def _parted(self, is_end: bool = True) -> Iterator[Read]:
+        """The drawings of the lines; where more of these are to come, those that they can't change."""
+        lines, begun = self._drawn, self._begun
+        found = parts(lines, self._game, is_end)
         for part in found:
-            own = lines[part.begin : part.end]
+            own, begin = lines[part.begin : part.end], begun + part.begin
             if len(part.found) == 1:
-                yield Read(begun + part.begin + first_of(own), part.found[0].puzzle, doubt=part.found[0].doubt)
+                yield Read(begin + first_of(own), part.found[0].puzzle, doubt=part.found[0].doubt)
             else:
                 told = sentences.why(own, self._game, part.found)
-                game = part.found[0].puzzle.game if part.found else sentences.Lines(own, self._game).meant
-                yield Read(begun + part.begin + told.line, game=game, why=told.text, column=told.column)
+                yield Read(begin + told.line, game=told.game, why=told.text, column=told.column)
+        end = found[-1].end if found else 0
+        self._lines, self._begun = self._lines[end:], begun + end
 
     # --- clues with the names of their sides ---
 
@@ -204,11 +195,11 @@ class Reader:
         told, self._sides = self._sides, None
         if told is None:
             return
-        own, found = told.puzzle, [reading.puzzle for reading in readings(_unquoted(self._lines), '')] if any(map(str.strip, self._lines)) else []
+        own, found = told.puzzle, [reading.puzzle for reading in readings(self._drawn)]
         squares = [each for each in found if own and each.size == own.size and each.is_bare]
         if own and squares:
             told = told._replace(puzzle=own._replace(items=own.items + squares[0].items))
-            yield told if len(squares) == len(found) else Read(self._begun + first_of(self._lines), game='towers', why=NAMED_BESIDE)
+            yield told if len(squares) == len(found) else Read(self._begun + first_of(self._drawn), game='towers', why=NAMED_BESIDE)
             self._forget()
         else:
             yield told
@@ -217,13 +208,6 @@ class Reader:
 def first_of(lines: Sequence[str]) -> int:
     """The first line that isn't blank."""
     return [bool(line.strip(' ')) for line in lines].index(True)
-
-
-def _unquoted(lines: Sequence[str]) -> List[str]:
-    """Without the marks of a mail's quotation, where each line has one: no line of a drawing begins so."""
-    if all(line.startswith('>') for line in lines if line.strip(' ')):
-        return [line[2:] if line[1:2] == ' ' else line[1:] for line in lines]
-    return [*lines]
 
 
 def _of_sides(line: int, named: Dict[str, str]) -> Read:

@@ -5,7 +5,7 @@ from __future__ import annotations
 import re
 from typing import Iterator, List, Optional, Sequence, Tuple
 
-from playing.drawings.symbols import BLANK, Table
+from playing.drawings.tables import BLANK, Table, has_sign
 from playing.fair import SIZES
 
 STANDING = {*'^v'}
@@ -17,11 +17,11 @@ def signed(lines: Sequence[str]) -> Iterator[Tuple[Table, str]]:
     size = max((squares_in(line) for line in rows if not set(line) & STANDING), default=0)
     for found in _in_turn(rows, size) if size in SIZES else ():
         between = found[1::2]
-        # Where '-' or a blank line says that there is no sign, each line is there.
-        if '' not in between or not any('-' in line or (line and not line.strip()) for line in between):
-            table = _placed(found, size)
-            if table is not None:
-                yield table, _lost(between)
+        # Where '-' or a blank line says that there is no sign, each line is there; so it is where there is no sign at all.
+        is_told = any('-' in line or (line and not line.strip()) for line in between) or not any(map(has_sign, rows))
+        table = _placed(found, size) if '' not in between or not is_told else None
+        if table is not None:
+            yield table, _lost(between)
 
 
 def squares_in(line: str) -> int:

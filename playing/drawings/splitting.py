@@ -3,9 +3,9 @@
 from __future__ import annotations
 
 from itertools import takewhile
-from typing import Dict, Iterator, List, NamedTuple, Sequence
+from typing import Dict, Iterable, List, NamedTuple, Sequence, Tuple
 
-from playing.drawings.readings import exact_readings, readings
+from playing.drawings.readings import copies_in, readings
 from playing.drawings.tables import Reading
 
 #: So many lines that aren't blank a drawing has at most: that of nine ruled squares, with its clues and a line or two more.
@@ -20,8 +20,8 @@ class Part(NamedTuple):
     found: List[Reading]
 
 
-#: To which borders drawings go from one, and all that they may be.
-Ways = Dict[int, List[Reading]]
+#: The drawings that there may be, from one border to another.
+Spans = Dict[Tuple[int, int], List[Reading]]
 
 
 def parts(lines: Sequence[str], game: str, is_end: bool = True) -> List[Part]:
@@ -29,20 +29,16 @@ def parts(lines: Sequence[str], game: str, is_end: bool = True) -> List[Part]:
     starts = [y for y, line in enumerate(lines) if line.strip(' ') and (y == 0 or not lines[y - 1].strip(' '))]
     # Blank lines before the first and after each block may belong to a drawing.
     borders, count = [0, *starts[1:], len(lines)], len(starts)
-    ways: List[Ways] = []
-    while len(ways) < count:
-        ways += _ways_from(lines, borders, len(ways), game)
+    spans = _spans(lines, borders, game)
     # Where more lines are to come, the last drawing may be cut off.
     later = count if is_end else next(at for at in range(count + 1) if _height(lines, borders[at], len(lines)) <= MOST_LINES)
     found: List[Part] = []
-    begin = 0
-    while begin < count:
-        # No drawing crosses these borders.
-        end, at = begin + 1, begin
-        while at < end:
-            end, at = max([end, *ways[at]]), at + 1
-        found += _parted(ways, borders, range(begin, end), later)
-        begin = end
+    stretches = _uncrossed(spans, 0, count)
+    for begin, end in zip(stretches, stretches[1:]):
+        whole = _on_whole_ways(spans, begin, end, later)
+        sure = _uncrossed(whole, begin, end) if whole else [begin, end]
+        for first, last in zip(sure, sure[1:]):
+            found.append(Part(borders[first], borders[last], [each for (own, _), all in whole.items() if own == first for each in all]))
     found = _joined(found, lines)
     return found if is_end else [part for part in found if part.end <= borders[later]] or found[:1]
 
@@ -52,34 +48,34 @@ def _height(lines: Sequence[str], begin: int, end: int) -> int:
     return sum(bool(line.strip()) for line in lines[begin:end])
 
 
-def _ways_from(lines: Sequence[str], borders: List[int], first: int, game: str) -> List[Ways]:
-    """Those from one border on; and that none begins within an exact one."""
-    lasts = takewhile(lambda last: _height(lines, borders[first], borders[last]) <= MOST_LINES, range(first + 1, len(borders)))
-    spans = {last: lines[borders[first] : borders[last]] for last in lasts}
-    for last, own in spans.items():
-        exact = exact_readings(own, game)
-        if exact:
-            none_within: List[Ways] = [{} for _ in range(first + 1, last)]
-            return [{last: exact}, *none_within]
-    return [{last: found for last, own in spans.items() for found in [readings(own, game)] if found}]
+def _spans(lines: Sequence[str], borders: List[int], game: str) -> Spans:
+    """All of them; and none begins within a copy of the usual program."""
+    spans: Spans = {}
+    begin = 0
+    while begin < len(borders) - 1:
+        ends = takewhile(lambda end: _height(lines, borders[begin], borders[end]) <= MOST_LINES, range(begin + 1, len(borders)))
+        own = {end: lines[borders[begin] : borders[end]] for end in ends}
+        copy = next((end for end in own if copies_in(own[end], game)), 0)
+        found = {(begin, end): readings(own[end], game) for end in ([copy] if copy else own)}
+        spans.update({span: all for span, all in found.items() if all})
+        begin = copy or begin + 1
+    return spans
 
 
-def _parted(ways: Sequence[Ways], borders: List[int], stretch: range, later: int) -> Iterator[Part]:
-    """The drawings of a stretch; where there are several ways to part it, what is the same in all of them counts."""
-    begin, end = stretch.start, stretch.stop
-    may_end = [at for at in range(begin + 1, end + 1) if at == end or at >= later]
-    before, after = {begin: 1}, {at: int(at in may_end) for at in range(begin, end + 1)}
-    for at in stretch:
-        for last in ways[at]:
-            before[last] = before.get(last, 0) + before.get(at, 0)
-    for at in reversed(stretch):
-        after[at] += sum(after[last] for last in ways[at])
-    sure = [at for at in range(begin, end + 1) if after[begin] and before.get(at, 0) * after[at] == after[begin]]
-    if not sure or sure[-1] == begin:
-        sure = [begin, may_end[0]]
-    for first, last in zip(sure, sure[1:]):
-        found = [each for until, own in ways[first].items() if after[until] for each in own]
-        yield Part(borders[first], borders[last], found if after[begin] else [])
+def _on_whole_ways(spans: Spans, begin: int, end: int, later: int) -> Spans:
+    """The drawings of a stretch that can follow one another from its begin to its end, or to a border from which on more lines may come."""
+    own = {(first, last): found for (first, last), found in spans.items() if begin <= first < end}
+    reached, leading = {begin}, {at for at in range(begin + 1, end + 1) if at == end or at >= later}
+    for first, last in own:
+        reached |= {last} if first in reached else set()
+    for first, last in reversed([*own]):
+        leading |= {first} if last in leading else set()
+    return {(first, last): found for (first, last), found in own.items() if first in reached and last in leading}
+
+
+def _uncrossed(spans: Iterable[Tuple[int, int]], begin: int, end: int) -> List[int]:
+    """The borders that no drawing crosses."""
+    return [at for at in range(begin, end + 1) if not any(first < at < last for first, last in spans)]
 
 
 def _joined(found: Sequence[Part], lines: Sequence[str]) -> List[Part]:

@@ -1,16 +1,44 @@
-"""The meanings that a table of symbols may have: a puzzle of Towers, one of Unequal, or squares alone."""
+"""The letters of drawings, and the meanings that a table of them may have: a puzzle of Towers, one of Unequal, or squares alone."""
 
 from __future__ import annotations
 
 from itertools import product
-from typing import Dict, Iterator, List, NamedTuple, Optional, Sequence, Set, Tuple
+from typing import Iterator, List, NamedTuple, Optional, Sequence, Set, Tuple
 
-from playing.drawings.symbols import BLANK, CORNER, EMPTY, NONE, NUMBERS, ODD, SIGNS, Table
 from playing.fair import SIZES
 from playing.naming import listed
 
-SQUARES = {*NUMBERS, *NONE}
-CORNERS = {None, CORNER, *NONE}
+#: The symbols of an empty square or of no clue; an empty cell of a table is a blank, and one that isn't drawn is nothing.
+EMPTY, BLANK, CORNER, NUMBERS, SIGNS = '.', ' ', '+', '123456789', '<>^v'
+NONE = frozenset((EMPTY, '-', BLANK))
+
+#: Pencil marks, which say nothing of a puzzle; and what can be no symbol of one.
+MARKS, ODD = '~', '@'
+
+#: Other letters of the same meaning. Those of ruled lines become '-', '|' and '+'.
+OTHERS = {
+    EMPTY: '_0xXoO*?·•∙・□☐▢⬜◻○＿０＊？．',
+    '-': '–—−‐‑─━═╌┄－',
+    '|': '│┃║¦｜',
+    CORNER: '┌┐└┘├┤┬┴┼┏┓┗┛┣┫┳┻╋╔╗╚╝╠╣╦╩╬╤╧╟╢╪╫╒╕╘╛╞╡╓╖╙╜╥╨┯┷┠┨┿╂＋',
+    BLANK: '\xa0\u2007\u2009\u3000',
+    '<': '＜﹤‹〈',
+    '>': '＞﹥›〉',
+    '^': '∧˄⌃⋀Λ︿▲△A＾',
+    'v': '∨˅⌄⋁V﹀▼▽',
+    **{number: chr(0xFF10 + int(number)) for number in NUMBERS},
+}
+SAME = str.maketrans({other: own for own, others in OTHERS.items() for other in others})
+
+#: Rows of symbols: of squares, and of what is at their edges or between them.
+Table = List[List[Optional[str]]]
+
+SQUARES: Set[Optional[str]] = {*NUMBERS, *NONE}
+CORNERS: Set[Optional[str]] = {None, CORNER, *NONE}
+
+
+def has_sign(text: str) -> bool:
+    return any(sign in text for sign in SIGNS)
 
 
 class Puzzle(NamedTuple):
@@ -55,9 +83,11 @@ class Reading(NamedTuple):
     doubt: str = ''
     #: Whether nothing that stands above or below could belong to it, too.
     is_whole: bool = True
+    #: What has been left out, so that it isn't taken.
+    lost: str = ''
 
 
-def towers(table: Table, is_told: bool, is_strict: bool = True) -> Iterator[Reading]:
+def towers(table: Table, is_told: bool) -> Iterator[Reading]:
     """A square of squares, and at each side a line of clues, or none. In a table of cells all four are there."""
     high, wide = len(table), len(table[0])
     ends = (table[0], table[-1], [row[0] for row in table], [row[-1] for row in table])
@@ -66,7 +96,7 @@ def towers(table: Table, is_told: bool, is_strict: bool = True) -> Iterator[Read
         if {*sides} <= {0, 1} and any(sides) and (all(sides) or not is_told):
             # In the place of a side that isn't drawn stand squares, and no line of clues.
             if all(is_side or {*line} & NONE for is_side, line in zip(sides, ends)):
-                yield from _framed(_frame(table, size, top, left), is_strict)
+                yield from _framed(_frame(table, size, top, left))
 
 
 def _frame(table: Table, size: int, top: int, left: int) -> Table:
@@ -75,38 +105,39 @@ def _frame(table: Table, size: int, top: int, left: int) -> Table:
     return [[row[x + left] if x + left in range(len(row)) else None for x in range(-1, size + 1)] for row in rows]
 
 
-def _framed(table: Table, is_strict: bool) -> Iterator[Reading]:
+def _framed(table: Table) -> Iterator[Reading]:
     """The puzzle of Towers with these squares and sides, if it is one."""
-    size = len(table) - 2
-    squares = {symbol for row in table[1:-1] for symbol in row[1:-1]}
-    edges = {'above': table[0][1:-1], 'below': table[-1][1:-1], 'left': [row[0] for row in table[1:-1]], 'right': [row[-1] for row in table[1:-1]]}
-    corners = {table[y][x] for y in (0, -1) for x in (0, -1)}
+    inner, corners = table[1:-1], corners_of(table)
+    squares = {symbol for row in inner for symbol in row[1:-1]}
+    edges = {'above': table[0][1:-1], 'below': table[-1][1:-1], 'left': [row[0] for row in inner], 'right': [row[-1] for row in inner]}
     symbols = {symbol for edge in edges.values() for symbol in edge}
-    # Without any clue the edge is told from the squares by its corners alone.
+    # Without any clue the edge is told from the squares by its corners alone; '+' there says that each place is drawn.
     is_edge = bool(symbols & {*NUMBERS} or corners & {None, BLANK, CORNER})
-    # A corner isn't blank where another one is as a place without a clue.
-    is_even = not (corners & {None, BLANK} and corners & {EMPTY, '-'})
-    are_symbols = squares <= SQUARES and corners <= CORNERS and symbols <= {None, *SQUARES}
-    if is_edge and is_even and are_symbols and _agree(squares, edges, corners, is_strict):
-        places = product(range(-1, size + 1), repeat=2)
-        items = tuple(f'item {x},{y},{table[y + 1][x + 1]}' for y, x in places if table[y + 1][x + 1] in {*NUMBERS})
+    are_even = not any(map(_is_mixed, (squares, corners, symbols | ({'-'} if CORNER in corners else set()))))
+    if is_edge and are_even and squares <= SQUARES and corners <= CORNERS and symbols <= {None, *SQUARES}:
         bare = [side for side, edge in edges.items() if {*edge} == {None}]
-        lost = [side for side in bare if side in ('above', 'below')]
-        doubt = f'no line of clues stands {listed(lost)}, so there are none: if one was left out, add it' if lost else ''
-        yield Reading(Puzzle('towers', size, items), doubt, not bare)
+        lines = [side for side in bare if side in ('above', 'below')]
+        doubt = f'no line of clues stands {listed(lines)}, so there are none: if one was left out, add it' if lines else ''
+        lacking = [symbol for side, edge in edges.items() if side not in bare for symbol in edge].count(None)
+        # A side with nothing at all is one without clues if others have such places, too. If a single place has nothing, a letter may be lost.
+        is_lost = not lacking if bare else lacking == 1 and BLANK not in squares
+        lost = ('a side has no clue' if bare else 'one place at the edge has no clue') if is_lost else ''
+        yield Reading(Puzzle('towers', len(inner), _numbers(table, 1)), doubt, not bare, lost)
 
 
-def _agree(squares: Set[Optional[str]], edges: Dict[str, List[Optional[str]]], corners: Set[Optional[str]], is_strict: bool) -> bool:
-    """All places without a number say so in one way: by a symbol, or by nothing.
+def corners_of(table: Table) -> Set[Optional[str]]:
+    return {table[y][x] for y in (0, -1) for x in (0, -1)}
 
-    A side with nothing at all is one without clues if others have such places, too. If a single place has nothing, a letter of its line may be lost.
-    """
-    symbols = {symbol for edge in edges.values() for symbol in edge}
-    says, lacks = symbols & {EMPTY, '-'}, symbols & {None, BLANK}
-    drawn = [edge for edge in edges.values() if {*edge} != {None}]
-    lacking = sum(edge.count(None) for edge in drawn)
-    is_lost = lacking == 0 if len(drawn) < len(edges) else lacking == 1 and BLANK not in squares
-    return not (lacks and (says or CORNER in corners)) and not (is_strict and is_lost) and not (BLANK in squares and squares & {EMPTY, '-'})
+
+def _is_mixed(symbols: Set[Optional[str]]) -> bool:
+    """Whether places without a number say so in two ways: by a symbol, and by nothing."""
+    return bool(symbols & {None, BLANK} and symbols & {EMPTY, '-'})
+
+
+def _numbers(table: Table, outside: int = 0) -> Tuple[str, ...]:
+    """The items of a table's numbers, of which so many lines are outside of the squares."""
+    places = ((x - outside, y - outside, symbol) for y, row in enumerate(table) for x, symbol in enumerate(row))
+    return tuple(f'item {x},{y},{symbol}' for x, y, symbol in places if symbol in {*NUMBERS})
 
 
 def unequal(table: Table, doubt: str = '') -> Iterator[Reading]:
@@ -138,8 +169,6 @@ def _item_between(symbol: str, x: int, y: int) -> Optional[str]:
 def plain(table: Table, games: Sequence[str]) -> Iterator[Reading]:
     """Squares alone. They belong to any game."""
     size = len(table)
-    symbols = [(x, y, symbol) for y, row in enumerate(table) for x, symbol in enumerate(row)]
-    if size in SIZES and len(table[0]) == size and all(symbol in SQUARES for *_, symbol in symbols):
-        items = tuple(f'item {x},{y},{symbol}' for x, y, symbol in symbols if symbol in {*NUMBERS})
+    if size in SIZES and len(table[0]) == size and {symbol for row in table for symbol in row} <= SQUARES:
         for game in games:
-            yield Reading(Puzzle(game, size, items), is_whole=False)
+            yield Reading(Puzzle(game, size, _numbers(table)), is_whole=False)

@@ -5,7 +5,7 @@ from __future__ import annotations
 import re
 from typing import List, NamedTuple, Optional, Tuple
 
-from playing.drawings.symbols import OTHERS, SIGNS
+from playing.drawings.tables import OTHERS, SIGNS
 from playing.naming import GAME_NAMES
 
 SIDES = {'top': 'top|above|north|up', 'bottom': 'bottom|below|south|down', 'left': 'left|west', 'right': 'right|east'}

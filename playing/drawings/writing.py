@@ -5,8 +5,7 @@ from __future__ import annotations
 from typing import List, Sequence
 
 from playing.board import Board
-from playing.drawings.symbols import BLANK, EMPTY
-from playing.drawings.tables import Puzzle
+from playing.drawings.tables import BLANK, EMPTY, Puzzle
 from playing.naming import Place
 
 

@@ -64,7 +64,7 @@ UNREAD = [
     ('no space', ONE_DRAWN.replace('3 .', '3>.'), "-:2: column 2: '>' stands between two squares of Towers, which has no signs"),
     ('a sign at the edge', SIGNS_DRAWN.replace('^', '<', 1), "-:2: column 1: '<' stands at the edge, and a sign stands between two squares"),
     ('a size of 2', '. .\n- -\n. .\n', '-:1: a drawing of size 2, and sizes go from 3 to 9'),
-    ('a line alone', f'{". " * 10}\n', '-:1: 1 line alone, and a puzzle has three or more'),
+    ('a line alone', f'{". " * 10}\n', '-:1: 1 line, and a drawing has from 3 to 24'),
     ('a size of 10', f'{". " * 9}.\n' * 10, '-:1: a drawing of size 10, and sizes go from 3 to 9'),
     ('two sizes in one', ONE_DRAWN[:20] + '- . . . . -\n- . . . . -\n+ - - - - +\n', '-:2: this line has 5 symbols, and the others 6'),
     ('another character', ONE_DRAWN.replace('3 .', '3 \u2460'), "-:2: column 3: '\u2460' is no number, no sign and no empty square"),

@@ -37,7 +37,7 @@ def test_several(player: Player) -> None:
     player.sit(TOWERS, PHONE)
     paste(player, f'Futoshiki\n{SIGNED}\n3 1 2\n1 2\n\n{ID}\n')
     shows(player, 'Unequal 3x3, 4 signs, 0 given')
-    shows(player, 'Line 8: 2 lines alone, and a puzzle has three or more.')
+    shows(player, 'Line 8: 2 lines, and a drawing has from 3 to 24.')
     shows(player, '2 . . . -')
     player.look('{Begin}')
     player.driver.wait_for('document.querySelector("#fresh-id").validationMessage.startsWith("There are several")')
