@@ -4,29 +4,32 @@ from __future__ import annotations
 
 from functools import lru_cache, reduce
 from operator import or_
-from typing import Any, Iterator, List, Mapping, NamedTuple, Optional, Sequence, Tuple
+from typing import Any, Iterator, List, Mapping, Optional, Sequence, Tuple
 
-#: A number in a square, as square * size + number - 1.
-Candidate = int
-
-#: Some candidates of a place, as bits, in its order.
+#: Some numbers, or some columns, as bits from 0 on.
 Bits = int
 
+#: Squares, each with numbers that go.
+Strikes = List[Tuple[int, Bits]]
 
-class Look(NamedTuple):
-    """Where a step looks: its kind, and what it names there; places in order, each with the candidates of which it has one; the clue."""
 
-    kind: str
-    what: Any
-    places: Sequence[Sequence[Candidate]]
-    clue: Optional[int]
+class Look:
+    """Where a step looks: its kind, and what it names there; its squares, in order; the clue."""
 
-    def supported(self, choices: Tuple[Bits, ...]) -> Tuple[Bits, ...]:
-        """Of each choice what occurs in some way to choose that the look allows."""
-        if self.kind != 'sign':
-            return arranged(choices, self.clue)
-        greater, less = choices
-        return greater & -(less & -less) << 1, less & ((1 << greater.bit_length() >> 1) - 1)
+    def __init__(self, kind: str, what: Any, squares: Sequence[int], clue: Optional[int] = None) -> None:
+        self.kind, self.what, self.squares, self._clue = kind, what, squares, clue
+
+    def strikes(self, left: Sequence[Bits]) -> Strikes:
+        """What can't be there, by what is left."""
+        choices = tuple(left[square] for square in self.squares)
+        return [(square, bits & ~good) for square, bits, good in zip(self.squares, choices, self._good(choices)) if bits & ~good]
+
+    def _good(self, choices: Tuple[Bits, ...]) -> Sequence[Bits]:
+        """Of each square the numbers that may be there."""
+        if self.kind == 'sign':
+            greater, less = choices
+            return [-(less & -less) << 1, (1 << greater.bit_length() >> 1) - 1]
+        return in_columns(choices, 1 << self.what - 1) if self.kind == 'number' else arranged(choices, self._clue)
 
 
 class Grid:
@@ -39,17 +42,12 @@ class Grid:
         self.lines = rows + columns
         views = columns + [line[::-1] for line in columns] + rows + [line[::-1] for line in rows]
         signs = [[sign['greater'], sign['less']] for sign in board['signs']]
-        self.looks = [Look('sign', sign, self._places(sign), None) for sign in signs]
-        self.looks += [Look('line', line, self._places(squares), None) for line, squares in enumerate(self.lines)]
-        for clue in board['clues']:
-            place = self.place(clue['x'], clue['y'])
-            self.looks.append(Look('clue', place, self._places(views[place]), clue['clue']))
-        #: From here on by a number's columns, row by row: no kind of hints.
-        self.first_number = len(self.looks)
-        self.looks += [Look('number', n + 1, [[square * w + n for square in row] for row in rows], None) for n in range(w)]
-
-    def _places(self, squares: Sequence[int]) -> List[Sequence[Candidate]]:
-        return [range(square * self.size, (square + 1) * self.size) for square in squares]
+        clues = [(self.place(clue['x'], clue['y']), clue['clue']) for clue in board['clues']]
+        self.looks = [Look('sign', ends, ends) for ends in signs]
+        self.looks += [Look('line', line, squares) for line, squares in enumerate(self.lines)]
+        self.looks += [Look('clue', place, views[place], clue) for place, clue in clues]
+        #: By a number's columns, row by row: no kind of hints.
+        self.numbers = [Look('number', number, range(w * w)) for number in range(1, w + 1)]
 
     def place(self, x: int, y: int) -> int:
         """The place of a clue, in the order of descriptions."""
@@ -63,6 +61,13 @@ class Grid:
 def bits_of(bits: Bits) -> Iterator[int]:
     """The places of the bits that are set."""
     return (place for place in range(bits.bit_length()) if bits >> place & 1)
+
+
+def in_columns(choices: Sequence[Bits], bit: Bits) -> List[Bits]:
+    """Of all squares the numbers that may be there, if one number, a bit, stands once in each row, each time in another column."""
+    w = int(len(choices) ** 0.5)
+    columns = tuple(sum(1 << x for x in range(w) if choices[start + x] & bit) for start in range(0, w * w, w))
+    return [-1 if some >> x & 1 else ~bit for some in arranged(columns, None) for x in range(w)]
 
 
 @lru_cache(maxsize=1 << 17)

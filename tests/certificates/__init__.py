@@ -1,4 +1,4 @@
 """Certificates: all that are written are accepted by both checkers, and none that says what isn't so.
 
-checking  the two checkers, as commands over a file and line by line
+checking  the two checkers, as commands over files
 """

@@ -6,34 +6,22 @@ from typing import Any, Callable, Dict, List, Tuple
 
 Certificate = Dict[str, Any]
 
-
-def _is_branch(step: Any) -> bool:
-    return step[0] in ('suppose', 'lemma')
+#: The kinds of steps that strike, and of those that have steps below them.
+LEAVES, BRANCHES = ['line', 'clue', 'number', 'sign', 'kept'], ['suppose', 'lemma']
 
 
 def _branches(steps: List[Any]) -> List[List[Any]]:
     """All lists of steps, those below suppositions and lemmas too."""
-    return [steps, *(each for step in steps if _is_branch(step) for each in _branches(step[-1]))]
+    return [steps, *(each for step in steps if step[0] in BRANCHES for each in _branches(step[-1]))]
 
 
-def _some(made: Certificate, chance: random.Random) -> Tuple[List[Any], int]:
-    """A list of steps and a place in it."""
-    steps = chance.choice([steps for steps in _branches(made['steps']) if steps])
-    return steps, chance.randrange(len(steps))
+def _some(made: Certificate, chance: random.Random, kinds: List[str]) -> Tuple[List[Any], int]:
+    """A list of steps and a place in it, where one of some kinds stands."""
+    return chance.choice([(steps, place) for steps in _branches(made['steps']) for place, step in enumerate(steps) if step[0] in kinds])
 
 
-def _leaf(made: Certificate, chance: random.Random) -> Any:
-    """A step that strikes."""
-    return chance.choice([step for steps in _branches(made['steps']) for step in steps if not _is_branch(step)])
-
-
-def _of_kind(made: Certificate, kind: str, chance: random.Random) -> Any:
-    """A list of steps and a place in it, where one of a kind stands."""
-    return chance.choice([(steps, place) for steps in _branches(made['steps']) for place, step in enumerate(steps) if step[0] == kind])
-
-
-def _supposition(made: Certificate, chance: random.Random) -> Any:
-    steps, place = _of_kind(made, 'suppose', chance)
+def _step(made: Certificate, chance: random.Random, kinds: List[str]) -> Any:
+    steps, place = _some(made, chance, kinds)
     return steps[place]
 
 
@@ -49,34 +37,25 @@ def _number(made: Certificate, chance: random.Random) -> int:
     return chance.randint(1, _size(made))
 
 
-def _item(made: Certificate, change: Callable[[List[str]], None]) -> None:
+def _item(made: Certificate, chance: random.Random, change: Callable[[str], str]) -> None:
     """The puzzle with another clue of Towers, or another square of Unequal."""
     head, _, text = made['id'].partition(':')
     edge, comma, squares = text.partition(',') if made['game'] == 'towers' else (text, '', '')
     between = '/' if made['game'] == 'towers' else ','
     fields = edge.split(between)
-    change(fields)
+    place = chance.randrange(len(fields))
+    fields[place] = change(fields[place])
     made['id'] = f'{head}:{between.join(fields)}{comma}{squares}'
 
 
 def item_less(made: Certificate, chance: random.Random) -> None:
     """The puzzle without a clue or a sign."""
-
-    def change(fields: List[str]) -> None:
-        place = chance.choice([place for place, field in enumerate(fields) if len(field) > (made['game'] == 'unequal')])
-        fields[place] = fields[place][:-1]
-
-    _item(made, change)
+    _item(made, chance, lambda field: field[:-1] if len(field) > (made['game'] == 'unequal') else field)
 
 
 def item_more(made: Certificate, chance: random.Random) -> None:
     """The puzzle with another clue or given."""
-
-    def change(fields: List[str]) -> None:
-        place = chance.randrange(len(fields)) if made['game'] == 'towers' else _square(made, chance)
-        fields[place] = str(_number(made, chance)) + fields[place][1:]
-
-    _item(made, change)
+    _item(made, chance, lambda field: f'{_number(made, chance)}{field[1:]}')
 
 
 def other_number(made: Certificate, chance: random.Random) -> None:
@@ -91,41 +70,40 @@ def rows_swapped(made: Certificate, chance: random.Random) -> None:
 
 
 def steps_less(made: Certificate, chance: random.Random, count: int = 1 << 20) -> None:
-    steps, place = _some(made, chance)
+    steps, place = _some(made, chance, LEAVES + BRANCHES)
     del steps[place : place + count]
 
 
 def solution_struck(made: Certificate, chance: random.Random) -> None:
     """A step strikes the solution's number of a square, too."""
     square = _square(made, chance)
-    _leaf(made, chance)[2].append([square, [made['solutions'][0][square]]])
+    _step(made, chance, LEAVES)[2].append([square, [made['solutions'][0][square]]])
 
 
 def other_look(made: Certificate, chance: random.Random) -> None:
-    step, w = _leaf(made, chance), _size(made)
+    step, w = _step(made, chance, LEAVES), _size(made)
     step[:2] = chance.choice([('line', chance.randrange(2 * w)), ('clue', chance.randrange(4 * w)), ('number', chance.randint(1, w))])
 
 
 def other_supposed(made: Certificate, chance: random.Random) -> None:
-    step = _supposition(made, chance)
+    step = _step(made, chance, ['suppose'])
     step[2] = step[2] % _size(made) + 1
 
 
 def solution_supposed(made: Certificate, chance: random.Random) -> None:
-    step = _supposition(made, chance)
+    step = _step(made, chance, ['suppose'])
     step[2] = made['solutions'][0][step[1]]
 
 
 def branch_left(made: Certificate, chance: random.Random) -> None:
     """Steps that hold below a supposition or a lemma stand after it, too."""
-    steps, place = _of_kind(made, chance.choice(['suppose', 'lemma']), chance)
+    steps, place = _some(made, chance, BRANCHES)
     steps[place + 1 : place + 1] = copy.deepcopy(steps[place][-1])
 
 
 def lemma_wider(made: Certificate, chance: random.Random) -> None:
     """A lemma has a number more, or a square less, than it is shown of."""
-    steps, place = _of_kind(made, 'lemma', chance)
-    numbers = steps[place][1]
+    numbers = _step(made, chance, ['lemma'])[1]
     if chance.random() < 0.5:
         chance.choice(numbers)[1].append(_number(made, chance))
     else:
@@ -134,7 +112,7 @@ def lemma_wider(made: Certificate, chance: random.Random) -> None:
 
 def lemma_later(made: Certificate, chance: random.Random) -> None:
     """A lemma is shown at the end, after its use."""
-    steps, place = _of_kind(made, 'lemma', chance)
+    steps, place = _some(made, chance, ['lemma'])
     steps.append(steps.pop(place))
 
 
@@ -152,7 +130,7 @@ CHANGES: List[Callable[[Certificate, random.Random], object]] = [
     lambda made, chance: made['steps'].insert(0, made['steps'].pop()),
     solution_struck,
     # A step strikes some number of some square, too.
-    lambda made, chance: _leaf(made, chance)[2].append([_square(made, chance), [_number(made, chance)]]),
+    lambda made, chance: _step(made, chance, LEAVES)[2].append([_square(made, chance), [_number(made, chance)]]),
     other_look, other_supposed, solution_supposed, branch_left, lemma_wider, lemma_later, lemma_used,
     lambda made, chance: made.update(answer='none', solutions=[]),
     lambda made, chance: made.update(answer='one', solutions=made['solutions'][:1]),

@@ -169,7 +169,7 @@ INPUTS = [
 def test_input(room: Room, text: str, status: int) -> None:
     """Word for word alike, but where Python doesn't read what is nested too deep."""
     room.put('certificate', text.encode())
-    python, twin = both('certificate', room)
+    python, twin = both(room, 'certificate')
     assert python.output == twin.output or text.count('[') > DEEP
     for ended in python, twin:
         assert (ended.status, ended.error) == (status, b''), ended.said[-500:]
@@ -188,7 +188,7 @@ def test_files(room: Room) -> None:
         ('none', 2, 0, 'NO CERTIFICATE is number 0'), ('folder', 2, 0, 'NO CERTIFICATE is number 0'),
         ('three', 1, 2, 'NOT SHOWN by certificate 2'), ('broken', 2, 1, 'NO CERTIFICATE is number 2'),
     ):  # fmt: skip
-        for ended in both(name, room):
+        for ended in both(room, name):
             assert (ended.status, ended.error, ended.output.count(b'Exactly one')) == (status, b'', shown), ended.said
             assert f'{said} of \'{name}\': ' in ended.output.decode()
 
@@ -213,7 +213,7 @@ LINES = [
 @pytest.mark.parametrize(('before', 'after', 'status'), named(LINES))
 def test_lines(room: Room, before: bytes, after: bytes, status: int) -> None:
     room.put('certificate', before + TEXT.encode() + after)
-    python, twin = both('certificate', room)
+    python, twin = both(room, 'certificate')
     assert (python, python.status, python.error) == (twin, status, b''), twin.said[-500:]
 
 
@@ -238,5 +238,5 @@ def test_large(room: Room) -> None:
     """100 MB are refused at once, with little memory in Python."""
     room.put('large', b'{')
     os.truncate(f'{room.path}/large', 100_000_000)
-    for ended in both('large', room, {resource.RLIMIT_AS: 200 << 20}):
+    for ended in both(room, 'large', limits={resource.RLIMIT_AS: 200 << 20}):
         assert (ended.status, ended.error, ended.output.count(b'\n')) == (2, b'', 1), ended.said

@@ -4,10 +4,11 @@ import copy
 import itertools
 import json
 import random
+import re
 from typing import Any, Dict, List, Tuple
 
 from tests.certificates.changes import CHANGES
-from tests.certificates.checking import SHOWN, by_node, by_python, module
+from tests.certificates.checking import both, module
 from tests.certificates.conftest import Writer, seeds, stored
 from tests.objects.boards import puzzle_of
 from tests.objects.solutions import latin_squares, solutions_of
@@ -16,7 +17,7 @@ from tests.objects.solutions import latin_squares, solutions_of
 WHOLE, SAMPLE, STILL_RIGHT = 1000, 80, 0.3
 
 #: Small puzzles whose certificates have a lemma.
-LEARNED = ['unequal 4dr:0,0,0,2D,0,0UD,0D,0,0,0,0,0,2,0,0,0,', 'unequal 4dx:3,0,0,0,0,0,0,0,0U,0U,0L,0,0,0U,0,0,', 'towers 4du:///2//2/2/2///////2/']
+LEARNED = ['unequal 4dr:0D,0,0,0D,2,0,0,0,0,0D,0,0,0,0,0U,0L,', 'unequal 4dr:0,0,0L,0,0,0L,0L,0,0D,0,0RL,0,0,0,0,0,', 'towers 4du://3//2///////2/1///,b1d1h']
 
 #: The count of solutions that an answer claims.
 COUNTS = {'none': 0, 'one': 1, 'several': 2}
@@ -53,10 +54,12 @@ def test_changed(writer: Writer, is_whole: bool) -> None:
     bases = writer.write([*small, *several, *none, *LEARNED, *(id for id in seeds(8) if id.split()[1][0] in '34')], words=['--needed', '--seconds', '3600']).certificates
     assert all(map(is_so, bases)) and all(any(kind in str(made['steps']) for made in bases) for kind in ('suppose', 'lemma'))
     tried = changed(bases, WHOLE if is_whole else SAMPLE)
-    lines = [json.dumps(made) for made in tried]
-    statuses = by_python(lines)
-    assert by_node(lines, writer.room) == statuses
-    right = [made for made, status in zip(tried, statuses) if status == SHOWN]
+    for at, made in enumerate(tried):
+        writer.room.put(f'{at}', json.dumps(made).encode())
+    python, node = both(writer.room, *map(str, range(len(tried))))
+    assert node == python and python.error == b'', python.said[-500:]
+    refused = set(re.findall(r"^NO.* of '(\d+)': ", python.output.decode(), re.MULTILINE))
+    right = [made for at, made in enumerate(tried) if str(at) not in refused]
     assert [made for made in right if not is_so(made)] == []
     assert len(right) < STILL_RIGHT * len(tried), len(right)
 

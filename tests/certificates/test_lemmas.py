@@ -86,6 +86,6 @@ LEMMAS = [
 @pytest.mark.parametrize(('steps', 'status'), named(LEMMAS))
 def test_lemma(room: Room, steps: List[Any], status: int) -> None:
     room.put('certificate', json.dumps({**GOOD, 'steps': [*steps, *STEPS]}).encode())
-    python, node = both('certificate', room)
+    python, node = both(room, 'certificate')
     assert (python.status, python.error) == (node.status, node.error) == (status, b''), python.said[-500:]
     assert python.output == node.output

@@ -27,7 +27,7 @@ ANSWERS = {'one': 'Exactly one solution', 'none': 'No solution', 'several': 'Sev
 
 def expect_shown(made: Certified, room: Room, name: str = 'certificates') -> None:
     """Both checkers accept all, and say the same; the answers are those of the rows."""
-    python, node = both(name, room)
+    python, node = both(room, name)
     assert (python.status, python.error) == (0, b''), python.said[-500:]
     assert node == python
     told = re.findall(r'^([^,\n]*)(?:, and .*)?\. Steps: (\d+)\. Suppositions among them: (\d+)\.$', python.output.decode(), re.MULTILINE)
@@ -82,7 +82,7 @@ def test_needed(writer: Writer, is_whole: bool) -> None:
     needs = ['needed' in each for each in made.certificates]
     assert all(row.spare == '0' for row, each in zip(made.rows, needs) if each)
     assert [row.spare == '0' for row in made.rows if row.grade == '-'] == [each for row, each in zip(made.rows, needs) if row.grade == '-']
-    ended = both('certificates', writer.room)[0]
+    ended = both(writer.room, 'certificates')[0]
     assert ended.output.count(b', and each clue, sign and given is needed.') == sum(needs)
 
 
@@ -92,7 +92,7 @@ def test_by_hand(room: Room) -> None:
     sample = re.sub(r'\n +', '', re.findall(r'^    (\{"game".*?\})$', text, re.MULTILINE | re.DOTALL)[0])
     assert json.loads(sample)['id'] == ID
     room.put('certificates', f'{sample}\n'.encode())
-    python, node = both('certificates', room)
+    python, node = both(room, 'certificates')
     assert python == node and python.status == 0, python.said
 
 
