@@ -29,7 +29,7 @@ chain_settled Struck less grade c d (step ∷ steps) allowed h fewer settled =
     chain_settled Struck less grade (without c step.strikes) d steps allowed.1 h.1
     (step_settled Struck less grade c d step allowed.0 h.0 fewer settled) settled
 
--- what a grade leaves is left of the start
+-- a pair that a grade leaves is left of the start
 pub closure_fewer : (Struck : Striking) (grade : Grade) (c d : CandidatesValue) → IsClosure Struck grade c d → IsFewer c d
 closure_fewer Struck grade c d h = λ cell value left. left_fewer c h.steps cell value (h.left.0 cell value left)
 

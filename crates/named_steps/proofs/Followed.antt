@@ -8,7 +8,7 @@ use Rattle.trail_solver.specs.Pairs.{IsPair}
 use Rattle.trail_solver.specs.Puzzles.{Puzzle, Solves}
 use Rattle.trail_solver.specs.Solutions.{IsOnlySolution}
 use Rattle.trail_solver.specs.Completions.{Completes}
-use Rattle.line_steps.specs.Left.{IsLeft, IsFewer, all_of, without}
+use Rattle.line_steps.specs.Left.{IsFewer, all_of, without}
 use Rattle.line_steps.specs.Grades.{IsLower, has_reason, rank}
 use Rattle.named_steps.specs.Chains.{Shows, IsView}
 use Rattle.line_steps.specs.Chains.{StepValue, IsChain, left_by, AreOfGrade}
@@ -37,11 +37,7 @@ follows_only p Struck sound grade g f s = record {
   only = λ h other.
       let end = left_by (all_of g.size) f.steps in
       let size : end.size ≡ p.size = left_size (all_of g.size) f.steps ∙ s.same_size in
-      let within = chain_keeps p Struck sound (all_of g.size) f.steps h s.same_size f.chain other (within_all g.size h) in
-      same_numbers h g other.is_grid s.is_grid (other.same_size ∙ sym s.same_size) (λ cell inside.
-      let here : cell < g.size * g.size = subst (λ (w : ℕ). cell < w * w) (other.same_size ∙ sym s.same_size) inside in
-      let there : cell < end.size * end.size = subst (λ (w : ℕ). cell < w * w) (sym (left_size (all_of g.size) f.steps)) here in
-      f.alone cell here (number_at h cell) (number_left p end h cell size other within there));
+      grind (arith, chain_keeps, within_all, same_numbers, left_size, number_left);
 }
 
 -- ---- the next grade
@@ -52,15 +48,10 @@ pub next_has : (lower higher : Grade) → ((reason : Reason) → has_reason lowe
 next_has lower higher has [] h = tt
 next_has lower higher has (step ∷ steps) h = (has step.reason h.0, next_has lower higher has steps h.1)
 
--- what follows by a grade follows by those above it
+-- a grid that follows by a grade follows by those above it
 pub follows_up : (Struck : Striking) (lower higher : Grade) (g : GridValue) → rank lower ≤ rank higher → Follows Struck lower g
     → Follows Struck higher g
-follows_up Struck lower higher g up f = record {
-  steps = f.steps;
-  chain = f.chain;
-  allowed = next_has lower higher (higher_has lower higher up) f.steps f.allowed;
-  alone = f.alone;
-}
+follows_up Struck lower higher g up f = grind (arith, next_has, higher_has)
 
 -- a grid that follows by a grade follows by each higher one
 pub grades_nested : (Struck : Striking) (lower higher : Grade) (g : GridValue) → IsLower lower higher → Follows Struck lower g
@@ -83,12 +74,7 @@ chain_more Less More more c (step ∷ steps) h = (
 pub follows_more : (Less More : Striking)
     → ((c : CandidatesValue) (reason : Reason) (cell value : ℕ) → Less c reason cell value → More c reason cell value)
     → (grade : Grade) (g : GridValue) → Follows Less grade g → Follows More grade g
-follows_more Less More more grade g f = record {
-  steps = f.steps;
-  chain = chain_more Less More more (all_of g.size) f.steps f.chain;
-  allowed = f.allowed;
-  alone = f.alone;
-}
+follows_more Less More more grade g f = grind (arith, chain_more)
 
 -- ---- boards
 
@@ -106,14 +92,7 @@ pub boards_lead : (Struck : Striking) → IsAntitone Struck → (grade : Grade) 
     (view : CandidatesValue) (cell : ℕ) → Follows Struck grade s → g.size ≡ s.size → IsView g view → cell < s.size * s.size
     → (steps : List StepValue) × Shows Struck grade view steps (OnlyValue cell (number_at s cell))
 boards_lead Struck less grade s g view cell f size in_view inside =
-    let there = from_view Struck less grade s view f (in_view.size ∙ size) in (
-      f.steps,
-      record {
-        chain = there.0;
-        allowed = f.allowed;
-        shown = λ other left. f.alone cell inside other (there.1 cell other left);
-      },
-    )
+    let there = from_view Struck less grade s view f (in_view.size ∙ size) in grind arith
 
 -- from a board with a wrong number, a chain leaves nothing of that number's square
 pub boards_refuted : (Struck : Striking) → IsAntitone Struck → (grade : Grade) (s g : GridValue)
@@ -128,12 +107,7 @@ boards_refuted Struck less grade s g view cell f size in_view inside some wrong 
       allowed = f.allowed;
       cell = cell;
       inside = subst (λ (w : ℕ). cell < w * w) (sym (in_view.size ∙ size)) inside;
-      nothing = λ value left.
-          let right : value ≡ number_at s cell = f.alone cell inside value (there.1 cell value left) in
-          let was : IsLeft view cell value = left_fewer view f.steps cell value left in
-          let pair : IsPair g.size cell value = subst (λ (w : ℕ). IsPair w cell value) in_view.size was.pair in
-          let stands : value ≡ number_at g cell = (in_view.filled cell value pair some).0 was.may in
-          wrong (sym stands ∙ right);
+      nothing = λ value left. grind (arith, left_fewer);
     }
 
 -- a board that is refuted is completed by no solution
@@ -154,14 +128,7 @@ pub candidates_lead : (Struck : Striking) → IsAntitone Struck → (grade : Gra
     (cell : ℕ) → Follows Struck grade s → c.size ≡ s.size → cell < s.size * s.size
     → (steps : List StepValue) × Shows Struck grade c steps (OnlyValue cell (number_at s cell))
 candidates_lead Struck less grade s c cell f size inside =
-    let there = from_view Struck less grade s c f size in (
-      f.steps,
-      record {
-        chain = there.0;
-        allowed = f.allowed;
-        shown = λ other left. f.alone cell inside other (there.1 cell other left);
-      },
-    )
+    let there = from_view Struck less grade s c f size in grind arith
 
 -- from candidates that lack a number of a grid that follows, a chain leaves its square nothing
 pub lacking_refuted : (Struck : Striking) → IsAntitone Struck → (grade : Grade) (s : GridValue) (c : CandidatesValue)
@@ -175,10 +142,7 @@ lacking_refuted Struck less grade s c cell f size inside lacks =
       allowed = f.allowed;
       cell = cell;
       inside = subst (λ (w : ℕ). cell < w * w) (sym size) inside;
-      nothing = λ value left.
-          let right : value ≡ number_at s cell = f.alone cell inside value (there.1 cell value left) in
-          let was : IsLeft c cell value = left_fewer c f.steps cell value left in
-          both_ways (may_be c cell (number_at s cell)) lacks (subst (λ (v : ℕ). may_be c cell v ≡ true) right was.may);
+      nothing = λ value left. grind (arith, left_fewer, both_ways);
     }
 
 -- candidates that are refuted have no solution within them
@@ -196,5 +160,4 @@ pub fewer_lead : (Struck : Striking) → IsAntitone Struck → (grade : Grade) (
     (goal : Goal) → c.size ≡ d.size → IsFewer c d → Shows Struck grade c steps goal → Shows Struck grade d steps goal
 fewer_lead Struck less grade c d steps goal size fewer s =
     let there = chain_less Struck less c d steps size fewer s.chain in
-    let ends : (left_by c steps).size ≡ (left_by d steps).size = left_size c steps ∙ size ∙ sym (left_size d steps) in
-    record { chain = there.0; allowed = s.allowed; shown = shown_less (left_by c steps) (left_by d steps) goal ends there.1 s.shown }
+    grind (arith, left_size, shown_less)

@@ -1,5 +1,5 @@
 -- Where no single step of a chain can be left out, no several steps can.
-use Rattle.std.proofs.Common.{◌≡◌, List, [], ◌∷◌, ◌++◌, inl, inr, ◌⊎◌, refl, sym, ap, ◌∙◌, subst}
+use Rattle.std.proofs.Common.{◌≡◌, List, [], ◌∷◌, ◌++◌, inl, inr, ◌⊎◌, refl, sym, ap, ◌∙◌, subst, arith}
 use Rattle.trail_solver.specs.Candidates.{CandidatesValue}
 use Rattle.line_steps.specs.Left.{IsFewer, without}
 use Rattle.named_steps.specs.Chains.{Shows, IsTight}
@@ -81,13 +81,7 @@ shows_more Struck less grade c front back kept step goal whole of part =
     let behind = (chain_split Struck c kept back part.chain).1 in
     let size : (left_by c kept).size ≡ (left_by c front).size = left_size c kept ∙ sym (left_size c front) in
     let more = chain_less Struck less (left_by c kept) (left_by c front) back size (part_fewer front kept c c (λ cell value h. h) of) behind in
-    record {
-      chain = chain_joined Struck c front back before more.0;
-      allowed = grade_split grade front back step whole.allowed;
-      shown = shown_less (left_by c (kept ++ back)) (left_by c (front ++ back)) goal (left_size c (kept ++ back) ∙ sym (left_size c (front ++ back)))
-          (subst (λ d. IsFewer d (left_by c (front ++ back))) (sym (left_append c kept back))
-          (subst (λ d. IsFewer (left_by (left_by c kept) back) d) (sym (left_append c front back)) more.1)) part.shown;
-    }
+    grind (arith, chain_joined, grade_split, shown_less, left_size, left_append)
 
 -- a part of a chain that shows its goal is the whole chain, if none of the steps can be left out
 pub tight_least : (Struck : Striking) → IsAntitone Struck → (grade : Grade) (c : CandidatesValue)

@@ -41,14 +41,9 @@ follows_left p Struck sound less grade g d s h f = λ cell inside.
     let number : IsLeft d cell (number_at g cell) =
     h.left.1 cell (number_at g cell) (number_left p end g cell (size ∙ s.same_size) s within (subst (λ (w : ℕ). cell < w * w) (sym size) here)) in
     let fewer = chain_settled Struck less grade (all_of g.size) d f.steps f.allowed f.chain (closure_fewer Struck grade (all_of g.size) d h) h.settled in
-    record {
-      low = number.pair.low;
-      high = number.pair.high;
-      left = number.may;
-      alone = λ other low high may. f.alone cell here other (fewer cell other (record { pair = record { inside = inside; low = low; high = high }; may = may }));
-    }
+    grind arith
 
--- what a grade leaves of candidates with an empty trail it leaves of all pairs
+-- a grade leaves of all pairs just as much as of candidates with an empty trail
 from_all : (Struck : Striking) (grade : Grade) (w : ℕ) (c d : CandidatesValue) → c.size ≡ w → c.trail ≡ []
     → IsClosure Struck grade c d → IsClosure Struck grade (all_of w) d
 from_all Struck grade w c d size none h = subst (λ a. IsClosure Struck grade a d) (all_pairs c w size none) h
@@ -56,19 +51,7 @@ from_all Struck grade w c d size none h = subst (λ a. IsClosure Struck grade a 
 -- the grid that is left, where it solves the puzzle, is a solution that follows
 pub found_follows : (p : Puzzle) (Struck : Striking) (grade : Grade) (c d : CandidatesValue) (g : GridValue)
     → c.size ≡ p.size → c.trail ≡ [] → IsClosure Struck grade c d → IsFilled d g → Solves p g → IsSolutionBy p Struck grade g
-found_follows p Struck grade c d g size none h fill s =
-    let k = from_all Struck grade g.size c d (size ∙ sym s.same_size) none h in
-    record {
-      solves = s;
-      follows = record {
-        steps = k.steps;
-        chain = k.chain;
-        allowed = k.allowed;
-        alone = λ cell inside other left.
-            let now : IsLeft d cell other = k.left.1 cell other left in
-            (fill.each cell (subst (λ (w : ℕ). cell < w * w) (sym k.size) inside)).alone other now.pair.low now.pair.high now.may;
-      };
-    }
+found_follows p Struck grade c d g size none h fill s = grind (arith, from_all)
 
 -- where several values or none are left of a square, no solution follows
 pub open_none : (p : Puzzle) (Struck : Striking) → IsSoundFor p Struck → IsAntitone Struck → (grade : Grade)
@@ -121,13 +104,4 @@ graded_lowest p Struck follows = (follows, λ lower less f. absurd (omega (arith
 -- a puzzle that follows by a grade, but not by the one before it, has that grade
 pub graded_next : (p : Puzzle) (Struck : Striking) (before grade : Grade) → rank grade ≡ rank before + 1 → FollowsBy p Struck grade
     → (FollowsBy p Struck before → ⊥) → IsGradeOf p Struck (Some grade)
-graded_next p Struck before grade next follows none = (
-  follows,
-  λ lower less f. none (
-    f.0,
-    record {
-      solves = f.1.solves;
-      follows = follows_up Struck lower before f.0 (omega (arith, less, next)) f.1.follows;
-    },
-  ),
-)
+graded_next p Struck before grade next follows none = grind (arith, follows_up)

@@ -2,7 +2,7 @@
 
 -- goals of chains of steps, and hints that explain
 pub mod Chains
--- what follows by a grade, and what it refutes
+-- grids that follow by a grade, and boards that it refutes
 pub mod Following
 -- which puzzles follow by a grade, and the least of them
 pub mod Graded

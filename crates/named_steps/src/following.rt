@@ -39,8 +39,8 @@ pub fn follows<P: Steps>(p: &P, grade: Grade) -> bool
     follows_knowing(p, grade, &mut P::Cache::default())
 }
 
-/// As `follows`, with `cache`, which is used and added to.
-pub fn follows_knowing<P: Steps>(p: &P, grade: Grade, cache: &mut P::Cache) -> bool
+// As `follows`, with `cache`, which is used and added to.
+fn follows_knowing<P: Steps>(p: &P, grade: Grade, cache: &mut P::Cache) -> bool
     ensures { IsTrue result ↔ FollowsBy (P.puzzle p.now) (StruckBy P.puzzle P.own p.now) grade }
 {
     solution_knowing(p, grade, cache).is_some()

@@ -2,7 +2,7 @@
 //!
 //! A `Reason` is a kind of step and the place where it looks, a `Grade` has some kinds of reasons, and `settle` takes away all that
 //! they strike: these are of `line_steps`. A puzzle follows by a grade where its solution alone is left of all pairs (`follows`,
-//! `follows_knowing`, `solution_by`), and `grade_of` is the least such grade. Nothing here takes memory from the heap.
+//! `solution_by`), and `grade_of` is the least such grade. Nothing here takes memory from the heap.
 //!
 //! ```
 //! match grade_of(&puzzle) {
@@ -17,7 +17,7 @@ mod following;
 mod goal;
 mod step_laws;
 
-pub use following::{follows, follows_knowing, grade_of, solution_by};
+pub use following::{follows, grade_of, solution_by};
 pub use goal::Goal;
 pub use line_steps::{Grade, Reason, Steps, settle, strike};
 pub use step_laws::laws;
