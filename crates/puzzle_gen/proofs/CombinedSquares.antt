@@ -1,4 +1,5 @@
 -- The square that is combined of three orders is Latin.
+use Rattle.std.proofs.lemmas.Bool.Decides.{nat_tests}
 use Rattle.std.proofs.Common.{◌≡◌, ℕ, ◌+◌, ◌-◌, ◌*◌, ◌%◌, ◌<◌, List, length, get_or, map, sym, ◌∙◌, ap, arith, add_comm}
 use Rattle.std.specs.List.{range_with_len}
 use Rattle.std.proofs.Math.Nat.{mod-add-mod, add-mod-mod, add-mod_right, mod-eq_of_lt}
@@ -41,12 +42,7 @@ line_once w d turns symbols f some step in_turn in_symbols made = λ v low high.
     let here : f k ≡ v = omega (arith, made k k_small, read) in
     sym (once_at f v k w k_small here (λ j j_small same.
     let read_j : get_or symbols ((d + get_or turns j 0) % w) 0 ≡ v - 1 = omega (arith, made j j_small, same) in
-    let at_j : (d + get_or turns j 0) % w < w = mod_below (d + get_or turns j 0) w some in
-    let place_j : (d + get_or turns j 0) % w ≡ place =
-    sym (in_symbols.places ((d + get_or turns j 0) % w) at_j) ∙ ap (λ (n : ℕ). place_in n symbols) read_j in
-    let turn_j : get_or turns j 0 ≡ turn =
-    sym (turned w d (get_or turns j 0) step (in_turn.items j j_small)) ∙ ap (λ (n : ℕ). (n + (w - d)) % w) place_j in
-    sym (in_turn.places j j_small) ∙ ap (λ (n : ℕ). place_in n turns) turn_j))
+    grind (arith, nat_tests, mod_below, turned)))
 
 -- ---- the square
 
@@ -71,9 +67,7 @@ latin_combined w rows columns symbols some in_rows in_columns in_symbols = recor
   columns = λ column left.
       line_once w (get_or columns column 0) rows symbols (λ row. number_at (combined w rows columns symbols) (row * w + column))
       some (in_columns.items column left) in_rows in_symbols
-      (λ row below.
-      number_in w row column rows columns symbols below left
-      ∙ ap (λ (n : ℕ). get_or symbols (n % w) 0 + 1) (add_comm (get_or rows row 0) (get_or columns column 0)));
+      (λ row below. grind (arith, nat_tests, number_in, add_comm));
 }
 
 -- a grid whose numbers are those that three orders give is the square that is combined of them

@@ -1,5 +1,6 @@
 -- One result for each game, parameters and seed: a puzzle of the game, with one solution, that needs all its items.
-use Rattle.std.proofs.Common.{◌≡◌, ℕ, ◌<◌, true, false, Result, Ok, Err, None, Option, IsSome, IsTrue, refl, sym, ◌∙◌, ap, subst, arith}
+use Rattle.std.proofs.lemmas.Bool.Decides.{nat_tests}
+use Rattle.std.proofs.Common.{◌≡◌, ℕ, ◌<◌, true, false, Result, Ok, Err, None, Option, IsSome, IsTrue, refl, ap, subst, arith}
 use Rattle.trail_solver.specs.Solutions.{HasSeveralSolutions, IsOnlySolution}
 use Rattle.trail_solver.specs.declared.rules.Rules.{Ghosts}
 use Rattle.game_texts.specs.declared.params.Params.{Params}
@@ -7,7 +8,6 @@ use Rattle.puzzle_gen.specs.declared.gen_fault.GenFault.{GenFault}
 use Rattle.puzzle_gen.specs.declared.gen_fault.GenFault.TheVariants.{SizeTooLarge, Graded}
 use Rattle.puzzle_gen.specs.SeededSquares.{square_of, trial_order}
 use Rattle.needed_items.specs.Needed.{all_but}
-use Rattle.puzzle_gen.specs.Pruning.{IsPruned}
 use Rattle.puzzle_gen.specs.Generating.{Generates}
 use Rattle.puzzle_gen.specs.Inner.OnePruned.{IsOnePruned}
 use Rattle.needed_items.proofs.ItemLaws.{ItemLaws}
@@ -16,12 +16,11 @@ use Rattle.puzzle_gen.proofs.OnePruned.{one_pruned}
 no_letter : (letter : Option ℕ) → letter ≡ None → IsSome letter → ⊥
 no_letter letter none some = let h : false ≡ true = subst IsSome none some in cc
 
--- what is generated is the one pruned puzzle of the seed
+-- a generated puzzle is the one pruned puzzle of the seed
 generated_one : {P : Type 0} (f : Ghosts P) (params : Params) (seed : ℕ) (p : P) → ItemLaws f
     → Generates f params seed (Ok p)
     → IsOnePruned f (square_of params.size seed) (trial_order (f.items_of params.size) params.size seed) p
-generated_one f params seed p laws (small, none, pruned) =
-    one_pruned f (square_of params.size seed) (trial_order (f.items_of params.size) params.size seed) p laws pruned
+generated_one f params seed p laws (small, none, pruned) = grind (arith, nat_tests, one_pruned)
 
 -- two results of the same parameters and seed are the same
 pub generates_once : {P : Type 0} (f : Ghosts P) (params : Params) (seed : ℕ) (r s : Result P GenFault) → ItemLaws f
@@ -37,18 +36,18 @@ generates_once f params seed (Err Graded) (Ok q) laws first second = absurd (no_
 generates_once f params seed (Err Graded) (Err SizeTooLarge) laws first second = absurd (omega (arith, first.0, second))
 generates_once f params seed (Err Graded) (Err Graded) laws first second = refl
 
--- what is generated is a puzzle of the game, of the size of the parameters
+-- a generated puzzle is one of the game, of the size of the parameters
 pub generated_valid : {P : Type 0} (f : Ghosts P) (params : Params) (seed : ℕ) (p : P) → ItemLaws f
     → Generates f params seed (Ok p) → f.valid p × ((f.puzzle p).size ≡ params.size)
 generated_valid f params seed p laws gives =
     let one = generated_one f params seed p laws gives in (one.valid, one.size)
 
--- the seed's square is the only solution of what is generated
+-- the seed's square is the only solution of a generated puzzle
 pub generated_only : {P : Type 0} (f : Ghosts P) (params : Params) (seed : ℕ) (p : P) → ItemLaws f
     → Generates f params seed (Ok p) → IsOnlySolution (f.puzzle p) (square_of params.size seed)
 generated_only f params seed p laws gives = (generated_one f params seed p laws gives).only_solution
 
--- what is generated needs each of its items
+-- a generated puzzle needs each of its items
 pub generated_needed : {P : Type 0} (f : Ghosts P) (params : Params) (seed : ℕ) (p : P) → ItemLaws f
     → Generates f params seed (Ok p) → (i : ℕ) → i < f.items_of (f.puzzle p).size → IsTrue (f.has p i)
     → HasSeveralSolutions (f.puzzle (f.cut p (all_but i)))

@@ -1,5 +1,7 @@
 -- A permutation of the numbers below n is an order of them, each at one place.
-use Rattle.std.proofs.Common.{◌≡◌, ℕ, zero, suc, ◌+◌, ◌<◌, ◌≤◌, List, [], ◌∷◌, ◌++◌, length, drop, get_or, eqb, cond, map, All, IsPermutation, inl, inr, refl, sym, ◌∙◌, ap, arith, eq-eqb, subst, add-one}
+use Rattle.std.proofs.lemmas.Grind.{common_steps}
+use Rattle.std.proofs.lemmas.Bool.Decides.{nat_tests}
+use Rattle.std.proofs.Common.{◌≡◌, ℕ, zero, suc, ◌+◌, ◌<◌, ◌≤◌, List, [], ◌∷◌, ◌++◌, length, get_or, eqb, cond, map, All, IsPermutation, inl, inr, refl, sym, ◌∙◌, ap, arith, eq-eqb, subst, add-one}
 use Rattle.std.specs.List.{range_with_len, refill}
 use Rattle.std.proofs.Math.Seq.{take-append_seam}
 use Rattle.std.proofs.lemmas.Bool.{cases_eq, cases_lt, ne_eqb}
@@ -14,13 +16,7 @@ pub place_found : (x : ℕ) (xs : List ℕ) (k : ℕ) → k < length xs → get_
     → (place_in x xs ≤ k) × (get_or xs (place_in x xs) 0 ≡ x)
 place_found x [] k within here = absurd (omega arith)
 place_found x (y ∷ ys) zero within here = rw (eq-eqb x y (sym here)) (omega arith, here)
-place_found x (y ∷ ys) (suc k) within here =
-    elim (cases_eq x y) [
-      | inl same ↦ rw (eq-eqb x y same) (omega arith, sym same)
-      | inr other ↦
-          let rest = place_found x ys k (omega arith) here in
-          rw (ne_eqb x y other) (omega (arith, rest.0), rest.1)
-    ]
+place_found x (y ∷ ys) (suc k) within here = grind (arith, nat_tests, cases_eq, eq-eqb, ne_eqb, (place_found x ys k))
 
 -- ---- how often a value stands in a list that is made by places
 
@@ -49,9 +45,7 @@ once_at f v k (suc n) within here only =
 
 -- the numbers below n are a list that is made by places
 pub range_made : (n : ℕ) → range_with_len 0 n ≡ map (λ k. k) (range_with_len 0 n)
-range_made n =
-    fill_by_all (λ k. k) (range_with_len 0 n) n 0 (length-range_with_len 0 n)
-    (λ k inside. let at = get_or-range_with_len 0 n k 0 inside in omega (arith, at))
+range_made n = grind (arith, common_steps, fill_by_all, length-range_with_len, get_or-range_with_len)
 
 -- the numbers below n + 1 are those below n, and then n
 pub range_more : (n : ℕ) → range_with_len 0 (n + 1) ≡ range_with_len 0 n ++ n ∷ []
@@ -66,12 +60,9 @@ range_once n v below =
 -- ---- orders
 
 range_below : (n : ℕ) → All (λ i. i < n) (range_with_len 0 n)
-range_below n = λ k d inside.
-    let len = length-range_with_len 0 n in
-    let at = get_or-range_with_len 0 n k d (omega arith) in
-    omega (arith, at)
+range_below n = λ k d inside. grind (arith, nat_tests, length-range_with_len, get_or-range_with_len)
 
--- what has the numbers below n, each once, is an order of them
+-- a list of the numbers below n, each once, is an order of them
 pub order_of_permutation : (n : ℕ) (xs : List ℕ) → IsPermutation (range_with_len 0 n) xs → IsOrder n xs
 order_of_permutation n xs same =
     let count : length xs ≡ n = length_permutation (range_with_len 0 n) xs same ∙ length-range_with_len 0 n in
@@ -107,20 +98,14 @@ length_range_made n xs made = ap length made ∙ length-range_with_len 0 n
 
 -- a list that is refilled as a whole with one of its orders is that order
 refill_whole : (first lent order : List ℕ) → lent ≡ first → IsPermutation lent order → refill (length first) first order ≡ order
-refill_whole first lent order same moved =
-    let count : length order ≡ length first = length_permutation lent order moved ∙ ap length same in
-    rw (← count) (take-append_seam order (drop (length order) first))
+refill_whole first lent order same moved = grind (arith, nat_tests, length_permutation, take-append_seam)
 
 -- the first n numbers, refilled with an order of them, are a permutation of them
 pub shuffled_whole : (n : ℕ) (first lent order : List ℕ) → first ≡ range_with_len 0 n → lent ≡ first → IsPermutation lent order
     → IsPermutation (range_with_len 0 n) (refill (length first) first order)
-shuffled_whole n first lent order made same moved =
-    subst (IsPermutation (range_with_len 0 n)) (sym (refill_whole first lent order same moved))
-    (subst (λ (xs : List ℕ). IsPermutation xs order) (same ∙ made) moved)
+shuffled_whole n first lent order made same moved = grind (arith, nat_tests, refill_whole)
 
 -- the refilled numbers, and what is left of the stream, are what is drawn for n numbers
 pub shuffled_drawn : {S : Type 0} (drawn : ℕ → List ℕ × S) (n : ℕ) (first lent order : List ℕ) (left : S) → first ≡ range_with_len 0 n
     → lent ≡ first → IsPermutation lent order → (order, left) ≡ drawn (length lent) → (refill (length first) first order, left) ≡ drawn n
-shuffled_drawn drawn n first lent order left made same moved drew =
-    ap (λ (xs : List ℕ). (xs, left)) (refill_whole first lent order same moved) ∙ drew
-    ∙ ap drawn (ap length same ∙ length_range_made n first made)
+shuffled_drawn drawn n first lent order left made same moved drew = grind (arith, nat_tests, refill_whole, length_range_made)

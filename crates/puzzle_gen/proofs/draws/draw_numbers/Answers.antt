@@ -1,4 +1,4 @@
-use Rattle.std.proofs.Common.{ℕ, IsPermutation, ◌∙◌, ap, subst, sym}
+use Rattle.std.proofs.Common.{ℕ, ◌∙◌, ap, sym}
 use Rattle.std.specs.List.{range_with_len}
 use Rattle.puzzle_gen.specs.SeededSquares.{drawn_order}
 use Rattle.puzzle_gen.proofs.OrderPlaces.{length_range_made, order_of_permutation, shuffled_whole, shuffled_drawn}

@@ -1,5 +1,4 @@
-use Rattle.std.proofs.Common.{ℕ, ◌<◌, sym, subst}
-use Rattle.std.specs.List.{slice_index}
+use Rattle.std.proofs.Common.{sym, subst}
 use Rattle.needed_items.specs.Needed.{HasOnly}
 use Rattle.needed_items.specs.InTurn.{HasSeveral, IsLeftInTurn}
 use Rattle.needed_items.proofs.ItemLaws.{laws_of}
