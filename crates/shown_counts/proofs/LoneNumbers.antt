@@ -1,5 +1,5 @@
 -- A row has the same fillings without the numbers that stand alone in another of its squares.
-use Rattle.std.proofs.Common.{◌≡◌, ◌↔◌, ℕ, ◌<◌, ◌≤◌, inl, inr, List, length, take, slice_index, sym, ◌∙◌, subst, arith}
+use Rattle.std.proofs.Common.{◌≡◌, ◌↔◌, ℕ, ◌<◌, ◌≤◌, List, length, take, slice_index, ◌∙◌, arith}
 use Rattle.std.proofs.lemmas.Bool.{cases_eq, cases_lt, true_from_ne_false}
 use Rattle.std.proofs.lemmas.List.{length-take-le}
 use Rattle.number_sets.specs.Sets.{has_number, IsSingle}
@@ -13,13 +13,7 @@ only_there : (w : ℕ) (row : List ℕ) (clue : ℕ) (line : List ℕ) (k j : �
 only_there w row clue line k j inside low other_low f single =
     let long : length line ≡ w = f.whole ∙ length-take-le w row inside in
     let same : slice_index line j ≡ slice_index line k = single.alone (slice_index line j) (filled_has w row clue line j inside other_low f) in
-    elim (cases_eq j k) [
-      | inl here ↦ subst (λ (i : ℕ). IsSingle (slice_index row i) (slice_index line k)) here single
-      | inr other ↦ absurd (elim (cases_lt j k) [
-        | inl before ↦ f.start.apart j k before (omega (arith, long, low)) same
-        | inr after ↦ f.start.apart k j (omega (arith, after, other)) (omega (arith, long, other_low)) (sym same)
-      ])
-    ]
+    grind (arith, cases_eq, cases_lt)
 
 -- the row without the numbers that stand alone elsewhere has the same fillings
 pub same_fillings : (w : ℕ) (row rest : List ℕ) (lone clue : ℕ) (line : List ℕ) → w ≤ length row → w ≤ length rest → AreLone w row lone

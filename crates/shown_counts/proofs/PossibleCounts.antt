@@ -20,24 +20,11 @@ pub record HasStart (starts line : List ℕ) : Type 0 where
 
 -- the line without any number is among the starts, if they have the count 0 for the height 0
 pub none_started : (starts : List ℕ) → has_number (slice_index starts 0) 0 ≡ true → HasStart starts []
-none_started starts has = record {
-  least = 0;
-  high = omega arith;
-  seen_from = record { taller = λ x. sym (le-leb 0 x (omega arith)) };
-  has = has;
-}
+none_started starts has = grind (arith, le-leb)
 
 -- the first towers of a start of a line are a start by themselves
 first_towers : (sets line : List ℕ) (k : ℕ) → k ≤ length line → IsStart sets line → IsStart sets (take k line)
-first_towers sets line k inside start =
-    let long : length (take k line) ≡ k = length-take-le k line inside in
-    let at : (j : ℕ) → j < length (take k line) → slice_index (take k line) j ≡ slice_index line j = λ j low. get_or-take k line j 0 (omega (arith, long, low)) in
-    record {
-      room = omega (arith, long, inside, start.room);
-      values = λ j low. rw (at j low) (start.values j (omega (arith, long, inside, low)));
-      candidates = λ j low. rw (at j low) (start.candidates j (omega (arith, long, inside, low)));
-      apart = λ i j before low e. start.apart i j before (omega (arith, long, inside, low)) (sym (at i (omega (arith, before, low))) ∙ e ∙ at j low);
-    }
+first_towers sets line k inside start = grind (arith, length-take-le, get_or-take)
 
 -- the tallest of a line's first towers is as tall as they are many, since no two are the same
 tall : {sets : List ℕ} (p : List ℕ) (least : ℕ) → IsStart sets p → IsLeastSeen p least → length p ≤ least - 1
@@ -84,9 +71,7 @@ started_more sets starts longer line clue k small inside f one h =
 -- once the starts are as long as the row, each filling's count is among theirs
 pub started_whole : (sets starts line : List ℕ) (clue k : ℕ) → length sets ≤ k → IsFilling sets clue line → HasStart starts (take k line)
     → (h : ℕ) × (h < 11) × (has_number (slice_index starts h) clue ≡ true)
-started_whole sets starts line clue k all f h =
-    let same : take k line ≡ line = take_all k line (omega (arith, all, f.whole)) in
-    (h.least, omega (arith, h.high), subst (λ (n : ℕ). has_number (slice_index starts h.least) n ≡ true) (ap seen same ∙ f.shown) h.has)
+started_whole sets starts line clue k all f h = grind (arith, take_all)
 
 -- ---- one height after another
 
@@ -94,21 +79,12 @@ started_whole sets starts line clue k all f h =
 pub longer_init : (low set_of : ℕ) (starts : List ℕ) (lower : ℕ) (longer : List ℕ) → length longer ≡ 11
     → ((least count : ℕ) → least < low → has_number (slice_index starts least) count ≡ true → has_number lower count ≡ true)
     → IsLongerBelow low low set_of starts lower longer
-longer_init low set_of starts lower longer room below = record {
-  room = room;
-  below = below;
-  hidden = λ least count height above most shown has is. absurd (omega (arith, above, most));
-  seen = λ least count height above from below small has is. absurd (omega (arith, from, below));
-}
+longer_init low set_of starts lower longer room below = grind arith
 
 -- starts that are one longer up to the greatest height are one longer altogether
 pub longer_all : (n low set_of lower : ℕ) (starts longer : List ℕ) → 10 ≤ n → IsLongerBelow n low set_of starts lower longer
     → IsOneLonger low set_of starts longer
-longer_all n low set_of lower starts longer all h = record {
-  room = h.room;
-  hidden = λ least count height from most below has is. h.hidden least count height from (omega (arith, most, all)) below has is;
-  seen = λ least count height above from high small has is. h.seen least count height above from (omega (arith, high, all)) small has is;
-}
+longer_all n low set_of lower starts longer all h = grind arith
 
 -- starts that are one longer up to height n are so up to n + 1, once its counts are put in
 pub longer_more : (n low set_of lower more counts : ℕ) (starts longer : List ℕ) → n < 10 → IsLongerBelow n low set_of starts lower longer
@@ -121,10 +97,7 @@ longer_more n low set_of lower more counts starts longer inside h kept new hidde
     let here : slice_index (set longer (n + 1) counts) (n + 1) ≡ counts = get_or-set_same longer (n + 1) counts 0 (omega (arith, inside, h.room)) in
     let stays : (k : ℕ) → (k ≡ n + 1 → ⊥) → slice_index (set longer (n + 1) counts) k ≡ slice_index longer k = λ k other. get_or-set_other longer (n + 1) k counts 0 other in
     let among : (least count : ℕ) → least < n + 1 → has_number (slice_index starts least) count ≡ true → has_number more count ≡ true =
-    λ least count below is. elim (cases_eq least n) [
-      | inl same ↦ new count (subst (λ (k : ℕ). has_number (slice_index starts k) count ≡ true) same is)
-      | inr other ↦ kept count (h.below least count (omega (arith, below, other)) is)
-    ] in
+    λ least count below is. grind (arith, cases_eq) in
     record {
       room = length-set longer (n + 1) counts ∙ h.room;
       below = among;
@@ -135,9 +108,7 @@ longer_more n low set_of lower more counts starts longer inside h kept new hidde
         | inr other ↦ ap (λ (s : ℕ). has_number s count) (stays least other) ∙ h.hidden least count height from (omega (arith, most, other)) below has is
       ];
       seen = λ least count height above from below small has is. elim (cases_eq height n) [
-        | inl same ↦ subst (λ (k : ℕ). has_number (slice_index (set longer (n + 1) counts) (k + 1)) (count + 1) ≡ true) (sym same)
-            (ap (λ (s : ℕ). has_number s (count + 1)) here
-            ∙ seen_now count small (subst (λ (k : ℕ). has_number set_of k ≡ true) same has) (among least count (omega (arith, above, same)) is))
+        | inl same ↦ search arith
         | inr other ↦ ap (λ (s : ℕ). has_number s (count + 1)) (stays (height + 1) (λ e. other (omega (arith, e))))
             ∙ h.seen least count height above from (omega (arith, below, other)) small has is
       ];

@@ -1,11 +1,9 @@
 -- The counts of a row's fillings are those that a reason's line shows.
-use Rattle.std.proofs.Common.{◌≡◌, ◌↔◌, ℕ, ◌<◌, ◌≤◌, true, List, take, slice_index, sym, ap, ◌∙◌, subst}
+use Rattle.std.proofs.Common.{◌≡◌, ◌↔◌, ℕ, ◌<◌, ◌≤◌, true, List, take, slice_index, subst, arith}
 use Rattle.number_sets.specs.Sets.{has_number}
 use Rattle.line_steps.specs.Views.{view_cell}
 use Rattle.line_steps.specs.Laws.LineSquares.{view_cell_once}
 use Rattle.trail_solver.specs.Candidates.{CandidatesValue}
-use Rattle.line_steps.specs.Left.{IsLeft}
-use Rattle.towers_game.specs.Fillings.{Anything, Standing}
 use Rattle.towers_game.proofs.Supports.{filled_supported}
 use Rattle.line_steps.specs.declared.reason.Reason.{Reason}
 use Rattle.line_steps.specs.declared.reason.Reason.TheVariants.{Given, Peer, Place, Bound, Stand, Clue, Sign, Set}
@@ -25,9 +23,7 @@ row_shown w May place row cell k values shows small r inside at counts v count o
       λ has.
           let f = fill.0 ((are v count one).0 has) in
           record { edge = r.edge; index = k; inside = low; here = here; line = f.0; filling = f.1; there = f.2 },
-      λ s.
-          let same : k ≡ s.index = view_cell_once w place k s.index r.edge low s.inside (here ∙ sym s.here) in
-          (are v count one).1 (fill.1 (s.line, s.filling, ap (slice_index s.line) same ∙ s.there)),
+      λ s. grind (arith, view_cell_once),
     )
 
 -- the counts that a row's fillings show at index k are those that the reason's line shows in that square
@@ -36,11 +32,8 @@ pub told_shown : (c : CandidatesValue) (reason : Reason) (row : ClueRow) (cell k
 told_shown c (Given at) row cell k values shows small r inside here counts = absurd r
 told_shown c (Peer by) row cell k values shows small r inside here counts = absurd r
 told_shown c (Place line index other) row cell k values shows small r inside here counts = absurd r
-told_shown c (Bound place) row cell k values shows small r inside here counts =
-    row_shown c.size Anything place row cell k values shows small r inside here counts
-told_shown c (Stand place) row cell k values shows small r inside here counts =
-    row_shown c.size (Standing c) place row cell k values shows small r inside here counts
-told_shown c (Clue place) row cell k values shows small r inside here counts =
-    row_shown c.size (IsLeft c) place row cell k values shows small r inside here counts
+told_shown c (Bound place) row cell k values shows small r inside here counts = search (arith, row_shown)
+told_shown c (Stand place) row cell k values shows small r inside here counts = search (arith, row_shown)
+told_shown c (Clue place) row cell k values shows small r inside here counts = search (arith, row_shown)
 told_shown c (Sign from to) row cell k values shows small r inside here counts = absurd r
 told_shown c (Set line squares group) row cell k values shows small r inside here counts = absurd r

@@ -60,7 +60,7 @@ pub record IsRowWith (row : ClueRow) (index number : ℕ) (with : ClueRow) : Typ
   pub here : (v : ℕ) → has_number (slice_index with.row index) v ≡ (v == number)
   pub others : (k : ℕ) → k ≢ index → slice_index with.row k ≡ slice_index row.row k
 
--- what may stand in a square that is known, or otherwise any number of the size
+-- the numbers of a square: those that may stand in it if it is known, or otherwise all of the size
 abbrev pub IsKnownIn : ℕ → ℕ → Bool → ℕ → Type 0
 IsKnownIn w may true known = known ≡ may
 IsKnownIn w may false known = known ≡ numbers_to w
