@@ -1,5 +1,6 @@
 -- A hint whose parts have views of their own is one from the start, and the hint of a grid if the start is in view of it.
-use Rattle.std.proofs.Common.{◌≡◌, ℕ, ◌*◌, ◌<◌, subst, List, ◌∷◌, ◌++◌, Result, Ok, Err, IfOk, sym, ◌∙◌}
+use Rattle.std.proofs.lemmas.Bool.Decides.{nat_tests}
+use Rattle.std.proofs.Common.{◌≡◌, ℕ, ◌*◌, ◌<◌, subst, List, ◌∷◌, ◌++◌, Result, IfOk, sym, ◌∙◌, arith}
 use Rattle.latin_board.specs.Squares.{GridValue}
 use Rattle.latin_board.specs.declared.out_of_memory.OutOfMemory.{OutOfMemory}
 use Rattle.trail_solver.specs.Candidates.{CandidatesValue}
@@ -111,10 +112,9 @@ pub result_bound : (p : Puzzle) (Struck : Striking) → IsAntitone Struck → (g
     (result : Result NextHint OutOfMemory) → start.size ≡ g.size → IfOk result (IsNextHint Struck (seen g start))
     → IfOk result (IsTimelyHint (seen g start)) → IfOk result (IsNeededHint Struck (seen g start)) → IfOk result (IsRightWithin p g start)
     → IfOk result (SaysAllForced Struck (seen g start)) → IfOk result (IsHintFrom p Struck g start)
-result_bound p Struck less g start (Ok hint) size least timely needed right forced = hint_bound p Struck less g start hint size least timely needed right forced
-result_bound p Struck less g start (Err fault) size least timely needed right forced = tt
+result_bound p Struck less g start result size least timely needed right forced = grind (arith, nat_tests, hint_bound)
 
--- what is right within the candidates in view of a grid is right of each solution that keeps its numbers
+-- a hint that is right within the candidates in view of a grid is right of each solution that keeps its numbers
 right_in_view : (p : Puzzle) (g : GridValue) (view : CandidatesValue) (hint : NextHint) → g.size ≡ p.size → IsView g view
     → IsRightWithin p g view hint → IsRightHint p g hint
 right_in_view p g view (Follows grade chain) size is right = λ h done. right h done.0 (completion_in_view p g h view size is done)
@@ -124,6 +124,4 @@ right_in_view p g view Nothing size is right = tt
 -- a hint from the candidates in view of a grid is the hint of the grid
 pub result_of_grid : (p : Puzzle) (Struck : Striking) (g : GridValue) (view : CandidatesValue) (result : Result NextHint OutOfMemory)
     → g.size ≡ p.size → IsView g view → IfOk result (IsHintFrom p Struck g view) → IfOk result (IsHint p Struck g)
-result_of_grid p Struck g view (Ok hint) size is from =
-    record { view = view; in_view = is; is_hint = from; right = right_in_view p g view hint size is from.right }
-result_of_grid p Struck g view (Err fault) size is from = tt
+result_of_grid p Struck g view result size is from = grind (arith, nat_tests, right_in_view)

@@ -1,9 +1,10 @@
 -- Chains come to the same from each view of a grid; and what the candidates that a grade leaves of it say.
+use Rattle.std.proofs.lemmas.Bool.Decides.{nat_tests}
 use Rattle.std.proofs.Common.{◌≡◌, ◌↔◌, ℕ, ◌*◌, ◌<◌, List, sym, ◌∙◌, subst, arith, inl, inr}
 use Rattle.trail_solver.specs.Candidates.{CandidatesValue}
 use Rattle.line_steps.specs.Left.{IsLeft, IsFewer}
 use Rattle.named_steps.specs.Chains.{Shows, IsShown}
-use Rattle.line_steps.specs.Chains.{StepValue, left_by, LeadsTo}
+use Rattle.line_steps.specs.Chains.{StepValue, LeadsTo}
 use Rattle.line_steps.specs.Settled.{IsSettled, IsClosure}
 use Rattle.line_steps.proofs.Leads.{leads_size}
 use Rattle.named_steps.proofs.Antitone.{chain_settled, closure_fewer}
@@ -43,20 +44,14 @@ shows_in Struck less grade g a b steps goal first second =
 
 -- nothing is left of a square exactly if its candidates show that nothing but 0 is
 pub empty_shown : (c : CandidatesValue) (cell : ℕ) → ((value : ℕ) → IsLeft c cell value → ⊥) ↔ IsShown c (OnlyValue cell 0)
-empty_shown c cell = (
-  λ none other left. absurd (none other left),
-  λ shown value left. let zero_one : value ≡ 0 = shown value left in omega (arith, left.pair.low, zero_one),
-)
+empty_shown c cell = grind arith
 
 -- a chain leaves a square nothing exactly if it shows that nothing but 0 is left
 pub leaves_where : (Struck : Striking) (grade : Grade) (c : CandidatesValue) (steps : List StepValue) (cell : ℕ)
     → cell < c.size * c.size → Shows Struck grade c steps (OnlyValue cell 0) ↔ LeavesNothing Struck grade c steps cell
-leaves_where Struck grade c steps cell inside = (
-  λ s. record { chain = s.chain; allowed = s.allowed; inside = inside; nothing = (empty_shown (left_by c steps) cell).1 s.shown },
-  λ l. record { chain = l.chain; allowed = l.allowed; shown = (empty_shown (left_by c steps) cell).0 l.nothing },
-)
+leaves_where Struck grade c steps cell inside = grind (arith, empty_shown)
 
--- ---- what a grade leaves of a view
+-- ---- a view and its closure by a grade
 
 -- if the candidates that a grade leaves show no number of an empty square, no chain of the grade does
 pub nothing_shown : (Struck : Striking) → IsAntitone Struck → (grade : Grade) (g : SeenValue) (view d : CandidatesValue)
@@ -87,8 +82,7 @@ shown_by_all Struck less grade g view d goal is leads shown = λ other e other_i
     let size : view.size ≡ other.size = is.size ∙ sym other_is.size in
     let there = chain_less Struck less view other leads.steps size (views_fewer g view other is other_is) leads.chain in
     let fewer = chain_settled Struck less grade other e leads.steps leads.allowed there.0 (closure_fewer Struck grade other e other_closed) other_closed.settled in
-    let all : IsFewer d e = λ cell v left.
-    subst (λ (x : CandidatesValue). IsLeft x cell v) (sym leads.is) (there.1 cell v (fewer cell v left)) in
+    let all : IsFewer d e = grind arith in
     shown_less d e goal (leads_size Struck grade view d leads ∙ size ∙ sym other_closed.size) all shown
 
 -- steps that leave the grade settled show each goal that all steps of the grade show
@@ -96,23 +90,14 @@ pub all_show : (Struck : Striking) (grade : Grade) (g : SeenValue) (view d : Can
     (goal : Goal) → IsSeen g view → Leads Struck grade view steps d → IsSettled Struck grade d → IsShownByAll Struck grade g goal
     → Shows Struck grade view steps goal
 all_show Struck grade g view d steps goal is leads settled shown =
-    (shows_where Struck grade view d steps goal leads).0 (shown view d is (record {
-      steps = steps;
-      chain = leads.chain;
-      allowed = leads.allowed;
-      size = leads.size;
-      left = leads.alike;
-      settled = settled;
-    }))
+    (shows_where Struck grade view d steps goal leads).0 (shown view d is (grind arith))
 
 -- steps come to a square that they leave nothing, and otherwise, with the grade settled, to the given aim
 pub all_come_to : (Struck : Striking) (grade : Grade) (g : SeenValue) (view d : CandidatesValue)
     (steps : List StepValue) (aim end : Aim) → IsSeen g view → Leads Struck grade view steps d → (HasSome d → IsSettled Struck grade d)
     → IsShownByAll Struck grade g (aim_goal aim) → IsAimOrNothing d aim end
     → Shows Struck grade view steps (aim_goal end)
-all_come_to Struck grade g view d steps aim end is leads settled shown (inl (cell, nothing, same)) =
-    subst (λ (a : Aim). Shows Struck grade view steps (aim_goal a)) (sym same)
-    ((shows_where Struck grade view d steps (OnlyValue cell 0) leads).0 ((empty_shown d cell).0 nothing.1))
+all_come_to Struck grade g view d steps aim end is leads settled shown (inl (cell, nothing, same)) = grind (arith, shows_where, empty_shown)
 all_come_to Struck grade g view d steps aim end is leads settled shown (inr (some, same)) =
     subst (λ (a : Aim). Shows Struck grade view steps (aim_goal a)) (sym same)
     (all_show Struck grade g view d steps (aim_goal aim) is leads (settled some) shown)
@@ -121,25 +106,4 @@ all_come_to Struck grade g view d steps aim end is leads settled shown (inr (som
 pub all_refute : (Struck : Striking) (grade : Grade) (g : SeenValue) (view d : CandidatesValue) (steps : List StepValue)
     (aim end : Aim) → IsSeen g view → Leads Struck grade view steps d → IsAimOf g.grid.size aim → IsAimOrNothing d aim end
     → IsAimOf g.grid.size end × IsAimOrRefuted Struck grade g aim end
-all_refute Struck grade g view d steps aim end is leads aim_of (inl (cell, nothing, same)) =
-    let inside : cell < view.size * view.size = subst (λ (w : ℕ). cell < w * w) leads.size nothing.0 in (
-      subst (IsAimOf g.grid.size) (sym same) (subst (λ (w : ℕ). cell < w * w) is.size inside),
-      inl (
-        cell,
-        same,
-        (
-          view,
-          is,
-          record {
-            steps = steps;
-            chain = leads.chain;
-            allowed = leads.allowed;
-            cell = cell;
-            inside = inside;
-            nothing = λ value left. nothing.1 value (leads.alike.1 cell value left);
-          },
-        ),
-      ),
-    )
-all_refute Struck grade g view d steps aim end is leads aim_of (inr (some, same)) =
-    (subst (IsAimOf g.grid.size) (sym same) aim_of, inr same)
+all_refute Struck grade g view d steps aim end is leads aim_of ended = grind (arith, nat_tests)

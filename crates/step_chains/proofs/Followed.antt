@@ -1,13 +1,14 @@
 -- Chains that are followed step by step on candidates that stand for what they leave.
-use Rattle.std.proofs.Common.{◌≡◌, ◌↔◌, ℕ, ◌+◌, ◌-◌, ◌*◌, ◌^◌, ◌<◌, Bool, true, false, ◌==◌, List, [], ◌∷◌, ◌++◌, length, take, drop, refl, sym, ap, ◌∙◌, subst, append-nil, append_assoc}
+use Rattle.std.proofs.lemmas.Grind.{common_steps}
+use Rattle.std.proofs.Common.{◌≡◌, ◌↔◌, ℕ, ◌+◌, ◌-◌, ◌*◌, ◌^◌, ◌<◌, Bool, true, false, List, [], ◌∷◌, ◌++◌, length, take, drop, refl, sym, ap, ◌∙◌, subst, append-nil, append_assoc, arith}
 use Rattle.std.specs.Bool.{IsTrue, MatchBool}
 use Rattle.std.proofs.lemmas.List.{map-append, take-append-drop, take_rest}
 use Rattle.std.proofs.lemmas.Bool.{both_ways, and_parts, and_from, eq-eqb, eqb-true, false_from_ne_true, false≢true}
 use Rattle.number_sets.specs.Sets.{has_number, IsSubset}
 use Rattle.trail_solver.specs.Pairs.{IsPair, has_pair, pairs_of}
-use Rattle.trail_solver.specs.Candidates.{CandidatesValue, may_be}
+use Rattle.trail_solver.specs.Candidates.{CandidatesValue}
 use Rattle.trail_solver.proofs.SetPairs.{has_pair-pairs_of}
-use Rattle.line_steps.specs.Left.{IsLeft, AreAlike, without}
+use Rattle.line_steps.specs.Left.{AreAlike, without}
 use Rattle.line_steps.specs.Grades.{has_reason}
 use Rattle.named_steps.specs.Chains.{IsShown, Shows}
 use Rattle.line_steps.specs.Chains.{StepValue, IsStep, AreOfGrade, left_by}
@@ -28,64 +29,28 @@ use Rattle.line_steps.specs.Reasons.{Striking}
 pub step_by_set : (Struck : Striking) (c : CandidatesValue) (w : ℕ) (s : Step) (set : ℕ) → s.values < 2 ^ 16 → c.size ≡ w
     → ((v : ℕ) → (has_number set v ≡ true) ↔ ((c.size ≡ w) × (IsPair c.size s.cell v × Struck c s.reason s.cell v)))
     → IsSubset s.values set ↔ IsStep Struck c (step_value s)
-step_by_set Struck c w s set low size is = (
-  λ sub cell v has.
-      let both = and_parts (cell == s.cell) (has_number s.values v) (sym (has_pair-pairs_of s.cell s.values cell v low) ∙ has) in
-      let here : cell ≡ s.cell = eqb-true cell s.cell both.0 in
-      subst (λ (n : ℕ). IsPair c.size n v × Struck c s.reason n v) (sym here) ((is v).0 (sub v both.1)).1,
-  λ step v has.
-      let listed : has_pair (pairs_of s.cell s.values) s.cell v ≡ true =
-      has_pair-pairs_of s.cell s.values s.cell v low ∙ and_from (s.cell == s.cell) (has_number s.values v) (eq-eqb s.cell s.cell refl) has in
-      (is v).1 (size, step s.cell v listed),
-)
+step_by_set Struck c w s set low size is = grind (arith, and_parts, has_pair-pairs_of, eqb-true, and_from, eq-eqb)
 
 -- values that are struck from a square go from it
 pub takes_inside : (a b : CandidatesValue) (cell values : ℕ) → values < 2 ^ 16 → Strikes a b cell values
     → Takes (λ at v. has_pair (pairs_of cell values) at v ≡ true) a b
 takes_inside a b cell values low struck =
     takes_map (λ at v. (at ≡ cell) × (has_number values v ≡ true)) (λ at v. has_pair (pairs_of cell values) at v ≡ true) a b
-    (λ at v h. has_pair-pairs_of cell values at v low
-    ∙ and_from (at == cell) (has_number values v) (eq-eqb at cell h.0) h.1)
-    (λ at v pair has.
-    let both = and_parts (at == cell) (has_number values v) (sym (has_pair-pairs_of cell values at v low) ∙ has) in
-    (eqb-true at cell both.0, both.1))
+    (λ at v h. grind (arith, has_pair-pairs_of, and_from, eq-eqb))
+    (λ at v pair has. grind (arith, and_parts, has_pair-pairs_of, eqb-true))
     (takes_struck a b cell values struck)
 
 -- nothing goes by a step in a square that the grid doesn't have
 pub takes_outside : (a : CandidatesValue) (cell values : ℕ) → values < 2 ^ 16 → (cell < a.size * a.size → ⊥)
     → Takes (λ at v. has_pair (pairs_of cell values) at v ≡ true) a a
-takes_outside a cell values low outside = record {
-  pairs = [];
-  size = refl;
-  trail = sym (append-nil a.trail);
-  each = λ at v has. absurd (cc);
-  gone = λ at v pair has.
-      let both = and_parts (at == cell) (has_number values v) (sym (has_pair-pairs_of cell values at v low) ∙ has) in
-      absurd (outside (subst (λ (n : ℕ). n < a.size * a.size) (eqb-true at cell both.0) pair.inside));
-}
+takes_outside a cell values low outside = grind (arith, append-nil, and_parts, has_pair-pairs_of, eqb-true)
 
--- ---- what is left then
+-- ---- the candidates that are left then
 
 -- if the same is left of two sets of candidates, it still is once the same pairs are taken from both
 pub taken_alike : (c d e : CandidatesValue) (pairs : List (ℕ × ℕ)) → d.size ≡ c.size → AreAlike c d → Takes (λ cell v. has_pair pairs cell v ≡ true) d e
     → AreAlike (without c pairs) e
-taken_alike c d e pairs size alike t = (
-  λ cell v left.
-      let in_d : IsLeft (record { size = d.size; trail = d.trail ++ t.pairs }) cell v =
-      record { pair = subst (λ (w : ℕ). IsPair w cell v) t.size left.pair; may = subst (λ (ps : List (ℕ × ℕ)). may_be (record { size = d.size; trail = ps }) cell v ≡ true) t.trail left.may } in
-      let was = was_left d t.pairs cell v in_d in
-      still_left c pairs cell v (alike.0 cell v was.0)
-      (false_from_ne_true (has_pair pairs cell v) (λ has. both_ways (may_be e cell v) (t.gone cell v was.0.pair has) left.may)),
-  λ cell v left.
-      let was = was_left c pairs cell v left in
-      let there = alike.1 cell v was.0 in
-      let now = still_left d t.pairs cell v there
-      (false_from_ne_true (has_pair t.pairs cell v) (λ has. both_ways (has_pair pairs cell v) was.1 (t.each cell v has).1)) in
-      record {
-        pair = subst (λ (w : ℕ). IsPair w cell v) (sym t.size) now.pair;
-        may = subst (λ (ps : List (ℕ × ℕ)). may_be (record { size = e.size; trail = ps }) cell v ≡ true) (sym t.trail) now.may;
-      },
-)
+taken_alike c d e pairs size alike t = grind (arith, was_left, still_left, false_from_ne_true, both_ways)
 
 -- ---- steps one after another
 
@@ -106,26 +71,12 @@ leads_joined Struck less grade c d e front back first second =
     let end = left_by c front in
     let size : end.size ≡ d.size = left_size c front ∙ sym first.size in
     let there = chain_less Struck less d end back (sym size) first.alike.1 second.chain in
-    let back_again = chain_less Struck less end d back size first.alike.0 there.0 in
-    record {
-      chain = chain_joined Struck c front back first.chain there.0;
-      allowed = allowed_joined grade front back first.allowed second.allowed;
-      size = second.size ∙ first.size;
-      alike = subst (λ x. AreAlike x e) (sym (left_append c front back)) (
-        λ cell v h. back_again.1 cell v (second.alike.0 cell v h),
-        λ cell v h. second.alike.1 cell v (there.1 cell v h),
-      );
-    }
+    grind (arith, chain_less, chain_joined, allowed_joined, left_append)
 
 -- a step of the grade is a chain to the candidates from which its pairs are taken
 pub leads_one : (Struck : Striking) (grade : Grade) (d e : CandidatesValue) (s : Step) → IsGradeStep Struck grade d (step_value s)
     → Takes (λ cell v. has_pair (step_value s).strikes cell v ≡ true) d e → Leads Struck grade d (step_value s ∷ []) e
-leads_one Struck grade d e s step t = record {
-  chain = (step.1, tt);
-  allowed = (step.0, tt);
-  size = t.size;
-  alike = taken_alike d d e (step_value s).strikes refl (λ cell v h. h, λ cell v h. h) t;
-}
+leads_one Struck grade d e s step t = grind (arith, common_steps, taken_alike)
 
 -- if later steps are no chain of the grade from what the first ones leave, all steps together are none
 pub back_breaks : (Struck : Striking) → IsAntitone Struck → (grade : Grade) (c d : CandidatesValue) (front back : List StepValue)
@@ -138,11 +89,7 @@ back_breaks Struck less grade c d front back first none h =
 -- the candidates to which steps lead show a goal exactly if the steps show it
 pub shows_where : (Struck : Striking) (grade : Grade) (c d : CandidatesValue) (steps : List StepValue) (goal : Goal)
     → Leads Struck grade c steps d → IsShown d goal ↔ Shows Struck grade c steps goal
-shows_where Struck grade c d steps goal h =
-    let size : (left_by c steps).size ≡ d.size = left_size c steps ∙ sym h.size in (
-      λ shown. record { chain = h.chain; allowed = h.allowed; shown = shown_less d (left_by c steps) goal (sym size) h.alike.1 shown },
-      λ shows. shown_less (left_by c steps) d goal size h.alike.0 shows.shown,
-    )
+shows_where Struck grade c d steps goal h = grind (arith, left_size, shown_less)
 
 -- a test of a step's values against the set that its reason strikes tells whether it is a step of the grade
 pub step_tested : (Struck : Striking) (grade : Grade) (c : CandidatesValue) (w : ℕ) (s : Step) (set : ℕ) (b : Bool)
@@ -172,9 +119,7 @@ leads_known Struck grade c d steps chain size alike = record { chain = chain.0; 
 -- a test of the goal on the candidates to which steps lead tells whether the steps show it
 pub shows_tested : (Struck : Striking) (grade : Grade) (c d : CandidatesValue) (steps : List StepValue) (goal : Goal) (b : Bool)
     → Leads Struck grade c steps d → IsTrue b ↔ IsShown d goal → IsTrue b ↔ Shows Struck grade c steps goal
-shows_tested Struck grade c d steps goal b h is =
-    let to = shows_where Struck grade c d steps goal h in
-    (λ e. to.0 (is.0 e), λ shows. is.1 (to.1 shows))
+shows_tested Struck grade c d steps goal b h is = grind (arith, shows_where)
 
 -- ---- the loop over the steps
 

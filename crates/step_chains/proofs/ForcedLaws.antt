@@ -1,8 +1,7 @@
 -- A square that narrowing forces is forced by reasons, too, from what is in view.
-use Rattle.std.proofs.Common.{ℕ, inl, inr, subst, sym}
+use Rattle.std.proofs.Common.{ℕ, arith}
 use Rattle.std.proofs.lemmas.Bool.{cases_eq}
-use Rattle.latin_board.specs.Squares.{GridValue, number_at}
-use Rattle.trail_solver.specs.Pairs.{IsPair}
+use Rattle.latin_board.specs.Squares.{GridValue}
 use Rattle.trail_solver.specs.Candidates.{CandidatesValue}
 use Rattle.trail_solver.specs.Completions.{AreOfGrid}
 use Rattle.line_steps.specs.Struck.{IsNarrowed}
@@ -12,17 +11,9 @@ use Rattle.line_steps.specs.Reasons.{Striking}
 use Rattle.line_steps.proofs.Chains.{IsAntitone}
 use Rattle.step_chains.specs.ForcedLaws.{ForcesMore}
 
--- what is in view of a grid is among its candidates
+-- a pair in view of a grid is among its candidates
 view_fewer : (g : GridValue) (c view : CandidatesValue) → AreOfGrid g c → IsView g view → IsFewer c view
-view_fewer g c view of in_view = λ cell value left.
-    let pair : IsPair g.size cell value = subst (λ (w : ℕ). IsPair w cell value) in_view.size left.pair in
-    record {
-      pair = subst (λ (w : ℕ). IsPair w cell value) (sym of.size) pair;
-      may = (of.each cell value pair).1 (elim (cases_eq (number_at g cell) 0) [
-        | inl blank ↦ inl blank
-        | inr filled ↦ inr (sym ((in_view.filled cell value pair filled).0 left.may))
-      ]);
-    }
+view_fewer g c view of in_view = λ cell value left. grind (arith, cases_eq)
 
 -- a square that narrowing forces is forced by reasons, if these strike from fewer candidates all they did
 pub forced_by : (w : ℕ) (Struck : Striking) → IsAntitone Struck → ForcesMore w (IsNarrowed Struck) Struck

@@ -1,5 +1,5 @@
 -- Reasons that strike nothing more, one by one, and a step that strikes something.
-use Rattle.std.proofs.Common.{◌≡◌, ◌↔◌, ℕ, ◌+◌, ◌^◌, ◌<◌, ◌≤◌, true, false, ◌&&◌, ◌||◌, ◌==◌, sym, ap, ◌∙◌, subst, arith, inl, inr}
+use Rattle.std.proofs.Common.{◌≡◌, ◌↔◌, ℕ, ◌+◌, ◌^◌, ◌<◌, ◌≤◌, true, false, ◌&&◌, ◌||◌, sym, ap, ◌∙◌, subst, arith, inl, inr}
 use Rattle.std.proofs.lemmas.Bool.{both_ways, and_parts, or_left, or_right, cases_eq, cases_lt, cases_Bool, eqb-true, false_from_ne_true}
 use Rattle.number_sets.specs.Sets.{has_number}
 use Rattle.number_sets.proofs.Members.{same_set, has_number-above}
@@ -19,10 +19,7 @@ use Rattle.line_steps.specs.Reasons.{Striking}
 
 -- a property of all numbers below k, and of k, is one of all below k + 1
 pub all_next : (P : ℕ → Type 0) (k : ℕ) → ((j : ℕ) → j < k → P j) → P k → (j : ℕ) → j < k + 1 → P j
-all_next P k before here j low = elim (cases_eq j k) [
-  | inl same ↦ subst P (sym same) here
-  | inr other ↦ before j (omega (arith, low, other))
-]
+all_next P k before here j low = grind (arith, cases_eq)
 
 -- the values are those that are left of a square and that a reason strikes there
 pub record IsStruckSet (Struck : Striking) (c : CandidatesValue) (reason : Reason) (cell values : ℕ) : Type 0 where
@@ -37,20 +34,9 @@ pub new_step : (Struck : Striking) (grade : Grade) (c : CandidatesValue) (reason
     → c.size ≤ 9 → has_reason grade reason ≡ true → IsStruckSet Struck c reason cell values → ((v : ℕ) × (has_number values v ≡ true))
     → s ≡ record { reason = reason; cell = cell; values = values } → IsNew Struck grade c s
 new_step Struck grade c reason cell values s small has h some is =
-    let members : (v : ℕ) → has_number values v ≡ true → (IsPair c.size cell v × Struck c reason cell v) × (may_be c cell v ≡ true) = λ v in_it.
-    let parts = and_parts (has_number h.struck v) (has_number h.left v) (sym (h.both v) ∙ in_it) in
-    ((h.is_struck v).0 parts.0, ((h.is_left v).0 parts.1).1) in
+    let members : (v : ℕ) → has_number values v ≡ true → (IsPair c.size cell v × Struck c reason cell v) × (may_be c cell v ≡ true) = grind (arith, and_parts) in
     let low = set_below c.size cell values small (λ v in_it. (members v in_it).0.0) in
-    subst (λ x. IsNew Struck grade c x) (sym is) (record {
-      step = (
-        has,
-        λ at v listed.
-            let parts = and_parts (at == cell) (has_number values v) (sym (has_pair-pairs_of cell values at v low) ∙ listed) in
-            subst (λ (n : ℕ). IsPair c.size n v × Struck c reason n v) (sym (eqb-true at cell parts.0)) (members v parts.1).0,
-      );
-      left = λ v in_it. let m = members v in_it in (m.0.0, m.1);
-      some = some;
-    })
+    subst (λ x. IsNew Struck grade c x) (sym is) (grind (arith, and_parts, has_pair-pairs_of, eqb-true))
 
 -- the set has just the values that are left of some squares of a line
 abbrev pub IsLeftOf : CandidatesValue → ℕ → ℕ → ℕ → Type 0
@@ -60,19 +46,11 @@ IsLeftOf c line squares values = (v : ℕ) → (has_number values v ≡ true)
 -- a group's union is the set of the values that are left of its squares, if these are places of the line
 pub union_same : (c : CandidatesValue) (line squares values union : ℕ) → ((k : ℕ) → has_number squares k ≡ true → k < c.size) → IsLeftOf c line squares values
     → IsUnion c.size c line squares union → union ≡ values
-union_same c line squares values union inside is u = same_set union values (λ v. elim (cases_Bool (has_number union v)) [
-  | inl has ↦ let h = u.only v has in has ∙ sym ((is v).1 (h.0, inside h.0 h.1, (h.1, h.2)))
-  | inr lacks ↦
-      lacks ∙ sym (false_from_ne_true (has_number values v) (λ has.
-      let h = (is v).0 has in both_ways (has_number union v) lacks (u.all h.0 v h.2.0 h.2.1)))
-])
+union_same c line squares values union inside is u = same_set union values (λ v. grind (arith, cases_Bool, false_from_ne_true, both_ways))
 
 -- the squares of a group are places of the line
 pub group_inside : (w squares : ℕ) → squares < 2 ^ w → (k : ℕ) → has_number squares k ≡ true → k < w
-group_inside w squares below k has = elim (cases_lt k w) [
-  | inl low ↦ low
-  | inr high ↦ absurd (both_ways (has_number squares k) (has_number-above squares w k below high) has)
-]
+group_inside w squares below k has = grind (arith, cases_lt, both_ways, has_number-above)
 
 -- with one square more of a group, the values that are left of it are added to those found
 pub left_added : (c : CandidatesValue) (line squares k found set result : ℕ)

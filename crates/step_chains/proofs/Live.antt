@@ -3,16 +3,15 @@ use Rattle.std.proofs.Common.{◌*◌, ◌^◌, Bool, false, take, refl, ◌≡�
 use Rattle.std.specs.List.{remove}
 use Rattle.std.proofs.lemmas.List.{map-append, length-map}
 use Rattle.std.proofs.lemmas.Bool.{and_parts, eqb-true}
-use Rattle.number_sets.specs.Sets.{has_number, IsSubset}
+use Rattle.number_sets.specs.Sets.{IsSubset}
 use Rattle.trail_solver.specs.Pairs.{IsPrefix, has_pair}
 use Rattle.trail_solver.specs.Candidates.{CandidatesValue, AreCandidates, IsSetOf, IsEarlier}
-use Rattle.line_steps.specs.Left.{IsLeft, IsFewer, AreAlike, without}
+use Rattle.line_steps.specs.Left.{IsFewer, AreAlike, without}
 use Rattle.line_steps.specs.Chains.{StepValue, left_by}
 use Rattle.line_steps.proofs.Takes.{without_fewer}
 use Rattle.line_steps.proofs.Chains.{fewer_without, left_size, left_append}
 use Rattle.trail_solver.proofs.Removals.{set_below}
 use Rattle.trail_solver.proofs.SetPairs.{has_pair-pairs_of}
-use Rattle.std.specs.Prelude.{◌==◌}
 use Rattle.line_steps.specs.declared.grade.Grade.{Grade}
 use Rattle.step_chains.specs.Inner.Quiet.{IsNew}
 use Rattle.step_chains.specs.Inner.Replays.{AreTimely, IsTimelyStep, Leads}
@@ -63,11 +62,7 @@ pub timely_removed : (c : CandidatesValue) (steps : List StepValue) (place : ℕ
     → AreTimely c steps → AreTimely c (remove steps place)
 timely_removed c steps place low h =
     let at = parted steps place low in
-    let front = at.0 in
-    let step = at.1 in
-    let back = at.2 in
-    subst (AreTimely c) (sym (ap (λ xs. remove xs place) at.3 ∙ ap (λ (k : ℕ). remove (front ++ step ∷ back) k) (sym at.4) ∙ remove_at front back step))
-    (timely_without c front back step (subst (AreTimely c) at.3 h))
+    grind (arith, remove_at, timely_without)
 
 -- timely steps and then one that is timely by what they leave are timely
 pub timely_joined : (c : CandidatesValue) (front : List StepValue) (step : StepValue) → AreTimely c front
@@ -78,16 +73,11 @@ timely_joined c (first ∷ front) step h now = (h.0, timely_joined (without c fi
 -- a list of steps stays timely if the one at a place is removed from it
 pub removed_timely : (c : CandidatesValue) (steps more : List Step) (place : ℕ) → place < length steps
     → more ≡ remove steps place → AreTimely c (steps_of steps) → AreTimely c (steps_of more)
-removed_timely c steps more place low is h =
-    subst (AreTimely c) (sym (ap steps_of is ∙ steps_removed steps place))
-    (timely_removed c (steps_of steps) place (omega (arith, low, length-map steps step_value)) h)
+removed_timely c steps more place low is h = grind (arith, steps_removed, timely_removed, length-map)
 
 -- a step strikes only what is left, where all its values are left of its square
 live_where : (c : CandidatesValue) (s : Step) → s.values < 2 ^ 16 → AreCandidates c s.cell s.values → IsLiveStep c (step_value s)
-live_where c s low left = λ cell v has.
-    let both = and_parts (cell == s.cell) (has_number s.values v) (sym (has_pair-pairs_of s.cell s.values cell v low) ∙ has) in
-    let there = left v both.1 in
-    subst (λ (k : ℕ). IsLeft c k v) (sym (eqb-true cell s.cell both.0)) (record { pair = there.0; may = there.1 })
+live_where c s low left = λ cell v has. grind (arith, and_parts, has_pair-pairs_of, eqb-true)
 
 -- if the set that is left of its square has all values of a step, the step strikes only what is left
 pub live_by_set : (c : CandidatesValue) (s : Step) (set : ℕ) (b : Bool) → s.values < 2 ^ 16 → IsSetOf c s.cell set
@@ -109,9 +99,7 @@ new_timely Struck grade c d steps more s small before (some, new) is timely =
 -- the steps up to and with the next leave what those before it leave, without its pairs
 pub left_more : (c : CandidatesValue) (steps : List Step) (i : ℕ) (s : Step) → take (i + 1) steps ≡ take i steps ++ s ∷ []
     → left_by c (steps_of (take (i + 1) steps)) ≡ without (left_by c (steps_of (take i steps))) (step_value s).strikes
-left_more c steps i s more =
-    ap (λ xs. left_by c xs) (ap steps_of more ∙ map-append step_value (take i steps) (s ∷ []))
-    ∙ left_append c (steps_of (take i steps)) (step_value s ∷ [])
+left_more c steps i s more = grind (arith, map-append, left_append)
 
 -- if the next step is timely, too, the steps with it are, and leave what is left once its pairs are taken
 pub timely_on : (c d e : CandidatesValue) (steps : List Step) (i : ℕ) (s : Step)

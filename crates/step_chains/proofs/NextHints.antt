@@ -1,5 +1,6 @@
 -- The least grade whose steps lead to an aim, and what no steps lead to.
-use Rattle.std.proofs.Common.{◌≡◌, Option, Some, None, ℕ, ◌*◌, ◌<◌, ◌≤◌, Bool, false, List, [], ◌∷◌, refl, sym, ◌∙◌, subst, arith, inl, inr, true}
+use Rattle.std.proofs.lemmas.Bool.Decides.{nat_tests}
+use Rattle.std.proofs.Common.{◌≡◌, Option, Some, None, ℕ, ◌*◌, ◌<◌, ◌≤◌, Bool, false, List, [], ◌∷◌, sym, ◌∙◌, subst, arith, inl, inr, true}
 use Rattle.std.proofs.lemmas.Bool.{cases_eq, both_ways}
 use Rattle.trail_solver.specs.Pairs.{IsPair}
 use Rattle.trail_solver.specs.Candidates.{CandidatesValue, may_be}
@@ -15,7 +16,6 @@ use Rattle.std.specs.Option.{MatchOption}
 use Rattle.named_steps.proofs.Antitone.{closure_fewer}
 use Rattle.line_steps.proofs.Chains.{IsAntitone, higher_has}
 use Rattle.line_steps.specs.declared.reason.Reason.{Reason}
-use Rattle.line_steps.specs.declared.reason.Reason.TheVariants.{Given}
 use Rattle.line_steps.specs.declared.grade.Grade.{Grade}
 use Rattle.line_steps.specs.declared.grade.Grade.TheVariants.{Latin, Easy, Hard}
 use Rattle.named_steps.specs.declared.goal.Goal.{Goal}
@@ -35,8 +35,7 @@ use Rattle.line_steps.specs.Reasons.{Striking}
 -- candidates that steps of a grade leave are left by steps of a higher grade, too
 pub left_up : (Struck : Striking) (lower grade : Grade) (g : SeenValue) (c : CandidatesValue) → rank lower ≤ rank grade → AreLeftBy Struck lower g c
     → AreLeftBy Struck grade g c
-left_up Struck lower grade g c h (view, is, leads) =
-    (view, is, leads_wider Struck Struck lower grade (λ _ reason cell v h. h) (higher_has lower grade h) view c leads)
+left_up Struck lower grade g c h (view, is, leads) = search (arith, leads_wider, higher_has)
 
 -- candidates that steps of a grade and then more of its steps leave are left by steps of the grade
 pub left_on : (Struck : Striking) (grade : Grade) (g : SeenValue) (c d : CandidatesValue) → AreLeftBy Struck grade g c → LeadsTo Struck grade c d
@@ -74,21 +73,15 @@ over_silent Struck less grade g d (view, is, closed, some) none = nothing_shown 
 
 -- no grade is below the least one
 pub below_latin : (P : Grade → Type 0) (lower : Grade) → IsLower lower Latin → P lower
-below_latin P Latin h = absurd (omega (arith, h))
-below_latin P Easy h = absurd (omega (arith, h))
-below_latin P Hard h = absurd (omega (arith, h))
+below_latin P lower h = grind (arith, nat_tests)
 
 -- a property of the least grade is one of each grade below the second
 pub below_easy : (P : Grade → Type 0) → P Latin → (lower : Grade) → IsLower lower Easy → P lower
-below_easy P first Latin h = first
-below_easy P first Easy h = absurd (omega (arith, h))
-below_easy P first Hard h = absurd (omega (arith, h))
+below_easy P first lower h = grind (arith, nat_tests)
 
 -- a property of the two lower grades is one of each grade below the hardest
 pub below_hard : (P : Grade → Type 0) → P Latin → P Easy → (lower : Grade) → IsLower lower Hard → P lower
-below_hard P first second Latin h = first
-below_hard P first second Easy h = second
-below_hard P first second Hard h = absurd (omega (arith, h))
+below_hard P first second lower h = grind (arith, nat_tests)
 
 -- ---- the least grade that leads to an aim
 
@@ -106,19 +99,13 @@ emptied_least Struck less grade g d cell (view, is, leads) found below = (
 pub shown_least : (Struck : Striking) → IsAntitone Struck → (grade : Grade) (g : SeenValue) (d : CandidatesValue)
     (goal : Goal) → AreLeftBy Struck grade g d → IsOpenShown g.grid d goal → NoneBelowShows Struck grade g
     → (IsRefutedGrid Struck Hard g → ⊥) → IsLeastBy Struck g grade (Number goal)
-shown_least Struck less grade g d goal (view, is, leads) found below holds = (
-  (found.goal_of, found.empty),
-  shown_by_all Struck less grade g view d goal is leads found.shown,
-  below,
-  holds,
-)
+shown_least Struck less grade g d goal (view, is, leads) found below holds = search (arith, shown_by_all)
 
--- ---- what is forced
+-- ---- squares that are forced
 
 -- the hardest grade has each reason
 hard_all : (reason : Reason) → has_reason Hard reason ≡ true
-hard_all (Given cell) = refl
-hard_all reason = refl
+hard_all reason = grind (arith, nat_tests)
 
 -- all steps are of the hardest grade
 all_hard : (steps : List StepValue) → AreOfGrade Hard steps
@@ -128,19 +115,7 @@ all_hard (step ∷ steps) = (hard_all step.reason, all_hard steps)
 -- where no steps refute the grid's numbers, all steps come to their aim
 pub aim_stays : (Struck : Striking) (grade : Grade) (g : SeenValue) (aim end : Aim)
     → IsAimOrRefuted Struck grade g aim end → (IsRefutedGrid Struck Hard g → ⊥) → end ≡ aim
-aim_stays Struck grade g aim end (inr same) holds = same
-aim_stays Struck grade g aim end (inl (cell, same, (view, is, r))) holds = absurd (holds (
-  view,
-  is,
-  record {
-    steps = r.steps;
-    chain = r.chain;
-    allowed = all_hard r.steps;
-    cell = r.cell;
-    inside = r.inside;
-    nothing = r.nothing;
-  },
-))
+aim_stays Struck grade g aim end ended holds = grind (arith, nat_tests, all_hard)
 
 -- where the hardest grade leaves something of each square and shows no number, no square is forced
 pub none_forced : (Struck : Striking) → IsAntitone Struck → (g : SeenValue) (view d : CandidatesValue) → IsSeen g view
@@ -159,18 +134,9 @@ none_forced Struck less g view d is closed some none other cell other_is f =
           (closed.settled reason cell u (hard_all reason) left.pair (less other d reason cell u fewer struck)) left.may)
     ] in
     let (value, left) = some cell (subst (λ (w : ℕ). cell < w * w) (sym size) f.inside) in
-    none (OnlyValue cell value) (record {
-      goal_of = subst (λ (w : ℕ). IsPair w cell value) size left.pair;
-      empty = f.empty;
-      shown = λ other there. only other there ∙ sym (only value left);
-    })
+    none (OnlyValue cell value) (grind arith)
 
 -- where the hardest grade is over and shows no number, no steps lead on
 pub nowhere_left : (Struck : Striking) → IsAntitone Struck → (g : SeenValue) (d : CandidatesValue) → IsOver Struck Hard g d
     → ((goal : Goal) → IsOpenShown g.grid d goal → ⊥) → LeadNowhere Struck g
-nowhere_left Struck less g d (view, is, closed, some) none = record {
-  timely = (view, is, tt);
-  shown = nothing_shown Struck less Hard g view d is closed none;
-  holds = none_refuted Struck less Hard g view d is closed some;
-  forced = none_forced Struck less g view d is closed some none;
-}
+nowhere_left Struck less g d (view, is, closed, some) none = search (arith, nothing_shown, none_refuted, none_forced)

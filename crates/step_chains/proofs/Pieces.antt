@@ -1,9 +1,8 @@
 -- Chains in two pieces, of which the first is taken away already.
-use Rattle.std.proofs.Common.{◌≡◌, ◌↔◌, ℕ, ◌-◌, Bool, List, ◌++◌, length, take, drop, sym, ap, ◌∙◌, subst}
+use Rattle.std.proofs.Common.{◌≡◌, ◌↔◌, ℕ, ◌-◌, Bool, List, ◌++◌, length, take, drop, sym, ap, ◌∙◌, subst, arith}
 use Rattle.std.specs.Bool.{IsTrue}
 use Rattle.std.proofs.lemmas.List.{map-append, take-append-drop}
 use Rattle.trail_solver.specs.Candidates.{CandidatesValue}
-use Rattle.line_steps.specs.Left.{IsFewer}
 use Rattle.line_steps.specs.Chains.{StepValue, left_by}
 use Rattle.named_steps.specs.Chains.{Shows}
 use Rattle.line_steps.proofs.Chains.{IsAntitone, chain_less, left_size, left_append, chain_split}
@@ -45,9 +44,7 @@ rest_shows Struck less grade c d front back goal first = (
       record {
         chain = rest.0;
         allowed = (allowed_split grade front back shows.allowed).1;
-        shown = shown_less (left_by c (front ++ back)) (left_by d back) goal
-            (left_size c (front ++ back) ∙ sym first.size ∙ sym (left_size d back))
-            (subst (λ x. IsFewer x (left_by d back)) (sym (left_append c front back)) rest.1) shows.shown;
+        shown = grind (arith, shown_less, left_size, left_append);
       },
 )
 
@@ -58,7 +55,4 @@ pub rest_tested : (Struck : Striking) → IsAntitone Struck → (grade : Grade) 
     → IsTrue b ↔ Shows Struck grade c (steps_of steps) goal
 rest_tested Struck less grade c d steps place goal b first is =
     let rest = take (length steps - place) (drop place steps) in
-    let both = rest_shows Struck less grade c d (steps_of (take place steps)) (steps_of rest) goal first in (
-      λ e. subst (λ xs. Shows Struck grade c xs goal) (from_place steps place) (both.0 (is.0 e)),
-      λ shows. is.1 (both.1 (subst (λ xs. Shows Struck grade c xs goal) (sym (from_place steps place)) shows)),
-    )
+    let both = rest_shows Struck less grade c d (steps_of (take place steps)) (steps_of rest) goal first in grind (arith, from_place)

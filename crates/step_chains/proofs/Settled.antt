@@ -1,10 +1,11 @@
 -- Where the reasons that were looked at strike nothing more, the grade is settled.
+use Rattle.std.proofs.lemmas.Grind.{common_steps}
+use Rattle.std.proofs.lemmas.Bool.Decides.{nat_tests}
 use Rattle.std.proofs.Common.{◌≡◌, ℕ, ◌+◌, ◌-◌, ◌*◌, ◌^◌, ◌<◌, ◌≤◌, ◌⊎◌, true, List, [], ◌∷◌, ◌++◌, length, refl, sym, ap, ◌∙◌, subst, arith, inl, inr, length-append}
 use Rattle.std.proofs.lemmas.Bool.{and_from, cases_lt, eq-eqb, le-leb}
 use Rattle.std.specs.Prelude.{Option, Some, IfSome}
 use Rattle.std.proofs.lemmas.List.{map-append}
 use Rattle.std.proofs.lemmas.Nat.{mul-add-lt}
-use Rattle.number_sets.specs.Sets.{has_number}
 use Rattle.latin_board.specs.Lines.{line_cell}
 use Rattle.latin_board.proofs.LatinLines.{line_cell-column, line_cell-row, line_cell_inside}
 use Rattle.latin_board.proofs.PeerLines.{line_peers}
@@ -45,11 +46,7 @@ AreAllIdle Struck grade c = (part : Part) → AreIdleIn Struck grade c part
 
 -- a property of each of the five parts of the list is one of every part
 pub all_parts : (P : Part → Type 0) → P Squares → P Places → P Clues → P Signs → P Groups → (part : Part) → P part
-all_parts P squares places clues signs groups Squares = squares
-all_parts P squares places clues signs groups Places = places
-all_parts P squares places clues signs groups Clues = clues
-all_parts P squares places clues signs groups Signs = signs
-all_parts P squares places clues signs groups Groups = groups
+all_parts P squares places clues signs groups part = grind (arith, nat_tests)
 
 -- if no reason of the list strikes anything more, the reason at a place of it doesn't
 found_idle : (Struck : Striking) (grade : Grade) (c : CandidatesValue) (part : Part) (place : ℕ) (reason : Reason)
@@ -104,13 +101,7 @@ rest_settled p Own grade c size idle line line_is = λ k v low pair h. elim h [
 
 -- squares that follow each other on a line are neighbours
 next_on : (w line k : ℕ) → (line_cell w line k + 1 ≡ line_cell w line (k + 1)) ⊎ (line_cell w line k + w ≡ line_cell w line (k + 1))
-next_on w line k = elim (cases_lt line w) [
-  | inl row ↦ inl (omega (arith, line_cell-row w line k row, line_cell-row w line (k + 1) row))
-  | inr column ↦
-      let is : w + (line - w) ≡ line = omega (arith, column) in
-      inr (subst (λ (n : ℕ). line_cell w n k + w ≡ line_cell w n (k + 1)) is
-      (omega (arith, line_cell-column w (line - w) k, line_cell-column w (line - w) (k + 1))))
-]
+next_on w line k = grind (arith, cases_lt, line_cell-row, line_cell-column)
 
 -- if no reason of the list strikes anything more, no sign between two neighbours does
 sign_idle : (Struck : Striking) (grade : Grade) (c : CandidatesValue) (at from to : ℕ) → AreAllIdle Struck grade c
@@ -155,17 +146,7 @@ clues_settled p Own stand grade c size idle = λ reason cell value is has pair h
 groups_settled : (p : Puzzle) (Own : Striking) (grade : Grade) (c : CandidatesValue) → p.size ≡ c.size
     → AreAllIdle (AllStrikes p Own) grade c → IsLower Easy grade → (line : ℕ) → line < 2 * c.size → IsGroupQuiet line c
 groups_settled p Own grade c size idle past line line_is = λ cell value pair h.
-    let is : IsBySet c.size c line h.squares h.union cell value = record {
-      line_is = line_is;
-      inside = group_inside c.size h.squares h.below;
-      same = h.same;
-      among = h.is.all;
-      index = h.index;
-      index_is = h.index_is;
-      here = h.here;
-      outside = h.outside;
-      one = h.one;
-    } in
+    let is : IsBySet c.size c line h.squares h.union cell value = grind (arith, group_inside) in
     let at = line * 2 ^ c.size + h.squares in
     let low : at < 2 * c.size * 2 ^ c.size = omega (arith, mul-add-lt line (2 ^ c.size) h.squares (2 * c.size) line_is h.below) in
     found_idle (AllStrikes p Own) grade c Groups at (Set line h.squares h.union) idle low
@@ -183,16 +164,14 @@ idle_settled p Own stand grade c small size idle =
 
 -- a list that has a pair isn't empty
 some_pair : (pairs : List (ℕ × ℕ)) (cell v : ℕ) → has_pair pairs cell v ≡ true → 0 < length pairs
-some_pair [] cell v has = absurd (cc)
-some_pair (pair ∷ pairs) cell v has = omega arith
+some_pair pairs cell v has = grind (arith, common_steps)
 
 -- to take away what a new step strikes makes the trail longer
 pub new_longer : (Struck : Striking) (grade : Grade) (c d : CandidatesValue) (s : Step) → c.size ≤ 9 → IsNew Struck grade c s
     → d.trail ≡ c.trail ++ pairs_of s.cell s.values → length c.trail < length d.trail
 new_longer Struck grade c d s small new is =
     let low = set_below c.size s.cell s.values small (λ v has. (new.left v has).0) in
-    let one = some_pair (pairs_of s.cell s.values) s.cell new.some.0 (has_pair-pairs_of s.cell s.values s.cell new.some.0 low
-    ∙ and_from (Rattle.std.specs.Prelude.◌==◌ s.cell s.cell) (has_number s.values new.some.0) (eq-eqb s.cell s.cell refl) new.some.1) in
+    let one = some_pair (pairs_of s.cell s.values) s.cell new.some.0 (grind (arith, has_pair-pairs_of, and_from, eq-eqb)) in
     omega (arith, one, ap length is, length-append c.trail (pairs_of s.cell s.values))
 
 -- steps and then a new one lead to the candidates from which its pairs are taken
@@ -202,11 +181,6 @@ pub new_leads : (Struck : Striking) → IsAntitone Struck → (grade : Grade) (c
 new_leads Struck less grade c d e steps more s before new size trail is =
     let listed : steps_of more ≡ steps_of steps ++ step_value s ∷ [] = ap steps_of is ∙ map-append step_value steps (s ∷ []) in
     let end : without d (step_value s).strikes ≡ e = λ i. record { size = sym size i; trail = sym trail i } in
-    let one : Leads Struck grade d (step_value s ∷ []) (without d (step_value s).strikes) = record {
-      chain = (new.step.1, tt);
-      allowed = (new.step.0, tt);
-      size = refl;
-      alike = (λ cell v h. h, λ cell v h. h);
-    } in
+    let one : Leads Struck grade d (step_value s ∷ []) (without d (step_value s).strikes) = grind arith in
     subst (λ xs. Leads Struck grade c xs e) (sym listed)
     (leads_joined Struck less grade c d e (steps_of steps) (step_value s ∷ []) before (subst (λ x. Leads Struck grade d (step_value s ∷ []) x) end one))

@@ -1,10 +1,11 @@
 -- Chains of which no number can be left out.
-use Rattle.std.proofs.Common.{◌≡◌, ◌≢◌, ◌↔◌, ℕ, ◌+◌, ◌^◌, ◌<◌, ◌≤◌, true, false, ◌==◌, List, [], ◌∷◌, ◌++◌, length, refl, sym, ap, ◌∙◌, subst, arith, append_assoc, inl, inr}
+use Rattle.std.proofs.lemmas.Grind.{common_steps}
+use Rattle.std.proofs.Common.{◌≡◌, ◌↔◌, ℕ, ◌+◌, ◌^◌, ◌<◌, ◌≤◌, true, false, List, [], ◌∷◌, ◌++◌, length, refl, sym, ap, ◌∙◌, subst, arith, append_assoc, inl, inr}
 use Rattle.std.specs.List.{remove}
 use Rattle.std.specs.Prelude.{slice_set, slice_index_or}
 use Rattle.std.proofs.Math.Seq.{get_or-append_seam}
 use Rattle.std.proofs.lemmas.List.{set_at, length-append, length-map, map-append}
-use Rattle.std.proofs.lemmas.Bool.{cases_eq, both_ways, and_parts, and_from, eq-eqb, eqb-true, false_from_ne_true, false≢true}
+use Rattle.std.proofs.lemmas.Bool.{cases_eq, both_ways, and_parts, and_from, eq-eqb, eqb-true, false_from_ne_true}
 use Rattle.number_sets.specs.Sets.{has_number}
 use Rattle.trail_solver.specs.Pairs.{IsPair, has_pair}
 use Rattle.trail_solver.specs.Candidates.{CandidatesValue}
@@ -12,7 +13,7 @@ use Rattle.trail_solver.proofs.SetPairs.{has_pair-pairs_of}
 use Rattle.line_steps.specs.Left.{IsFewer, without}
 use Rattle.line_steps.specs.Grades.{has_reason}
 use Rattle.named_steps.specs.Chains.{Shows}
-use Rattle.line_steps.specs.Chains.{StepValue, IsStep, IsChain, AreOfGrade, left_by}
+use Rattle.line_steps.specs.Chains.{StepValue, IsStep, AreOfGrade, left_by}
 use Rattle.line_steps.proofs.Chains.{IsAntitone, chain_less, left_size, left_append, chain_split, chain_joined}
 use Rattle.line_steps.proofs.Takes.{was_left, still_left, without_fewer}
 use Rattle.named_steps.proofs.Shown.{shown_less}
@@ -39,10 +40,7 @@ Among less more = (cell value : ℕ) → has_pair less.strikes cell value ≡ tr
 
 -- a step that strikes more leaves fewer
 more_fewer : (c : CandidatesValue) (less more : StepValue) → Among less more → IsFewer (without c less.strikes) (without c more.strikes)
-more_fewer c less more among = λ cell value left.
-    let was = was_left c more.strikes cell value left in
-    still_left c less.strikes cell value was.0
-    (false_from_ne_true (has_pair less.strikes cell value) (λ has. both_ways (has_pair more.strikes cell value) was.1 (among cell value has)))
+more_fewer c less more among = λ cell value left. grind (arith, was_left, still_left, false_from_ne_true, both_ways)
 
 with_more : (grade : Grade) (front rest : List StepValue) (less more : StepValue) → has_reason grade more.reason ≡ true
     → AreOfGrade grade (front ++ less ∷ rest) → AreOfGrade grade (front ++ more ∷ rest)
@@ -70,14 +68,7 @@ shows_at Struck antitone grade c front rest less more goal among at has part =
     let end = left_by c front in
     let both = chain_split Struck c front (less ∷ rest) part.chain in
     let after = chain_less Struck antitone (without end less.strikes) (without end more.strikes) rest refl (more_fewer end less more among) both.1.1 in
-    record {
-      chain = chain_joined Struck c front (more ∷ rest) both.0 (at, after.0);
-      allowed = with_more grade front rest less more has part.allowed;
-      shown = shown_less (left_by c (front ++ less ∷ rest)) (left_by c (front ++ more ∷ rest)) goal
-          (left_size c (front ++ less ∷ rest) ∙ sym (left_size c (front ++ more ∷ rest)))
-          (subst (λ x. IsFewer x (left_by c (front ++ more ∷ rest))) (sym (left_append c front (less ∷ rest)))
-          (subst (λ x. IsFewer (left_by (without end less.strikes) rest) x) (sym (left_append c front (more ∷ rest))) after.1)) part.shown;
-    }
+    grind (arith, chain_joined, with_more, shown_less, left_size, left_append)
 
 -- a step of a chain that shows the goal can take the place of one that strikes less, with other later steps
 pub shows_more : (Struck : Striking) → IsAntitone Struck → (grade : Grade) (c : CandidatesValue)
@@ -90,10 +81,7 @@ shows_more Struck antitone grade c front back rest less more goal among whole pa
 -- a step that strikes less keeps a chain timely
 timely_less : (c : CandidatesValue) (front back : List StepValue) (less more : StepValue) → Among less more
     → AreTimely c (front ++ more ∷ back) → AreTimely c (front ++ less ∷ back)
-timely_less c [] back less more among h = (
-  (h.0.0, λ cell value has. h.0.1 cell value (among cell value has)),
-  timely_more (without c less.strikes) (without c more.strikes) back refl (more_fewer c less more among) h.1,
-)
+timely_less c [] back less more among h = grind (arith, timely_more, more_fewer)
 timely_less c (first ∷ front) back less more among h =
     (h.0, timely_less (without c first.strikes) front back less more among h.1)
 
@@ -149,30 +137,16 @@ needed_less Struck antitone grade c front back less more goal among whole needed
 -- the pairs of a step are its values in its square
 pub pairs_where : (s : Step) (cell v : ℕ) → s.values < 2 ^ 16
     → (has_pair (step_value s).strikes cell v ≡ true) ↔ ((cell ≡ s.cell) × (has_number s.values v ≡ true))
-pairs_where s cell v low = (
-  λ has.
-      let both = and_parts (cell == s.cell) (has_number s.values v) (sym (has_pair-pairs_of s.cell s.values cell v low) ∙ has) in
-      (eqb-true cell s.cell both.0, both.1),
-  λ h. has_pair-pairs_of s.cell s.values cell v low ∙ and_from (cell == s.cell) (has_number s.values v) (eq-eqb cell s.cell h.0) h.1,
-)
+pairs_where s cell v low = grind (arith, and_parts, has_pair-pairs_of, eqb-true, and_from, eq-eqb)
 
 -- a step with a value less strikes some of its pairs
 pub lacks_among : (s t : Step) (value : ℕ) → s.values < 2 ^ 16 → t.values < 2 ^ 16 → IsStepWithout value s t → Among (step_value t) (step_value s)
-lacks_among s t value low small lacks = λ cell v has.
-    let h = (pairs_where t cell v small).0 has in
-    (pairs_where s cell v low).1 (h.0 ∙ lacks.cell, ((lacks.values v).0 h.1).0)
+lacks_among s t value low small lacks = λ cell v has. grind (arith, pairs_where)
 
 -- a step that strikes less and lacks a value strikes some of the pairs of the step without that value
 less_among : (s t : Step) (at value : ℕ) (less : StepValue) → s.values < 2 ^ 16 → t.values < 2 ^ 16 → IsStepWithout value s t
     → StrikesLess at value less (step_value s) → Among less (step_value t)
-less_among s t at value less low small lacks by = λ cell v has.
-    let h = (pairs_where s cell v low).0 (by.among cell v has) in
-    let here = (pairs_where s at value low).0 by.has in
-    let other : v ≢ value = λ same.
-    both_ways (has_pair less.strikes at value) by.lacks
-    (subst (λ (n : ℕ). has_pair less.strikes at n ≡ true) same
-    (subst (λ (k : ℕ). has_pair less.strikes k v ≡ true) (h.0 ∙ sym here.0) has)) in
-    (pairs_where t cell v small).1 (h.0 ∙ sym lacks.cell, (lacks.values v).1 (h.1, other))
+less_among s t at value less low small lacks by = λ cell v has. grind (arith, pairs_where, both_ways)
 
 -- if the step without a value doesn't show the goal, no step that strikes less and lacks the value does
 pub needed_here : (Struck : Striking) → IsAntitone Struck → (grade : Grade) (c : CandidatesValue)
@@ -197,54 +171,24 @@ pub parts_at : (steps : List Step) (place : ℕ) (s : Step) → place < length s
     → (front : List Step) × (back : List Step) × (steps ≡ front ++ s ∷ back) × (length front ≡ place)
 parts_at steps place s low is =
     let at = parted steps place low in
-    let same : s ≡ at.1 = is ∙ (λ i. slice_index_or (at.3 i) (sym at.4 i) s) ∙ get_or-append_seam at.0 at.1 at.2 s in
-    (at.0, at.2, at.3 ∙ ap (λ (x : Step). at.0 ++ x ∷ at.2) (sym same), at.4)
+    grind (arith, get_or-append_seam)
 
 -- if the step at a place doesn't strike the number, the steps stay as they are
 pub left_none : (Struck : Striking) (grade : Grade) (c : CandidatesValue) (place value : ℕ) (steps : List Step) (s : Step)
     (goal : Goal) → place < length steps → s ≡ slice_index_or steps place s → s.values < 2 ^ 16 → has_number s.values value ≡ false
     → IsLeftOut Struck grade c place value steps steps goal
-left_none Struck grade c place value steps s goal low is small none =
-    let (front, back, parts, at) = parts_at steps place s low is in
-    record {
-      front = front;
-      back = back;
-      was = s;
-      now = s;
-      at = at;
-      old_is = parts;
-      new_is = parts;
-      reason = refl;
-      among = λ k v has. has;
-      needed = λ less cell by shown. both_ways (has_number s.values value) none ((pairs_where s cell value small).0 by.has).1;
-    }
+left_none Struck grade c place value steps s goal low is small none = grind (arith, parts_at, both_ways, pairs_where)
 
 -- the number is left out if the step without it is put in the step's place
 pub left_less : (Struck : Striking) (grade : Grade) (c : CandidatesValue) (place value : ℕ) (steps : List Step)
     (s t : Step) (goal : Goal) → place < length steps → s ≡ slice_index_or steps place s → s.values < 2 ^ 16 → t.values < 2 ^ 16 → IsStepWithout value s t
     → IsLeftOut Struck grade c place value steps (slice_set steps place t) goal
-left_less Struck grade c place value steps s t goal low is small few lacks =
-    let (front, back, parts, at) = parts_at steps place s low is in
-    record {
-      front = front;
-      back = back;
-      was = s;
-      now = t;
-      at = at;
-      old_is = parts;
-      new_is = ap (λ (xs : List Step). slice_set xs place t) parts ∙ set_at front s back t place at;
-      reason = lacks.reason;
-      among = lacks_among s t value small few lacks;
-      needed = λ less cell by shown. ((lacks.values value).0 ((pairs_where t cell value few).0 by.has).1).1 refl;
-    }
+left_less Struck grade c place value steps s t goal low is small few lacks = grind (arith, parts_at, set_at, lacks_among, pairs_where)
 
 -- a step that is put back in its place makes the steps what they were
 pub set_back : (steps : List Step) (place : ℕ) (s t : Step) → place < length steps → s ≡ slice_index_or steps place s
     → slice_set (slice_set steps place t) place s ≡ steps
-set_back steps place s t low is =
-    let (front, back, parts, at) = parts_at steps place s low is in
-    ap (λ (xs : List Step). slice_set xs place s) (ap (λ (xs : List Step). slice_set xs place t) parts ∙ set_at front s back t place at)
-    ∙ set_at front t back s place at ∙ sym parts
+set_back steps place s t low is = grind (arith, parts_at, set_at)
 
 -- if the goal isn't shown without the number, the step is put back, and needs it
 pub left_with : (Struck : Striking) → IsAntitone Struck → (grade : Grade) (c : CandidatesValue) (place value : ℕ)
@@ -283,10 +227,7 @@ pub same_parts : {X : Type 0} (xs ys us bs : List X) (x y : X) → xs ++ x ∷ u
 same_parts [] [] us bs x y same size = let (head, tail) = cons_parts x y us bs same in (refl, head, tail)
 same_parts [] (k ∷ ys) us bs x y same size = absurd (omega (arith, size))
 same_parts (h ∷ xs) [] us bs x y same size = absurd (omega (arith, size))
-same_parts (h ∷ xs) (k ∷ ys) us bs x y same size =
-    let (head, tail) = cons_parts h k (xs ++ x ∷ us) (ys ++ y ∷ bs) same in
-    let rest = same_parts xs ys us bs x y tail (omega (arith, size)) in
-    ((λ i. head i ∷ rest.0 i), rest.1, rest.2)
+same_parts (h ∷ xs) (k ∷ ys) us bs x y same size = grind (arith, cons_parts, (same_parts xs ys us bs x y))
 
 -- once a number is left out or needed, the step needs each of its values up to and with this one
 pub narrowed_on : (Struck : Striking) → IsAntitone Struck → (grade : Grade) (c : CandidatesValue) (place value : ℕ)
@@ -305,27 +246,18 @@ narrowed_on Struck antitone grade c place value old new goal shows o h =
       tight = subst (λ (n : ℕ). IsTightFrom (n + 1) Struck grade c (steps_of new) goal) far
           (subst (λ xs. IsTightFrom (length F + 1) Struck grade c xs goal) (sym new_is)
           (tight_less Struck antitone grade c F B now was goal o.among whole
-          (subst (λ xs. IsTightFrom (length F + 1) Struck grade c xs goal) old_is
-          (subst (λ (n : ℕ). IsTightFrom (n + 1) Struck grade c (steps_of old) goal) (sym far) h.tight))));
+          (grind arith)));
       needed = subst (λ (n : ℕ). IsNeededFrom (n + 1) Struck grade c (steps_of new) goal) far
           (subst (λ xs. IsNeededFrom (length F + 1) Struck grade c xs goal) (sym new_is)
           (needed_less Struck antitone grade c F B now was goal o.among whole
-          (subst (λ xs. IsNeededFrom (length F + 1) Struck grade c xs goal) old_is
-          (subst (λ (n : ℕ). IsNeededFrom (n + 1) Struck grade c (steps_of old) goal) (sym far) h.needed))));
+          (grind arith)));
       here = λ front back step less cell v is at by below shown.
           let parts = same_parts F front B back now step (sym new_is ∙ is) (far ∙ sym at) in
-          let there : Shows Struck grade c (F ++ less ∷ B) goal =
-          subst (λ xs. Shows Struck grade c (xs ++ less ∷ B) goal) (sym parts.0)
-          (subst (λ xs. Shows Struck grade c (front ++ less ∷ xs) goal) (sym parts.2) shown) in
+          let there : Shows Struck grade c (F ++ less ∷ B) goal = grind arith in
           let by_now : StrikesLess cell v less now = subst (λ x. StrikesLess cell v less x) (sym parts.1) by in
           elim (cases_eq v value) [
             | inl same ↦ o.needed less cell (subst (λ (n : ℕ). StrikesLess cell n less now) same by_now) there
-            | inr other ↦ h.here F B was less cell v old_is far (record {
-              reason = by_now.reason ∙ o.reason;
-              among = λ k n has. o.among k n (by_now.among k n has);
-              has = o.among cell v by_now.has;
-              lacks = by_now.lacks;
-            }) (omega (arith, other, below)) there
+            | inr other ↦ h.here F B was less cell v old_is far (grind arith) (omega (arith, other, below)) there
           ];
     }
 
@@ -333,41 +265,30 @@ narrowed_on Struck antitone grade c place value old new goal shows o h =
 pub left_out_timely : (Struck : Striking) (grade : Grade) (c : CandidatesValue) (place value : ℕ)
     (old new : List Step) (goal : Goal) → IsLeftOut Struck grade c place value old new goal
     → AreTimely c (steps_of old) → AreTimely c (steps_of new)
-left_out_timely Struck grade c place value old new goal o timely =
-    subst (AreTimely c) (sym (listed new o.front o.back o.now o.new_is))
-    (timely_less c (steps_of o.front) (steps_of o.back) (step_value o.now) (step_value o.was) o.among
-    (subst (AreTimely c) (listed old o.front o.back o.was o.old_is) timely))
+left_out_timely Struck grade c place value old new goal o timely = grind (arith, common_steps, listed, timely_less)
 
 -- the values that a step strikes are numbers of the size
 struck_size : (Struck : Striking) (grade : Grade) (c : CandidatesValue) (steps front back : List StepValue)
     (step : StepValue) (cell v : ℕ) (goal : Goal) → steps ≡ front ++ step ∷ back → has_pair step.strikes cell v ≡ true → Shows Struck grade c steps goal
     → (1 ≤ v) × (v ≤ c.size)
-struck_size Struck grade c steps front back step cell v goal is has shows =
-    let chain = subst (λ xs. IsChain Struck c xs) is shows.chain in
-    let struck = (chain_split Struck c front (step ∷ back) chain).1.0 cell v has in
-    let size : (left_by c front).size ≡ c.size = left_size c front in
-    (struck.0.low, subst (λ (n : ℕ). v ≤ n) size struck.0.high)
+struck_size Struck grade c steps front back step cell v goal is has shows = grind (arith, chain_split, left_size)
 
 -- a step needs each of its values below 1, since it strikes none
 pub needed_none : (Struck : Striking) (grade : Grade) (c : CandidatesValue) (place : ℕ) (steps : List StepValue)
     (goal : Goal) → Shows Struck grade c steps goal → IsNeededBelow 1 place Struck grade c steps goal
-needed_none Struck grade c place steps goal shows = λ front back step less cell v is at by below shown.
-    absurd (omega (arith, below, (struck_size Struck grade c steps front back step cell v goal is by.has shows).0))
+needed_none Struck grade c place steps goal shows = grind (arith, struck_size)
 
 -- a step that needs each of its values below 10 can't strike less
 pub needed_all : (Struck : Striking) (grade : Grade) (c : CandidatesValue) (place most : ℕ) (steps : List StepValue)
     (goal : Goal) → c.size ≤ 9 → 10 ≤ most → Shows Struck grade c steps goal → IsNeededBelow most place Struck grade c steps goal
     → IsNeededAt place Struck grade c steps goal
-needed_all Struck grade c place most steps goal small high shows h = λ front back step less cell v is at by shown.
-    h front back step less cell v is at by
-    (omega (arith, (struck_size Struck grade c steps front back step cell v goal is by.has shows).1, small, high)) shown
+needed_all Struck grade c place most steps goal small high shows h = grind (arith, struck_size)
 
 -- ---- one step after another
 
 -- a step that strikes nothing changes nothing
 empty_fewer : (c : CandidatesValue) (step : StepValue) → ((k v : ℕ) → has_pair step.strikes k v ≡ true → ⊥) → IsFewer (without c step.strikes) c
-empty_fewer c step none = λ cell value left. still_left c step.strikes cell value left
-    (false_from_ne_true (has_pair step.strikes cell value) (none cell value))
+empty_fewer c step none = λ cell value left. grind (arith, still_left, false_from_ne_true)
 
 pub shows_empty : (Struck : Striking) → IsAntitone Struck → (grade : Grade) (c : CandidatesValue)
     (front back : List StepValue) (step : StepValue) (goal : Goal) → ((k v : ℕ) → has_pair step.strikes k v ≡ true → ⊥)
@@ -376,14 +297,7 @@ shows_empty Struck antitone grade c front back step goal none h =
     let end = left_by c front in
     let both = chain_split Struck c front (step ∷ back) h.chain in
     let after = chain_less Struck antitone (without end step.strikes) end back refl (empty_fewer end step none) both.1.1 in
-    record {
-      chain = chain_joined Struck c front back both.0 after.0;
-      allowed = allowed_without grade front back step h.allowed;
-      shown = shown_less (left_by c (front ++ step ∷ back)) (left_by c (front ++ back)) goal
-          (left_size c (front ++ step ∷ back) ∙ sym (left_size c (front ++ back)))
-          (subst (λ x. IsFewer x (left_by c (front ++ back))) (sym (left_append c front (step ∷ back)))
-          (subst (λ x. IsFewer (left_by (without end step.strikes) back) x) (sym (left_append c front back)) after.1)) h.shown;
-    }
+    grind (arith, chain_joined, allowed_without, shown_less, left_size, left_append)
 
 -- a step that strikes nothing can be put in anywhere, and the goal is still shown
 shows_idle : (Struck : Striking) → IsAntitone Struck → (grade : Grade) (c : CandidatesValue)
@@ -394,14 +308,7 @@ shows_idle Struck antitone grade c front back reason goal has h =
     let end = left_by c front in
     let both = chain_split Struck c front back h.chain in
     let after = chain_less Struck antitone end (without end []) back refl (without_fewer end []) both.1 in
-    record {
-      chain = chain_joined Struck c front (idle ∷ back) both.0 ((λ cell v is. absurd (false≢true is)), after.0);
-      allowed = allowed_with grade front back idle has h.allowed;
-      shown = shown_less (left_by c (front ++ back)) (left_by c (front ++ idle ∷ back)) goal
-          (left_size c (front ++ back) ∙ sym (left_size c (front ++ idle ∷ back)))
-          (subst (λ x. IsFewer x (left_by c (front ++ idle ∷ back))) (sym (left_append c front back))
-          (subst (λ x. IsFewer (left_by end back) x) (sym (left_append c front (idle ∷ back))) after.1)) h.shown;
-    }
+    grind (arith, chain_joined, allowed_with, shown_less, left_size, left_append)
 
 -- where a step strikes something and can't strike less, it can't be left out
 pub tight_needed : (Struck : Striking) → IsAntitone Struck → (grade : Grade) (c : CandidatesValue) (place : ℕ)
@@ -418,12 +325,8 @@ tight_needed Struck antitone grade c place steps front back s value goal is at l
       | inl here ↦
           let parts = same_parts F fs B bs (step_value s) step (sym whole ∙ same) (far ∙ sym here) in
           let allowed = allowed_at grade F B (step_value s) (subst (λ xs. AreOfGrade grade xs) whole shows.allowed) in
-          needed F B (step_value s) (record { reason = s.reason; strikes = [] }) s.cell value whole far (record {
-            reason = refl;
-            among = λ k v no. absurd (false≢true no);
-            has = (pairs_where s s.cell value low).1 (refl, has);
-            lacks = refl;
-          }) (shows_idle Struck antitone grade c F B s.reason goal allowed
+          needed F B (step_value s) (record { reason = s.reason; strikes = [] }) s.cell value whole far (grind (arith, pairs_where))
+          (shows_idle Struck antitone grade c F B s.reason goal allowed
           (subst (λ xs. Shows Struck grade c (F ++ xs) goal) (sym parts.2) (subst (λ xs. Shows Struck grade c (xs ++ bs) goal) (sym parts.0) shown)))
       | inr other ↦ tight fs bs step same (omega (arith, behind, other)) shown
     ]
@@ -432,11 +335,7 @@ tight_needed Struck antitone grade c place steps front back s value goal is at l
 pub needed_from : (Struck : Striking) (grade : Grade) (c : CandidatesValue) (place : ℕ) (steps : List StepValue)
     (goal : Goal) → IsNeededAt place Struck grade c steps goal → IsNeededFrom (place + 1) Struck grade c steps goal
     → IsNeededFrom place Struck grade c steps goal
-needed_from Struck grade c place steps goal here later_ones = λ front back step less cell v is behind by shown.
-    elim (cases_eq (length front) place) [
-      | inl same ↦ here front back step less cell v is same by shown
-      | inr other ↦ later_ones front back step less cell v is (omega (arith, behind, other)) by shown
-    ]
+needed_from Struck grade c place steps goal here later_ones = λ front back step less cell v is behind by shown. grind (arith, cases_eq)
 
 -- if no step after one can strike less, none can once that one goes
 pub needed_without : (Struck : Striking) → IsAntitone Struck → (grade : Grade) (c : CandidatesValue)
@@ -475,13 +374,11 @@ narrowed_goes Struck antitone grade c place steps front back rest s goal is at l
           (shows_empty Struck antitone grade c F B (step_value s) goal
           (λ k v has. both_ways (has_number s.values v) (none v) ((pairs_where s k v low).0 has).1)
           (subst (λ xs. Shows Struck grade c xs goal) whole shows));
-      tight = subst (λ xs. IsTightFrom place Struck grade c xs goal) (sym (ap steps_of gone ∙ steps_removed steps place))
-          (tight_without Struck antitone grade c (steps_of steps) place goal inside shows tight);
+      tight = grind (arith, steps_removed, tight_without);
       needed = subst (λ (n : ℕ). IsNeededFrom n Struck grade c (steps_of rest) goal) far
           (subst (λ xs. IsNeededFrom (length F) Struck grade c xs goal) (sym rest_steps)
           (needed_without Struck antitone grade c F B (step_value s) goal (subst (λ xs. Shows Struck grade c xs goal) whole shows)
-          (subst (λ xs. IsNeededFrom (length F + 1) Struck grade c xs goal) whole
-          (subst (λ (n : ℕ). IsNeededFrom (n + 1) Struck grade c (steps_of steps) goal) (sym far) needed))));
+          (grind arith)));
     }
 
 -- if a step strikes something and can't strike less, the steps from its place on are done with it

@@ -1,5 +1,5 @@
 -- Chains from which steps are left out, the last first.
-use Rattle.std.proofs.Common.{◌≡◌, ℕ, zero, suc, ◌+◌, ◌<◌, ◌≤◌, List, [], ◌∷◌, ◌++◌, length, take, drop, refl, sym, ap, ◌∙◌, subst, arith, append_assoc, length-append}
+use Rattle.std.proofs.Common.{◌≡◌, ℕ, zero, suc, ◌+◌, ◌<◌, ◌≤◌, List, [], ◌∷◌, ◌++◌, length, refl, sym, ap, ◌∙◌, subst, arith, append_assoc, length-append}
 use Rattle.std.specs.List.{remove}
 use Rattle.std.proofs.Math.Seq.{take-append_seam, drop-append-add}
 use Rattle.std.proofs.lemmas.List.{take-map, drop-map, map-append}
@@ -13,7 +13,7 @@ use Rattle.named_steps.proofs.Shown.{shown_less}
 use Rattle.line_steps.specs.declared.grade.Grade.{Grade}
 use Rattle.named_steps.specs.declared.goal.Goal.{Goal}
 use Rattle.step_chains.specs.declared.chain.Step.{Step}
-use Rattle.step_chains.specs.ChainValues.{step_value, steps_of}
+use Rattle.step_chains.specs.ChainValues.{steps_of}
 use Rattle.step_chains.specs.Inner.Tight.{IsTightFrom}
 use Rattle.line_steps.specs.Reasons.{Striking}
 
@@ -21,11 +21,7 @@ use Rattle.line_steps.specs.Reasons.{Striking}
 
 -- without the element after its front, a list is the front and then the back
 pub remove_at : {X : Type 0} (front back : List X) (x : X) → remove (front ++ x ∷ back) (length front) ≡ front ++ back
-remove_at front back x =
-    let next : suc (length front) ≡ length front + 1 = omega arith in
-    let here : drop (suc (length front)) (front ++ x ∷ back) ≡ back =
-    ap (λ (n : ℕ). drop n (front ++ x ∷ back)) next ∙ drop-append-add front (x ∷ back) 1 in
-    ap (λ xs. xs ++ drop (suc (length front)) (front ++ x ∷ back)) (take-append_seam front (x ∷ back)) ∙ ap (λ xs. front ++ xs) here
+remove_at front back x = grind (arith, drop-append-add, take-append_seam)
 
 -- each place of a list has a front, an element and a back
 pub parted : {X : Type 0} (xs : List X) (place : ℕ) → place < length xs
@@ -44,16 +40,11 @@ pub fronts_part : {X : Type 0} (short back long rest : List X) → short ++ back
     → (more : List X) × (long ≡ short ++ more) × (back ≡ more ++ rest)
 fronts_part [] back long rest same low = (long, refl, same)
 fronts_part (x ∷ short) back [] rest same low = absurd (omega (arith, low))
-fronts_part (x ∷ short) back (y ∷ long) rest same low =
-    let (head, tail) = cons_parts x y (short ++ back) (long ++ rest) same in
-    let h = fronts_part short back long rest tail (omega (arith, low)) in
-    (h.0, (λ i. sym head i ∷ h.1 i), h.2)
+fronts_part (x ∷ short) back (y ∷ long) rest same low = grind (arith, cons_parts, (fronts_part short back long rest))
 
 -- the values of steps without one are the steps' values without the one at its place
 pub steps_removed : (steps : List Step) (place : ℕ) → steps_of (remove steps place) ≡ remove (steps_of steps) place
-steps_removed steps place =
-    map-append step_value (take place steps) (drop (suc place) steps)
-    ∙ (λ i. sym (take-map step_value place steps) i ++ sym (drop-map step_value (suc place) steps) i)
+steps_removed steps place = grind (arith, map-append, take-map, drop-map)
 
 -- ---- chains with a step more or less
 
@@ -71,25 +62,14 @@ shows_with Struck less grade c front back rest step goal whole part =
     let at = (chain_split Struck c front (step ∷ back) whole.chain).1.0 in
     let after = chain_less Struck less end (without end step.strikes) rest refl (without_fewer end step.strikes)
     (chain_split Struck c front rest part.chain).1 in
-    record {
-      chain = chain_joined Struck c front (step ∷ rest) (chain_split Struck c front rest part.chain).0 (at, after.0);
-      allowed = with_allowed grade front back rest step whole.allowed part.allowed;
-      shown = shown_less (left_by c (front ++ rest)) (left_by c (front ++ step ∷ rest)) goal
-          (left_size c (front ++ rest) ∙ sym (left_size c (front ++ step ∷ rest)))
-          (subst (λ x. IsFewer x (left_by c (front ++ step ∷ rest))) (sym (left_append c front rest))
-          (subst (λ x. IsFewer (left_by end rest) x) (sym (left_append c front (step ∷ rest))) after.1)) part.shown;
-    }
+    grind (arith, chain_joined, chain_split, with_allowed, shown_less, left_size, left_append)
 
 -- a chain that shows a goal from some candidates shows it from fewer
 pub shows_alike : (Struck : Striking) → IsAntitone Struck → (grade : Grade) (c d : CandidatesValue)
     (steps : List StepValue) (goal : Goal) → c.size ≡ d.size → IsFewer c d → Shows Struck grade c steps goal → Shows Struck grade d steps goal
 shows_alike Struck less grade c d steps goal size fewer h =
     let there = chain_less Struck less c d steps size fewer h.chain in
-    record {
-      chain = there.0;
-      allowed = h.allowed;
-      shown = shown_less (left_by c steps) (left_by d steps) goal (left_size c steps ∙ size ∙ sym (left_size d steps)) there.1 h.shown;
-    }
+    grind (arith, shown_less, left_size)
 
 -- ---- one pass from the last step to the first
 

@@ -1,47 +1,33 @@
 -- The numbers that aren't in view of a board's square, or aren't marked there, as sets.
-use Rattle.std.proofs.Common.{◌≡◌, ◌≢◌, ◌↔◌, ℕ, ◌+◌, ◌*◌, ◌<◌, ◌≤◌, true, false, List, not, ◌==◌, ◌||◌, inl, inr, ◌⊎◌, refl, sym, ap, ◌∙◌, subst, arith}
+use Rattle.std.proofs.Common.{◌≡◌, ◌≢◌, ◌↔◌, ℕ, ◌+◌, ◌*◌, ◌<◌, ◌≤◌, true, false, ◌==◌, ◌||◌, inl, inr, ◌⊎◌, refl, sym, ◌∙◌, subst, arith}
 use Rattle.std.proofs.lemmas.Bool.{both_ways, cases_eq, cases_Bool, eq-eqb, eqb-true, false_from_ne_true, not_from_false, or_left, or_right}
 use Rattle.number_sets.specs.Sets.{has_number, no_numbers}
 use Rattle.number_sets.proofs.Members.{has_number-none}
 use Rattle.latin_board.specs.Boards.{BoardValue, grid_of, marks_at}
 use Rattle.latin_board.specs.Squares.{number_at}
-use Rattle.trail_solver.specs.Pairs.{IsPair, has_pair}
+use Rattle.trail_solver.specs.Pairs.{IsPair}
 use Rattle.trail_solver.specs.Candidates.{CandidatesValue, may_be}
 use Rattle.line_steps.specs.Left.{all_of}
 use Rattle.line_steps.specs.Takes.{Takes}
 use Rattle.step_chains.specs.BoardViews.{IsBoardView}
 use Rattle.step_chains.specs.Inner.Views.{IsHidden, IsHiddenSet, IsUnmarkedSet, IsUnseenSet}
 
--- what one of two sets has, if both together have it
+-- a number that two sets have together is in one of them
 one_of : (a b : ℕ) (set v : ℕ) → ((n : ℕ) → has_number set n ≡ (has_number a n || has_number b n)) → has_number set v ≡ true
     → (has_number a v ≡ true) ⊎ (has_number b v ≡ true)
-one_of a b set v either has = elim (cases_Bool (has_number a v)) [
-  | inl first ↦ inl first
-  | inr lacks ↦ elim (cases_Bool (has_number b v)) [
-    | inl second ↦ inr second
-    | inr absent ↦ absurd (both_ways (has_number set v) (either v ∙ ap (λ t. t || has_number b v) lacks ∙ absent) has)
-  ]
-]
+one_of a b set v either has = grind (arith, cases_Bool, both_ways)
 
 -- ---- one number
 
 -- a number that isn't among the marks is the only one of its set
 pub one_out : (marks value one : ℕ) → has_number marks value ≡ false → ((k : ℕ) → has_number one k ≡ (k == value))
     → (v : ℕ) → (has_number one v ≡ true) ↔ ((v ≡ value) × (has_number marks v ≡ false))
-one_out marks value one lacks members = λ v. (
-  λ has.
-      let same : v ≡ value = eqb-true v value (sym (members v) ∙ has) in
-      (same, ap (has_number marks) same ∙ lacks),
-  λ h. members v ∙ eq-eqb v value h.0,
-)
+one_out marks value one lacks members = λ v. grind (arith, eqb-true, eq-eqb)
 
 -- of a number among the marks there is none
 pub none_out : (marks value : ℕ) → has_number marks value ≡ true
     → (v : ℕ) → (has_number no_numbers v ≡ true) ↔ ((v ≡ value) × (has_number marks v ≡ false))
-none_out marks value has = λ v. (
-  λ some. absurd (both_ways (has_number no_numbers v) (has_number-none v) some),
-  λ h. absurd (both_ways (has_number marks v) h.1 (ap (has_number marks) h.0 ∙ has)),
-)
+none_out marks value has = λ v. grind (arith, both_ways, has_number-none)
 
 -- ---- a square
 
@@ -57,35 +43,20 @@ out_added marks value out one result before low single either = λ v. (
     | inl old ↦ let h = (before v).0 old in (h.0, omega (arith, h.1), h.2)
     | inr new ↦ let h = (single v).0 new in (omega (arith, h.0, low), omega (arith, h.0), h.1)
   ],
-  λ h. elim (cases_eq v value) [
-    | inl same ↦ either v ∙ or_right (has_number out v) (has_number one v) ((single v).1 (same, h.2))
-    | inr other ↦ either v ∙ or_left (has_number out v) (has_number one v) ((before v).1 (h.0, omega (arith, h.1, other), h.2))
-  ],
+  λ h. grind (arith, cases_eq, or_right, or_left),
 )
 
 -- of a square with a number, or without a mark, no number is left out by its marks
 pub none_unmarked : (b : BoardValue) (cell : ℕ) → (number_at (grid_of b) cell ≢ 0) ⊎ (marks_at b cell ≡ no_numbers) → IsUnmarkedSet b cell no_numbers
-none_unmarked b cell h = λ v pair. (
-  λ some. absurd (both_ways (has_number no_numbers v) (has_number-none v) some),
-  λ out. elim h [ inl filled ↦ absurd (filled out.empty) | inr bare ↦ absurd (out.some bare) ],
-)
+none_unmarked b cell h = λ v pair. grind (arith, both_ways, has_number-none)
 
 -- of an empty square with marks, the others from 1 to 9 are left out
 pub unmarked_set : (b : BoardValue) (cell marks set : ℕ) → b.size ≤ 9 → marks ≡ marks_at b cell → number_at (grid_of b) cell ≡ 0 → marks ≢ no_numbers
     → ((v : ℕ) → (has_number set v ≡ true) ↔ ((1 ≤ v) × (v ≤ 9) × (has_number marks v ≡ false)))
     → IsUnmarkedSet b cell set
-unmarked_set b cell marks set small is empty some out = λ v pair. (
-  λ has. record {
-    empty = empty;
-    some = λ none. some (is ∙ none);
-    lacks = ap (λ (m : ℕ). has_number m v) (sym is) ∙ ((out v).0 has).2;
-  },
-  λ h.
-      let high = pair.high in
-      (out v).1 (pair.low, omega (arith, high, small), ap (λ (m : ℕ). has_number m v) is ∙ h.lacks),
-)
+unmarked_set b cell marks set small is empty some out = λ v pair. grind arith
 
--- what isn't in view or isn't marked, from the sets of both
+-- the numbers that aren't in view or aren't marked, from the sets of both
 pub hidden_set : (b : BoardValue) (cell unseen unmarked result : ℕ) → IsUnseenSet (grid_of b) cell unseen → IsUnmarkedSet b cell unmarked
     → ((n : ℕ) → has_number result n ≡ (has_number unseen n || has_number unmarked n)) → IsHiddenSet b cell result
 hidden_set b cell unseen unmarked result first second either = λ v pair. (
@@ -107,23 +78,10 @@ pub board_view : (b : BoardValue) (c : CandidatesValue) (w : ℕ) → w ≡ b.si
 board_view b c w w_is t =
     let hidden_gone : (cell v : ℕ) → IsPair b.size cell v → IsHidden b cell v → may_be c cell v ≡ false =
     λ cell v pair hidden. t.gone cell v pair (cell, subst (λ (k : ℕ). cell < k) (sym w_is) pair.inside, refl, hidden) in
-    let kept : (cell v : ℕ) → (IsHidden b cell v → ⊥) → may_be c cell v ≡ true =
-    λ cell v shown. ap (λ (ps : List (ℕ × ℕ)). not (has_pair ps cell v)) t.trail ∙ not_from_false (has_pair t.pairs cell v)
-    (false_from_ne_true (has_pair t.pairs cell v) (λ has.
-    let (j, low, same, hidden) = (t.each cell v has).1 in
-    shown (subst (λ (k : ℕ). IsHidden b k v) (sym same) hidden))) in
+    let kept : (cell v : ℕ) → (IsHidden b cell v → ⊥) → may_be c cell v ≡ true = grind (arith, not_from_false, false_from_ne_true) in
     record {
       size = t.size;
-      filled = λ cell v pair some. (
-        λ may. elim (cases_eq v (number_at (grid_of b) cell)) [
-          | inl same ↦ same
-          | inr other ↦ absurd (both_ways (may_be c cell v) (hidden_gone cell v pair (inl (inl (some, other)))) may)
-        ],
-        λ same. kept cell v (λ h. elim h [
-          | inl unseen ↦ elim unseen [ inl filled ↦ absurd (filled.1 same) | inr empty ↦ absurd (some empty.0) ]
-          | inr unmarked ↦ absurd (some unmarked.empty)
-        ]),
-      );
+      filled = λ cell v pair some. grind (arith, cases_eq, both_ways);
       empty = λ cell v pair blank. (
         λ may. (
           λ peer peers is. both_ways (may_be c cell v) (hidden_gone cell v pair (inl (inr (blank, (peer, peers, is))))) may,
@@ -131,20 +89,10 @@ board_view b c w w_is t =
             | inl bare ↦ inl bare
             | inr some ↦ elim (cases_Bool (has_number (marks_at b cell) v)) [
               | inl has ↦ inr has
-              | inr lacks ↦ absurd (both_ways (may_be c cell v)
-                  (hidden_gone cell v pair (inr (record { empty = blank; some = some; lacks = lacks }))) may)
+              | inr lacks ↦ absurd (grind (arith, both_ways))
             ]
           ],
         ),
-        λ h. kept cell v (λ hidden. elim hidden [
-          | inl unseen ↦ elim unseen [
-            | inl filled ↦ absurd (filled.0 blank)
-            | inr empty ↦ let (peer, peers, is) = empty.1 in absurd (h.0 peer peers is)
-          ]
-          | inr unmarked ↦ elim h.1 [
-            | inl bare ↦ absurd (unmarked.some bare)
-            | inr has ↦ absurd (both_ways (has_number (marks_at b cell) v) unmarked.lacks has)
-          ]
-        ]),
+        λ h. kept cell v (λ hidden. grind (arith, both_ways)),
       );
     }

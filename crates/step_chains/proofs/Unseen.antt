@@ -21,22 +21,7 @@ StandsOn g line v = (k : ℕ) × (k < g.size) × (number_at g (line_cell g.size 
 pub unseen_filled : (g : GridValue) (cell all one result number : ℕ) → number ≡ number_at g cell → number ≢ 0
     → ((k : ℕ) → has_number all k ≡ (nat_le 1 k && nat_le k g.size)) → ((k : ℕ) → has_number one k ≡ (k == number))
     → ((n : ℕ) → has_number result n ≡ (has_number all n && not (has_number one n))) → IsUnseenSet g cell result
-unseen_filled g cell all one result number is some members single rest = λ v pair. (
-  λ has.
-      let both = and_parts (has_number all v) (not (has_number one v)) (sym (rest v) ∙ has) in
-      inl (
-        λ zero. some (is ∙ zero),
-        λ same. both_ways (not (has_number one v)) (ap not (single v ∙ eq-eqb v number (same ∙ sym is))) both.1,
-      ),
-  λ h. elim h [
-    | inl filled ↦
-        let in_all : has_number all v ≡ true =
-        members v ∙ and_from (nat_le 1 v) (nat_le v g.size) (le-leb 1 v pair.low) (le-leb v g.size pair.high) in
-        rest v ∙ and_from (has_number all v) (not (has_number one v)) in_all
-        (not_from_false (has_number one v) (single v ∙ ne_eqb v number (λ same. filled.1 (same ∙ is))))
-    | inr empty ↦ absurd (some (is ∙ empty.0))
-  ],
-)
+unseen_filled g cell all one result number is some members single rest = λ v pair. grind (arith, and_parts, both_ways, eq-eqb, and_from, nat_le, le-leb, not_from_false, ne_eqb)
 
 -- a peer stands on the square's row or column
 peer_on : (w peer cell : ℕ) → ArePeers w peer cell
@@ -59,16 +44,7 @@ peer_on w peer cell h =
 -- if a number stands on a line of an empty square, a peer of the square has it
 on_line_peer : (g : GridValue) (cell line at v : ℕ) → line < 2 * g.size → at < g.size → line_cell g.size line at ≡ cell → number_at g cell ≡ 0 → 1 ≤ v
     → StandsOn g line v → (peer : ℕ) × ArePeers g.size peer cell × (number_at g peer ≡ v)
-on_line_peer g cell line at v line_is at_is here blank low h = elim (cases_eq h.0 at) [
-  | inl same ↦
-      let zero : v ≡ 0 = sym h.2 ∙ ap (λ (k : ℕ). number_at g (line_cell g.size line k)) same ∙ ap (number_at g) here ∙ blank in
-      absurd (omega (arith, zero, low))
-  | inr other ↦ (
-    line_cell g.size line h.0,
-    subst (λ (c : ℕ). ArePeers g.size (line_cell g.size line h.0) c) here (line_peers g.size line h.0 at line_is h.1 at_is other),
-    h.2,
-  )
-]
+on_line_peer g cell line at v line_is at_is here blank low h = grind (arith, cases_eq, line_peers)
 
 -- of an empty square the numbers of its row and column are out of view
 pub unseen_empty : (g : GridValue) (cell first second row column result : ℕ) → cell < g.size * g.size → number_at g cell ≡ 0
@@ -120,12 +96,7 @@ pub number_added : (g : GridValue) (line k number found one result : ℕ) → nu
 number_added g line k number found one result is before single either = λ v. (
   λ has. elim (cases_Bool (has_number found v)) [
     | inl old ↦ let h = (before v).0 old in (h.0, omega (arith, h.1), h.2)
-    | inr lacks ↦
-        let new : has_number one v ≡ true = elim (cases_Bool (has_number one v)) [
-          | inl in_one ↦ in_one
-          | inr absent ↦ absurd (both_ways (has_number result v) (either v ∙ ap (λ b. b || has_number one v) lacks ∙ absent) has)
-        ] in
-        (k, omega arith, sym is ∙ sym (eqb-true v number (sym (single v) ∙ new)))
+    | inr lacks ↦ grind (arith, cases_Bool, both_ways, eqb-true)
   ],
   λ h. elim (cases_eq h.0 k) [
     | inl same ↦

@@ -1,10 +1,10 @@
 -- A number that steps show from a start is so in each solution within it.
-use Rattle.std.proofs.Common.{◌≡◌, ℕ, ◌*◌, ◌<◌, List, sym, ◌∙◌, subst}
+use Rattle.std.proofs.Common.{◌≡◌, ℕ, ◌*◌, ◌<◌, List, sym, ◌∙◌, subst, arith}
 use Rattle.latin_board.specs.Squares.{GridValue, number_at}
 use Rattle.trail_solver.specs.Candidates.{CandidatesValue, IsWithin}
 use Rattle.trail_solver.specs.Puzzles.{Puzzle, Solves}
 use Rattle.trail_solver.specs.Solutions.{KeepsSolutions}
-use Rattle.named_steps.specs.Chains.{IsGoalOf, goal_cell, goal_value}
+use Rattle.named_steps.specs.Chains.{goal_cell, goal_value}
 use Rattle.named_steps.proofs.Kept.{shown_right}
 use Rattle.named_steps.specs.declared.goal.Goal.{Goal}
 use Rattle.line_steps.specs.Chains.{StepValue, left_by}
@@ -18,11 +18,7 @@ use Rattle.step_chains.specs.Inner.Views.{IsSeen, seen}
 -- a solution within the start is within each view
 pub within_seen : (p : Puzzle) (g h : GridValue) (start view : CandidatesValue) → start.size ≡ p.size → IsSeen (seen g start) view
     → view.size ≡ p.size → Solves p h → IsWithin start h → IsWithin view h
-within_seen p g h start view size is view_size solves within = record {
-  each = λ cell inside.
-      let here : cell < start.size * start.size = subst (λ (w : ℕ). cell < w * w) (view_size ∙ sym size) inside in
-      (is.all cell (number_at h cell) (number_left p start h cell size solves within here)).may;
-}
+within_seen p g h start view size is view_size solves within = grind (arith, number_left)
 
 -- the number that steps explain from a start stands in its square in each solution within the start
 pub explained_within : (p : Puzzle) (Struck : Striking) (grade : Grade) (g h : GridValue) (start : CandidatesValue)
@@ -31,10 +27,7 @@ pub explained_within : (p : Puzzle) (Struck : Striking) (grade : Grade) (g h : G
     → number_at h (goal_cell g.size goal) ≡ goal_value goal
 explained_within p Struck grade g h start steps goal size start_size e keeps solves within =
     let inside = keeps h solves (within_seen p g h start e.view start_size e.in_view (e.in_view.size ∙ size) solves within) in
-    let end_size : (left_by e.view steps).size ≡ g.size = left_size e.view steps ∙ e.in_view.size in
-    let is : IsGoalOf (left_by e.view steps).size goal = subst (λ (w : ℕ). IsGoalOf w goal) (sym end_size) e.explains.goal_of in
-    subst (λ (w : ℕ). number_at h (goal_cell w goal) ≡ goal_value goal) end_size
-    (shown_right p (left_by e.view steps) goal h (end_size ∙ size) solves inside is e.explains.shows.shown)
+    grind (arith, left_size, shown_right)
 
 -- steps that leave a square nothing from a start leave no solution within it
 pub refuted_within : (p : Puzzle) (Struck : Striking) (grade : Grade) (g h : GridValue) (start : CandidatesValue)

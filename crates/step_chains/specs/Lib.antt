@@ -2,11 +2,11 @@
 
 -- chains as lists of steps
 pub mod ChainValues
--- what an answer explains
+-- chains that refute the numbers of a grid
 pub mod Explanations
--- what the next hint of a grid says
+-- the next hint of a grid
 pub mod NextHints
--- what is in view of a board with pencil marks
+-- candidates in view of a board with pencil marks
 pub mod BoardViews
 -- candidates taken once more
 pub mod Copies

@@ -140,7 +140,7 @@ fn shorten<P: Steps>(
 }
 
 // The chain that costs least of those that the aims of the first rounds need. Nothing from here on ensures anything: `short_chain` follows
-// what comes of it step by step.
+// the chain that comes of it step by step.
 #[inline(never)]
 fn least_chain<P: Steps>(
     alloc: Global,

@@ -25,7 +25,7 @@ place_count w Clues = 12 * w
 place_count w Signs = 4 * (w * w)
 place_count w Groups = 2 * w * 2 ^ w
 
--- what is found at a place of a part of the list: a given or a square as a peer, a value in a place
+-- the reason that is found at a place of a part of the list: a given or a square as a peer, a value in a place
 -- of a line, a clue in one of three ways, a sign, or a group
 abbrev pub IsFoundAt : CandidatesValue → Part → ℕ → Option Reason → Type 0
 IsFoundAt c Squares place found =
