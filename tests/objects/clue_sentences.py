@@ -1,13 +1,13 @@
 """The sentence of a clue: which numbers in which squares would show too few or too many towers, and what has to be known for that (docs/HINTS.md)."""
 
-from typing import Dict, FrozenSet, List, NamedTuple, Optional, Sequence, Set, Tuple
+from typing import Dict, FrozenSet, Iterable, List, NamedTuple, Optional, Sequence, Set, Tuple
 
 from tests.objects.words import is_or_are, joined, line_name, losses, square, squares
 from tests.second_implementation.steps import Left, Step, each, looked_at, seen_squares
 from tests.second_implementation.towers import TowersPuzzle, counts_in_fillings
 
-#: How many squares are named at most of those that have to be known, and how many numbers those of them have that have several.
-MOST_SQUARES, MOST_NUMBERS = 3, 8
+#: How many squares are named at most with all their numbers, and how many numbers those of them have that have several; how many with facts beside them.
+MOST_SQUARES, MOST_NUMBERS, MOST_NAMED = 3, 8, 7
 
 #: The words on the line if more has to be known.
 OF_THE_LINE = {'stand': ', with the numbers in ', 'clue': ', by what is left in '}
@@ -18,13 +18,16 @@ SIDES = ('above column', 'below column', 'left of row', 'right of row')
 #: The numbers that may stand in each square of a clue's line.
 Line = Dict[int, FrozenSet[int]]
 
+#: Words on some squares, and how many these are.
+Told = Tuple[str, int]
+
 
 class Seen(NamedTuple):
-    """The count seen, compared with the clue: `more`, `fewer`, `never`, or `both`; then by where the tallest tower is that stands nowhere yet, or these counts."""
+    """The count seen, compared with the clue: `more`, `fewer`, `never`, or `both`; then by where a tower is that stands nowhere yet, or these counts."""
 
     word: str
     counts: FrozenSet[int] = frozenset()
-    tallest: int = 0
+    tower: int = 0
     fewer_in: Tuple[int, ...] = ()
 
 
@@ -37,11 +40,13 @@ def clue_sentence(puzzle: TowersPuzzle, left: Left, step: Step, names_squares: b
         return f'{named}: {plain[clue]}, so {losses(size, step.strikes)}.'
     line = {cell: looked_at(kind, size, left[cell]) for cell in seen_squares(size, step.reason.place)}
     seen = all_seen(clue, line, step)
-    known = [] if kind == 'bound' else known_squares(size, clue, line, step, seen) if names_squares else None
+    known = [] if kind == 'bound' else known_squares(size, clue, line, seen) if names_squares else None
     seen, facts = settled(size, left, line, seen)
-    words = f', where {joined([*known, *facts], "and")}' if known or (known is not None and facts) else ''
-    if known is None:
+    told = [*(known or []), *facts]
+    if known is None or (kind != 'bound' and sum(count for _, count in told) > (MOST_SQUARES if kind == 'stand' and not facts else MOST_NAMED)):
         words = OF_THE_LINE['clue' if facts else kind] + line_name(size, at if side > 1 else size + at)
+    else:
+        words = f', where {joined([fact for fact, _ in told], "and")}' if told else ''
     shown: Dict[Seen, Dict[int, List[int]]] = {}
     for (cell, number), what in seen.items():
         shown.setdefault(what, {}).setdefault(cell, []).append(number)
@@ -52,7 +57,11 @@ def clue_sentence(puzzle: TowersPuzzle, left: Left, step: Step, names_squares: b
 
 
 def all_seen(clue: int, line: Line, step: Step) -> Dict[Tuple[int, int], Seen]:
-    return {(cell, number): seen_at(clue, line, cell, number) for cell, numbers in step.strikes.items() for number in sorted(numbers)}
+    """What is seen with each struck number. If no tower decides with one of them, none is told of the others."""
+    seen = {(cell, number): seen_at(clue, line, cell, number) for cell, numbers in step.strikes.items() for number in sorted(numbers)}
+    if any(what.word == 'both' for what in seen.values()):
+        return {(cell, number): seen_beside(clue, line, {cell: number}) for cell, number in seen}
+    return seen
 
 
 def seen_at(clue: int, line: Line, cell: int, number: int) -> Seen:
@@ -60,11 +69,25 @@ def seen_at(clue: int, line: Line, cell: int, number: int) -> Seen:
     if beside.word != 'both':
         return beside
     alone = {value for may in line.values() if len(may) == 1 for value in may}
-    tallest = max(value for value in each(len(line)) if value not in alone and value != number)
-    with_it = {other: seen_beside(clue, line, {cell: number, other: tallest}).word for other in line if other != cell}
-    if 'both' in with_it.values():
-        return beside
-    return Seen('split', tallest=tallest, fewer_in=tuple(sorted(other for other, word in with_it.items() if word == 'fewer')))
+    for tower in sorted(each(len(line)) - alone - {number}, reverse=True):
+        fewer_in = fewer_by(clue, line, cell, number, tower)
+        if fewer_in is not None:
+            return Seen('split', tower=tower, fewer_in=fewer_in)
+    return beside
+
+
+def fewer_by(clue: int, line: Line, cell: int, number: int, tower: int) -> Optional[Tuple[int, ...]]:
+    """The squares of a tower with which fewer are seen, if with it in each square they are always fewer or always more."""
+    with_it = {other: seen_beside(clue, line, {cell: number, other: tower}).word for other in line if other != cell}
+    return None if 'both' in with_it.values() else tuple(sorted(other for other, word in with_it.items() if word == 'fewer'))
+
+
+def is_shown(clue: int, line: Line, cell: int, number: int, what: Seen) -> bool:
+    """Whether a line shows this with a number in a square, too."""
+    beside = seen_beside(clue, line, {cell: number})
+    if what.word != 'split' or beside.word != 'both':
+        return beside == what
+    return fewer_by(clue, line, cell, number, what.tower) == what.fewer_in
 
 
 def seen_beside(clue: int, line: Line, fixed: Dict[int, int]) -> Seen:
@@ -79,67 +102,100 @@ def seen_beside(clue: int, line: Line, fixed: Dict[int, int]) -> Seen:
 # ---- what has to be known
 
 
-def known_squares(size: int, clue: int, line: Line, step: Step, seen: Dict[Tuple[int, int], Seen]) -> Optional[List[str]]:
-    """The squares that are enough, if they are few; with anything in each other one the same is seen."""
+def known_squares(size: int, clue: int, line: Line, seen: Dict[Tuple[int, int], Seen]) -> Optional[List[Told]]:
+    """The squares that are enough, if they are few or filled, and otherwise facts; with anything in each other one the same is seen."""
     if any(what.word in ('never', 'both') for what in seen.values()):
         return None
-    cells = list(line)
-    needed = {cell for cell in cells if line[cell] != each(size)}
-    for cell in sorted(needed, key=lambda cell: (len(line[cell]) == 1, -cells.index(cell))):
-        less = {other: may if other in needed - {cell} else each(size) for other, may in line.items()}
-        if all_seen(clue, less, step) == seen:
-            needed.remove(cell)
-    if len(needed) > MOST_SQUARES or sum(len(line[cell]) for cell in needed if len(line[cell]) > 1) > MOST_NUMBERS:
-        return None
+    less = knowing_less(clue, line, seen, [*squares_of(size, line, False), *squares_of(size, line, True)])
+    needed = [cell for cell in line if less[cell] != each(size)]
+    several = [len(line[cell]) for cell in needed if len(line[cell]) > 1]
+    if several and (len(needed) > MOST_SQUARES or sum(several) > MOST_NUMBERS):
+        return known_numbers(size, clue, line, seen)
+    return known_words(size, line, needed)
+
+
+def known_words(size: int, line: Line, needed: Sequence[int]) -> List[Told]:
     alike: Dict[FrozenSet[int], List[int]] = {}
-    for cell in sorted((cell for cell in line if cell in needed), key=lambda cell: len(line[cell]) > 1):
+    for cell in sorted(needed, key=lambda cell: len(line[cell]) > 1):
         alike.setdefault(line[cell], []).append(cell)
-    return [f"{squares(size, sorted(those))} {is_or_are(those)} {joined(sorted(may), 'or')}" for may, those in alike.items()]
+    return [(f"{squares(size, sorted(those))} {is_or_are(those)} {joined(sorted(may), 'or')}", len(those)) for may, those in alike.items()]
+
+
+def known_numbers(size: int, clue: int, line: Line, seen: Dict[Tuple[int, int], Seen]) -> List[Told]:
+    """The filled squares that are enough, with where each number is not or where alone it can be."""
+    several = squares_of(size, line, False)
+    numbers = [(cell, frozenset([number])) for number in sorted(each(size)) for cell, _ in several]
+    less = knowing_less(clue, line, seen, [*several, *numbers, *squares_of(size, line, True)])
+    told: Dict[Tuple[bool, Tuple[int, ...], int], List[int]] = {}
+    for number in sorted(each(size), reverse=True):
+        lacks = sorted(cell for cell, _ in several if number not in less[cell])
+        only = sorted(cell for cell in line if number in line[cell])
+        if len(only) < len(lacks):
+            told[True, tuple(only), number] = [number]
+        elif lacks:
+            told.setdefault((False, tuple(lacks), 0), []).append(number)
+    return known_words(size, line, [cell for cell in line if len(less[cell]) == 1]) + [
+        fact('only' if is_only else 'lacks', size, cells, numbers) for (is_only, cells, _), numbers in told.items()
+    ]
+
+
+def squares_of(size: int, line: Line, are_filled: bool) -> List[Tuple[int, FrozenSet[int]]]:
+    """The squares that are filled or not, from the far end, with all numbers."""
+    return [(cell, each(size)) for cell in reversed(list(line)) if (len(line[cell]) == 1) == are_filled]
+
+
+def knowing_less(clue: int, line: Line, seen: Dict[Tuple[int, int], Seen], more: Sequence[Tuple[int, FrozenSet[int]]]) -> Line:
+    """The line where these numbers, too, may stand in these squares, one after another, as far as the same is seen."""
+    less = dict(line)
+    for cell, numbers in more:
+        tried = {**less, cell: less[cell] | numbers}
+        if tried != less and all(is_shown(clue, tried, *struck, what) for struck, what in seen.items()):
+            less = tried
+    return less
+
+
+def fact(kind: str, size: int, cells: Sequence[int], numbers: Sequence[int]) -> Told:
+    """Where numbers stand, where they are not, or where alone they can be."""
+    told, are = joined(sorted(numbers), 'or'), is_or_are(cells)
+    words = {'stands': f'{squares(size, cells)} {are} {told}', 'lacks': f'{squares(size, cells)} {are} not {told}'}
+    return words.get(kind, f"only {squares(size, cells, 'or')} can be {told}"), len(cells)
 
 
 # ---- where the tallest tower is
 
-
-class Place(NamedTuple):
-    """The places of a number by the numbers left in the line: the square where it stands, squares where it isn't, and the only ones where it can be."""
-
-    stands: Set[int]
-    lacks: Set[int]
-    only: Set[int]
+#: Squares by what they say of a number, and the number.
+Places = Dict[Tuple[str, int], Set[int]]
 
 
-def settled(size: int, left: Left, line: Line, seen: Dict[Tuple[int, int], Seen]) -> Tuple[Dict[Tuple[int, int], Seen], List[str]]:
+def settled(size: int, left: Left, line: Line, seen: Dict[Tuple[int, int], Seen]) -> Tuple[Dict[Tuple[int, int], Seen], List[Told]]:
     """Of two cases the ones that are possible by what is left of the line, and what says so."""
-    places: Dict[int, Place] = {}
-    possible = {
-        (cell, number): settled_at(left, line, cell, what, places.setdefault(what.tallest, Place(set(), set(), set()))) if what.word == 'split' else what
-        for (cell, number), what in seen.items()
-    }
-    facts = []
-    for number, place in places.items():
-        facts += [f'{squares(size, sorted(place.stands))} is {number}'] if place.stands else []
-        facts += [f'{squares(size, sorted(place.lacks))} {is_or_are(place.lacks)} not {number}'] if place.lacks else []
-        facts += [f"only {squares(size, sorted(place.only), 'or')} can be {number}"] if place.only else []
-    return possible, facts
+    places: Places = {}
+    possible = {(cell, number): settled_at(left, line, cell, what, places) if what.word == 'split' else what for (cell, number), what in seen.items()}
+    return possible, [fact(kind, size, sorted(cells), [number]) for (kind, number), cells in places.items() if cells]
 
 
-def settled_at(left: Left, line: Line, cell: int, what: Seen, place: Place) -> Seen:
-    others = {other for other in line if other != cell and what.tallest in left[other]}
+def settled_at(left: Left, line: Line, cell: int, what: Seen, places: Places) -> Seen:
+    others = {other for other in line if other != cell and what.tower in left[other]}
     stands = {other for other in others if len(left[other]) == 1}
     fewer = others.intersection(what.fewer_in)
     if stands:
-        place.stands.update(stands)
+        places.setdefault(('stands', what.tower), set()).update(stands)
         return Seen('fewer' if stands.intersection(fewer) else 'more')
     if not fewer:
-        place.lacks.update(what.fewer_in)
+        places.setdefault(('lacks', what.tower), set()).update(unfilled(left, what.fewer_in))
         return Seen('more')
     if fewer != others:
         return what._replace(fewer_in=tuple(sorted(fewer)))
-    if what.tallest in left[cell]:
-        place.lacks.update(set(line) - {cell, *what.fewer_in})
+    if what.tower in left[cell]:
+        places.setdefault(('lacks', what.tower), set()).update(unfilled(left, set(line) - {cell, *what.fewer_in}))
     else:
-        place.only.update(others)
+        places.setdefault(('only', what.tower), set()).update(others)
     return Seen('fewer')
+
+
+def unfilled(left: Left, cells: Iterable[int]) -> Set[int]:
+    """Those with several numbers left; all of them, if none has."""
+    return {cell for cell in cells if len(left[cell]) > 1} or set(cells)
 
 
 # ---- words
@@ -159,7 +215,7 @@ def seen_with(size: int, clue: int, what: Seen, where: Dict[int, List[int]]) -> 
     towers = f"than {clue} tower{'' if clue == 1 else 's'} would be seen"
     if what.word == 'split':
         where_fewer = joined([square(size, cell) for cell in what.fewer_in], 'or')
-        return f'{with_them} fewer {towers} if {what.tallest} is in {where_fewer}, and more if it is elsewhere'
+        return f'{with_them} fewer {towers} if {what.tower} is in {where_fewer}, and more if it is elsewhere'
     return f'{with_them} {what.word} {towers}'
 
 

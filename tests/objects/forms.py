@@ -20,6 +20,7 @@ SAME = [
     (r"\baren't\b", "isn't"),
     (r'(?:, | and )S is N\b', ''),
     (r'(?:, | and )S is not N\b', ''),
+    (r'(?:, | and )only S can be N\b', ''),
     (r'(?: or with|, nor) N in S\b', ''),
 ]
 

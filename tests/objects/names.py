@@ -68,7 +68,7 @@ def end_of_contradiction(size: int, hint: Object) -> Tuple[Any, Any, Any]:
 
 
 def expect_known(left: Left, step: Object) -> None:
-    """Known squares rise, each with all that is left of it, and the sentence names each before its colon."""
+    """Known squares rise, each with all that is left of it, and the sentence names each before its colon, as well as those of towers, or their line."""
     known, size = step['known'], round(len(left) ** 0.5)
     assert [told['cell'] for told in known] == sorted({told['cell'] for told in known})
     before = ' '.join(line.strip() for line in step['text']).partition(': ')[0].lower()
@@ -76,5 +76,5 @@ def expect_known(left: Left, step: Object) -> None:
         assert told['numbers'] == sorted(left[told['cell']])
         assert square(size, told['cell']) in before
     for tower in step['split']:
-        assert tower['place'] == 'either' or square(size, tower['cell']) in before
-        assert (tower['seen'] is None) == (tower['place'] == 'either')
+        assert tower['place'] == 'either' or square(size, tower['cell']) in before or ', by what is left in ' in before
+        assert tower['seen'] is None or tower['place'] != 'either'

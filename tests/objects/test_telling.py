@@ -42,19 +42,8 @@ def expect_games(objects: str, game: str, size: int, letter: str, seeds: Iterabl
 def expect_told(board: Object, hint: Object) -> None:
     without = {**hint, 'steps': [{**step, 'text': None} for step in hint['steps']], 'text': None}
     alone, whole = tell(without, board['numbers'])
-    assert [step['text'] for step, text in zip(hint['steps'], alone) if text != step['text'] and not is_open(step)] == []
-    assert whole == hint['text'] or any(map(is_open, hint['steps']))
-
-
-def is_open(step: Object) -> bool:
-    """Whether the object lacks of which struck numbers one side is told: of counts on both sides of the clue by what is left in a line, or of a tower
-    that is told in two ways."""
-    either, settled = ({split['number'] for split in step['split'] if (split['seen'] is None) == is_either} for is_either in (True, False))
-    if not either.isdisjoint(settled):
-        return True
-    if step['reason'] not in ('stand', 'clue') or step['known']:
-        return False
-    return any(counts and min(counts) < step['clue'] < max(counts) for strike in step['strikes'] for counts in strike['shows'])
+    assert [step['text'] for step, text in zip(hint['steps'], alone) if text != step['text']] == []
+    assert whole == hint['text']
 
 
 def test_manual(objects: str) -> None:

@@ -50,7 +50,7 @@ def clue_name(size: int, step: Object) -> str:
 def known_words(size: int, step: Object) -> str:
     """The squares that are named, and where the tallest tower is; or the line, if more has to be known than can be named."""
     facts = tower_words(size, step)
-    if step['reason'] != 'bound' and not step['known']:
+    if not step['known'] and (step['reason'] == 'stand' or (step['reason'] == 'clue' and not facts)):
         line = line_name(size, size + step['x'] if step['y'] in (-1, size) else step['y'])
         return f", {'by what is left' if facts or step['reason'] == 'clue' else 'with the numbers'} in {line}"
     # Squares with one number come first, and then the nearer ones.
@@ -61,14 +61,19 @@ def known_words(size: int, step: Object) -> str:
 
 
 def tower_words(size: int, step: Object) -> List[str]:
-    """The square of a tower, the squares where it can't be, and the only ones where it can."""
-    told: Dict[Tuple[int, str], List[int]] = {}
+    """The squares where a number is, those where it can't be, and the only ones where it can. Numbers that only have to be known are told together, if
+    they can't be in the same squares."""
+    where: Dict[Tuple[int, str, bool], List[int]] = {}
     for split in step['split']:
-        told.setdefault((split['number'], split['place']), []).append(split['cell'])
+        if split['place'] != 'either':
+            where.setdefault((split['number'], split['place'], split['seen'] is not None), []).append(split['cell'])
+    told: Dict[Tuple[str, Tuple[int, ...], int], List[int]] = {}
+    for (number, place, decides), cells in where.items():
+        told.setdefault((place, tuple(cells), number * (decides or place == 'only')), []).append(number)
     return [
-        f"only {squares(size, cells, 'or')} can be {number}" if place == 'only'
-        else f"{squares(size, cells)} {is_or_are(cells)} {'not ' * (place == 'not')}{number}"
-        for (number, place), cells in told.items() if place != 'either'
+        f"only {squares(size, cells, 'or')} can be {joined(numbers, 'or')}" if place == 'only'
+        else f"{squares(size, cells)} {is_or_are(cells)} {'not ' * (place == 'not')}{joined(numbers, 'or')}"
+        for (place, cells, _), numbers in told.items()
     ]
 
 
@@ -91,8 +96,9 @@ def seen_with(step: Object, number: int, shows: Sequence[int]) -> Seen:
     if not shows or not min(shows) < step['clue'] < max(shows):
         return Seen('none' if not shows else 'more' if step['clue'] < min(shows) else 'fewer')
     # The tallest tower decides, and the next one where it is the tallest that is struck.
-    tallest = max((split['number'] for split in step['split'] if split['number'] != number), default=0)
-    decides = [split for split in step['split'] if split['number'] == tallest]
+    deciding = [split for split in step['split'] if split['number'] != number and (split['seen'] or split['place'] == 'either')]
+    tallest = max((split['number'] for split in deciding), default=0)
+    decides = [split for split in deciding if split['number'] == tallest]
     either = tuple(split['cell'] for split in decides if split['place'] == 'either')
     if either or not decides:
         return Seen('either', (tallest,), either) if either else Seen('never', tuple(shows))

@@ -1,6 +1,6 @@
 -- The counts of towers that are shown with a value in a square, by what a reason knows of its clue's line.
-use Rattle.std.specs.Prelude.{◌≡◌, ◌≢◌, ◌==◌, ◌↔◌, ℕ, ◌*◌, ◌<◌, nat_lt, Bool, true, false, List, slice_index, Option, Some, None}
-use Rattle.number_sets.specs.Sets.{has_number, numbers_to}
+use Rattle.std.specs.Prelude.{◌≡◌, ◌≢◌, ◌↔◌, ℕ, ◌*◌, ◌<◌, nat_lt, Bool, true, false, List, slice_index, Option, Some, None}
+use Rattle.number_sets.specs.Sets.{has_number}
 use Rattle.line_steps.specs.Views.{view_cell}
 use Rattle.trail_solver.specs.Candidates.{CandidatesValue}
 use Rattle.line_steps.specs.Left.{IsLeft}
@@ -53,23 +53,12 @@ pub record ClueRow : Type 0 where
   pub place : ℕ
   pub row : List ℕ
 
--- the same line with the number alone in the square at the index
-pub record IsRowWith (row : ClueRow) (index number : ℕ) (with : ClueRow) : Type 0 where
+-- the same line with these numbers in the square at the index
+pub record IsRowWith (row : ClueRow) (index numbers : ℕ) (with : ClueRow) : Type 0 where
   pub size : with.size ≡ row.size
   pub from : with.place ≡ row.place
-  pub here : (v : ℕ) → has_number (slice_index with.row index) v ≡ (v == number)
+  pub here : slice_index with.row index ≡ numbers
   pub others : (k : ℕ) → k ≢ index → slice_index with.row k ≡ slice_index row.row k
-
--- the numbers of a square: those that may stand in it if it is known, or otherwise all of the size
-abbrev pub IsKnownIn : ℕ → ℕ → Bool → ℕ → Type 0
-IsKnownIn w may true known = known ≡ may
-IsKnownIn w may false known = known ≡ numbers_to w
-
--- the same line where only the squares at these indices are known
-pub record IsRowKnowing (row : ClueRow) (indices : ℕ) (known : ClueRow) : Type 0 where
-  pub size : known.size ≡ row.size
-  pub from : known.place ≡ row.place
-  pub sets : (k : ℕ) → k < row.size → IsKnownIn row.size (slice_index row.row k) (has_number indices k) (slice_index known.row k)
 
 -- the row is of the squares from the place, by what may stand in them
 pub record IsRowFrom (w : ℕ) (May : ℕ → ℕ → Type 0) (place : ℕ) (row : ClueRow) : Type 0 where

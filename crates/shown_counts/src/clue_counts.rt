@@ -6,7 +6,7 @@ ghost use Rattle.line_steps.specs.Views.{view_cell};
 ghost use Rattle.trail_solver.specs.Candidates.{CandidatesValue};
 ghost use Rattle.line_steps.specs.declared.reason.Reason.{Reason};
 ghost use Rattle.towers_game.specs.Rows.{May};
-ghost use Rattle.shown_counts.specs.Shown.{AreShown, IsRowFrom, IsRowOf, IsLineOf, IsRowWith, IsRowKnowing, IsKnownIn};
+ghost use Rattle.shown_counts.specs.Shown.{AreShown, IsRowFrom, IsRowOf, IsLineOf, IsRowWith};
 ghost use Rattle.shown_counts.specs.Inner.Counted.{IsFilled, HasAlone, AreCounts, AreCountsOf};
 
 use crate::lone_numbers::without_lone;
@@ -21,7 +21,7 @@ use towers_game::{Look, looked_row};
 use trail_solver::Candidates;
 
 /// The squares of a clue's line, with what may stand in each of them, to be asked for counts.
-#[derive(Debug, Drop)]
+#[derive(Clone, Copy, Debug)]
 pub struct ClueCounts {
     size: Size,
     place: u8,
@@ -37,6 +37,8 @@ impl Model for ClueCounts {
     ghost view = { λ k. record { size = k.size; place = k.place; row = k.row } };
 
     ghost invariant = { λ k. k.place < 4 * k.size };
+
+    ghost inverse = { λ k. record { size = k.size; place = k.place; row = k.row } };
 }
 
 impl ClueCounts {
@@ -82,28 +84,18 @@ impl ClueCounts {
         self.row[index as usize]
     }
 
-    /// The same line with a number alone in one of its squares.
-    pub fn with(&self, index: u8, number: u8) -> ClueCounts
-        requires index { index < self.now.size }
-        requires number { number < 16 }
-        ensures { IsRowWith self.now index number result }
+    /// The same line with these numbers in one of its squares.
+    pub fn with(&self, index: u8, numbers: NumberSet) -> ClueCounts
+        requires { index < self.now.size }
+        ensures { IsRowWith self.now index numbers result }
     {
         let _size = self.size.get();
+        let mut row = self.row;
+        row[index as usize] = numbers;
         ClueCounts {
             size: self.size,
             place: self.place,
-            row: with_alone(&self.row, index, number),
-        }
-    }
-
-    /// The same line where only these squares of it are known: anything may stand in the others.
-    pub fn knowing(&self, squares: NumberSet) -> ClueCounts
-        ensures { IsRowKnowing self.now squares result }
-    {
-        ClueCounts {
-            size: self.size,
-            place: self.place,
-            row: known_row(&self.row, self.size.get(), squares),
+            row,
         }
     }
 
@@ -212,30 +204,6 @@ fn with_alone(row: &[NumberSet; 9], index: u8, value: u8) -> [NumberSet; 9]
     let mut alone = *row;
     alone[index as usize] = NumberSet::one(value);
     alone
-}
-
-// The row where only these squares are known.
-fn known_row(row: &[NumberSet; 9], width: u8, squares: NumberSet) -> [NumberSet; 9]
-    requires { width ≤ 9 }
-    ensures { (k : ℕ) → k < width → IsKnownIn width (slice_index row.now k) (has_number squares k) (slice_index result k) }
-{
-    let mut known = *row;
-    for k in 0..width {
-        known[k as usize] = known_in(row[k as usize], squares.has(k), width);
-    }
-    known
-}
-
-// The numbers that may stand in a square if it is known, and otherwise any number.
-fn known_in(may: NumberSet, is_known: bool, width: u8) -> NumberSet
-    requires { width ≤ 9 }
-    ensures { IsKnownIn width may is_known result }
-{
-    if is_known {
-        may
-    } else {
-        NumberSet::up_to(width)
-    }
 }
 
 // The counts with one more, if it is shown.

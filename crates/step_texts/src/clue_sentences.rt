@@ -1,12 +1,13 @@
 //! The sentence of a clue: what would be seen with the numbers that it strikes.
 ghost use Rattle.std.specs.Prelude.{◌<◌, length};
 
+use crate::facts::{Fact, Facts};
 use crate::known_squares::{
-    cells_from, facts_in, needed_places, say_known, say_settled, squares_from,
+    are_read, cells_from, needed_places, say_facts, say_known, squares_from,
 };
 use crate::names::{EdgeClue, GridLine, Joined, List, Losses, Square, Squares, numbers};
 use crate::sentences::Look;
-use crate::showing::{AllSettled, Settled, Showing, ShownStrike, shown_strikes};
+use crate::showing::{Showing, ShownStrike, shown_strikes};
 use crate::told::{Seen, Strike, TowerPlace, TowerSquare};
 use crate::writing::Writing;
 use arrayvec::ArrayVec;
@@ -33,7 +34,7 @@ pub(crate) struct Shown {
     strikes: ArrayVec<ShownStrike, 9>,
     // The places of the line whose numbers are told, where they are few.
     places: Option<NumberSet>,
-    settled: AllSettled,
+    facts: Facts,
 }
 
 impl Shown {
@@ -51,22 +52,26 @@ impl Shown {
             return None;
         }
         let mut strikes = shown_strikes(line, look.strikes, at.clue);
-        let places = match knowing {
+        let mut facts = ArrayVec::new();
+        let mut places = match knowing {
             Knowing::Alone => Some(NumberSet::empty()),
-            _ if look.is_of_many => None,
-            _ => needed_places(line, strikes.as_slice(), at.clue),
+            _ if look.is_of_many || !strikes.iter().all(|strike| strike.is_clear()) => None,
+            _ => Some(needed_places(line, strikes.as_slice(), at.clue, &mut facts)),
         };
-        let mut settled = ArrayVec::new();
         if let Some(left) = look.left {
             for strike in strikes.as_mut_slice() {
-                strike.settle(left, &mut settled);
+                strike.settle(left, &mut facts);
             }
+        }
+        places = places.filter(|places| are_read(knowing, *places, facts.as_slice()));
+        if places.is_none() && matches!(knowing, Knowing::Marks) {
+            facts = ArrayVec::new();
         }
         Some(Shown {
             at: *at,
             strikes,
             places,
-            settled,
+            facts,
         })
     }
 
@@ -78,24 +83,11 @@ impl Shown {
     /// The squares of which it is told whether a tall tower is there: where its place is settled, and where both cases are told.
     pub(crate) fn towers(&self, alloc: Global) -> Result<Vec<TowerSquare>, AllocError> {
         let mut towers = Vec::new(alloc);
-        if self.places.is_some() {
-            for said in self.settled.as_slice() {
-                let number = said.number;
-                self.add(
-                    &mut towers,
-                    said.stands,
-                    number,
-                    TowerPlace::There,
-                    said.seen,
-                )?;
-                self.add(
-                    &mut towers,
-                    said.lacks,
-                    number,
-                    TowerPlace::Elsewhere,
-                    said.seen,
-                )?;
-                self.add(&mut towers, said.only, number, TowerPlace::Only, said.seen)?;
+        for fact in self.facts.as_slice() {
+            for number in 1..10 {
+                if fact.numbers.has(number) {
+                    self.add(&mut towers, fact.places, number, fact.place, fact.seen)?;
+                }
             }
         }
         for strike in self.strikes.as_slice() {
@@ -163,14 +155,7 @@ fn say_shown(
     told: &Shown,
 ) -> fmt::Result {
     let shown = told.strikes.as_slice();
-    say_knowing(
-        text,
-        at,
-        knowing,
-        line,
-        told.places,
-        told.settled.as_slice(),
-    )?;
+    say_knowing(text, at, knowing, line, told.places, told.facts.as_slice())?;
     write!(text, ": ")?;
     for index in 0..shown.len() {
         for number in 1..10 {
@@ -180,29 +165,29 @@ fn say_shown(
     write!(text, ".")
 }
 
-// Says what has to be known of the other squares: what those at a few places have, and where the tallest
-// tower is, or otherwise what stands or is left in the line.
+// Says what has to be known of the other squares: what those at a few places have, and where numbers are and
+// where not, or otherwise what stands or is left in the line.
 fn say_knowing(
     text: &mut Writing,
     at: &EdgeClue,
     knowing: Knowing,
     line: &ClueCounts,
     places: Option<NumberSet>,
-    settled: &[Settled],
+    facts: &[Fact],
 ) -> fmt::Result {
     let Some(places) = places else {
         let words = match knowing {
-            Knowing::Stands if settled.is_empty() => "with the numbers in",
+            Knowing::Stands if facts.is_empty() => "with the numbers in",
             _ => "by what is left in",
         };
         return write!(text, ", {words} {}", GridLine::from(at.size, at.place));
     };
-    if places.is_empty() && settled.is_empty() {
+    if places.is_empty() && facts.is_empty() {
         return Ok(());
     }
     write!(text, ", where ")?;
-    say_known(text, at, line, places, facts_in(settled))?;
-    say_settled(text, at, settled)
+    say_known(text, at, line, places, facts.len())?;
+    say_facts(text, at, facts)
 }
 
 // Says what would be seen with a number in the square of a strike and with all others that are alike, where

@@ -1,8 +1,11 @@
 //! The squares of a clue's line that have to be known: with them the struck numbers show too many or too few.
-ghost use Rattle.std.specs.Prelude.{◌<◌};
 
+use crate::clue_sentences::Knowing;
+use crate::facts::{Fact, Facts, facts_of};
+use crate::left::one;
 use crate::names::{EdgeClue, Joined, List, Square, Squares, between, numbers};
-use crate::showing::{Settled, ShownStrike};
+use crate::showing::ShownStrike;
+use crate::told::TowerPlace;
 use crate::writing::Writing;
 use arrayvec::ArrayVec;
 use line_steps::view_cell;
@@ -10,28 +13,42 @@ use number_sets::NumberSet;
 use shown_counts::ClueCounts;
 use std::fmt::{self, Write};
 
-// How many squares are named at most, and how many numbers are left of those of them that are open.
+// How many squares are named at most with all that is left of them, and how many numbers are left of those of them that are open.
 const MOST_SQUARES: u32 = 3;
 
 const MOST_NUMBERS: u32 = 8;
 
-/// The places of the line whose numbers are enough, if they are few: with anything in the other squares as much would be seen, number by number.
+// How many squares are named at most with facts beside them; one counts as often as it is named.
+const MOST_NAMED: u32 = 7;
+
+/// The places of the line whose numbers are enough: with anything in the other squares as much would be seen, number by number. Where they are
+/// open and not few, it is the facts of open squares that are added, and places with one number.
 pub(crate) fn needed_places(
     line: &ClueCounts,
     shown: &[ShownStrike],
     clue: u8,
-) -> Option<NumberSet> {
-    if !shown.iter().all(|strike| strike.is_clear()) {
-        return None;
+    facts: &mut Facts,
+) -> NumberSet {
+    let known = without_squares(line, shown, clue, true);
+    let places = known_places(&without_squares(&known, shown, clue, false));
+    if are_few(line, places) || places.is_subset(filled_places(line)) {
+        return places;
     }
-    let mut places = known_places(line);
-    for is_open in [true, false] {
-        places = without_needless(line, shown, clue, places, is_open);
+    let less = without_squares(&without_numbers(&known, shown, clue), shown, clue, false);
+    *facts = facts_of(line, &less);
+    filled_places(&less)
+}
+
+/// Whether so many places and those of facts are read more easily than what is in the line.
+pub(crate) fn are_read(knowing: Knowing, places: NumberSet, facts: &[Fact]) -> bool {
+    let mut named = places.len();
+    for fact in facts {
+        named = named.saturating_add(fact.places.len());
     }
-    if are_few(line, places) {
-        Some(places)
-    } else {
-        None
+    match knowing {
+        Knowing::Alone => true,
+        Knowing::Stands if facts.is_empty() => named <= MOST_SQUARES,
+        _ => named <= MOST_NAMED,
     }
 }
 
@@ -47,31 +64,68 @@ fn known_places(line: &ClueCounts) -> NumberSet {
     places
 }
 
-// These places without those on which nothing depends, of the open ones or of those with one number.
-fn without_needless(
+// The places with one number.
+fn filled_places(line: &ClueCounts) -> NumberSet {
+    let mut places = NumberSet::empty();
+    for index in 0..line.width() {
+        if line.may(index).is_single() {
+            places = places.union(NumberSet::one(index));
+        }
+    }
+    places
+}
+
+// The line with anything in the squares on which nothing depends, of the open ones or of those with one number.
+fn without_squares(
     line: &ClueCounts,
     shown: &[ShownStrike],
     clue: u8,
-    places: NumberSet,
     is_open: bool,
-) -> NumberSet {
+) -> ClueCounts {
     let width = line.width();
-    let mut needed = places;
-    let mut kept = NumberSet::empty();
+    let mut known = *line;
     for from_end in 0..width {
         let index = width - 1 - from_end;
-        // Once too many are kept, the others don't matter.
-        if needed.has(index) && line.may(index).is_single() != is_open && are_few(line, kept) {
-            let less = needed.difference(NumberSet::one(index));
-            let known = line.knowing(less);
-            if shown.iter().all(|strike| strike.is_shown_by(&known, clue)) {
-                needed = less;
-            } else {
-                kept = kept.union(NumberSet::one(index));
+        if line.may(index).is_single() != is_open {
+            known = knowing_less(&known, shown, clue, index, NumberSet::up_to(width));
+        }
+    }
+    known
+}
+
+// The line with each number in the open squares that may as well be there.
+fn without_numbers(line: &ClueCounts, shown: &[ShownStrike], clue: u8) -> ClueCounts {
+    let width = line.width();
+    let mut known = *line;
+    for number in 1..width + 1 {
+        for from_end in 0..width {
+            let index = width - 1 - from_end;
+            if !line.may(index).is_single() {
+                known = knowing_less(&known, shown, clue, index, NumberSet::one(number));
             }
         }
     }
-    needed
+    known
+}
+
+// The line with more numbers at a place, if as much is shown by it.
+fn knowing_less(
+    line: &ClueCounts,
+    shown: &[ShownStrike],
+    clue: u8,
+    index: u8,
+    more: NumberSet,
+) -> ClueCounts {
+    if index >= line.width() {
+        return *line;
+    }
+    let less = line.with(index, line.may(index).union(more));
+    let is_needed = !more.is_subset(line.may(index));
+    if is_needed && shown.iter().all(|strike| strike.is_shown_by(&less, clue)) {
+        less
+    } else {
+        *line
+    }
 }
 
 fn are_few(line: &ClueCounts, places: NumberSet) -> bool {
@@ -112,46 +166,35 @@ pub(crate) fn say_known(
     Ok(())
 }
 
-/// How many facts are settled.
-pub(crate) fn facts_in(settled: &[Settled]) -> usize {
-    let mut facts = 0usize;
-    for of_number in settled {
-        facts = facts.saturating_add(of_number.facts());
-    }
-    facts
-}
-
-/// Where the tallest towers of a line are, as far as that is settled.
-pub(crate) fn say_settled(text: &mut Writing, at: &EdgeClue, settled: &[Settled]) -> fmt::Result {
-    let mut rest = facts_in(settled);
-    for said in settled {
-        let number = said.number;
-        if !said.stands.is_empty() {
-            rest = rest.saturating_sub(1);
-            let square = squares_from(at, said.stands, Joined::And);
-            write!(text, "{square} is {number}{}", between(rest, Joined::And))?;
-        }
-        if !said.lacks.is_empty() {
-            rest = rest.saturating_sub(1);
-            let squares = squares_from(at, said.lacks, Joined::And);
-            let are = if said.lacks.is_single() { "is" } else { "are" };
-            write!(
-                text,
-                "{squares} {are} not {number}{}",
-                between(rest, Joined::And)
-            )?;
-        }
-        if !said.only.is_empty() {
-            rest = rest.saturating_sub(1);
-            let squares = squares_from(at, said.only, Joined::Or);
-            write!(
-                text,
-                "only {squares} can be {number}{}",
-                between(rest, Joined::And)
-            )?;
+/// Facts of a line, one after another.
+pub(crate) fn say_facts(text: &mut Writing, at: &EdgeClue, facts: &[Fact]) -> fmt::Result {
+    for k in 0..facts.len() {
+        let fact = &facts[k];
+        let told = numbers(fact.numbers, Joined::Or);
+        let behind = between(facts.len() - 1 - k, Joined::And);
+        let are = if fact.places.is_single() { "is" } else { "are" };
+        let squares = squares_from(at, fact.places, Joined::And);
+        match fact.place {
+            TowerPlace::There => write!(text, "{squares} {are} {told}{behind}")?,
+            TowerPlace::Elsewhere => write!(text, "{squares} {are} not {told}{behind}")?,
+            TowerPlace::Only | TowerPlace::Either => {
+                let squares = squares_from(at, fact.places, Joined::Or);
+                write!(text, "only {squares} can be {told}{behind}")?;
+            }
         }
     }
     Ok(())
+}
+
+/// The places of a line at which all of these numbers are left.
+pub(crate) fn places_of(line: &ClueCounts, numbers: NumberSet) -> NumberSet {
+    let mut places = NumberSet::empty();
+    for index in 0..line.width() {
+        if numbers.is_subset(line.may(index)) {
+            places = places.union(one(index));
+        }
+    }
+    places
 }
 
 // The first of those places at which the same numbers are left, for each set of numbers.

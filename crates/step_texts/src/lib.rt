@@ -18,6 +18,7 @@ mod chain_texts;
 mod clue_sentences;
 mod dead_ends;
 mod endings;
+mod facts;
 mod groups;
 mod headings;
 mod known_squares;

@@ -1,8 +1,10 @@
 //! The towers that a clue's line would show with the struck numbers, each in its square.
 ghost use Rattle.std.specs.Prelude.{◌<◌};
 
+use crate::facts::{Fact, Facts, add_fact};
+use crate::known_squares::places_of;
 use crate::left::one;
-use crate::told::{Seen, Strike};
+use crate::told::{Seen, Strike, TowerPlace};
 use arrayvec::ArrayVec;
 use number_sets::NumberSet;
 use shown_counts::ClueCounts;
@@ -35,12 +37,21 @@ impl Showing {
         }
     }
 
-    /// The one side of the clue on which the towers are, if they are on one.
-    fn seen(&self) -> Seen {
+    /// Whether a line shows this with a number at an index.
+    fn is_shown(&self, line: &ClueCounts, index: u8, number: u8, clue: u8) -> bool
+        requires index { index < line.now.size }
+        requires number { number < 16 }
+    {
+        let beside = Showing::beside(line.counts(index, number), clue);
         match self {
-            Showing::Fewer => Seen::Fewer,
-            Showing::More => Seen::More,
-            _ => Seen::Open,
+            Showing::Split {
+                number: tower,
+                places,
+            } if *tower < 16 && matches!(beside, Showing::Both(_)) => {
+                let with = line.with(index, NumberSet::one(number));
+                fewer_by(&with, *tower, clue) == Some(*places)
+            }
+            _ => *self == beside,
         }
     }
 
@@ -59,33 +70,45 @@ impl Showing {
     }
 }
 
-// The towers that are seen by where the tallest one is that doesn't stand yet, if they are always more or
-// always fewer with it in each square.
+// The towers that are seen by where another one is: the tallest with which, in each square, they are always more or always fewer, of those that
+// don't stand yet.
 fn split(line: &ClueCounts, index: u8, number: u8, clue: u8) -> Option<Showing>
     requires index { index < line.now.size }
     requires number { number < 16 }
 {
-    let tallest = tallest_open(line, number)?;
-    if tallest > 9 {
-        return None;
+    let open = open_numbers(line, number);
+    let with = line.with(index, NumberSet::one(number));
+    for from_top in 0..line.width() {
+        let tower = line.width() - from_top;
+        if open.has(tower)
+            && let Some(places) = fewer_by(&with, tower, clue)
+        {
+            return Some(Showing::Split {
+                number: tower,
+                places,
+            });
+        }
     }
-    let with = line.with(index, number);
+    None
+}
+
+// The places of a tower with which fewer are seen, if at each place they are always more or always fewer.
+fn fewer_by(line: &ClueCounts, tower: u8, clue: u8) -> Option<NumberSet>
+    requires { tower < 16 }
+{
     let mut places = NumberSet::empty();
-    for other in 0..with.width() {
-        match Showing::beside(with.counts(other, tallest), clue) {
-            Showing::Fewer => places = places.union(NumberSet::one(other)),
+    for index in 0..line.width() {
+        match Showing::beside(line.counts(index, tower), clue) {
+            Showing::Fewer => places = places.union(NumberSet::one(index)),
             Showing::Both(_) => return None,
             _ => {}
         }
     }
-    Some(Showing::Split {
-        number: tallest,
-        places,
-    })
+    Some(places)
 }
 
-// The greatest number but this one that no square of the line has alone.
-fn tallest_open(line: &ClueCounts, number: u8) -> Option<u8>
+// The numbers but this one that no square of the line has alone.
+fn open_numbers(line: &ClueCounts, number: u8) -> NumberSet
     requires { number < 16 }
 {
     let width = line.width();
@@ -96,149 +119,76 @@ fn tallest_open(line: &ClueCounts, number: u8) -> Option<u8>
             open = open.difference(may);
         }
     }
-    open.greatest()
+    open
 }
 
-/// The place of a line's tallest tower, by what is left of the line, as far as that settles which of two
-/// cases is possible.
-#[derive(Clone, Copy, Debug)]
-pub(crate) struct Settled {
-    pub(crate) number: u8,
-    /// The place at which it stands.
-    pub(crate) stands: NumberSet,
-    /// Places at which it is not.
-    pub(crate) lacks: NumberSet,
-    /// The only places at which it can be.
-    pub(crate) only: NumberSet,
-    /// The towers that would be seen for that.
-    pub(crate) seen: Seen,
-}
-
-impl Default for Settled {
-    fn default() -> Settled {
-        Settled::nowhere(0)
-    }
-}
-
-impl Settled {
-    // Nothing of a number.
-    fn nowhere(number: u8) -> Settled {
-        Settled {
-            number,
-            stands: NumberSet::empty(),
-            lacks: NumberSet::empty(),
-            only: NumberSet::empty(),
-            seen: Seen::Open,
-        }
-    }
-
-    /// How many things it says.
-    pub(crate) fn facts(&self) -> usize {
-        let mut facts = 0usize;
-        for places in [self.stands, self.lacks, self.only] {
-            if !places.is_empty() {
-                facts = facts.saturating_add(1);
-            }
-        }
-        facts
-    }
-
-    // The same, told for the towers that would be seen.
-    fn by(self, seen: Seen) -> Settled {
-        Settled {
-            number: self.number,
-            stands: self.stands,
-            lacks: self.lacks,
-            only: self.only,
-            seen,
-        }
-    }
-
-    // All that both say of one number.
-    fn and(self, other: Settled) -> Settled {
-        Settled {
-            number: self.number,
-            stands: self.stands.union(other.stands),
-            lacks: self.lacks.union(other.lacks),
-            only: self.only.union(other.only),
-            seen: self.seen.or(other.seen),
-        }
-    }
-}
-
-/// The settled places of some numbers.
-pub(crate) type AllSettled = ArrayVec<Settled, 9>;
-
-// Adds what is settled of a number to what is known.
-fn add_settled(known: &mut AllSettled, more: Settled) {
-    if more.facts() == 0 {
-        return;
-    }
-    for said in known.as_mut_slice() {
-        if said.number == more.number {
-            *said = said.and(more);
-            return;
-        }
-    }
-    let _fits = known.try_push(more);
-}
-
-// Of two cases the one that is possible by what is left of the line, with a number at an index, and what says so; of both only where they are
-// possible.
-fn possible_case(showing: Showing, left: &ClueCounts, index: u8) -> (Showing, Settled) {
+// Of two cases the one that is possible by what is left of the line, with a number at an index, and the fact that says so; of both only where
+// they are possible.
+fn possible_case(showing: Showing, left: &ClueCounts, index: u8) -> (Showing, Fact) {
     let Showing::Split { number, places } = showing else {
-        return (showing, Settled::nowhere(0));
+        return (showing, Fact::default());
     };
-    let mut said = Settled::nowhere(number);
-    let here = one(index);
-    let open = places_of(left, one(number));
-    let others = open.difference(here);
+    let tower = one(number);
+    let open = places_of(left, tower);
+    let others = open.difference(one(index));
     let few = others.intersection(places);
-    said.stands = alone_at(left, one(number)).difference(here);
-    if !said.stands.is_empty() {
-        let is_more = said.stands.intersection(places).is_empty();
-        let showing = if is_more {
-            Showing::More
-        } else {
-            Showing::Fewer
-        };
-        return (showing, said);
+    let stands = alone_at(left, tower).difference(one(index));
+    if !stands.is_empty() {
+        let is_more = stands.intersection(places).is_empty();
+        return one_case(is_more, tower, TowerPlace::There, stands);
     }
     if few.is_empty() {
-        said.lacks = places;
-        return (Showing::More, said);
+        return one_case(true, tower, TowerPlace::Elsewhere, unfilled(left, places));
     }
     if !others.is_subset(places) {
-        return (
-            Showing::Split {
-                number,
-                places: few,
-            },
-            said,
-        );
+        let both = Showing::Split {
+            number,
+            places: few,
+        };
+        return (both, Fact::default());
     }
     if others == open {
-        said.only = open;
-    } else {
-        said.lacks = all_places(left).difference(here).difference(places);
+        return one_case(false, tower, TowerPlace::Only, open);
     }
-    (Showing::Fewer, said)
+    let lacks = all_places(left).difference(one(index)).difference(places);
+    one_case(false, tower, TowerPlace::Elsewhere, unfilled(left, lacks))
+}
+
+// The one case that is possible, and the fact that says so.
+fn one_case(
+    is_more: bool,
+    numbers: NumberSet,
+    place: TowerPlace,
+    places: NumberSet,
+) -> (Showing, Fact) {
+    let (showing, seen) = if is_more {
+        (Showing::More, Seen::More)
+    } else {
+        (Showing::Fewer, Seen::Fewer)
+    };
+    let fact = Fact {
+        numbers,
+        place,
+        places,
+        seen,
+    };
+    (showing, fact)
+}
+
+// Those of some places of a line that several numbers are left for; all of them, if it is none.
+fn unfilled(line: &ClueCounts, places: NumberSet) -> NumberSet {
+    let mut open = NumberSet::empty();
+    for index in 0..line.width() {
+        if places.has(index) && !line.may(index).is_single() {
+            open = open.union(one(index));
+        }
+    }
+    if open.is_empty() { places } else { open }
 }
 
 // All places of a line.
 fn all_places(line: &ClueCounts) -> NumberSet {
     places_of(line, NumberSet::empty())
-}
-
-// The places of a line at which all of these numbers are left.
-fn places_of(line: &ClueCounts, numbers: NumberSet) -> NumberSet {
-    let mut places = NumberSet::empty();
-    for index in 0..line.width() {
-        if numbers.is_subset(line.may(index)) {
-            places = places.union(one(index));
-        }
-    }
-    places
 }
 
 // The places of a line at which just these numbers are left.
@@ -282,14 +232,37 @@ impl ShownStrike {
     }
 
     /// Leaves of two cases the one that what is left of the line lets be, and adds what says so.
-    pub(crate) fn settle(&mut self, left: &ClueCounts, known: &mut AllSettled) {
+    pub(crate) fn settle(&mut self, left: &ClueCounts, facts: &mut Facts) {
         let Some(index) = left.index_of(self.cell) else {
             return;
         };
         for number in 1..10 {
-            let (showing, said) = possible_case(self.showings[number], left, index);
+            let (showing, fact) = possible_case(self.showings[number], left, index);
             self.showings[number] = showing;
-            add_settled(known, said.by(showing.seen()));
+            add_fact(facts, fact);
+        }
+    }
+
+    // Whether counts are told with one of the numbers.
+    fn has_counts(&self) -> bool {
+        for number in 1..10 {
+            if matches!(self.showings[number], Showing::Both(_)) {
+                return true;
+            }
+        }
+        false
+    }
+
+    // Tells counts where a tower was told of.
+    fn tell_counts(&mut self, line: &ClueCounts, clue: u8) {
+        let Some(index) = line.index_of(self.cell) else {
+            return;
+        };
+        for number in 1..10 {
+            if matches!(self.with(number), Showing::Split { .. }) {
+                let counts = line.counts(index, number);
+                self.showings[number as usize] = Showing::beside(counts, clue);
+            }
         }
     }
 
@@ -322,8 +295,7 @@ impl ShownStrike {
         };
         for number in 1..10 {
             if self.values.has(number) {
-                let counts = line.counts(index, number);
-                if self.with(number) != Showing::of(line, index, number, counts, clue) {
+                if !self.with(number).is_shown(line, index, number, clue) {
                     return false;
                 }
             }
@@ -332,13 +304,13 @@ impl ShownStrike {
     }
 }
 
-/// The towers that would be seen with all struck numbers, square by square.
+/// The towers that would be seen with all struck numbers, square by square. If no tower decides with one of them, none is told of the others.
 pub(crate) fn shown_strikes(
     line: &ClueCounts,
     strikes: &[Strike],
     clue: u8,
 ) -> ArrayVec<ShownStrike, 9> {
-    let mut shown = ArrayVec::new();
+    let mut shown: ArrayVec<ShownStrike, 9> = ArrayVec::new();
     for strike in strikes {
         let showings = showings_with(line, strike, clue);
         let _fits = shown.try_push(ShownStrike {
@@ -346,6 +318,11 @@ pub(crate) fn shown_strikes(
             values: strike.values,
             showings,
         });
+    }
+    if shown.iter().any(|strike| strike.has_counts()) {
+        for strike in shown.as_mut_slice() {
+            strike.tell_counts(line, clue);
+        }
     }
     shown
 }
