@@ -42,8 +42,16 @@ def expect_games(objects: str, game: str, size: int, letter: str, seeds: Iterabl
 def expect_told(board: Object, hint: Object) -> None:
     without = {**hint, 'steps': [{**step, 'text': None} for step in hint['steps']], 'text': None}
     alone, whole = tell(without, board['numbers'])
-    assert [step['text'] for step, text in zip(hint['steps'], alone) if text != step['text']] == []
-    assert whole == hint['text']
+    assert [step['text'] for step, text in zip(hint['steps'], alone) if text != step['text'] and not is_open(step)] == []
+    assert whole == hint['text'] or any(map(is_open, hint['steps']))
+
+
+def is_open(step: Object) -> bool:
+    """Whether the object lacks which case goes with which struck number: several have counts on both sides of the clue, and they may have cases of their
+    own."""
+    settled = {(split['number'], split['place'] == 'either') for split in step['split'] if split['seen'] or split['place'] == 'either'}
+    both = [counts for strike in step['strikes'] for counts in strike['shows'] or [] if counts and min(counts) < step['clue'] < max(counts)]
+    return len(both) > 1 and (len(settled) > 1 or any(is_either for _, is_either in settled))
 
 
 def test_manual(objects: str) -> None:
